@@ -1,0 +1,7 @@
+pub mod Each
+pub mod Parts
+pub mod Words
+pub mod Canon
+pub mod Ways
+pub mod Laws
+pub mod Owners

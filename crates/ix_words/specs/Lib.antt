@@ -1,0 +1,5 @@
+pub mod Each
+pub mod Parts
+pub mod Words
+pub mod Canon
+pub mod Laws
