@@ -1,0 +1,5 @@
+pub mod Counts
+pub mod Event
+pub mod Files
+pub mod Held
+pub mod Sink

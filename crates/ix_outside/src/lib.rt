@@ -1,0 +1,21 @@
+//! The outside of the program as traits: files, a sink of bytes, and a site with its wire and its disk.
+//!
+//! Each trait says by ghost members what a proof may know of an object: what it tells of its contents, if it
+//! tells them, and its counts of faults. A fault is answered only where a count rose in that call. A count
+//! never falls, and one at 2^64 - 1 counts as risen.
+#![tactic(auto)]
+
+mod event;
+mod faults;
+mod files;
+mod sink;
+mod site;
+
+pub use event::{Event, EventKind};
+pub use faults::{DiskFailed, Failed, Gone, LoadFault, WireFailed};
+pub use files::Files;
+pub use sink::Sink;
+pub use site::Site;
+
+#[cfg(test)]
+mod tests;
