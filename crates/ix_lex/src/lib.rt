@@ -1,0 +1,259 @@
+//! Cuts the text of an expression into tokens, which are lent slices of the text.
+#![tactic(auto)]
+
+ghost use Rattle.std.specs.Prelude.{◌≡◌, false, ◌≤◌, ◌∷◌, length, take_while, MatchOption};
+ghost use Rattle.ix_lex.specs.WordBytes.{begins, is_blank, is_letter, is_word_byte, sign_of};
+ghost use Rattle.ix_lex.specs.Lexing.{BeginsNothing, FirstToken};
+
+/// What a token is: a word, a parameter, or one of eleven signs.
+#[derive(Clone, Copy, Debug, PartialEq, Eq, Hash)]
+pub enum TokenKind {
+    /// A longest run of letters, digits and `_`.
+    Word,
+    /// `$` directly followed by a longest run of letters, digits and `_` whose first is a letter.
+    Param,
+    /// `(`
+    Open,
+    /// `)`
+    Close,
+    /// `,`
+    Comma,
+    /// `?`
+    Question,
+    /// `*`
+    Star,
+    /// `#`
+    Hash,
+    /// `+`
+    Plus,
+    /// `|`
+    Bar,
+    /// `&`
+    Amp,
+    /// `@`
+    At,
+    /// `-`
+    Minus,
+}
+
+/// A token: the bytes of the text from `start` up to `end`. The text of a `Param` begins with its `$`.
+#[derive(Clone, Copy, Debug)]
+pub struct Token<'a> {
+    pub kind: TokenKind,
+    pub text: &'a [u8],
+    pub start: usize,
+    pub end: usize,
+}
+
+/// The place of the first byte that begins no token: neither a blank (bytes 10 and 32), nor a letter, a
+/// digit, `_` or one of the eleven signs, nor a `$` that a letter follows.
+#[derive(Clone, Copy, Debug, PartialEq, Eq)]
+pub struct LexFault {
+    pub at: usize,
+}
+
+/// The tokens of a text, from its begin to its end or to the first byte that begins no token. That byte's
+/// place is the last item. Nothing is copied, and no memory is taken.
+#[derive(Clone, Copy, Debug)]
+pub struct Tokens<'a> {
+    text: &'a [u8],
+    place: usize,
+    ghost in_range: { place ≤ length text.now },
+}
+
+fn is_blank(byte: u8) -> bool
+    ensures { result ≡ is_blank byte }
+{
+    byte == b'\n' || byte == b' '
+}
+
+fn is_word_byte(byte: u8) -> bool
+    ensures { result ≡ is_word_byte byte }
+{
+    byte.is_ascii_alphanumeric() || byte == b'_'
+}
+
+fn sign_of(byte: u8) -> Option<TokenKind>
+    ensures { result ≡ sign_of byte }
+{
+    let kind = match byte {
+        b'(' => TokenKind::Open,
+        b')' => TokenKind::Close,
+        b',' => TokenKind::Comma,
+        b'?' => TokenKind::Question,
+        b'*' => TokenKind::Star,
+        b'#' => TokenKind::Hash,
+        b'+' => TokenKind::Plus,
+        b'|' => TokenKind::Bar,
+        b'&' => TokenKind::Amp,
+        b'@' => TokenKind::At,
+        b'-' => TokenKind::Minus,
+        _ => return None,
+    };
+    Some(kind)
+}
+
+fn begins_with_letter(bytes: &[u8]) -> bool
+    ensures { result ≡ begins is_letter bytes.now }
+{
+    match bytes {
+        [first, ..] => first.is_ascii_alphabetic(),
+        [] => false,
+    }
+}
+
+// How many blanks a text begins with.
+fn blanks_len(bytes: &[u8]) -> usize
+    ensures { result ≡ length (take_while is_blank bytes.now) }
+{
+    bytes.iter().take_while(|byte| is_blank(**byte)).count()
+}
+
+// How many word bytes a text begins with.
+fn word_len(bytes: &[u8]) -> usize
+    ensures { result ≡ length (take_while is_word_byte bytes.now) }
+{
+    bytes.iter().take_while(|byte| is_word_byte(**byte)).count()
+}
+
+// The kind and the length of the token that a text begins with, if it begins with one.
+fn first_token(first: u8, after: &[u8]) -> Option<(TokenKind, usize)>
+    requires { is_blank first ≡ false }
+    ensures { MatchOption result (BeginsNothing first after.now) (λ found. FirstToken found.0 found.1 (first ∷ after.now)) }
+{
+    if is_word_byte(first) {
+        Some((TokenKind::Word, 1 + word_len(after)))
+    } else if first == b'$' {
+        if begins_with_letter(after) {
+            Some((TokenKind::Param, 1 + word_len(after)))
+        } else {
+            None
+        }
+    } else {
+        Some((sign_of(first)?, 1))
+    }
+}
+
+impl<'a> Tokens<'a> {
+    ghost use Rattle.ix_lex.specs.Items.{pieces_left};
+    ghost use Rattle.ix_lex.specs.Lexing.{Pieces};
+
+    /// The tokens of a text.
+    pub fn new(text: &'a [u8]) -> Tokens<'a>
+        ensures { Pieces 0 text.now (pieces_left result) }
+    {
+        Tokens { text, place: 0 }
+    }
+}
+
+impl<'a> Iterator for Tokens<'a> {
+    ghost use Rattle.std.specs.Iterator.{YieldsFirstBy, item_count};
+    ghost use Rattle.ix_lex.specs.Items.{pieces_left, piece_of};
+
+    type Item = Result<Token<'a>, LexFault>;
+
+    ghost next_gives = { YieldsFirstBy piece_of pieces_left };
+
+    ghost remaining = { item_count pieces_left };
+
+    fn next(&mut self) -> Option<Result<Token<'a>, LexFault>> {
+        let start = self.place + blanks_len(&self.text[self.place..]);
+        let rest = &self.text[start..];
+        let Some((first, after)) = rest.split_first() else {
+            self.place = start;
+            return None;
+        };
+        match first_token(*first, after) {
+            Some((kind, length)) => {
+                let end = start + length;
+                self.place = end;
+                let text = &self.text[start..end];
+                Some(Ok(Token {
+                    kind,
+                    text,
+                    start,
+                    end,
+                }))
+            }
+            None => {
+                self.place = self.text.len();
+                Some(Err(LexFault { at: start }))
+            }
+        }
+    }
+}
+
+#[cfg(test)]
+mod tests {
+    use super::*;
+    use std::test::Fail;
+
+    // A token's kind and place, or the place of a bad byte.
+    #[derive(Clone, Copy, Debug, PartialEq, Eq)]
+    enum Seen {
+        Token(TokenKind, usize, usize),
+        Bad(usize),
+    }
+
+    fn summary(item: Result<Token<'_>, LexFault>) -> Seen {
+        match item {
+            Ok(token) => Seen::Token(token.kind, token.start, token.end),
+            Err(fault) => Seen::Bad(fault.at),
+        }
+    }
+
+    #[test]
+    fn tokens_of_texts(rt: HostRuntime) -> Result<(), Fail> {
+        let signs = Tokens::new(b"(),?*#+|&@-").map(|item| summary(item));
+        let signs: Vec<Seen> = signs.collect(rt.alloc())?;
+        let kinds = [
+            TokenKind::Open,
+            TokenKind::Close,
+            TokenKind::Comma,
+            TokenKind::Question,
+            TokenKind::Star,
+            TokenKind::Hash,
+            TokenKind::Plus,
+            TokenKind::Bar,
+            TokenKind::Amp,
+            TokenKind::At,
+            TokenKind::Minus,
+        ];
+        assert_eq!(rt; signs.len(), kinds.len());
+        for ((place, kind), found) in kinds.iter().enumerate().zip(signs.iter()) {
+            assert_eq!(rt; *found, Seen::Token(*kind, place, place.saturating_add(1)));
+        }
+        let text = b" a_1\n$p2 9 $x$";
+        let found: Vec<Seen> = Tokens::new(text)
+            .map(|item| summary(item))
+            .collect(rt.alloc())?;
+        let wanted = [
+            Seen::Token(TokenKind::Word, 1, 4),
+            Seen::Token(TokenKind::Param, 5, 8),
+            Seen::Token(TokenKind::Word, 9, 10),
+            Seen::Token(TokenKind::Param, 11, 13),
+            Seen::Bad(13),
+        ];
+        assert_eq!(rt; found.as_slice(), wanted.as_slice());
+        Ok(())
+    }
+
+    #[test]
+    fn text_is_lent_and_faults_end(rt: HostRuntime) -> Result<(), Fail> {
+        let mut tokens = Tokens::new(b"ab $p\t c");
+        let word = tokens.next().ok_or("a word")?.map_err(|_| "a word")?;
+        assert_eq!(rt; word.text, b"ab".as_slice());
+        let param = tokens
+            .next()
+            .ok_or("a parameter")?
+            .map_err(|_| "a parameter")?;
+        assert_eq!(rt; param.text, b"$p".as_slice());
+        assert_eq!(rt; tokens.next().map(|item| summary(item)), Some(Seen::Bad(5)));
+        assert_eq!(rt; tokens.next().map(|item| summary(item)), None);
+        assert_eq!(rt;
+            Tokens::new(b"$1").next().map(|item| summary(item)),
+            Some(Seen::Bad(0))
+        );
+        Ok(())
+    }
+}
