@@ -1,0 +1,19 @@
+-- What a `Lines` shows of its buffer.
+use Rattle.std.specs.Prelude.{◌≡◌, ◌≤◌, ℕ, Bool, true, false, List, ◌==◌, length, take}
+use Rattle.std.specs.List.{list_any}
+use Rattle.ix_lines.specs.Feeding.{Held, unfinished, skipping}
+
+-- the open bytes, unless the line is skipped
+abbrev pub shown : Bool → List ℕ → Held
+shown true open_bytes = skipping
+shown false open_bytes = unfinished open_bytes
+
+-- no byte ends a line
+abbrev pub HasNoEnd : List ℕ → Type 0
+HasNoEnd bytes = list_any (λ byte. byte == 10) bytes ≡ false
+
+-- the open bytes are in the buffer, and are an unfinished line
+pub record IsBuffer (open_len : ℕ) (bytes : List ℕ) : Type 0 where
+  pub within : open_len ≤ length bytes
+  pub fits : open_len ≤ 512
+  pub plain : HasNoEnd (take open_len bytes)

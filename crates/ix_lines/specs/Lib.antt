@@ -1,0 +1,5 @@
+pub mod Items
+pub mod Feeding
+pub mod Buffer
+pub mod Answers
+pub mod Cutting

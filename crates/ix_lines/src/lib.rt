@@ -1,0 +1,155 @@
+//! Lines from pieces.
+//!
+//! A text comes in pieces of any lengths. `Lines` keeps the unfinished line between them, and gives each line of at
+//! most 512 bytes whole, and each longer one as a single notice.
+#![tactic(auto)]
+
+ghost use Rattle.std.specs.Prelude.{◌≡◌, ◌+◌, ◌-◌, ◌<◌, ◌≤◌, ◌↔◌, ℕ, [], length, take, IsNone, IfNone, IfSome};
+ghost use Rattle.std.specs.Borrow.{sem};
+ghost use Rattle.ix_lines.specs.Feeding.{unfinished, skipping, completes, holds_after, Feeds};
+
+pub mod laws;
+#[cfg(test)]
+mod tests;
+
+use arrayvec::ArrayVec;
+use memchr::memchr;
+use std::marker::Model;
+
+/// The most bytes that a line has, without the byte 10 that ends it.
+pub const LINE_LIMIT: usize = 512;
+
+/// The unfinished line of a text that comes in pieces, or that the rest of a line which is too long is skipped.
+#[derive(Drop)]
+pub struct Lines {
+    /// The unfinished line, or behind `open_len` bytes what is left of a line that was told.
+    buffer: ArrayVec<u8, LINE_LIMIT>,
+    /// How many bytes of the buffer the unfinished line has.
+    open_len: usize,
+    skipping: bool,
+}
+
+impl Model for Lines {
+    ghost use Rattle.std.specs.Prelude.{take};
+    ghost use Rattle.ix_lines.specs.Feeding.{Held};
+
+    ghost Value = { Held };
+
+    ghost use Rattle.ix_lines.specs.Buffer.{shown, IsBuffer};
+
+    ghost view = { λ lines. shown lines.skipping (take lines.open_len lines.buffer.items) };
+
+    ghost invariant = { λ lines. IsBuffer lines.open_len lines.buffer.items };
+}
+
+/// What a feed tells.
+#[derive(Clone, Copy)]
+pub enum FedKind<'a> {
+    /// A line of at most 512 bytes, without the byte 10 that ends it.
+    Line(&'a [u8]),
+    /// A line has its 513th byte, and no byte 10 so far. The rest of it is skipped through its byte 10.
+    TooLong,
+    /// The whole piece was taken, and completes no more.
+    More,
+}
+
+/// What a feed tells, and how many bytes of the piece it took.
+#[derive(Clone, Copy)]
+pub struct Fed<'a> {
+    pub kind: FedKind<'a>,
+    pub used: usize,
+}
+
+impl Lines {
+    ghost use Rattle.ix_lines.specs.Answers.{told_item, HoldsAfter, IsOpen, ResumesAt};
+    ghost use Rattle.ix_lines.specs.Buffer.{HasNoEnd};
+
+    /// No text so far.
+    pub fn new() -> Lines
+        ensures { result ≡ unfinished [] }
+    {
+        Lines {
+            buffer: ArrayVec::new(),
+            open_len: 0,
+            skipping: false,
+        }
+    }
+
+    /// Drops the unfinished line, and skips no more.
+    pub fn clear(&mut self)
+        ensures { self.new ≡ unfinished [] }
+    {
+        self.open_len = 0;
+        self.skipping = false;
+    }
+
+    /// Takes a piece up to the first item that it completes, and tells that item, or takes the whole piece.
+    /// The rest of the piece is to be fed again, until the answer is `More`.
+    pub fn feed<'a>(&'a mut self, piece: &'a [u8]) -> Fed<'a>
+        // The first item of those that the piece completes, at the very byte that completes it.
+        ensures tells { Feeds self.old piece.now (told_item result.kind) result.used }
+        ensures more { IsNone (told_item result.kind) ↔ (completes self.old piece.now ≡ []) }
+        ensures* holds { sem 𝓛 (HoldsAfter self.entry (take result.used piece.now)) }
+    {
+        let Some(start) = self.resume(piece) else {
+            return Fed {
+                kind: FedKind::More,
+                used: piece.len(),
+            };
+        };
+        let fed = self.take_line(&piece[start..]);
+        Fed {
+            kind: fed.kind,
+            used: start + fed.used,
+        }
+    }
+
+    /// Where the piece goes on with a line that isn't skipped, or nothing where all of it is skipped.
+    fn resume(&mut self, piece: &[u8]) -> Option<usize>
+        ensures some { IfSome result (λ place. ResumesAt self.old piece.now place self.new) }
+        ensures none { IfNone result (self.old ≡ skipping × HasNoEnd piece.now × (self.new ≡ skipping)) }
+    {
+        if !self.skipping {
+            return Some(0);
+        }
+        let end = memchr(b'\n', piece)?;
+        self.clear();
+        Some(end + 1)
+    }
+
+    /// Takes a piece up to the end of its first line, or to the byte that makes the line too long.
+    fn take_line<'a>(&'a mut self, piece: &'a [u8]) -> Fed<'a>
+        requires { IsOpen self.old }
+        ensures tells { Feeds self.old piece.now (told_item result.kind) result.used }
+        ensures* holds { sem 𝓛 (HoldsAfter self.entry (take result.used piece.now)) }
+    {
+        self.buffer.truncate(self.open_len);
+        let room = LINE_LIMIT + 1 - self.open_len;
+        let window = &piece[..room.min(piece.len())];
+        match memchr(b'\n', window) {
+            Some(end) => {
+                let _ = self.buffer.try_extend_from_slice(&window[..end]);
+                self.open_len = 0;
+                Fed {
+                    kind: FedKind::Line(self.buffer.as_slice()),
+                    used: end + 1,
+                }
+            }
+            None if window.len() == room => {
+                self.skipping = true;
+                Fed {
+                    kind: FedKind::TooLong,
+                    used: room,
+                }
+            }
+            None => {
+                let _ = self.buffer.try_extend_from_slice(window);
+                self.open_len += window.len();
+                Fed {
+                    kind: FedKind::More,
+                    used: window.len(),
+                }
+            }
+        }
+    }
+}
