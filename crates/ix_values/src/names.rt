@@ -1,0 +1,107 @@
+//! Names of actions.
+
+ghost use Rattle.std.specs.Prelude.{◌≡◌, ◌↔◌, IsTrue, MatchOption};
+ghost use Rattle.std.proofs.Common.{rules};
+ghost use Rattle.std.specs.Cmp.{partial_order_from_own_ties};
+ghost use Rattle.std.specs.Cmp.Rules.{comparing};
+ghost use Rattle.std.specs.Ordering.{as_partial_cmp};
+ghost use Rattle.ix_values.specs.Order.{text_eq, text_cmp};
+ghost use Rattle.ix_values.specs.Texts.{IsName};
+
+use crate::bytes::{is_name, zero_padded};
+use std::cmp::Ordering;
+use std::marker::Model;
+
+/// A name: 1 to 32 ASCII letters, digits and `_`, the first of them a letter.
+#[derive(Clone, Copy, Debug)]
+pub struct Name {
+    bytes: [u8; 32],
+    len: u8,
+}
+
+impl Model for Name {
+    ghost use Rattle.std.specs.Prelude.{ℕ, List, length, take};
+    ghost use Rattle.std.proofs.Common.{sym};
+    ghost use Rattle.ix_values.specs.Padding.{IsPadded, padded};
+    ghost use Rattle.ix_values.specs.Texts.{IsName};
+
+    ghost Value = { List ℕ };
+
+    ghost view = { λ n. take n.len n.bytes };
+
+    ghost invariant = { λ n. IsPadded 32 0 n.len n.bytes × IsName (take n.len n.bytes) };
+
+    ghost inverse = { λ text. record { bytes = padded 32 0 text; len = length text } };
+
+    ghost inverse_ok = { λ n h. λ i. record { bytes = sym h.0.filled i; len = h.0.counted i } };
+}
+
+impl Name {
+    /// The name whose bytes are `text`, or None where `text` isn't a name.
+    pub fn read(text: &[u8]) -> Option<Name>
+        ensures { MatchOption result
+            (¬ IsName text.now)
+            (λ name. (name ≡ text.now) × IsName text.now) }
+    {
+        if is_name(text) {
+            Some(Name {
+                bytes: zero_padded(text),
+                len: text.len() as u8,
+            })
+        } else {
+            None
+        }
+    }
+
+    /// The bytes of the name.
+    pub fn bytes(&self) -> &[u8]
+        ensures value { result.now ≡ self.now }
+        ensures name { IsName self.now }
+    {
+        &self.bytes[..self.len as usize]
+    }
+}
+
+impl PartialEq for Name {
+    ghost eq = { text_eq };
+
+    ghost laws = { Prim.search (comparing, rules) };
+
+    fn eq(&self, other: &Name) -> bool
+        ensures value { result ≡ text_eq self.now other.now }
+        ensures same { IsTrue result ↔ (self.now ≡ other.now) }
+    {
+        self.bytes() == other.bytes()
+    }
+}
+
+impl Eq for Name {
+    ghost laws = { Prim.search (comparing, rules) };
+}
+
+impl PartialOrd for Name {
+    ghost partial_cmp = { as_partial_cmp text_cmp };
+
+    ghost laws = { partial_order_from_own_ties (Prim.search (comparing, rules)) (Prim.search (comparing, rules)) };
+
+    fn partial_cmp(&self, other: &Name) -> Option<Ordering> {
+        Some(self.cmp(other))
+    }
+}
+
+impl Ord for Name {
+    ghost cmp = { text_cmp };
+
+    ghost total = { Prim.search (comparing, rules) };
+
+    ghost matches_partial_cmp = { Prim.search (comparing, rules) };
+
+    ghost matches_eq = { Prim.search (comparing, rules) };
+
+    fn cmp(&self, other: &Name) -> Ordering
+        ensures value { result ≡ text_cmp self.now other.now }
+        ensures same { result ≡ Ordering.Equal → self.now ≡ other.now }
+    {
+        self.bytes().cmp(other.bytes())
+    }
+}
