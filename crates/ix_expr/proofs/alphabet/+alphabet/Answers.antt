@@ -1,0 +1,80 @@
+use Rattle.std.proofs.Common.{ℕ, ◌<◌, ◌⊎◌, inl, inr, Some, None, List, length, get_or, sym, ap, subst, arith, rules}
+use Rattle.ix_expr.specs.declared.expr.Expr.{Expr}
+use Rattle.ix_expr.specs.declared.expr.Expr.TheViews.{the_lemmas}
+use Rattle.ix_expr.specs.Environment.{Environment, bind}
+use Rattle.ix_expr.specs.FormOf.{form_of}
+use Rattle.ix_expr.specs.FormFaults.{Fits}
+use Rattle.ix_expr.specs.Meaning.{InAlphabet}
+use Rattle.ix_expr.proofs.Agreement.{some-in-alphabet, none-in-alphabet}
+use Rattle.ix_expr.specs.Fitting.{FitsInside, OperandsFit}
+use Rattle.ix_expr.proofs.Parts.{fits-operands}
+use Rattle.ix_expr.proofs.alphabet.+alphabet.Goals as goal
+
+pub contains-contains-requires-in-Opt : goal.contains-contains-requires-in-Opt
+contains-contains-requires-in-Opt t c =
+    let e = c.args.env.now in
+    let operands = λ (x : Expr). OperandsFit (form_of x) e in
+    let fits : operands c.args.expr.now = fits-operands (form_of c.args.expr.now) e c.requires in
+    let part : Fits (form_of c.in-Opt.y.value) e =
+    elim c.in-Opt.is [ inl is ↦ subst operands is fits | inr r ↦ elim r [ inl is ↦ subst operands is fits | inr is ↦ subst operands is fits ] ] in
+    (search (rules, the_lemmas), subst (λ (x : Expr). Fits (form_of x) e) (sym c.deref-in-Opt.ensures) part)
+
+-- both operands fit, of an expression that is one of the five with two operands
+both-fit : (x y z : Expr) (e : Environment) {A B C D F : Type 0} → (A → Fits (form_of y) e × Fits (form_of z) e) → (B → Fits (form_of y) e × Fits (form_of z) e) → (C → Fits (form_of y) e × Fits (form_of z) e)
+    → (D → Fits (form_of y) e × Fits (form_of z) e) → (F → Fits (form_of y) e × Fits (form_of z) e) → A ⊎ (B ⊎ (C ⊎ (D ⊎ F))) → Fits (form_of y) e × Fits (form_of z) e
+both-fit x y z e a b c d f (inl h) = a h
+both-fit x y z e a b c d f (inr (inl h)) = b h
+both-fit x y z e a b c d f (inr (inr (inl h))) = c h
+both-fit x y z e a b c d f (inr (inr (inr (inl h)))) = d h
+both-fit x y z e a b c d f (inr (inr (inr (inr h)))) = f h
+
+pub contains-contains-requires : goal.contains-contains-requires
+contains-contains-requires t c =
+    let e = c.args.env.now in
+    let operands = λ (x : Expr). OperandsFit (form_of x) e in
+    let fits : operands c.args.expr.now = fits-operands (form_of c.args.expr.now) e c.requires in
+    let parts = both-fit c.args.expr.now c.in-Seq.y.value c.in-Seq.z.value e
+    (λ is. subst operands is fits) (λ is. subst operands is fits) (λ is. subst operands is fits) (λ is. subst operands is fits) (λ is. subst operands is fits) c.in-Seq.is in
+    (search (rules, the_lemmas), subst (λ (x : Expr). Fits (form_of x) e) (sym c.deref-in-Seq.ensures) parts.0)
+
+pub contains-contains-requires-else-contains : goal.contains-contains-requires-else-contains
+contains-contains-requires-else-contains t c =
+    let e = c.args.env.now in
+    let operands = λ (x : Expr). OperandsFit (form_of x) e in
+    let fits : operands c.args.expr.now = fits-operands (form_of c.args.expr.now) e c.requires in
+    let parts = both-fit c.args.expr.now c.in-Seq.y.value c.in-Seq.z.value e
+    (λ is. subst operands is fits) (λ is. subst operands is fits) (λ is. subst operands is fits) (λ is. subst operands is fits) (λ is. subst operands is fits) c.in-Seq.is in
+    (search (rules, the_lemmas), subst (λ (x : Expr). Fits (form_of x) e) (sym c.deref-else-contains.ensures) parts.1)
+
+pub contains-contains_for_some-requires : goal.contains-contains_for_some-requires
+contains-contains_for_some-requires t c =
+    let e = c.args.env.now in
+    let p = c.in-Any.parameter in
+    let operands = λ (x : Expr). OperandsFit (form_of x) e in
+    let fits : operands c.args.expr.now = fits-operands (form_of c.args.expr.now) e c.requires in
+    let inside : FitsInside p (form_of c.in-Any.y.value) e = elim c.in-Any.is [
+      | inl is ↦ subst operands is fits
+      | inr r ↦ elim r [ inl is ↦ subst operands is fits | inr s ↦ elim s [ inl is ↦ subst operands is fits | inr is ↦ subst operands is fits ] ]
+    ] in
+    (search (rules, the_lemmas), subst (λ (x : Expr). FitsInside p (form_of x) e) (sym c.deref.ensures) inside)
+
+pub contains_for_some-contains-requires : goal.contains_for_some-contains-requires
+contains_for_some-contains-requires t c =
+    (search (rules, the_lemmas), subst (λ e. Fits (form_of c.args.body.now) e) (sym c.with.ensures) (c.requires.body (Some c.value-item.result)))
+
+pub contains_for_some-contains-requires-2 : goal.contains_for_some-contains-requires-2
+contains_for_some-contains-requires-2 t c =
+    (search (rules, the_lemmas), subst (λ e. Fits (form_of c.args.body.now) e) (sym c.with-2.ensures) (c.requires.body None))
+
+pub contains_for_some-returns : goal.contains_for_some-returns
+contains_for_some-returns t c =
+    let y = form_of c.args.body.now in
+    let p = c.args.parameter.now in
+    let e = c.args.env.now in
+    let a = c.args.action.now in
+    let values = c.values-value-items.result.now in
+    let none : (k : ℕ) (d : List ℕ) → k < length a.values → ¬ InAlphabet y (bind p (Some (get_or a.values k d)) e) a =
+    λ k d below. subst (λ vs. ¬ InAlphabet y (bind p (Some (get_or vs k d)) e) a) c.values-value-items.ensures.value (c.loop-value.invariant k d (omega (arith, ap length c.values-value-items.ensures.value))) in (
+      λ t. some-in-alphabet y p e a (subst (λ f. InAlphabet y f a) c.with-2.ensures (c.contains-2.ensures.0 t)),
+      λ w. c.contains-2.ensures.1 (subst (λ f. InAlphabet y f a) (sym c.with-2.ensures) (none-in-alphabet y p e a none w)),
+    )

@@ -1,0 +1,12 @@
+use Rattle.std.proofs.Common.{◌+◌, [], Ok, sym, arith}
+use Rattle.ix_expr.specs.Walk.{free_end, fault_here}
+use Rattle.ix_expr.proofs.Walks.{walked-node}
+use Rattle.ix_expr.proofs.walk.visit_atom.Goals as goal
+
+pub returns-in-Some-clause-walked : goal.returns-in-Some-clause-walked
+returns-in-Some-clause-walked c = fault_here (sym c.in-Some.ensures.value)
+
+pub returns-in-None-clause-walked : goal.returns-in-None-clause-walked
+returns-in-None-clause-walked c =
+    walked-node c.args.number (c.args.number + 1) _ [] (Ok (c.args.number + 1)) (omega arith) (sym c.in-None.ensures.value)
+    (record { free = free_end; counted = omega arith; few = omega (arith, c.in-None.ensures.within) })

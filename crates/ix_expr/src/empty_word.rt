@@ -1,0 +1,24 @@
+//! Whether the empty word is complete.
+
+ghost use Rattle.std.specs.Prelude.{◌↔◌, [], IsTrue};
+ghost use Rattle.ix_expr.specs.Environment.{Environment};
+ghost use Rattle.ix_expr.specs.FormOf.{form_of};
+ghost use Rattle.ix_expr.specs.Meaning.{IsComplete};
+
+use crate::expr::Expr;
+
+/// Whether the empty word is complete in the expression. That is so under each environment or under none.
+pub fn accepts_empty(expr: &Expr) -> bool
+    ensures { (e : Environment) → IsTrue result ↔ IsComplete (form_of expr.now) e [] }
+{
+    match expr {
+        Expr::Atom(_) => false,
+        Expr::Opt(_) | Expr::Star(_) | Expr::ParStar(_) => true,
+        Expr::Seq(y, z) | Expr::Par(y, z) | Expr::And(y, z) | Expr::Couple(y, z) => accepts_empty(y)
+            && accepts_empty(z),
+        Expr::Or(y, z) => accepts_empty(y) || accepts_empty(z),
+        Expr::Any(_, y) | Expr::Every(_, y) | Expr::Sync(_, y) | Expr::All(_, y) => accepts_empty(
+            y,
+        ),
+    }
+}

@@ -1,0 +1,97 @@
+//! The quantifiers around a node.
+
+ghost use Rattle.std.specs.Prelude.{◌≡◌, ◌&&◌, not, nat_le, length};
+ghost use Rattle.std.specs.List.{list_all, list_any};
+ghost use Rattle.ix_expr.specs.FormFaults as faults;
+ghost use Rattle.ix_expr.specs.Scope.{binders};
+
+use crate::arg::Arg;
+use crate::atom::Atom;
+use ix_values::Name;
+
+/// The quantifiers around a node, the inmost first.
+#[derive(Clone, Copy)]
+pub(crate) enum Scope<'a> {
+    /// None: the node is the root of a whole expression.
+    Whole,
+    /// One more than around the node `outer`.
+    Inside {
+        is_all: bool,
+        parameter: &'a Name,
+        outer: &'a Scope<'a>,
+    },
+}
+
+impl Scope<'_> {
+    /// Whether one of the quantifiers binds `parameter`.
+    pub(crate) fn binds(&self, parameter: &Name) -> bool
+        ensures { result ≡ faults.is_bound (binders self.now) parameter.now }
+    {
+        match self {
+            Scope::Whole => false,
+            Scope::Inside {
+                parameter: bound,
+                outer,
+                ..
+            } => *bound == parameter || outer.binds(parameter),
+        }
+    }
+
+    /// Whether there are at least `count` quantifiers.
+    pub(crate) fn has(&self, count: u8) -> bool
+        ensures { result ≡ nat_le count (length (binders self.now)) }
+    {
+        match self {
+            Scope::Whole => count == 0,
+            Scope::Inside { outer, .. } => count == 0 || outer.has(count - 1),
+        }
+    }
+
+    /// Whether one of the quantifiers is an `all` whose parameter the atom doesn't name.
+    pub(crate) fn misses(&self, atom: &Atom) -> bool
+        ensures { result ≡ list_any (λ b. b.is_all && not (faults.names_parameter b.parameter atom.now)) (binders self.now) }
+    {
+        match self {
+            Scope::Whole => false,
+            Scope::Inside {
+                is_all,
+                parameter,
+                outer,
+            } => (*is_all && !names_parameter(atom, parameter)) || outer.misses(atom),
+        }
+    }
+
+    /// Whether each parameter of the atom is bound.
+    pub(crate) fn binds_all(&self, atom: &Atom) -> bool
+        ensures { result ≡ list_all (faults.is_bound_argument (binders self.now)) atom.now.arguments }
+    {
+        atom.args().iter().all(|arg| self.binds_argument(arg))
+    }
+
+    /// Whether the argument is a fixed value or a bound parameter.
+    fn binds_argument(&self, arg: &Arg) -> bool
+        ensures { result ≡ faults.is_bound_argument (binders self.now) arg.now }
+    {
+        match arg {
+            Arg::Fixed(_) => true,
+            Arg::Param(parameter) => self.binds(parameter),
+        }
+    }
+}
+
+/// Whether the parameter is an argument of the atom.
+fn names_parameter(atom: &Atom, parameter: &Name) -> bool
+    ensures { result ≡ faults.names_parameter parameter.now atom.now }
+{
+    atom.args().iter().any(|arg| is_parameter(arg, parameter))
+}
+
+/// Whether the argument is the parameter.
+fn is_parameter(arg: &Arg, parameter: &Name) -> bool
+    ensures { result ≡ faults.is_parameter parameter.now arg.now }
+{
+    match arg {
+        Arg::Fixed(_) => false,
+        Arg::Param(name) => parameter == name,
+    }
+}
