@@ -1,0 +1,64 @@
+//! Texts that the language's documents give.
+
+use super::*;
+use std::test::Fail;
+
+fn name(bytes: &[u8]) -> Result<Name, Fail> {
+    Ok(Name::read(bytes).ok_or("not a name")?)
+}
+
+fn boxed(alloc: Global, expr: Expr) -> Result<Box<Expr>, Fail> {
+    Ok(Box::new(alloc, expr).map_err(|_| AllocError)?)
+}
+
+fn atom(alloc: Global, bytes: &[u8], args: &[Arg]) -> Result<Box<Expr>, Fail> {
+    let atom = Atom::new(name(bytes)?, args).ok_or("not an atom")?;
+    boxed(alloc, Expr::Atom(atom))
+}
+
+fn sequence(alloc: Global, first: Box<Expr>, second: Box<Expr>) -> Result<Box<Expr>, Fail> {
+    boxed(alloc, Expr::Seq(first, second))
+}
+
+/// `all $outer *(any $inner (call($p,$x) - perform($p,$x)))`
+fn examinations(alloc: Global, outer: &[u8], inner: &[u8]) -> Result<Box<Expr>, Fail> {
+    let args = [Arg::Param(name(b"p")?), Arg::Param(name(b"x")?)];
+    let call = atom(alloc, b"call", &args)?;
+    let steps = sequence(alloc, call, atom(alloc, b"perform", &args)?)?;
+    let repeated = boxed(alloc, Expr::Any(name(inner)?, steps))?;
+    let body = boxed(alloc, Expr::Star(repeated))?;
+    boxed(alloc, Expr::All(name(outer)?, body))
+}
+
+fn printed(alloc: Global, expr: Box<Expr>) -> Result<Vec<u8>, Fail> {
+    let expression = Expression::new(Box::into_inner(expr)).map_err(|_| "not well formed")?;
+    Ok(text(alloc, &expression)?)
+}
+
+#[test]
+fn patients_and_rooms(rt: HostRuntime) -> Result<(), Fail> {
+    let alloc = rt.alloc();
+    let patients = examinations(alloc, b"p", b"x")?;
+    let both = Expr::Couple(patients, examinations(alloc, b"x", b"p")?);
+    let text = printed(alloc, boxed(alloc, both)?)?;
+    assert_eq!(rt; text.len(), 93);
+    assert_eq!(rt;
+        text.as_slice(),
+        b"all $p *any $x (call($p,$x) - perform($p,$x)) @ all $x *any $p (call($p,$x) - perform($p,$x))".as_slice()
+    );
+    Ok(())
+}
+
+#[test]
+fn groups(rt: HostRuntime) -> Result<(), Fail> {
+    let alloc = rt.alloc();
+    let one = printed(alloc, atom(alloc, b"a", &[])?)?;
+    assert_eq!(rt; one.as_slice(), b"a".as_slice());
+    let right = sequence(alloc, atom(alloc, b"b", &[])?, atom(alloc, b"c", &[])?)?;
+    let whole = sequence(alloc, atom(alloc, b"a", &[])?, right)?;
+    assert_eq!(rt;
+        printed(alloc, whole)?.as_slice(),
+        b"a - (b - c)".as_slice()
+    );
+    Ok(())
+}
