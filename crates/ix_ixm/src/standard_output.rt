@@ -1,0 +1,38 @@
+// Standard output.
+ghost use Rattle.std.specs.Prelude.{None};
+ghost use Rattle.ix_outside.specs.Held.{free};
+
+use ix_outside::{Failed, Sink};
+use std::io::Write;
+
+/// A writer, which tells nothing of the bytes that it took.
+#[derive(Drop)]
+pub struct StandardOutput<W> {
+    writer: W,
+    faults: u64,
+}
+
+impl<W: Write> StandardOutput<W> {
+    /// Puts to this writer.
+    pub fn new(writer: W) -> Self {
+        StandardOutput { writer, faults: 0 }
+    }
+}
+
+impl<W: Write> Sink for StandardOutput<W> {
+    ghost written = { λ _. None };
+
+    ghost faults = { λ out. out.faults };
+
+    ghost held = { λ _. free };
+
+    fn put(&mut self, bytes: &[u8]) -> Result<(), Failed> {
+        match self.writer.write_all(bytes) {
+            Ok(()) => Ok(()),
+            Err(_) => {
+                self.faults = self.faults.saturating_add(1);
+                Err(Failed)
+            }
+        }
+    }
+}

@@ -1,0 +1,76 @@
+-- Lines, and lists of a known length.
+use Rattle.std.proofs.Common.{◌≡◌, ◌↔◌, ℕ, ◌<◌, ◌≤◌, true, List, [], ◌∷◌, ◌++◌, length, get_or, Option, Some, None, MatchOption, refl, sym, ap, subst, ◌∙◌, arith}
+use Rattle.std.specs.Option.{is_some, option_to_list, IsSome}
+use Rattle.std.specs.List.{slice_split, join_with_byte}
+use Rattle.std.proofs.lemmas.Bool.{false≢true}
+use Rattle.std.proofs.lemmas.List.Splits.{length-slice_split, join_with_byte-slice_split}
+use Rattle.ix_words.specs.Each.{Each, no_item, item}
+use Rattle.ix_words.proofs.Each.{Each-tail}
+use Rattle.ix_values.specs.PlainAction.{PlainAction}
+use Rattle.ix_manage.specs.ActionLines.{is_line_end, without_empty_end, lines_of, plain_action}
+use Rattle.ix_manage.specs.PlainText.{IsPlainName}
+
+no_empty_end : (part : List ℕ) → 0 < length part → without_empty_end (part ∷ []) ≡ part ∷ []
+no_empty_end [] some = absurd (omega arith)
+no_empty_end (byte ∷ bytes) some = refl
+
+-- the one line of bytes without an end of line
+pub lines_of-one : (bytes part : List ℕ) → 0 < length bytes → slice_split is_line_end bytes ≡ part ∷ [] → lines_of bytes ≡ part ∷ []
+lines_of-one bytes part some cut =
+    let same : part ≡ bytes = sym (ap (join_with_byte 10) cut) ∙ join_with_byte-slice_split 10 bytes in
+    ap without_empty_end cut ∙ no_empty_end part (subst (λ b. 0 < length b) (sym same) some)
+
+behind_first : (part : List ℕ) (parts : List (List ℕ)) → 0 < length parts → without_empty_end (part ∷ parts) ≡ part ∷ without_empty_end parts
+behind_first part [] some = absurd (omega arith)
+behind_first [] (next ∷ parts) some = refl
+behind_first (byte ∷ bytes) (next ∷ parts) some = refl
+
+-- the first line, and those behind it
+pub lines_of-more : (bytes part rest : List ℕ) → slice_split is_line_end bytes ≡ part ∷ slice_split is_line_end rest → lines_of bytes ≡ part ∷ lines_of rest
+lines_of-more bytes part rest cut =
+    ap without_empty_end cut ∙ behind_first part (slice_split is_line_end rest) (let long = length-slice_split is_line_end rest in omega arith)
+
+-- one more line that is a name
+pub names_step : (bytes rest next line : List ℕ) → lines_of rest ≡ line ∷ lines_of next → IsPlainName line
+    → (Each IsPlainName (lines_of rest) ↔ Each IsPlainName (lines_of bytes)) → (Each IsPlainName (lines_of next) ↔ Each IsPlainName (lines_of bytes))
+names_step bytes rest next line cut name so_far = (
+  λ each. so_far.0 (subst (Each IsPlainName) (sym cut) (item name each)),
+  λ each. Each-tail (subst (Each IsPlainName) cut (so_far.1 each)),
+)
+
+-- there are no lines where there are no bytes
+pub lines_of-none : (bytes : List ℕ) → length bytes ≡ 0 → lines_of bytes ≡ []
+lines_of-none [] none = refl
+lines_of-none (byte ∷ bytes) none = absurd (omega arith)
+
+pub names_end : (bytes rest : List ℕ) → length rest ≡ 0 → (Each IsPlainName (lines_of rest) ↔ Each IsPlainName (lines_of bytes)) → Each IsPlainName (lines_of bytes)
+names_end bytes rest none so_far = so_far.0 (subst (Each IsPlainName) (sym (lines_of-none rest none)) no_item)
+
+-- what is read as an action is a plain name
+pub name_there : (line : List ℕ) (o : Option PlainAction) → is_some o ≡ true → MatchOption o (IsPlainName line → ⊥) (λ action. (action ≡ plain_action line) × IsPlainName line) → IsPlainName line
+name_there line None some h = absurd (false≢true some)
+name_there line (Some action) some h = h.1
+
+module _ {A : Type 0} where
+  pub three_items : (xs : List A) (a b c : A) → 3 ≤ length xs → length xs < 4 → a ≡ get_or xs 0 a → b ≡ get_or xs 1 b → c ≡ get_or xs 2 c → xs ≡ a ∷ b ∷ c ∷ []
+  three_items [] a b c low high p q r = absurd (omega arith)
+  three_items (x ∷ []) a b c low high p q r = absurd (omega arith)
+  three_items (x ∷ y ∷ []) a b c low high p q r = absurd (omega arith)
+  three_items (x ∷ y ∷ z ∷ []) a b c low high p q r = cc
+  three_items (x ∷ y ∷ z ∷ w ∷ ws) a b c low high p q r = absurd (omega arith)
+
+  snoc_same : (xs ys : List A) (a b : A) → xs ++ a ∷ [] ≡ ys ++ b ∷ [] → xs ≡ ys
+  snoc_same [] [] a b e = refl
+  snoc_same [] (y ∷ []) a b e = cc
+  snoc_same [] (y ∷ z ∷ ys) a b e = cc
+  snoc_same (x ∷ []) [] a b e = cc
+  snoc_same (x ∷ z ∷ xs) [] a b e = cc
+  snoc_same (x ∷ xs) (y ∷ ys) a b e =
+      let heads : x ≡ y = cc in
+      let tails : xs ++ a ∷ [] ≡ ys ++ b ∷ [] = cc in
+      let fronts = snoc_same xs ys a b tails in cc
+
+  -- what a pop leaves of what a push made
+  pub popped : (xs ys pushed : List A) (a : A) (o : Option A) → pushed ≡ xs ++ a ∷ [] → pushed ≡ ys ++ option_to_list o → IsSome o → ys ≡ xs
+  popped xs ys pushed a None push pop some = absurd (false≢true some)
+  popped xs ys pushed a (Some b) push pop some = sym (snoc_same xs ys a b (sym push ∙ pop))

@@ -1,0 +1,76 @@
+use Rattle.std.proofs.Common.{[], ◌∷◌, ◌++◌, refl, sym, subst, ◌∙◌, eqb-true, arith}
+use Rattle.std.specs.Prelude.{codes}
+use Rattle.ix_words.proofs.Each.{Each-head, Each-tail}
+use Rattle.ix_words.specs.Each.{Each}
+use Rattle.ix_expr.specs.FormOf.{form_of}
+use Rattle.ix_manage.specs.ActionLines.{actions_in}
+use Rattle.ix_manage.specs.PlainText.{IsPlainName}
+use Rattle.ix_manage.specs.Trace.{Answers, done, short, line}
+use Rattle.ix_manage.proofs.Answering.{answers_join}
+use Rattle.ix_manage.proofs.Tracing.{append_nothing, append_on, part_on, part_last, front_step, trace_ends}
+use Rattle.ix_manage.proofs.trace.trace.Goals as goal
+
+pub loop-rest-init : goal.loop-rest-init
+loop-rest-init g c = (
+  c.requires.names,
+  omega arith,
+  refl,
+  ([], refl, ([], subst (Answers (form_of c.args.expr.now) [] [] []) (sym c.new-history.ensures.items) done, append_nothing _)),
+)
+
+pub unreachable-requires : goal.unreachable-requires
+unreachable-requires g c = c.in_default.ensures (Each-head (subst (Each IsPlainName) c.first_line-first.ensures.lines c.loop-rest.invariant.0))
+
+pub returns-in-Err-clause-memory : goal.returns-in-Err-clause-memory
+returns-in-Err-clause-memory g c is =
+    let so_far = c.loop-rest.invariant.3 in
+    (so_far.2.0, short (actions_in c.loop-rest.rest.now) so_far.1 so_far.2.1, c.in-Err.ensures.memory is ∙ so_far.2.2)
+
+pub returns-in-Err-clause-output : goal.returns-in-Err-clause-output
+returns-in-Err-clause-output g c is =
+    let so_far = c.loop-rest.invariant.3 in
+    let more = c.in-Err.ensures.output is in (
+      9,
+      (so_far.2.0 ++ more.0) ++ line (codes "refused memory"),
+      short (actions_in c.first_line-first.result.rest.now)
+          (front_step c.args.actions.now c.loop-rest.rest.now c.first_line-first.result.rest.now c.first_line-first.result.line.now so_far.0 c.in-Some.action
+          c.first_line-first.ensures.lines c.in-Some.ensures.0 so_far.1)
+          (answers_join so_far.2.1 more.2),
+      part_on _ _ _ so_far.2.0 more.0 (line (codes "refused memory")) so_far.2.2 more.3,
+    )
+
+pub loop-rest-preserved : goal.loop-rest-preserved
+loop-rest-preserved g c =
+    let so_far = c.loop-rest.invariant.3 in
+    let more = c.in-Ok.ensures.whole in (
+      Each-tail (subst (Each IsPlainName) c.first_line-first.ensures.lines c.loop-rest.invariant.0),
+      omega (arith, c.in-Ok.ensures.count),
+      c.in-Ok.ensures.held ∙ c.loop-rest.invariant.2,
+      (
+        so_far.0 ++ c.in-Some.action ∷ [],
+        front_step c.args.actions.now c.loop-rest.rest.now c.first_line-first.result.rest.now c.first_line-first.result.line.now so_far.0 c.in-Some.action
+            c.first_line-first.ensures.lines c.in-Some.ensures.0 so_far.1,
+        (so_far.2.0 ++ more.0, answers_join so_far.2.1 more.1, append_on _ _ _ so_far.2.0 more.0 so_far.2.2 more.2),
+      ),
+    )
+
+pub returns-in-Ok-put-clause-whole : goal.returns-in-Ok-put-clause-whole
+returns-in-Ok-put-clause-whole g c =
+    let so_far = c.loop-rest.invariant.3 in
+    let last = c.last_line.result.now in (
+      so_far.2.0 ++ last,
+      trace_ends (form_of c.args.expr.now) c.args.actions.now c.loop-rest.rest.now so_far.0 c.loop-rest.history.items c.deref.result.now so_far.2.0 last
+          (eqb-true _ _ (sym c.loop-rest-test.ensures)) so_far.1 so_far.2.1 c.deref.ensures.value c.last_line.ensures,
+      append_on _ _ _ so_far.2.0 last so_far.2.2 c.in-Ok-put.ensures.whole,
+    )
+
+pub returns-clause-output : goal.returns-clause-output
+returns-clause-output g c is =
+    let so_far = c.loop-rest.invariant.3 in
+    let last = c.last_line.result.now in (
+      0,
+      so_far.2.0 ++ last,
+      trace_ends (form_of c.args.expr.now) c.args.actions.now c.loop-rest.rest.now so_far.0 c.loop-rest.history.items c.deref.result.now so_far.2.0 last
+          (eqb-true _ _ (sym c.loop-rest-test.ensures)) so_far.1 so_far.2.1 c.deref.ensures.value c.last_line.ensures,
+      part_last _ _ _ so_far.2.0 last so_far.2.2 c.in-Err-put.ensures.part,
+    )

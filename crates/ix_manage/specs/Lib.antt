@@ -1,0 +1,9 @@
+pub mod Command
+pub mod PlainText
+pub mod ActionLines
+pub mod Trace
+pub mod Parts
+pub mod Built
+pub mod Blanks
+pub mod Refusal
+pub mod Run

@@ -1,0 +1,73 @@
+//! The top call of the program: from the words of the command line to the bytes put.
+#![tactic(auto)]
+
+ghost use Rattle.std.specs.Prelude.{◌≡◌, ◌≢◌, ◌≤◌, ℕ, List, false, map, string_bytes};
+ghost use Rattle.std.specs.Io.KnownBytes.{append_known};
+ghost use Rattle.ix_outside.specs.Counts.{Rose};
+ghost use Rattle.ix_outside.specs.Sink.{AppendsPart};
+ghost use Rattle.ix_manage.specs.Trace.{Ends};
+
+mod actions;
+mod check;
+mod load;
+mod parts;
+mod plain_text;
+mod refusal;
+mod run;
+mod trace;
+mod words;
+
+use ix_outside::{Files, Sink, Site};
+use run::{Stop, run};
+use std::alloc::Global;
+
+/// Runs the program on the words after its name, and gives its status.
+///
+/// The words are `trace EXPR ACTIONS`. What is put, and with which status a run ends, says `Ends`: the answers to
+/// the actions of the file ACTIONS by the expression of the file EXPR, and `complete` or `partial`, with status 0;
+/// or else a refusal, as its last line. A put that fails ends the run with status 10, and what went out by then is
+/// a front of such a text. A text that `files` doesn't tell may be any.
+pub fn manage<F: Files, S: Site, K: Sink>(
+    alloc: Global,
+    words: &[String],
+    files: &mut F,
+    site: &mut S,
+    out: &mut K,
+) -> u8
+    requires { S.attached site.old ≡ false }
+
+    // All that is put, with each status but 10.
+    ensures output { result ≢ 10 → (text : List ℕ) × Ends (map string_bytes words.now) (F.contents files.old) result text
+        × (K.written out.new ≡ append_known (K.written out.old) text) }
+
+    // With 10 a front of what is put with another status.
+    ensures cut_short { result ≡ 10 → (status : ℕ) × (text : List ℕ)
+        × Ends (map string_bytes words.now) (F.contents files.old) status text
+        × AppendsPart (K.written out.old) text (K.written out.new) }
+
+    // A file is lost, and a put fails, only where the count rose.
+    ensures file_fault { result ≡ 4 → Rose (F.faults files.old) (F.faults files.new) }
+    ensures output_fault { result ≡ 10 → Rose (K.faults out.old) (K.faults out.new) }
+
+    // What stays.
+    ensures file_count { F.faults files.old ≤ F.faults files.new }
+    ensures files { F.contents files.new ≡ F.contents files.old }
+    ensures files_held { F.held files.new ≡ F.held files.old }
+    ensures site_counts { S.counts site.new ≡ S.counts site.old }
+    ensures site_attached { S.attached site.new ≡ S.attached site.old }
+    ensures site_held { S.held site.new ≡ S.held site.old }
+    ensures output_count { K.faults out.old ≤ K.faults out.new }
+    ensures output_held { K.held out.new ≡ K.held out.old }
+{
+    match run(alloc, words, files, out) {
+        Ok(()) => 0,
+        Err(Stop::Output) => 10,
+        Err(Stop::Refused(refusal)) => match out.put(refusal.line()) {
+            Ok(()) => refusal.status(),
+            Err(_) => 10,
+        },
+    }
+}
+
+#[cfg(test)]
+mod tests;

@@ -1,0 +1,63 @@
+// One run of the program, up to the last line that a refusal puts.
+ghost use Rattle.std.specs.Prelude.{◌≡◌, ◌≤◌, ◌++◌, ℕ, List, OnOk, IfErr, IsErrOf, map, string_bytes};
+ghost use Rattle.std.specs.Io.KnownBytes.{append_known};
+ghost use Rattle.ix_outside.specs.Counts.{Rose};
+ghost use Rattle.ix_outside.specs.Sink.{AppendsPart};
+ghost use Rattle.ix_manage.specs.Run.{RefusedAfter, LostWhere};
+ghost use Rattle.ix_manage.specs.Trace.{Ends};
+
+use crate::load::{load_actions, load_expression};
+use crate::refusal::Refusal;
+use crate::trace::{TraceFault, trace};
+use crate::words::file_names;
+use ix_outside::{Files, Sink};
+use std::alloc::Global;
+
+/// Why a run ends before it has its answer.
+#[derive(Clone, Copy)]
+pub enum Stop {
+    /// A line is to be put that says why.
+    Refused(Refusal),
+    /// A put failed.
+    Output,
+}
+
+/// Runs the command of the words. A refusal's line isn't put yet.
+pub fn run<F: Files, K: Sink>(
+    alloc: Global,
+    words: &[String],
+    files: &mut F,
+    out: &mut K,
+) -> Result<(), Stop>
+    ensures done { OnOk result ((text : List ℕ) × Ends (map string_bytes words.now) (F.contents files.old) 0 text
+        × (K.written out.new ≡ append_known (K.written out.old) text)) }
+    ensures refused { IfErr result (RefusedAfter (map string_bytes words.now) (F.contents files.old) (K.written out.old) (K.written out.new)) }
+    ensures output { IsErrOf result Stop.Output → (status : ℕ) × (text : List ℕ)
+        × Ends (map string_bytes words.now) (F.contents files.old) status text
+        × AppendsPart (K.written out.old) text (K.written out.new) }
+    ensures lost { IfErr result (LostWhere (F.faults files.old) (F.faults files.new)) }
+    ensures failed { IsErrOf result Stop.Output → Rose (K.faults out.old) (K.faults out.new) }
+
+    ensures file_count { F.faults files.old ≤ F.faults files.new }
+    ensures files { F.contents files.new ≡ F.contents files.old }
+    ensures files_held { F.held files.new ≡ F.held files.old }
+    ensures count { K.faults out.old ≤ K.faults out.new }
+    ensures held { K.held out.new ≡ K.held out.old }
+{
+    let Some(names) = file_names(words) else {
+        return Err(Stop::Refused(Refusal::Words));
+    };
+    let expr = match load_expression(alloc, files, names.expression) {
+        Ok(expr) => expr,
+        Err(refusal) => return Err(Stop::Refused(refusal)),
+    };
+    let actions = match load_actions(alloc, files, names.actions) {
+        Ok(actions) => actions,
+        Err(refusal) => return Err(Stop::Refused(refusal)),
+    };
+    match trace(alloc, &expr, &actions, out) {
+        Ok(()) => Ok(()),
+        Err(TraceFault::Memory) => Err(Stop::Refused(Refusal::Memory)),
+        Err(TraceFault::Output) => Err(Stop::Output),
+    }
+}

@@ -1,0 +1,275 @@
+// The top call over small objects in memory.
+ghost use Rattle.std.specs.Prelude.{◌≡◌, [], ◌∷◌, Some, codes};
+ghost use Rattle.ix_outside.specs.Held.{free};
+
+use super::*;
+use ix_outside::{DiskFailed, Event, Failed, Gone, LoadFault, WireFailed};
+use std::test::Fail;
+
+// An expression file of some name, and the file `actions`.
+#[derive(Drop)]
+struct Folder<'a> {
+    name: &'a str,
+    expression: &'a [u8],
+    actions: &'a [u8],
+    faults: u64,
+}
+
+impl Files for Folder<'_> {
+    ghost contents = { λ f. Some ((f.name.now, f.expression.now) ∷ (codes "actions", f.actions.now) ∷ []) };
+
+    ghost faults = { λ f. f.faults };
+
+    ghost held = { λ _. free };
+
+    fn load(&mut self, alloc: Global, name: &str, limit: usize) -> Result<Vec<u8>, LoadFault> {
+        let bytes = if name == self.name {
+            self.expression
+        } else if name == "actions" {
+            self.actions
+        } else {
+            self.faults = self.faults.saturating_add(1);
+            return Err(LoadFault::Failed);
+        };
+        if bytes.len() > limit {
+            return Err(LoadFault::TooLong);
+        }
+        Ok(bytes.to_vec(alloc)?)
+    }
+}
+
+// Takes bytes in memory. One put, by its number, may fail.
+#[derive(Drop)]
+struct Page {
+    bytes: Vec<u8>,
+    puts: u64,
+    failing: Option<u64>,
+    faults: u64,
+}
+
+impl Sink for Page {
+    ghost written = { λ page. Some page.bytes.items };
+
+    ghost faults = { λ page. page.faults };
+
+    ghost held = { λ _. free };
+
+    fn put(&mut self, bytes: &[u8]) -> Result<(), Failed> {
+        let fails = self.failing == Some(self.puts);
+        self.puts = self.puts.saturating_add(1);
+        if fails || self.bytes.extend_from_slice(bytes).is_err() {
+            self.faults = self.faults.saturating_add(1);
+            return Err(Failed);
+        }
+        Ok(())
+    }
+}
+
+// Each call fails. No file is attached, since `attach` fails too.
+#[derive(Drop)]
+struct Nowhere {
+    attached: bool,
+    disk: u64,
+    wire: u64,
+    send: u64,
+}
+
+impl Site for Nowhere {
+    ghost counts = { λ site. record { disk = site.disk; wire = site.wire; send = site.send } };
+
+    ghost attached = { λ site. site.attached };
+
+    ghost held = { λ _. free };
+
+    fn listen(&mut self, _name: &str) -> Result<(), WireFailed> {
+        self.wire = self.wire.saturating_add(1);
+        Err(WireFailed)
+    }
+
+    fn next(&mut self, _buf: &mut [u8]) -> Result<Event, WireFailed> {
+        self.wire = self.wire.saturating_add(1);
+        Err(WireFailed)
+    }
+
+    fn send(&mut self, _conn: u8, _bytes: &[u8]) -> Result<(), Gone> {
+        self.send = self.send.saturating_add(1);
+        Err(Gone)
+    }
+
+    fn attach(&mut self, _name: &str) -> Result<(), DiskFailed> {
+        self.disk = self.disk.saturating_add(1);
+        Err(DiskFailed)
+    }
+
+    fn length(&mut self) -> Result<u64, DiskFailed> {
+        self.disk = self.disk.saturating_add(1);
+        Err(DiskFailed)
+    }
+
+    fn read_at(&mut self, _at: u64, _buf: &mut [u8]) -> Result<usize, DiskFailed> {
+        self.disk = self.disk.saturating_add(1);
+        Err(DiskFailed)
+    }
+
+    fn write_at(&mut self, _at: u64, _bytes: &[u8]) -> Result<(), DiskFailed> {
+        self.disk = self.disk.saturating_add(1);
+        Err(DiskFailed)
+    }
+
+    fn cut(&mut self, _length: u64) -> Result<(), DiskFailed> {
+        self.disk = self.disk.saturating_add(1);
+        Err(DiskFailed)
+    }
+
+    fn sync(&mut self) -> Result<(), DiskFailed> {
+        self.disk = self.disk.saturating_add(1);
+        Err(DiskFailed)
+    }
+}
+
+// The status of a run, and what it put.
+#[derive(Drop)]
+struct Ended {
+    status: u8,
+    bytes: Vec<u8>,
+}
+
+// Runs `words` where the expression file is `expression` and the actions file is `actions`.
+fn run_on(
+    alloc: Global,
+    words: &[&str],
+    expression: &[u8],
+    actions: &[u8],
+    failing: Option<u64>,
+) -> Result<Ended, Fail> {
+    let mut texts = Vec::new(alloc);
+    for word in words {
+        texts.push(String::from_str(alloc, word)?)?;
+    }
+    let mut files = Folder {
+        name: "expression",
+        expression,
+        actions,
+        faults: 0,
+    };
+    let mut site = Nowhere {
+        attached: false,
+        disk: 0,
+        wire: 0,
+        send: 0,
+    };
+    let mut out = Page {
+        bytes: Vec::new(alloc),
+        puts: 0,
+        failing,
+        faults: 0,
+    };
+    let status = manage(alloc, &texts, &mut files, &mut site, &mut out);
+    Ok(Ended {
+        status,
+        bytes: out.bytes,
+    })
+}
+
+const TRACE: [&str; 3] = ["trace", "expression", "actions"];
+
+#[test]
+fn texts_are_answered(rt: HostRuntime) -> Result<(), Fail> {
+    let alloc = rt.alloc();
+    let cases: [(&[u8], &[u8], u8, &[u8]); 12] = [
+        (b"a - b | c", b"a\nb\n", 0, b"yes\nyes\ncomplete\n"),
+        (b"a - b | c", b"c", 0, b"yes\ncomplete\n"),
+        (b"a - b", b"", 0, b"partial\n"),
+        (
+            b" a\n-b ",
+            b"b\na\na\nb\n",
+            0,
+            b"no\nyes\nno\nyes\ncomplete\n",
+        ),
+        (b"a", b"\n", 3, b"refused actions 0 at 0\n"),
+        (b"a", b"a\n9", 3, b"refused actions 0 at 0\n"),
+        (b"a", b"any\n", 3, b"refused actions 0 at 0\n"),
+        (b"a | - b", b"", 3, b"refused expression 0 at 0\n"),
+        (b"", b"", 3, b"refused expression 0 at 0\n"),
+        (b"a b", b"", 3, b"refused expression 0 at 0\n"),
+        (b"times", b"", 3, b"refused expression 0 at 0\n"),
+        (
+            b"n23456789_123456789_123456789_123",
+            b"",
+            3,
+            b"refused expression 0 at 0\n",
+        ),
+    ];
+    for (expression, actions, status, bytes) in cases {
+        let got = run_on(alloc, &TRACE, expression, actions, None)?;
+        assert_eq!(rt; got.status, status);
+        assert!(rt; got.bytes.as_slice() == bytes, "what {expression:?} puts");
+    }
+    Ok(())
+}
+
+#[test]
+fn runs_without_an_answer_end(rt: HostRuntime) -> Result<(), Fail> {
+    let alloc = rt.alloc();
+    let cases: [(&[&str], Option<u64>, u8, &[u8]); 6] = [
+        (&["fly"], None, 2, b"refused words\n"),
+        (&["trace", "x"], None, 2, b"refused words\n"),
+        (
+            &["trace", "x", "actions"],
+            None,
+            4,
+            b"refused file expression\n",
+        ),
+        (
+            &["trace", "expression", "x"],
+            None,
+            4,
+            b"refused file actions\n",
+        ),
+        (&TRACE, Some(0), 10, b""),
+        (&TRACE, Some(2), 10, b"yes\nyes\n"),
+    ];
+    for (words, failing, status, bytes) in cases {
+        let got = run_on(alloc, words, b"a - b", b"a\nb", failing)?;
+        assert_eq!(rt; got.status, status);
+        assert!(rt; got.bytes.as_slice() == bytes, "what {words:?} puts");
+    }
+    Ok(())
+}
+
+#[test]
+fn the_longest_texts_are_read(rt: HostRuntime) -> Result<(), Fail> {
+    let alloc = rt.alloc();
+    let mut text = vec![in alloc; b' '; 16384]?;
+    text[16383] = b'a';
+    let read = run_on(alloc, &TRACE, &text, b"", None)?;
+    assert_eq!(rt;
+        (read.status, read.bytes.as_slice()),
+        (0, b"partial\n".as_slice())
+    );
+    text.push(b' ')?;
+    let refused = run_on(alloc, &TRACE, &text, b"", None)?;
+    assert_eq!(rt; refused.status, 3);
+    assert!(rt; refused.bytes.as_slice() == b"refused expression 1 at 16384\n".as_slice());
+    Ok(())
+}
+
+#[test]
+fn at_most_512_nodes_are_read(rt: HostRuntime) -> Result<(), Fail> {
+    let alloc = rt.alloc();
+    let mut text = Vec::new(alloc);
+    for _ in 0..255 {
+        text.extend_from_slice(b"a-")?;
+    }
+    text.push(b'a')?;
+    let read = run_on(alloc, &TRACE, &text, b"a", None)?;
+    assert_eq!(rt;
+        (read.status, read.bytes.as_slice()),
+        (0, b"yes\npartial\n".as_slice())
+    );
+    text.extend_from_slice(b"-a")?;
+    let refused = run_on(alloc, &TRACE, &text, b"a", None)?;
+    assert_eq!(rt; refused.status, 3);
+    assert!(rt; refused.bytes.as_slice() == b"refused expression 0 at 0\n".as_slice());
+    Ok(())
+}
