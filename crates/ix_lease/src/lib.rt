@@ -1,0 +1,122 @@
+//! The one reservation: a slot that is free, or held by a ticket up to a deadline.
+#![tactic(auto)]
+
+ghost use Rattle.std.specs.Prelude.{◌≡◌, ◌+◌, ◌-◌, ◌^◌, ◌↔◌, min, IsTrue};
+
+use ix_values::Action;
+
+/// A place for one reservation.
+#[derive(Clone, Copy, Debug)]
+pub enum Slot {
+    Free,
+    Held {
+        ticket: u64,
+        action: Action,
+        /// The first moment at which the reservation isn't open any more, in milliseconds.
+        deadline: u64,
+    },
+}
+
+/// What taking a slot answers.
+#[derive(Clone, Copy, Debug)]
+pub enum Take {
+    /// The action of the reservation, which is spent.
+    Taken(Action),
+    /// The slot is held with this ticket, and isn't open.
+    Expired,
+    /// The slot isn't held with this ticket.
+    NoSuch,
+}
+
+/// The deadline of a lease that begins at this moment: their sum, and at most 2^64 - 1.
+pub fn deadline_of(moment: u64, lease: u32) -> u64
+    ensures { result ≡ min (moment + lease) (2 ^ 64 - 1) }
+{
+    moment.saturating_add(u64::from(lease))
+}
+
+impl Slot {
+    ghost use Rattle.ix_lease.specs.Slots.{IsOpenAt, Takes};
+
+    /// Whether the slot is held, and the moment is below its deadline.
+    pub fn is_open_at(&self, moment: u64) -> bool
+        ensures { IsTrue result ↔ IsOpenAt self.now moment }
+    {
+        match self {
+            Slot::Free => false,
+            Slot::Held { deadline, .. } => moment < *deadline,
+        }
+    }
+
+    /// Spends the reservation of this ticket where it is open. Else the slot stays as it is.
+    pub fn take(&mut self, ticket: u64, moment: u64) -> Take
+        ensures { Takes self.old ticket moment result self.new }
+    {
+        let Slot::Held {
+            ticket: held,
+            action,
+            deadline,
+        } = self
+        else {
+            return Take::NoSuch;
+        };
+        if *held != ticket {
+            return Take::NoSuch;
+        }
+        if moment >= *deadline {
+            return Take::Expired;
+        }
+        let taken = Take::Taken(*action);
+        *self = Slot::Free;
+        taken
+    }
+}
+
+#[cfg(test)]
+mod tests {
+    use super::*;
+    use ix_values::{Name, Value};
+    use std::test::Fail;
+
+    /// A reservation by ticket 7, with this deadline.
+    fn held(deadline: u64) -> Option<Slot> {
+        let action = Action::new(Name::read(b"call")?, &[Value::read(b"p1")?]);
+        Some(Slot::Held {
+            ticket: 7,
+            action,
+            deadline,
+        })
+    }
+
+    #[test]
+    fn a_lease_at_its_deadline(rt: HostRuntime) -> Result<(), Fail> {
+        for (deadline, moment, open) in [
+            (1500, 1499, true),
+            (1500, 1500, false),
+            (1500, 1501, false),
+            (u64::MAX, u64::MAX - 1, true),
+            (u64::MAX, u64::MAX, false),
+        ] {
+            let mut slot = held(deadline).ok_or("a slot")?;
+            assert_eq!(rt; slot.is_open_at(moment), open, "{deadline} at {moment}");
+            assert!(rt; matches!(slot.take(8, moment), Take::NoSuch));
+            let take = slot.take(7, moment);
+            assert_eq!(rt;
+                matches!(take, Take::Taken(_)),
+                open,
+                "{deadline} at {moment}"
+            );
+            assert_eq!(rt; matches!(slot, Slot::Free), open, "{deadline} at {moment}");
+            assert!(rt; matches!(slot.take(7, moment), Take::NoSuch) || !open);
+        }
+        Ok(())
+    }
+
+    #[test]
+    fn deadlines(rt: HostRuntime) {
+        assert_eq!(rt; deadline_of(0, 86_400_000), 86_400_000);
+        assert_eq!(rt; deadline_of(1000, 500), 1500);
+        assert_eq!(rt; deadline_of(u64::MAX, 1), u64::MAX);
+        assert!(rt; !Slot::Free.is_open_at(0));
+    }
+}

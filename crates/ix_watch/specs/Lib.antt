@@ -1,0 +1,4 @@
+pub mod Watches
+pub mod Pairs
+pub mod Added
+pub mod Kept
