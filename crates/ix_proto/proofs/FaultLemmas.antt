@@ -1,0 +1,100 @@
+-- No request's line has a fault.
+use Rattle.std.proofs.Common.{◌≡◌, ℕ, ◌+◌, ◌<◌, ◌^◌, ◌==◌, inl, inr, if◌then◌else◌, List, [], ◌∷◌, length, get_or, suc, arith, refl, sym, ◌∙◌, ap, subst}
+use Rattle.std.specs.Fmt.{decimal}
+use Rattle.ix_values.specs.Faults.{IsActionText}
+use Rattle.ix_values.specs.PlainAction.{PlainAction, text_of}
+use Rattle.ix_values.specs.Texts.{IsAction}
+use Rattle.ix_proto.specs.Numbers.{IsNumberText}
+use Rattle.ix_proto.specs.Requests.{ask, confirm, cancel, may, watch, drop_watch, poll, status, log, stop, IsLease}
+use Rattle.ix_proto.specs.RequestFaults.{Part, an_action, a_name, a_number, a_lease, IsPart, IsPartFault, IsFirstFault, IsFaultBehind, verb_word, parts_of, IsLeaseText, IsRequestFault}
+use Rattle.ix_proto.specs.RequestLaws.{FaultsTellNoRequest}
+use Rattle.ix_proto.specs.declared.request.Verb.{Verb}
+use Rattle.ix_proto.specs.declared.request.Verb.TheVariants as verb
+
+-- each word is what it has to be
+abbrev pub AreParts : List Part → List (List ℕ) → Type 0
+AreParts [] [] = Unit {0}
+AreParts [] (word ∷ words) = ⊥
+AreParts (part ∷ parts) [] = ⊥
+AreParts (part ∷ parts) (word ∷ words) = IsPart part word × AreParts parts words
+
+same_length : (parts : List Part) (words : List (List ℕ)) → AreParts parts words → length words ≡ length parts
+same_length [] [] h = refl
+same_length (part ∷ parts) (word ∷ words) h = ap suc (same_length parts words h.1)
+same_length [] (word ∷ words) h = absurd h
+same_length (part ∷ parts) [] h = absurd h
+
+no_part_fault : (part : Part) (word : List ℕ) (code : ℕ) → IsPart part word → ¬ IsPartFault part word code
+no_part_fault an_action word code h f = f.0 h
+no_part_fault a_name word code h f = f.0 h
+no_part_fault a_number word code h f = f.0 h
+no_part_fault a_lease word code h (inl f) = f.0 (h.0, h.1)
+no_part_fault a_lease word code h (inr f) = f.1 h
+
+no_first_fault : (parts : List Part) (words : List (List ℕ)) (code : ℕ) → AreParts parts words → ¬ IsFirstFault parts words code
+no_first_fault [] words code h f = absurd f
+no_first_fault (part ∷ parts) [] code h f = absurd f
+no_first_fault (part ∷ parts) (word ∷ words) code h (inl f) = no_part_fault part word code h.0 f
+no_first_fault (part ∷ parts) (word ∷ words) code h (inr f) = no_first_fault parts words code h.1 f.1
+
+no_fault_behind : (parts : List Part) (words : List (List ℕ)) (code : ℕ) → AreParts parts words → ¬ IsFaultBehind parts words code
+no_fault_behind parts words code h (inl f) = f.0 (same_length parts words h)
+no_fault_behind parts words code h (inr f) = no_first_fault parts words code h f.1
+
+-- the first words differ in the sum of their first three bytes
+abbrev pub verb_from : ℕ → Verb
+verb_from sum =
+    if sum == 319 then verb.Ask else
+    if sum == 320 then verb.Confirm else
+    if sum == 306 then verb.Cancel else
+    if sum == 327 then verb.May else
+    if sum == 332 then verb.Watch else
+    if sum == 325 then verb.Drop else
+    if sum == 331 then verb.Poll else
+    if sum == 328 then verb.Status else
+    if sum == 322 then verb.Log else verb.Stop
+
+from_word : List ℕ → Verb
+from_word word = verb_from (get_or word 0 0 + get_or word 1 0 + get_or word 2 0)
+
+verb_again : (v : Verb) → from_word (verb_word v) ≡ v
+unfolding from_word
+verb_again verb.Ask = refl
+verb_again verb.Confirm = refl
+verb_again verb.Cancel = refl
+verb_again verb.May = refl
+verb_again verb.Watch = refl
+verb_again verb.Drop = refl
+verb_again verb.Poll = refl
+verb_again verb.Status = refl
+verb_again verb.Log = refl
+verb_again verb.Stop = refl
+
+pub same_verb : (j k : Verb) → verb_word j ≡ verb_word k → j ≡ k
+same_verb j k e = sym (verb_again j) ∙ ap from_word e ∙ verb_again k
+
+no_fault : (v : Verb) (words : List (List ℕ)) (code : ℕ) → AreParts (parts_of v) words → ¬ IsRequestFault (verb_word v ∷ words) code
+no_fault v words code h (inl f) = f.0 v refl
+no_fault v words code h (inr (w, e, f)) =
+    no_fault_behind (parts_of w) words code (subst (λ z. AreParts (parts_of z) words) (same_verb v w e) h) f
+
+action_text : (action : PlainAction) → IsAction action → IsActionText (text_of action)
+action_text action h = record { action = action; valid = h; same = refl }
+
+number_text : (n : ℕ) → n < 2 ^ 64 → IsNumberText (decimal n)
+number_text n h = (n, record { same = refl; fits = h })
+
+lease_text : (n : ℕ) → IsLease n → IsLeaseText (decimal n)
+lease_text n h = (n, record { same = refl; fits = omega (arith, h.high) }, h)
+
+pub faults_tell_no_request : FaultsTellNoRequest
+faults_tell_no_request (ask action lease) code h f = no_fault verb.Ask _ code (action_text action h.0, (lease_text lease h.1, tt)) f
+faults_tell_no_request (confirm ticket) code h f = no_fault verb.Confirm _ code (number_text ticket h, tt) f
+faults_tell_no_request (cancel ticket) code h f = no_fault verb.Cancel _ code (number_text ticket h, tt) f
+faults_tell_no_request (may action) code h f = no_fault verb.May _ code (action_text action h, tt) f
+faults_tell_no_request (watch name action) code h f = no_fault verb.Watch _ code (h.0, (action_text action h.1, tt)) f
+faults_tell_no_request (drop_watch name action) code h f = no_fault verb.Drop _ code (h.0, (action_text action h.1, tt)) f
+faults_tell_no_request (poll name) code h f = no_fault verb.Poll _ code (h, tt) f
+faults_tell_no_request status code h f = no_fault verb.Status _ code tt f
+faults_tell_no_request (log place) code h f = no_fault verb.Log _ code (number_text place h, tt) f
+faults_tell_no_request stop code h f = no_fault verb.Stop _ code tt f

@@ -1,0 +1,5 @@
+use Rattle.ix_proto.proofs.RepliesApart.{replies_apart}
+use Rattle.ix_proto.proofs.laws.texts_tell_replies_apart.Goals as goal
+
+pub returns : goal.returns
+returns c = replies_apart

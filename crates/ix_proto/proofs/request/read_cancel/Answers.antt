@@ -1,0 +1,13 @@
+use Rattle.std.proofs.Common.{refl}
+use Rattle.ix_proto.specs.Requests.{cancel}
+use Rattle.ix_proto.proofs.RequestLemmas.{first_and_one}
+use Rattle.ix_proto.proofs.request.read_cancel.Goals as goal
+
+pub returns : goal.returns
+returns c =
+    record {
+      plain = cancel c.in_ok-number.number;
+      valid = c.in_ok-number.ensures.fits;
+      lends = refl;
+      same = first_and_one c.in_ok-word.ensures c.in_ok-number.ensures.same;
+    }

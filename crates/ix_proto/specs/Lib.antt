@@ -1,0 +1,7 @@
+pub mod Words
+pub mod Numbers
+pub mod Requests
+pub mod RequestFaults
+pub mod Replies
+pub mod ReplyParts
+pub mod RequestLaws

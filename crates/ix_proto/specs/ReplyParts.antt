@@ -1,0 +1,74 @@
+-- A reply's text as its first word and what stands behind it.
+use Rattle.std.specs.Prelude.{◌≡◌, ℕ, ◌<◌, ◌^◌, Option, Some, None, List, ◌∷◌, ◌++◌, codes}
+use Rattle.std.specs.Fmt.{decimal}
+use Rattle.ix_values.specs.PlainAction.{text_of}
+use Rattle.ix_proto.specs.Replies.{IsReply, IsRefusal, yes_or_no, complete_or_partial, with_number, has_number, refusal_text}
+use Rattle.ix_proto.specs.declared.reply.Reply.{Reply}
+use Rattle.ix_proto.specs.declared.reply.Reply.TheVariants.{Granted, Confirmed, Cancelled, May, Watching, Dropped, Changes, Change, Status, Entry, Stopping, Refused}
+use Rattle.ix_proto.specs.declared.reply_read.Kind.{Kind}
+use Rattle.ix_proto.specs.declared.reply_read.Kind.TheVariants as kind
+
+-- the first words
+abbrev pub kind_word : Kind → List ℕ
+kind_word kind.Granted = codes "granted"
+kind_word kind.Confirmed = codes "confirmed"
+kind_word kind.Cancelled = codes "cancelled"
+kind_word (kind.Answer answer) = yes_or_no answer
+kind_word kind.Watching = codes "watching"
+kind_word kind.Dropped = codes "dropped"
+kind_word kind.Changes = codes "changes"
+kind_word kind.Status = codes "status"
+kind_word kind.Entry = codes "entry"
+kind_word kind.Stopping = codes "stopping"
+kind_word kind.Refused = codes "refused"
+
+-- the first word of a reply
+abbrev pub kind_of : Reply → Kind
+kind_of (Granted ticket) = kind.Granted
+kind_of (Confirmed count) = kind.Confirmed
+kind_of (Cancelled ticket) = kind.Cancelled
+kind_of (May answer) = kind.Answer answer
+kind_of (Watching answer) = kind.Watching
+kind_of Dropped = kind.Dropped
+kind_of (Changes count) = kind.Changes
+kind_of (Change answer action) = kind.Answer answer
+kind_of (Status complete count nodes) = kind.Status
+kind_of (Entry place action) = kind.Entry
+kind_of Stopping = kind.Stopping
+kind_of (Refused code number) = kind.Refused
+
+-- `nodes`, a space and the number
+abbrev pub nodes_text : ℕ → List ℕ
+nodes_text nodes = codes "nodes " ++ decimal nodes
+
+-- what stands behind the first word and a space
+abbrev pub behind : Reply → Option (List ℕ)
+behind (Granted ticket) = Some (decimal ticket)
+behind (Confirmed count) = Some (decimal count)
+behind (Cancelled ticket) = Some (decimal ticket)
+behind (May answer) = None
+behind (Watching answer) = Some (yes_or_no answer)
+behind Dropped = None
+behind (Changes count) = Some (decimal count)
+behind (Change answer action) = Some (text_of action)
+behind (Status complete count nodes) = Some (complete_or_partial complete ++ 32 ∷ (decimal count ++ 32 ∷ nodes_text nodes))
+behind (Entry place action) = Some (decimal place ++ 32 ∷ text_of action)
+behind Stopping = None
+behind (Refused code number) = Some (decimal code ++ 32 ∷ with_number (has_number code) (refusal_text code) number)
+
+-- a reply of this first word, with this text behind it
+pub record StandsBehind (kind : Kind) (rest : Option (List ℕ)) (reply : Reply) : Type 0 where
+  pub valid : IsReply reply
+  pub kind_is : kind_of reply ≡ kind
+  pub rest_is : behind reply ≡ rest
+
+-- a number, a space and a text
+pub record IsNumberAnd (text : List ℕ) (number : ℕ) (tail : List ℕ) : Type 0 where
+  pub fits : number < 2 ^ 64
+  pub same : text ≡ decimal number ++ 32 ∷ tail
+
+-- the text is that of the code, with the number where it has one
+pub record IsRefusalBehind (code : ℕ) (text : List ℕ) (number : ℕ) : Type 0 where
+  pub fits : number < 2 ^ 64
+  pub told : IsRefusal code number
+  pub same : text ≡ with_number (has_number code) (refusal_text code) number

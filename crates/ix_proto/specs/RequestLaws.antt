@@ -1,0 +1,8 @@
+-- What holds of requests and faults.
+use Rattle.std.specs.Prelude.{ℕ}
+use Rattle.ix_proto.specs.Requests.{PlainRequest, IsRequest, request_words}
+use Rattle.ix_proto.specs.RequestFaults.{IsRequestFault}
+
+-- no request's line has a fault
+abbrev pub FaultsTellNoRequest : Type 0
+FaultsTellNoRequest = (request : PlainRequest) (code : ℕ) → IsRequest request → ¬ IsRequestFault (request_words request) code

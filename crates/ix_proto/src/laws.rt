@@ -1,0 +1,14 @@
+//! Laws of requests and replies.
+
+ghost use Rattle.ix_proto.specs.Replies.{TextsTellRepliesApart};
+ghost use Rattle.ix_proto.specs.RequestLaws.{FaultsTellNoRequest};
+
+/// Two replies with one text are the same reply, so a text that is written reads back as its reply.
+pub fn texts_tell_replies_apart()
+    ensures { TextsTellRepliesApart }
+{}
+
+/// No request's line has a fault.
+pub fn faults_tell_no_request()
+    ensures { FaultsTellNoRequest }
+{}

@@ -1,0 +1,18 @@
+//! Requests and replies: their texts, read and written.
+#![tactic(auto)]
+
+pub mod laws;
+mod number;
+mod parts;
+mod reply;
+mod reply_read;
+mod request;
+mod request_fault;
+mod words;
+
+pub use reply::Reply;
+pub use request::Request;
+pub use request_fault::RequestFault;
+
+#[cfg(test)]
+mod tests;

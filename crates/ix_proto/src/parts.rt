@@ -1,0 +1,107 @@
+//! The words behind a request's first word.
+
+ghost use Rattle.std.specs.Prelude.{◌≡◌, ◌≢◌, [], ◌∷◌, length, MatchResult};
+ghost use Rattle.std.specs.Option.{option_copied};
+ghost use Rattle.ix_values.specs.Faults.{IsActionText};
+ghost use Rattle.ix_values.specs.Texts.{IsName};
+ghost use Rattle.ix_proto.specs.Numbers.{IsNumber};
+ghost use Rattle.ix_proto.specs.Requests.{IsLease};
+ghost use Rattle.ix_proto.specs.RequestFaults.{an_action, a_name, a_number, a_lease, IsPartFault};
+ghost use Rattle.ix_proto.specs.Words.{words_behind};
+
+use crate::number::read_number;
+use crate::request_fault::RequestFault;
+use crate::words::split_word;
+use ix_values::{Action, Name};
+
+/// The longest lease, in milliseconds.
+const LONGEST_LEASE: u64 = 86_400_000;
+
+/// No further word.
+pub(crate) fn no_words(rest: Option<&[u8]>) -> Result<(), RequestFault>
+    ensures { MatchResult result
+        (λ _. words_behind (option_copied rest.entry) ≡ [])
+        (λ fault. (length (words_behind (option_copied rest.entry)) ≢ 0) × (fault.code ≡ 15)) }
+{
+    match rest {
+        None => Ok(()),
+        Some(text) => {
+            let _words = split_word(text);
+            Err(RequestFault { code: 15 })
+        }
+    }
+}
+
+/// One further word.
+pub(crate) fn one_word(rest: Option<&[u8]>) -> Result<&[u8], RequestFault>
+    ensures { MatchResult result
+        (λ word. words_behind (option_copied rest.entry) ≡ word.now ∷ [])
+        (λ fault. (length (words_behind (option_copied rest.entry)) ≢ 1) × (fault.code ≡ 15)) }
+{
+    let Some(text) = rest else {
+        return Err(RequestFault { code: 15 });
+    };
+    let (word, behind) = split_word(text);
+    no_words(behind)?;
+    Ok(word)
+}
+
+/// Two further words.
+pub(crate) fn two_words(rest: Option<&[u8]>) -> Result<(&[u8], &[u8]), RequestFault>
+    ensures { MatchResult result
+        (λ words. words_behind (option_copied rest.entry) ≡ words.0.now ∷ words.1.now ∷ [])
+        (λ fault. (length (words_behind (option_copied rest.entry)) ≢ 2) × (fault.code ≡ 15)) }
+{
+    let Some(text) = rest else {
+        return Err(RequestFault { code: 15 });
+    };
+    let (first, behind) = split_word(text);
+    let second = one_word(behind)?;
+    Ok((first, second))
+}
+
+/// The word, if it is an action's text.
+pub(crate) fn action_word(word: &[u8]) -> Result<&[u8], RequestFault>
+    ensures { MatchResult result
+        (λ text. (text.now ≡ word.now) × IsActionText word.now)
+        (λ fault. IsPartFault an_action word.now fault.code) }
+{
+    match Action::read(word) {
+        Ok(_action) => Ok(word),
+        Err(_) => Err(RequestFault { code: 12 }),
+    }
+}
+
+/// The word, if it is a name.
+pub(crate) fn name_word(word: &[u8]) -> Result<&[u8], RequestFault>
+    ensures { MatchResult result
+        (λ text. (text.now ≡ word.now) × IsName word.now)
+        (λ fault. IsPartFault a_name word.now fault.code) }
+{
+    match Name::read(word) {
+        Some(_name) => Ok(word),
+        None => Err(RequestFault { code: 16 }),
+    }
+}
+
+/// The number, if the word is one's text.
+pub(crate) fn number_word(word: &[u8]) -> Result<u64, RequestFault>
+    ensures { MatchResult result
+        (λ number. IsNumber word.now number)
+        (λ fault. IsPartFault a_number word.now fault.code) }
+{
+    read_number(word).ok_or(RequestFault { code: 13 })
+}
+
+/// The lease in milliseconds, if the word is one's text.
+pub(crate) fn lease_word(word: &[u8]) -> Result<u32, RequestFault>
+    ensures { MatchResult result
+        (λ lease. IsNumber word.now lease × IsLease lease)
+        (λ fault. IsPartFault a_lease word.now fault.code) }
+{
+    let lease = number_word(word)?;
+    if lease < 1 || lease > LONGEST_LEASE {
+        return Err(RequestFault { code: 14 });
+    }
+    Ok(lease as u32)
+}

@@ -1,0 +1,213 @@
+//! The reader of requests.
+
+ghost use Rattle.std.specs.Prelude.{codes, ◌≡◌, ◌≢◌, ◌⊎◌, [], ◌∷◌, length, MatchOption, MatchResult, IsTrue};
+ghost use Rattle.std.specs.Fmt.{decimal};
+ghost use Rattle.std.specs.Option.{option_copied};
+ghost use Rattle.ix_values.specs.Faults.{IsActionText};
+ghost use Rattle.ix_values.specs.Texts.{IsName};
+ghost use Rattle.ix_proto.specs.Numbers.{IsNumber};
+ghost use Rattle.ix_proto.specs.Requests.{Reads, IsLease};
+ghost use Rattle.ix_proto.specs.RequestFaults.{an_action, a_name, a_number, a_lease, verb_word, parts_of, IsPartFault, IsFaultBehind, IsRequestFault};
+ghost use Rattle.ix_proto.specs.Words.{words_of, words_behind};
+
+use crate::parts::{
+    action_word, lease_word, name_word, no_words, number_word, one_word, two_words,
+};
+use crate::request_fault::RequestFault;
+use crate::words::split_word;
+
+/// A request. Its texts are words of the line that it was read from: each `action` is an action's text, and each
+/// `name` a name.
+#[derive(Clone, Copy, Debug, PartialEq, Eq)]
+pub enum Request<'a> {
+    /// May this action be done? If so it is reserved for `lease` milliseconds, 1 to 86400000.
+    Ask { action: &'a [u8], lease: u32 },
+    /// The action of this ticket was done.
+    Confirm(u64),
+    /// The action of this ticket won't be done.
+    Cancel(u64),
+    /// Is this action permitted now?
+    May(&'a [u8]),
+    /// Watch this action under this name.
+    Watch { name: &'a [u8], action: &'a [u8] },
+    /// Watch this action under this name no longer.
+    Drop { name: &'a [u8], action: &'a [u8] },
+    /// What has changed for the watches of this name?
+    Poll(&'a [u8]),
+    Status,
+    /// Which action is the one of this number, counted from 1?
+    Log(u64),
+    Stop,
+}
+
+/// The first word of a request.
+#[derive(Clone, Copy)]
+pub(crate) enum Verb {
+    Ask,
+    Confirm,
+    Cancel,
+    May,
+    Watch,
+    Drop,
+    Poll,
+    Status,
+    Log,
+    Stop,
+}
+
+impl<'a> Request<'a> {
+    /// The request of a line, which is given without its byte 10, or its first fault. Takes no memory.
+    pub fn read(line: &'a [u8]) -> Result<Request<'a>, RequestFault>
+        ensures { MatchResult result
+            (λ request. Reads (words_of line.now) request)
+            (λ fault. IsRequestFault (words_of line.now) fault.code) }
+    {
+        let (word, rest) = split_word(line);
+        match read_verb(word) {
+            Some(verb) => read_behind(verb, rest),
+            None => Err(RequestFault { code: 11 }),
+        }
+    }
+}
+
+/// The request that begins with a word, by what stands behind it.
+fn read_behind(verb: Verb, rest: Option<&[u8]>) -> Result<Request<'_>, RequestFault>
+    ensures { MatchResult result
+        (λ request. Reads (verb_word verb ∷ words_behind (option_copied rest.entry)) request)
+        (λ fault. IsFaultBehind (parts_of verb) (words_behind (option_copied rest.entry)) fault.code) }
+{
+    match verb {
+        Verb::Ask => read_ask(rest),
+        Verb::Confirm => read_confirm(rest),
+        Verb::Cancel => read_cancel(rest),
+        Verb::May => read_may(rest),
+        Verb::Watch => read_watch(rest),
+        Verb::Drop => read_drop(rest),
+        Verb::Poll => read_poll(rest),
+        Verb::Status => read_status(rest),
+        Verb::Log => read_log(rest),
+        Verb::Stop => read_stop(rest),
+    }
+}
+
+/// The request that begins with this word, if there is one.
+fn read_verb(word: &[u8]) -> Option<Verb>
+    ensures { MatchOption result
+        ((verb : Verb) → word.now ≢ verb_word verb)
+        (λ verb. word.now ≡ verb_word verb) }
+{
+    match word {
+        b"ask" => Some(Verb::Ask),
+        b"confirm" => Some(Verb::Confirm),
+        b"cancel" => Some(Verb::Cancel),
+        b"may" => Some(Verb::May),
+        b"watch" => Some(Verb::Watch),
+        b"drop" => Some(Verb::Drop),
+        b"poll" => Some(Verb::Poll),
+        b"status" => Some(Verb::Status),
+        b"log" => Some(Verb::Log),
+        b"stop" => Some(Verb::Stop),
+        _ => None,
+    }
+}
+
+fn read_ask(rest: Option<&[u8]>) -> Result<Request<'_>, RequestFault>
+    ensures { MatchResult result
+        (λ request. Reads (codes "ask" ∷ words_behind (option_copied rest.entry)) request)
+        (λ fault. IsFaultBehind (parts_of Verb.Ask) (words_behind (option_copied rest.entry)) fault.code) }
+{
+    let (action, lease) = two_words(rest)?;
+    let action = action_word(action)?;
+    let lease = lease_word(lease)?;
+    Ok(Request::Ask { action, lease })
+}
+
+fn read_confirm(rest: Option<&[u8]>) -> Result<Request<'_>, RequestFault>
+    ensures { MatchResult result
+        (λ request. Reads (codes "confirm" ∷ words_behind (option_copied rest.entry)) request)
+        (λ fault. IsFaultBehind (parts_of Verb.Confirm) (words_behind (option_copied rest.entry)) fault.code) }
+{
+    let word = one_word(rest)?;
+    let number = number_word(word)?;
+    Ok(Request::Confirm(number))
+}
+
+fn read_cancel(rest: Option<&[u8]>) -> Result<Request<'_>, RequestFault>
+    ensures { MatchResult result
+        (λ request. Reads (codes "cancel" ∷ words_behind (option_copied rest.entry)) request)
+        (λ fault. IsFaultBehind (parts_of Verb.Cancel) (words_behind (option_copied rest.entry)) fault.code) }
+{
+    let word = one_word(rest)?;
+    let number = number_word(word)?;
+    Ok(Request::Cancel(number))
+}
+
+fn read_log(rest: Option<&[u8]>) -> Result<Request<'_>, RequestFault>
+    ensures { MatchResult result
+        (λ request. Reads (codes "log" ∷ words_behind (option_copied rest.entry)) request)
+        (λ fault. IsFaultBehind (parts_of Verb.Log) (words_behind (option_copied rest.entry)) fault.code) }
+{
+    let word = one_word(rest)?;
+    let number = number_word(word)?;
+    Ok(Request::Log(number))
+}
+
+fn read_may(rest: Option<&[u8]>) -> Result<Request<'_>, RequestFault>
+    ensures { MatchResult result
+        (λ request. Reads (codes "may" ∷ words_behind (option_copied rest.entry)) request)
+        (λ fault. IsFaultBehind (parts_of Verb.May) (words_behind (option_copied rest.entry)) fault.code) }
+{
+    let word = one_word(rest)?;
+    let action = action_word(word)?;
+    Ok(Request::May(action))
+}
+
+fn read_poll(rest: Option<&[u8]>) -> Result<Request<'_>, RequestFault>
+    ensures { MatchResult result
+        (λ request. Reads (codes "poll" ∷ words_behind (option_copied rest.entry)) request)
+        (λ fault. IsFaultBehind (parts_of Verb.Poll) (words_behind (option_copied rest.entry)) fault.code) }
+{
+    let word = one_word(rest)?;
+    let name = name_word(word)?;
+    Ok(Request::Poll(name))
+}
+
+fn read_watch(rest: Option<&[u8]>) -> Result<Request<'_>, RequestFault>
+    ensures { MatchResult result
+        (λ request. Reads (codes "watch" ∷ words_behind (option_copied rest.entry)) request)
+        (λ fault. IsFaultBehind (parts_of Verb.Watch) (words_behind (option_copied rest.entry)) fault.code) }
+{
+    let (name, action) = two_words(rest)?;
+    let name = name_word(name)?;
+    let action = action_word(action)?;
+    Ok(Request::Watch { name, action })
+}
+
+fn read_drop(rest: Option<&[u8]>) -> Result<Request<'_>, RequestFault>
+    ensures { MatchResult result
+        (λ request. Reads (codes "drop" ∷ words_behind (option_copied rest.entry)) request)
+        (λ fault. IsFaultBehind (parts_of Verb.Drop) (words_behind (option_copied rest.entry)) fault.code) }
+{
+    let (name, action) = two_words(rest)?;
+    let name = name_word(name)?;
+    let action = action_word(action)?;
+    Ok(Request::Drop { name, action })
+}
+
+fn read_status(rest: Option<&[u8]>) -> Result<Request<'_>, RequestFault>
+    ensures { MatchResult result
+        (λ request. Reads (codes "status" ∷ words_behind (option_copied rest.entry)) request)
+        (λ fault. IsFaultBehind (parts_of Verb.Status) (words_behind (option_copied rest.entry)) fault.code) }
+{
+    no_words(rest)?;
+    Ok(Request::Status)
+}
+
+fn read_stop(rest: Option<&[u8]>) -> Result<Request<'_>, RequestFault>
+    ensures { MatchResult result
+        (λ request. Reads (codes "stop" ∷ words_behind (option_copied rest.entry)) request)
+        (λ fault. IsFaultBehind (parts_of Verb.Stop) (words_behind (option_copied rest.entry)) fault.code) }
+{
+    no_words(rest)?;
+    Ok(Request::Stop)
+}
