@@ -4,7 +4,8 @@ use Rattle.std.specs.Prelude.{codes}
 use Rattle.ix_values.specs.PlainAction.{PlainAction, Word}
 use Rattle.ix_expr.specs.Form.{Form}
 use Rattle.ix_expr.specs.Meaning.{IsPartial}
-use Rattle.ix_manage.specs.Trace.{Answers, done, yes, no, line}
+use Rattle.ix_manage.specs.ActionLines.{line}
+use Rattle.ix_manage.specs.Trace.{Answers, done, yes, no}
 
 -- a permitted action
 pub answers_yes : (x : Form) (history word after : Word) (a : PlainAction) → after ≡ history ++ a ∷ [] → word ≡ after → IsPartial x [] word → Answers x history (a ∷ []) (line (codes "yes")) after

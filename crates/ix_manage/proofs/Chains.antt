@@ -6,7 +6,8 @@ use Rattle.ix_words.specs.Words.{Joined}
 use Rattle.ix_values.specs.PlainAction.{Word}
 use Rattle.ix_expr.specs.Form.{Form, atom, seq}
 use Rattle.ix_expr.specs.Meaning.{IsComplete, IsPartial}
-use Rattle.ix_manage.specs.Built.{IsChain, NoFront, Says}
+use Rattle.ix_manage.specs.Built.{IsChain}
+use Rattle.ix_manage.specs.Walk.{NoFront, Says}
 use Rattle.ix_manage.specs.declared.check.Progress.{Progress}
 use Rattle.ix_manage.specs.declared.check.Progress.TheVariants.{Through, Within, Against}
 

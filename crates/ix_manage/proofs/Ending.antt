@@ -1,59 +1,56 @@
 -- How a run ends, by what its parts say.
-use Rattle.std.proofs.Common.{◌≡◌, ℕ, List, Option, refl, subst}
-use Rattle.ix_expr.specs.Form.{Form, atom, seq, or}
+use Rattle.std.proofs.Common.{◌≡◌, ℕ, ◌≤◌, List, Option, Result, Ok, Err, IfOk, IfErr, IsErrOf, length, subst}
+use Rattle.ix_expr.specs.Form.{Form}
 use Rattle.ix_outside.specs.Files.{Listing, HasFile}
-use Rattle.ix_manage.specs.ActionLines.{IsActionsText, actions_in}
-use Rattle.ix_manage.specs.Built.{IsBuilt, IsChain}
 use Rattle.ix_manage.specs.Command.{NamesTrace}
-use Rattle.ix_manage.specs.PlainText.{IsExpressionText, IsOperand, IsSequence, operand, Grouped, single, longer}
-use Rattle.ix_manage.specs.Refusal.{refusal_line, refusal_status, RefusesExpression, RefusesActions}
-use Rattle.ix_manage.specs.Trace.{ReadsForm, Traces, Ends, no_form, long_expression, bad_line, long_actions, lost_expression, lost_actions, no_memory, traced}
+use Rattle.ix_manage.specs.Refusal.{refusal_line, refusal_status, RefusesExpression, RefusesActions, RefusesText}
+use Rattle.ix_manage.specs.Texts.{HasTextFault, ReadsText}
+use Rattle.ix_manage.specs.Trace.{within, ReadsForm, Traces, TracesLines, Ends, bad_text, bad_actions, lost_expression, lost_actions, no_memory, traced}
 use Rattle.ix_manage.specs.declared.refusal.Refusal.{Refusal}
-use Rattle.ix_manage.specs.declared.refusal.Refusal.TheVariants.{Words, NoForm, LongExpression, LostExpression, BadLine, LongActions, LostActions, Memory}
+use Rattle.ix_manage.specs.declared.refusal.Refusal.TheVariants.{Words, BadText, LostExpression, BadActions, LostActions, Memory}
 
-operand_chain : {text : List ℕ} {x : Form} → IsOperand text x → IsChain x
-operand_chain (operand before name after front plain back) = refl
+module _ (files : Option Listing) (name text passed : List ℕ) (same : passed ≡ text) (file : HasFile files name text) where
+  -- a text that is read is that of the file
+  pub read_ok : (r : Result Form Refusal) → IfOk r (ReadsText passed) → IfOk r (ReadsForm files name)
+  read_ok (Ok x) reads = record { text = text; file = file; reads = subst (λ t. ReadsText t x) same reads }
+  read_ok (Err refusal) reads = tt
 
-chain : {parts : List (List ℕ)} {x : Form} → Grouped seq IsOperand parts x → IsChain x
-chain (single stands) = operand_chain stands
-chain (longer group stands) = (chain group, operand_chain stands)
+  -- what refuses the text refuses the file
+  pub read_err : (r : Result Form Refusal) → IfErr r (RefusesText passed) → IfErr r (RefusesExpression files name)
+  read_err (Ok x) why = tt
+  read_err (Err (BadText code at)) why = within file (subst (λ t. HasTextFault t code at) same why)
+  read_err (Err Memory) why = why
+  read_err (Err Words) why = absurd why
+  read_err (Err LostExpression) why = absurd why
+  read_err (Err (BadActions code at)) why = absurd why
+  read_err (Err LostActions) why = absurd why
 
-chain_built : (x : Form) → IsChain x → IsBuilt x
-chain_built (atom x) h = h
-chain_built (seq y z) h = h
-chain_built _ h = absurd h
-
-built : {parts : List (List ℕ)} {x : Form} → Grouped or IsSequence parts x → IsBuilt x
-built (single {x = x} stands) = chain_built x (chain stands)
-built (longer {y = y} group stands) = (built group, chain_built y (chain stands))
-
--- what a text stands for can be checked
-pub text_built : {text : List ℕ} {x : Form} → IsExpressionText text x → IsBuilt x
-text_built stands = built stands.disjunction
+-- a text is never lost
+pub never_lost : (text : List ℕ) (r : Result Form Refusal) → IfErr r (RefusesText text) → IsErrOf r LostExpression → ⊥
+never_lost text (Ok x) why is = cc
+never_lost text (Err refusal) why is =
+    let lost : refusal ≡ LostExpression = cc in subst (RefusesText text) lost why
 
 module _ (words : List (List ℕ)) (files : Option Listing) (expression actions : List ℕ) (names : NamesTrace words expression actions) where
   pub refused_expression : (refusal : Refusal) → RefusesExpression files expression refusal → Ends words files (refusal_status refusal) (refusal_line refusal)
-  refused_expression NoForm why = no_form names why
-  refused_expression LongExpression why = long_expression names why
+  refused_expression (BadText code at) why = bad_text names why
   refused_expression LostExpression why = lost_expression names
   refused_expression Memory why = no_memory names
   refused_expression Words why = absurd why
-  refused_expression BadLine why = absurd why
-  refused_expression LongActions why = absurd why
+  refused_expression (BadActions code at) why = absurd why
   refused_expression LostActions why = absurd why
 
   pub refused_actions : (x : Form) → ReadsForm files expression x → (refusal : Refusal) → RefusesActions files actions refusal → Ends words files (refusal_status refusal) (refusal_line refusal)
-  refused_actions x reads BadLine why = bad_line names reads why
-  refused_actions x reads LongActions why = long_actions names reads why
+  refused_actions x reads (BadActions code at) why = bad_actions names reads why
   refused_actions x reads LostActions why = lost_actions names reads
   refused_actions x reads Memory why = no_memory names
   refused_actions x reads Words why = absurd why
-  refused_actions x reads NoForm why = absurd why
-  refused_actions x reads LongExpression why = absurd why
+  refused_actions x reads (BadText code at) why = absurd why
   refused_actions x reads LostExpression why = absurd why
 
-  pub trace_ends_run : (x : Form) (then : Option Listing) (bytes passed : List ℕ) (status : ℕ) (text : List ℕ) → ReadsForm files expression x
-      → then ≡ files → HasFile then actions bytes → IsActionsText bytes → passed ≡ bytes → Traces x (actions_in passed) status text → Ends words files status text
-  trace_ends_run x then bytes passed status text reads same file stands is trace =
-      traced names reads (record { bytes = bytes; file = subst (λ f. HasFile f actions bytes) same file; stands = stands; same = refl })
-      (subst (λ b. Traces x (actions_in b) status text) is trace)
+  pub trace_ends_run : (x y : Form) (then : Option Listing) (bytes passed : List ℕ) (status : ℕ) (text : List ℕ) → ReadsForm files expression x
+      → y ≡ x → then ≡ files → HasFile then actions bytes → length bytes ≤ 67108864 → passed ≡ bytes → TracesLines y passed status text → Ends words files status text
+  trace_ends_run x y then bytes passed status text reads form same file short is trace =
+      let read = subst (λ b. TracesLines y b status text) is trace in
+      traced names reads (record { bytes = bytes; file = subst (λ f. HasFile f actions bytes) same file; short = short; has = read.has })
+      (subst (λ z. Traces z read.actions status text) form read.traces)

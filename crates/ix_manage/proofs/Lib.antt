@@ -1,7 +1,7 @@
 pub mod FirstParts
 pub mod Chains
-pub mod PlainTexts
 pub mod LineLists
 pub mod Answering
 pub mod Tracing
 pub mod Ending
+pub mod BadLines

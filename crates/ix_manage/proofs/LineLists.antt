@@ -1,14 +1,10 @@
 -- Lines, and lists of a known length.
-use Rattle.std.proofs.Common.{◌≡◌, ◌↔◌, ℕ, ◌<◌, ◌≤◌, true, List, [], ◌∷◌, ◌++◌, length, get_or, Option, Some, None, MatchOption, refl, sym, ap, subst, ◌∙◌, arith}
-use Rattle.std.specs.Option.{is_some, option_to_list, IsSome}
+use Rattle.std.proofs.Common.{◌≡◌, ℕ, ◌<◌, ◌≤◌, List, [], ◌∷◌, ◌++◌, length, get_or, Option, Some, None, refl, sym, ap, subst, ◌∙◌, arith}
+use Rattle.std.specs.Option.{option_to_list, IsSome}
 use Rattle.std.specs.List.{slice_split, join_with_byte}
 use Rattle.std.proofs.lemmas.Bool.{false≢true}
 use Rattle.std.proofs.lemmas.List.Splits.{length-slice_split, join_with_byte-slice_split}
-use Rattle.ix_words.specs.Each.{Each, no_item, item}
-use Rattle.ix_words.proofs.Each.{Each-tail}
-use Rattle.ix_values.specs.PlainAction.{PlainAction}
-use Rattle.ix_manage.specs.ActionLines.{is_line_end, without_empty_end, lines_of, plain_action}
-use Rattle.ix_manage.specs.PlainText.{IsPlainName}
+use Rattle.ix_manage.specs.ActionLines.{is_line_end, without_empty_end, lines_of}
 
 no_empty_end : (part : List ℕ) → 0 < length part → without_empty_end (part ∷ []) ≡ part ∷ []
 no_empty_end [] some = absurd (omega arith)
@@ -30,26 +26,10 @@ pub lines_of-more : (bytes part rest : List ℕ) → slice_split is_line_end byt
 lines_of-more bytes part rest cut =
     ap without_empty_end cut ∙ behind_first part (slice_split is_line_end rest) (let long = length-slice_split is_line_end rest in omega arith)
 
--- one more line that is a name
-pub names_step : (bytes rest next line : List ℕ) → lines_of rest ≡ line ∷ lines_of next → IsPlainName line
-    → (Each IsPlainName (lines_of rest) ↔ Each IsPlainName (lines_of bytes)) → (Each IsPlainName (lines_of next) ↔ Each IsPlainName (lines_of bytes))
-names_step bytes rest next line cut name so_far = (
-  λ each. so_far.0 (subst (Each IsPlainName) (sym cut) (item name each)),
-  λ each. Each-tail (subst (Each IsPlainName) cut (so_far.1 each)),
-)
-
 -- there are no lines where there are no bytes
 pub lines_of-none : (bytes : List ℕ) → length bytes ≡ 0 → lines_of bytes ≡ []
 lines_of-none [] none = refl
 lines_of-none (byte ∷ bytes) none = absurd (omega arith)
-
-pub names_end : (bytes rest : List ℕ) → length rest ≡ 0 → (Each IsPlainName (lines_of rest) ↔ Each IsPlainName (lines_of bytes)) → Each IsPlainName (lines_of bytes)
-names_end bytes rest none so_far = so_far.0 (subst (Each IsPlainName) (sym (lines_of-none rest none)) no_item)
-
--- what is read as an action is a plain name
-pub name_there : (line : List ℕ) (o : Option PlainAction) → is_some o ≡ true → MatchOption o (IsPlainName line → ⊥) (λ action. (action ≡ plain_action line) × IsPlainName line) → IsPlainName line
-name_there line None some h = absurd (false≢true some)
-name_there line (Some action) some h = h.1
 
 module _ {A : Type 0} where
   pub three_items : (xs : List A) (a b c : A) → 3 ≤ length xs → length xs < 4 → a ≡ get_or xs 0 a → b ≡ get_or xs 1 b → c ≡ get_or xs 2 c → xs ≡ a ∷ b ∷ c ∷ []

@@ -1,12 +1,17 @@
 -- A trace so far, and how it goes on.
 use Rattle.std.proofs.Common.{◌≡◌, ℕ, List, [], ◌∷◌, ◌++◌, length, map, Option, Some, None, refl, sym, ap, subst, ◌∙◌, append_assoc}
+use Rattle.std.specs.Prelude.{codes}
 use Rattle.std.specs.Io.KnownBytes.{append_known}
-use Rattle.std.proofs.lemmas.List.{append-nil}
-use Rattle.ix_values.specs.PlainAction.{PlainAction, Word}
+use Rattle.std.proofs.lemmas.List.{append-nil, map-append}
+use Rattle.ix_words.specs.Each.{Each, no_item, item}
+use Rattle.ix_words.proofs.Each.{Each-append}
+use Rattle.ix_values.specs.Faults.{IsActionText}
+use Rattle.ix_values.specs.PlainAction.{PlainAction, Word, text_of}
+use Rattle.ix_values.specs.Texts.{IsAction}
 use Rattle.ix_expr.specs.Form.{Form}
 use Rattle.ix_outside.specs.Sink.{AppendsPart}
-use Rattle.ix_manage.specs.ActionLines.{actions_in, lines_of, plain_action}
-use Rattle.ix_manage.specs.Trace.{Answers, Traces, Verdict, whole}
+use Rattle.ix_manage.specs.ActionLines.{HasActions, line, lines_of}
+use Rattle.ix_manage.specs.Trace.{Answers, TracesLines, Verdict, whole, short}
 use Rattle.ix_manage.proofs.LineLists.{lines_of-none}
 
 pub append_nothing : (known : Option (List ℕ)) → known ≡ append_known known []
@@ -34,22 +39,61 @@ part_on start now after first second behind put part =
       append_on start now after first front put part.2,
     )
 
--- one action more stands before what is left
-pub front_step : (all rest next name : List ℕ) (front : Word) (action : PlainAction) → lines_of rest ≡ name ∷ lines_of next → action ≡ plain_action name → front ++ actions_in rest ≡ actions_in all → (front ++ action ∷ []) ++ actions_in next ≡ actions_in all
-front_step all rest next name front action cut named so_far =
-    append_assoc front (action ∷ []) (actions_in next)
-    ∙ ap (λ a. front ++ a ∷ actions_in next) named
-    ∙ ap (λ actions. front ++ actions) (sym (ap (map plain_action) cut)) ∙ so_far
-
--- nothing is left
-pub front_end : (all rest : List ℕ) (front : Word) → length rest ≡ 0 → front ++ actions_in rest ≡ actions_in all → front ≡ actions_in all
-front_end all rest front none so_far = sym (append-nil front) ∙ ap (λ actions. front ++ actions) (sym (ap (map plain_action) (lines_of-none rest none))) ∙ so_far
-
 -- the same, with nothing behind
 pub part_last : (start now after : Option (List ℕ)) (first second : List ℕ) → now ≡ append_known start first → AppendsPart now second after → AppendsPart start (first ++ second) after
 part_last start now after first second put part = subst (λ text. AppendsPart start text after) (append-nil (first ++ second)) (part_on start now after first second [] put part)
 
+-- the lines before what is left are the texts of these actions
+pub record StandBefore (all rest : List ℕ) (front : Word) : Type 0 where
+  pub valid : Each IsAction front
+  pub lines : lines_of all ≡ map text_of front ++ lines_of rest
+
+pub front_start : (all : List ℕ) → StandBefore all all []
+front_start all = record { valid = no_item; lines = refl }
+
+-- one action more stands before what is left
+pub front_step : (all rest next text : List ℕ) (front : Word) (action : PlainAction) → lines_of rest ≡ text ∷ lines_of next
+    → IsAction action → text_of action ≡ text → StandBefore all rest front → StandBefore all next (front ++ action ∷ [])
+front_step all rest next text front action cut valid named so_far = record {
+  valid = Each-append so_far.valid (item valid no_item);
+  lines =
+      so_far.lines ∙ ap (λ lines. map text_of front ++ lines) (cut ∙ ap (λ t. t ∷ lines_of next) (sym named))
+      ∙ sym (append_assoc (map text_of front) (text_of action ∷ []) (lines_of next))
+      ∙ ap (λ lines. lines ++ lines_of next) (sym (map-append text_of front (action ∷ [])));
+}
+
+-- nothing is left
+front_end : (all rest : List ℕ) (front : Word) → length rest ≡ 0 → StandBefore all rest front → HasActions all front
+front_end all rest front none so_far = record {
+  valid = so_far.valid;
+  lines = so_far.lines ∙ ap (λ lines. map text_of front ++ lines) (lines_of-none rest none) ∙ append-nil (map text_of front);
+}
+
+-- lines that are texts of actions are those of some word
+word_of : (lines : List (List ℕ)) → Each IsActionText lines → (word : Word) × Each IsAction word × (lines ≡ map text_of word)
+word_of [] no_item = ([], no_item, refl)
+word_of (text ∷ lines) (item good more) =
+    let rest = word_of lines more in
+    (good.action ∷ rest.0, item good.valid rest.1, ap (λ t. t ∷ lines) good.same ∙ ap (λ ts. text_of good.action ∷ ts) rest.2)
+
+-- memory runs out with some lines left
+pub trace_short : (x : Form) (all rest : List ℕ) (front history : Word) (text : List ℕ) → StandBefore all rest front → Each IsActionText (lines_of rest)
+    → Answers x [] front text history → TracesLines x all 9 (text ++ line (codes "refused memory"))
+trace_short x all rest front history text so_far good answers =
+    let behind = word_of (lines_of rest) good in record {
+      actions = front ++ behind.0;
+      has = record {
+        valid = Each-append so_far.valid behind.1;
+        lines = so_far.lines ∙ ap (λ lines. map text_of front ++ lines) behind.2 ∙ sym (map-append text_of front behind.0);
+      };
+      traces = short behind.0 refl answers;
+    }
+
 -- all actions are answered
-pub trace_ends : (x : Form) (all rest : List ℕ) (front history word : Word) (text last : List ℕ) → length rest ≡ 0 → front ++ actions_in rest ≡ actions_in all → Answers x [] front text history → word ≡ history → Verdict x word last → Traces x (actions_in all) 0 (text ++ last)
-trace_ends x all rest front history word text last none so_far answers same verdict =
-    whole (subst (λ actions. Answers x [] actions text history) (front_end all rest front none so_far) answers) (subst (λ w. Verdict x w last) same verdict)
+pub trace_ends : (x : Form) (all rest : List ℕ) (front history word : Word) (text last : List ℕ) → length rest ≡ 0 → StandBefore all rest front
+    → Answers x [] front text history → word ≡ history → Verdict x word last → TracesLines x all 0 (text ++ last)
+trace_ends x all rest front history word text last none so_far answers same verdict = record {
+  actions = front;
+  has = front_end all rest front none so_far;
+  traces = whole answers (subst (λ w. Verdict x w last) same verdict);
+}

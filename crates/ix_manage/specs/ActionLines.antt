@@ -1,9 +1,14 @@
 -- The lines of an actions file.
-use Rattle.std.specs.Prelude.{ℕ, ◌≤◌, Bool, ◌==◌, List, [], ◌∷◌, length, map}
-use Rattle.std.specs.List.{slice_split}
+use Rattle.std.specs.Prelude.{◌≡◌, ℕ, ◌+◌, Bool, ◌==◌, List, [], ◌∷◌, ◌++◌, length, map}
+use Rattle.std.specs.List.{flat_map, slice_split}
 use Rattle.ix_words.specs.Each.{Each}
-use Rattle.ix_values.specs.PlainAction.{PlainAction, Word, action_of}
-use Rattle.ix_manage.specs.PlainText.{IsPlainName}
+use Rattle.ix_values.specs.Faults.{IsActionText, IsFault}
+use Rattle.ix_values.specs.PlainAction.{Word, text_of}
+use Rattle.ix_values.specs.Texts.{IsAction}
+
+-- the line of a text, with its byte 10
+abbrev pub line : List ℕ → List ℕ
+line text = text ++ 10 ∷ []
 
 -- byte 10
 abbrev pub is_line_end : ℕ → Bool
@@ -20,15 +25,22 @@ without_empty_end (part ∷ next ∷ parts) = part ∷ without_empty_end (next �
 abbrev pub lines_of : List ℕ → List (List ℕ)
 lines_of bytes = without_empty_end (slice_split is_line_end bytes)
 
--- the action of a name
-abbrev pub plain_action : List ℕ → PlainAction
-plain_action name = action_of name []
+-- the lines are the texts of these actions
+pub record HasActions (bytes : List ℕ) (actions : Word) : Type 0 where
+  pub valid : Each IsAction actions
+  pub lines : lines_of bytes ≡ map text_of actions
 
--- the actions that the lines name
-abbrev pub actions_in : List ℕ → Word
-actions_in bytes = map plain_action (lines_of bytes)
+-- the bytes that these lines take, each with its byte 10
+abbrev pub bytes_of : List (List ℕ) → ℕ
+bytes_of lines = length (flat_map line lines)
 
--- the text of an actions file: each line is a plain name
-pub record IsActionsText (bytes : List ℕ) : Type 0 where
-  pub short : length bytes ≤ 67108864
-  pub names : Each IsPlainName (lines_of bytes)
+-- the first line that is no action's text has this fault, whose place is counted in the bytes
+pub record IsFirstBadLine (bytes : List ℕ) (code at : ℕ) : Type 0 where
+  pub before : List (List ℕ)
+  pub bad : List ℕ
+  pub behind : List (List ℕ)
+  pub within : ℕ
+  pub split : lines_of bytes ≡ before ++ bad ∷ behind
+  pub good : Each IsActionText before
+  pub fault : IsFault bad code within
+  pub place : at ≡ bytes_of before + within

@@ -1,9 +1,9 @@
 pub mod Command
-pub mod PlainText
 pub mod ActionLines
+pub mod Built
+pub mod Texts
 pub mod Trace
 pub mod Parts
-pub mod Built
-pub mod Blanks
+pub mod Walk
 pub mod Refusal
 pub mod Run

@@ -1,12 +1,13 @@
-// The lines of an actions file, each of them a plain name.
-ghost use Rattle.std.specs.Prelude.{◌≡◌, ◌<◌, ◌↔◌, ◌∷◌, IsTrue, length, MatchOption};
+// The lines of an actions file, each of them an action's text.
+ghost use Rattle.std.specs.Prelude.{◌≡◌, ◌+◌, ◌^◌, ◌<◌, ◌≤◌, ◌∷◌, length, MatchOption};
 ghost use Rattle.ix_words.specs.Each.{Each};
-ghost use Rattle.ix_manage.specs.ActionLines.{lines_of, plain_action};
-ghost use Rattle.ix_manage.specs.PlainText.{IsPlainName};
+ghost use Rattle.ix_values.specs.Faults.{IsActionText};
+ghost use Rattle.ix_values.specs.PlainAction.{text_of};
+ghost use Rattle.ix_values.specs.Texts.{IsAction};
+ghost use Rattle.ix_manage.specs.ActionLines.{IsFirstBadLine, lines_of};
 
 use crate::parts::first_part;
-use ix_expr::Atom;
-use ix_values::{Action, Name};
+use ix_values::{Action, ActionFault};
 
 /// The most bytes of an actions file.
 pub const MOST_BYTES: usize = 67_108_864;
@@ -23,6 +24,8 @@ pub fn first_line(bytes: &[u8]) -> FirstLine<'_>
     requires { 0 < length bytes.now }
     ensures lines { lines_of bytes.now ≡ result.line.now ∷ lines_of result.rest.now }
     ensures shorter { length result.rest.now < length bytes.now }
+    ensures within { length result.line.now ≤ length bytes.now }
+    ensures place { 0 < length result.rest.now → length result.line.now + 1 + length result.rest.now ≡ length bytes.now }
 {
     let first = first_part(b'\n', bytes);
     match first.rest {
@@ -37,30 +40,41 @@ pub fn first_line(bytes: &[u8]) -> FirstLine<'_>
     }
 }
 
-/// The action that a line names, or None where it isn't a plain name.
-pub fn read_action(line: &[u8]) -> Option<Action>
-    ensures { MatchOption result (IsPlainName line.now → ⊥) (λ action. (action ≡ plain_action line.now) × IsPlainName line.now) }
+/// The action whose text the line is.
+pub fn read_action(line: &[u8]) -> Action
+    requires { IsActionText line.now }
+    ensures valid { IsAction result }
+    ensures same { text_of result ≡ line.now }
 {
-    let Some(name) = Name::read(line) else {
-        return None;
-    };
-    if Atom::new(name, &[]).is_none() {
-        return None;
+    match Action::read(line) {
+        Ok(action) => action,
+        Err(_) => unreachable!(),
     }
-    Some(Action::new(name, &[]))
 }
 
-/// Whether each line is a plain name.
-pub fn are_names(bytes: &[u8]) -> bool
-    ensures { IsTrue result ↔ Each IsPlainName (lines_of bytes.now) }
+/// The fault of the first line that is no action's text, its place counted in the bytes, or None where there is none.
+pub fn first_fault(bytes: &[u8]) -> Option<ActionFault>
+    ensures { MatchOption result (Each IsActionText (lines_of bytes.now)) (λ fault. IsFirstBadLine bytes.now fault.code fault.at) }
 {
     let mut rest = bytes;
     while !rest.is_empty() {
         let first = first_line(rest);
-        if read_action(first.line).is_none() {
-            return false;
+        match Action::read(first.line) {
+            Ok(_) => rest = first.rest,
+            Err(fault) => return Some(moved(fault, bytes.len() - rest.len())),
         }
-        rest = first.rest;
     }
-    true
+    None
+}
+
+// The fault, its place counted from the front of so many more bytes.
+fn moved(fault: ActionFault, more: usize) -> ActionFault
+    requires { more + fault.at < 2 ^ 64 }
+    ensures code { result.code ≡ fault.code }
+    ensures at { result.at ≡ more + fault.at }
+{
+    ActionFault {
+        code: fault.code,
+        at: more + fault.at,
+    }
 }

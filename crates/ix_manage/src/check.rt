@@ -1,11 +1,11 @@
-// Whether a word is partial or complete, for expressions of plain names, `-` and `|`.
-ghost use Rattle.std.specs.Prelude.{◌≡◌, ◌↔◌, [], IsTrue};
+// Whether a word is partial or complete, for expressions of atoms, `-` and `|`.
+ghost use Rattle.std.specs.Prelude.{◌↔◌, [], IsTrue};
 ghost use Rattle.ix_expr.specs.FormOf.{form_of};
 ghost use Rattle.ix_expr.specs.Meaning.{IsComplete, IsPartial};
-ghost use Rattle.ix_expr.specs.Environment.{Matches};
-ghost use Rattle.ix_manage.specs.Built.{IsBuilt, IsChain, Says};
+ghost use Rattle.ix_manage.specs.Built.{IsBuilt, IsChain};
+ghost use Rattle.ix_manage.specs.Walk.{Says};
 
-use ix_expr::{Atom, Expr};
+use ix_expr::{Env, Expr, matches};
 use ix_values::Action;
 
 /// How far a chain of atoms leads along a word.
@@ -70,7 +70,7 @@ fn walk(chain: &Expr, word: &[Action]) -> Progress
     match chain {
         Expr::Atom(atom) => match word {
             [] => Progress::Within,
-            [first, ..] if is_match(atom, first) => Progress::Through(1),
+            [first, ..] if matches(atom, &Env::new(), first) => Progress::Through(1),
             _ => Progress::Against,
         },
         Expr::Seq(front, back) => match walk(front, word) {
@@ -82,12 +82,4 @@ fn walk(chain: &Expr, word: &[Action]) -> Progress
         },
         _ => unreachable!(),
     }
-}
-
-// Whether an atom without arguments matches an action.
-fn is_match(atom: &Atom, action: &Action) -> bool
-    requires { atom.now.arguments ≡ [] }
-    ensures { IsTrue result ↔ Matches atom.now [] action.now }
-{
-    action.values().is_empty() && atom.name() == action.name()
 }

@@ -8,10 +8,10 @@ ghost use Rattle.ix_outside.specs.Sink.{AppendsPart};
 ghost use Rattle.ix_manage.specs.Trace.{Ends};
 
 mod actions;
+mod built;
 mod check;
 mod load;
 mod parts;
-mod plain_text;
 mod refusal;
 mod run;
 mod trace;
@@ -25,8 +25,10 @@ use std::alloc::Global;
 ///
 /// The words are `trace EXPR ACTIONS`. What is put, and with which status a run ends, says `Ends`: the answers to
 /// the actions of the file ACTIONS by the expression of the file EXPR, and `complete` or `partial`, with status 0;
-/// or else a refusal, as its last line. A put that fails ends the run with status 10, and what went out by then is
-/// a front of such a text. A text that `files` doesn't tell may be any.
+/// or else a refusal, as its last line. A text that stands for no expression is refused with its first fault, one whose
+/// form isn't built with 15 at 0, and an actions file with the first line that is no action's text. A put that fails ends
+/// the run with status 10, and what went out by then is a front of such a text. A text that `files` doesn't tell may be
+/// any.
 pub fn manage<F: Files, S: Site, K: Sink>(
     alloc: Global,
     words: &[String],
@@ -62,7 +64,7 @@ pub fn manage<F: Files, S: Site, K: Sink>(
     match run(alloc, words, files, out) {
         Ok(()) => 0,
         Err(Stop::Output) => 10,
-        Err(Stop::Refused(refusal)) => match out.put(refusal.line()) {
+        Err(Stop::Refused(refusal)) => match out.put(&refusal.line()) {
             Ok(()) => refusal.status(),
             Err(_) => 10,
         },

@@ -1,22 +1,32 @@
 // Loads the two files of a trace.
-ghost use Rattle.std.specs.Prelude.{◌≡◌, ◌≤◌, IfOk, IfErr, IsErrOf};
-ghost use Rattle.ix_expr.specs.FormOf.{form_of};
+ghost use Rattle.std.specs.Prelude.{◌≡◌, ◌≤◌, IfOk, IfErr, IsErrOf, length};
+ghost use Rattle.ix_words.specs.Each.{Each};
+ghost use Rattle.ix_values.specs.Faults.{IsActionText};
 ghost use Rattle.ix_outside.specs.Counts.{Rose};
 ghost use Rattle.ix_outside.specs.Files.{HasFile};
-ghost use Rattle.ix_manage.specs.ActionLines.{IsActionsText};
-ghost use Rattle.ix_manage.specs.Refusal.{RefusesActions, RefusesExpression};
+ghost use Rattle.ix_manage.specs.ActionLines.{lines_of};
+ghost use Rattle.ix_manage.specs.Refusal.{RefusesActions, RefusesExpression, RefusesText};
+ghost use Rattle.ix_manage.specs.Texts.{ReadsText};
 ghost use Rattle.ix_manage.specs.Trace.{ReadsForm};
 
-use crate::actions::{self, are_names};
-use crate::plain_text::{self, read_expression};
+use crate::actions::{self, first_fault};
+use crate::built::is_built;
 use crate::refusal::Refusal;
-use ix_expr::Expr;
+use ix_expr::Expression;
 use ix_outside::{Files, LoadFault};
+use ix_parse::TextFault;
 use std::alloc::Global;
 
-/// The expression that the file of this name stands for.
-pub fn load_expression<F: Files>(alloc: Global, files: &mut F, name: &str) -> Result<Expr, Refusal>
-    ensures ok { IfOk result (λ expr. ReadsForm (F.contents files.old) name.now (form_of expr)) }
+/// The most bytes of an expression's text.
+const MOST_BYTES: usize = 16384;
+
+/// The expression that the file of this name stands for, where its form is built.
+pub fn load_expression<F: Files>(
+    alloc: Global,
+    files: &mut F,
+    name: &str,
+) -> Result<Expression, Refusal>
+    ensures ok { IfOk result (λ x. ReadsForm (F.contents files.old) name.now x) }
     ensures err { IfErr result (RefusesExpression (F.contents files.old) name.now) }
     ensures lost { IsErrOf result Refusal.LostExpression → Rose (F.faults files.old) (F.faults files.new) }
 
@@ -24,22 +34,37 @@ pub fn load_expression<F: Files>(alloc: Global, files: &mut F, name: &str) -> Re
     ensures files { F.contents files.new ≡ F.contents files.old }
     ensures held { F.held files.new ≡ F.held files.old }
 {
-    match files.load(alloc, name, plain_text::MOST_BYTES) {
-        Ok(text) => match read_expression(alloc, &text) {
-            Ok(Some(expr)) => Ok(expr),
-            Ok(None) => Err(Refusal::NoForm),
-            Err(_) => Err(Refusal::Memory),
-        },
+    match files.load(alloc, name, MOST_BYTES) {
+        Ok(text) => read_expression(alloc, &text),
         Err(LoadFault::Failed) => Err(Refusal::LostExpression),
-        Err(LoadFault::TooLong) => Err(Refusal::LongExpression),
+        Err(LoadFault::TooLong) => Err(Refusal::BadText { code: 1, at: 16384 }),
         Err(LoadFault::Memory) => Err(Refusal::Memory),
     }
 }
 
-/// The bytes of the actions file of this name, each line a plain name.
+// The expression that a text stands for, where its form is built.
+fn read_expression(alloc: Global, text: &[u8]) -> Result<Expression, Refusal>
+    ensures ok { IfOk result (ReadsText text.now) }
+    ensures err { IfErr result (RefusesText text.now) }
+{
+    match ix_parse::read(alloc, text) {
+        Ok(expression) => {
+            if is_built(expression.expr()) {
+                Ok(expression)
+            } else {
+                Err(Refusal::BadText { code: 15, at: 0 })
+            }
+        }
+        Err(TextFault::Bad { code, at }) => Err(Refusal::BadText { code, at }),
+        Err(TextFault::Memory) => Err(Refusal::Memory),
+    }
+}
+
+/// The bytes of the actions file of this name, each line an action's text.
 pub fn load_actions<F: Files>(alloc: Global, files: &mut F, name: &str) -> Result<Vec<u8>, Refusal>
     ensures file { IfOk result (λ bytes. HasFile (F.contents files.old) name.now bytes.items) }
-    ensures ok { IfOk result (λ bytes. IsActionsText bytes.items) }
+    ensures short { IfOk result (λ bytes. length bytes.items ≤ 67108864) }
+    ensures lines { IfOk result (λ bytes. Each IsActionText (lines_of bytes.items)) }
     ensures err { IfErr result (RefusesActions (F.contents files.old) name.now) }
     ensures lost { IsErrOf result Refusal.LostActions → Rose (F.faults files.old) (F.faults files.new) }
 
@@ -48,15 +73,18 @@ pub fn load_actions<F: Files>(alloc: Global, files: &mut F, name: &str) -> Resul
     ensures held { F.held files.new ≡ F.held files.old }
 {
     match files.load(alloc, name, actions::MOST_BYTES) {
-        Ok(bytes) => {
-            if are_names(&bytes) {
-                Ok(bytes)
-            } else {
-                Err(Refusal::BadLine)
-            }
-        }
+        Ok(bytes) => match first_fault(&bytes) {
+            None => Ok(bytes),
+            Some(fault) => Err(Refusal::BadActions {
+                code: fault.code,
+                at: fault.at,
+            }),
+        },
         Err(LoadFault::Failed) => Err(Refusal::LostActions),
-        Err(LoadFault::TooLong) => Err(Refusal::LongActions),
+        Err(LoadFault::TooLong) => Err(Refusal::BadActions {
+            code: 6,
+            at: 67_108_864,
+        }),
         Err(LoadFault::Memory) => Err(Refusal::Memory),
     }
 }

@@ -1,5 +1,5 @@
 // The parts of a text between bytes of one kind.
-ghost use Rattle.std.specs.Prelude.{◌≡◌, ◌==◌, ◌∷◌, ◌<◌, length, OnSome, IfSome};
+ghost use Rattle.std.specs.Prelude.{◌≡◌, ◌==◌, ◌∷◌, ◌+◌, ◌≤◌, length, IfSome};
 ghost use Rattle.std.specs.List.{slice_split};
 ghost use Rattle.ix_manage.specs.Parts.{parts_behind};
 
@@ -15,7 +15,8 @@ pub struct FirstPart<'a> {
 /// Cuts a text at the first byte `sign`.
 pub fn first_part(sign: u8, text: &[u8]) -> FirstPart<'_>
     ensures parts { slice_split (λ byte. byte == sign) text.now ≡ result.part.now ∷ parts_behind sign result.rest }
-    ensures shorter { IfSome result.rest (λ rest. length rest.now < length text.now) }
+    ensures within { length result.part.now ≤ length text.now }
+    ensures place { IfSome result.rest (λ rest. length result.part.now + 1 + length rest.now ≡ length text.now) }
 {
     match memchr(sign, text) {
         None => FirstPart {

@@ -1,21 +1,22 @@
 // Why a run ends before it has its answer.
-ghost use Rattle.std.specs.Prelude.{◌≡◌};
+ghost use Rattle.std.specs.Prelude.{◌≡◌, ◌+◌, ◌≤◌, [], ◌∷◌, ◌++◌, codes, length};
+ghost use Rattle.arrayvec.specs.ArrayVec.{array_vec_len};
+ghost use Rattle.ix_manage.specs.Trace.{fault_line};
+
+use arrayvec::ArrayVec;
+use itoa::Buffer;
 
 /// Why a run ends before it has its answer.
 #[derive(Clone, Copy)]
 pub enum Refusal {
     /// The words aren't `trace EXPR ACTIONS`.
     Words,
-    /// The expression file stands for no form.
-    NoForm,
-    /// The expression file is too long.
-    LongExpression,
+    /// The expression file has this fault.
+    BadText { code: u8, at: usize },
     /// The expression file couldn't be read.
     LostExpression,
-    /// A line of the actions file isn't a plain name.
-    BadLine,
-    /// The actions file is too long.
-    LongActions,
+    /// The actions file has this fault.
+    BadActions { code: u8, at: usize },
     /// The actions file couldn't be read.
     LostActions,
     /// There was no memory.
@@ -26,19 +27,19 @@ impl Refusal {
     ghost use Rattle.ix_manage.specs.Refusal.{refusal_line, refusal_status};
 
     /// The line that says why.
-    pub fn line(self) -> &'static [u8]
-        ensures { result.now ≡ refusal_line self }
+    pub fn line(self) -> ArrayVec<u8, 64>
+        ensures { result.items ≡ refusal_line self }
     {
+        let mut line = ArrayVec::new();
         match self {
-            Refusal::Words => b"refused words\n",
-            Refusal::NoForm => b"refused expression 0 at 0\n",
-            Refusal::LongExpression => b"refused expression 1 at 16384\n",
-            Refusal::LostExpression => b"refused file expression\n",
-            Refusal::BadLine => b"refused actions 0 at 0\n",
-            Refusal::LongActions => b"refused actions 6 at 67108864\n",
-            Refusal::LostActions => b"refused file actions\n",
-            Refusal::Memory => b"refused memory\n",
+            Refusal::Words => append(&mut line, b"refused words\n"),
+            Refusal::BadText { code, at } => append_fault(&mut line, b"expression", code, at),
+            Refusal::LostExpression => append(&mut line, b"refused file expression\n"),
+            Refusal::BadActions { code, at } => append_fault(&mut line, b"actions", code, at),
+            Refusal::LostActions => append(&mut line, b"refused file actions\n"),
+            Refusal::Memory => append(&mut line, b"refused memory\n"),
         }
+        line
     }
 
     /// The status of the run.
@@ -47,10 +48,34 @@ impl Refusal {
     {
         match self {
             Refusal::Words => 2,
-            Refusal::NoForm | Refusal::LongExpression | Refusal::BadLine | Refusal::LongActions =>
-                3,
+            Refusal::BadText { .. } | Refusal::BadActions { .. } => 3,
             Refusal::LostExpression | Refusal::LostActions => 4,
             Refusal::Memory => 9,
         }
+    }
+}
+
+// Writes the line of a fault of one of the two files behind nothing.
+fn append_fault(line: &mut ArrayVec<u8, 64>, file: &[u8], code: u8, at: usize)
+    requires empty { line.old.items ≡ [] }
+    requires short { length file.now ≤ 10 }
+    ensures { line.new.items ≡ fault_line file.now code at }
+{
+    append(line, b"refused ");
+    append(line, file);
+    append(line, b" ");
+    append(line, Buffer::new().format(code).as_bytes());
+    append(line, b" at ");
+    append(line, Buffer::new().format(at).as_bytes());
+    append(line, b"\n");
+}
+
+// Writes bytes behind those that the line holds.
+fn append(line: &mut ArrayVec<u8, 64>, bytes: &[u8])
+    requires { array_vec_len line.old + length bytes.now ≤ 64 }
+    ensures { line.new.items ≡ line.old.items ++ bytes.now }
+{
+    for byte in bytes {
+        line.push(*byte);
     }
 }

@@ -47,15 +47,15 @@ pub fn run<F: Files, K: Sink>(
     let Some(names) = file_names(words) else {
         return Err(Stop::Refused(Refusal::Words));
     };
-    let expr = match load_expression(alloc, files, names.expression) {
-        Ok(expr) => expr,
+    let expression = match load_expression(alloc, files, names.expression) {
+        Ok(expression) => expression,
         Err(refusal) => return Err(Stop::Refused(refusal)),
     };
     let actions = match load_actions(alloc, files, names.actions) {
         Ok(actions) => actions,
         Err(refusal) => return Err(Stop::Refused(refusal)),
     };
-    match trace(alloc, &expr, &actions, out) {
+    match trace(alloc, expression.expr(), &actions, out) {
         Ok(()) => Ok(()),
         Err(TraceFault::Memory) => Err(Stop::Refused(Refusal::Memory)),
         Err(TraceFault::Output) => Err(Stop::Output),

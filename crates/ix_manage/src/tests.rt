@@ -173,37 +173,76 @@ fn run_on(
 
 const TRACE: [&str; 3] = ["trace", "expression", "actions"];
 
+// Compares what is put, and the status, with what is wanted.
+fn check(
+    alloc: Global,
+    expression: &[u8],
+    actions: &[u8],
+    status: u8,
+    bytes: &[u8],
+) -> Result<bool, Fail> {
+    let got = run_on(alloc, &TRACE, expression, actions, None)?;
+    Ok(got.status == status && got.bytes.as_slice() == bytes)
+}
+
 #[test]
 fn texts_are_answered(rt: HostRuntime) -> Result<(), Fail> {
-    let alloc = rt.alloc();
-    let cases: [(&[u8], &[u8], u8, &[u8]); 12] = [
-        (b"a - b | c", b"a\nb\n", 0, b"yes\nyes\ncomplete\n"),
-        (b"a - b | c", b"c", 0, b"yes\ncomplete\n"),
-        (b"a - b", b"", 0, b"partial\n"),
-        (
-            b" a\n-b ",
-            b"b\na\na\nb\n",
-            0,
-            b"no\nyes\nno\nyes\ncomplete\n",
-        ),
-        (b"a", b"\n", 3, b"refused actions 0 at 0\n"),
-        (b"a", b"a\n9", 3, b"refused actions 0 at 0\n"),
-        (b"a", b"any\n", 3, b"refused actions 0 at 0\n"),
-        (b"a | - b", b"", 3, b"refused expression 0 at 0\n"),
-        (b"", b"", 3, b"refused expression 0 at 0\n"),
-        (b"a b", b"", 3, b"refused expression 0 at 0\n"),
-        (b"times", b"", 3, b"refused expression 0 at 0\n"),
+    let cases: [(&[u8], &[u8], &[u8]); 6] = [
+        (b"a - b | c", b"a\nb\n", b"yes\nyes\ncomplete\n"),
+        (b"(a - b) | c", b"c", b"yes\ncomplete\n"),
+        (b"a - b", b"", b"partial\n"),
+        (b" a\n-b ", b"b\na\na\nb\n", b"no\nyes\nno\nyes\ncomplete\n"),
+        (b"a(x)", b"a\na(y)\na(x)\n", b"no\nno\nyes\ncomplete\n"),
+        (b"a", b"any", b"no\npartial\n"),
+    ];
+    for (expression, actions, bytes) in cases {
+        let same = check(rt.alloc(), expression, actions, 0, bytes)?;
+        assert!(rt; same, "what {expression:?} puts");
+    }
+    Ok(())
+}
+
+#[test]
+fn faults_of_expressions_are_told(rt: HostRuntime) -> Result<(), Fail> {
+    let cases: [(&[u8], &[u8]); 15] = [
+        (b"a | - b", b"refused expression 3 at 4\n"),
+        (b"", b"refused expression 4 at 0\n"),
+        (b"all $p (a($p) - b)", b"refused expression 7 at 16\n"),
+        (b"a -", b"refused expression 4 at 3\n"),
+        (b"a ! b", b"refused expression 2 at 2\n"),
+        (b"a b", b"refused expression 3 at 2\n"),
+        (b"any $p a($q)", b"refused expression 5 at 7\n"),
+        (b"any $p any $p a($p)", b"refused expression 6 at 7\n"),
+        (b"all(x)", b"refused expression 12 at 0\n"),
+        (b"times", b"refused expression 12 at 0\n"),
+        (b"a(p,q,r,s,t)", b"refused expression 10 at 9\n"),
         (
             b"n23456789_123456789_123456789_123",
-            b"",
-            3,
-            b"refused expression 0 at 0\n",
+            b"refused expression 11 at 0\n",
         ),
+        (b"a & b", b"refused expression 15 at 0\n"),
+        (b"(a | b) - c", b"refused expression 15 at 0\n"),
+        (b"any $p a($p)", b"refused expression 15 at 0\n"),
     ];
-    for (expression, actions, status, bytes) in cases {
-        let got = run_on(alloc, &TRACE, expression, actions, None)?;
-        assert_eq!(rt; got.status, status);
-        assert!(rt; got.bytes.as_slice() == bytes, "what {expression:?} puts");
+    for (expression, bytes) in cases {
+        let same = check(rt.alloc(), expression, b"a", 3, bytes)?;
+        assert!(rt; same, "what {expression:?} puts");
+    }
+    Ok(())
+}
+
+#[test]
+fn faults_of_actions_are_told(rt: HostRuntime) -> Result<(), Fail> {
+    let cases: [(&[u8], &[u8]); 5] = [
+        (b"\n", b"refused actions 1 at 0\n"),
+        (b"a\n9", b"refused actions 1 at 2\n"),
+        (b"a(x,y,z,w,v)", b"refused actions 3 at 9\n"),
+        (b"a(x)\nb(\n9\n", b"refused actions 2 at 7\n"),
+        (b"a\n\na c\n", b"refused actions 1 at 2\n"),
+    ];
+    for (actions, bytes) in cases {
+        let same = check(rt.alloc(), b"a", actions, 3, bytes)?;
+        assert!(rt; same, "what {actions:?} puts");
     }
     Ok(())
 }
@@ -242,15 +281,11 @@ fn the_longest_texts_are_read(rt: HostRuntime) -> Result<(), Fail> {
     let alloc = rt.alloc();
     let mut text = vec![in alloc; b' '; 16384]?;
     text[16383] = b'a';
-    let read = run_on(alloc, &TRACE, &text, b"", None)?;
-    assert_eq!(rt;
-        (read.status, read.bytes.as_slice()),
-        (0, b"partial\n".as_slice())
-    );
+    let read = check(alloc, &text, b"", 0, b"partial\n")?;
+    assert!(rt; read);
     text.push(b' ')?;
-    let refused = run_on(alloc, &TRACE, &text, b"", None)?;
-    assert_eq!(rt; refused.status, 3);
-    assert!(rt; refused.bytes.as_slice() == b"refused expression 1 at 16384\n".as_slice());
+    let refused = check(alloc, &text, b"", 3, b"refused expression 1 at 16384\n")?;
+    assert!(rt; refused);
     Ok(())
 }
 
@@ -262,14 +297,10 @@ fn at_most_512_nodes_are_read(rt: HostRuntime) -> Result<(), Fail> {
         text.extend_from_slice(b"a-")?;
     }
     text.push(b'a')?;
-    let read = run_on(alloc, &TRACE, &text, b"a", None)?;
-    assert_eq!(rt;
-        (read.status, read.bytes.as_slice()),
-        (0, b"yes\npartial\n".as_slice())
-    );
+    let read = check(alloc, &text, b"a", 0, b"yes\npartial\n")?;
+    assert!(rt; read);
     text.extend_from_slice(b"-a")?;
-    let refused = run_on(alloc, &TRACE, &text, b"a", None)?;
-    assert_eq!(rt; refused.status, 3);
-    assert!(rt; refused.bytes.as_slice() == b"refused expression 0 at 0\n".as_slice());
+    let refused = check(alloc, &text, b"a", 3, b"refused expression 8 at 512\n")?;
+    assert!(rt; refused);
     Ok(())
 }

@@ -2,14 +2,14 @@
 ghost use Rattle.std.specs.Prelude.{◌≡◌, ◌≤◌, ℕ, List, [], ◌∷◌, ◌++◌, IfOk, OnOk, OnErr, IsErrOf, codes};
 ghost use Rattle.std.specs.Io.KnownBytes.{append_known};
 ghost use Rattle.ix_words.specs.Each.{Each};
+ghost use Rattle.ix_values.specs.Faults.{IsActionText};
 ghost use Rattle.ix_values.specs.PlainAction.{Word};
 ghost use Rattle.ix_expr.specs.FormOf.{form_of};
 ghost use Rattle.ix_outside.specs.Counts.{Rose};
 ghost use Rattle.ix_outside.specs.Sink.{AppendsPart};
-ghost use Rattle.ix_manage.specs.ActionLines.{actions_in, lines_of};
+ghost use Rattle.ix_manage.specs.ActionLines.{line, lines_of};
 ghost use Rattle.ix_manage.specs.Built.{IsBuilt};
-ghost use Rattle.ix_manage.specs.PlainText.{IsPlainName};
-ghost use Rattle.ix_manage.specs.Trace.{Answers, Traces, Verdict, line};
+ghost use Rattle.ix_manage.specs.Trace.{Answers, TracesLines, Verdict};
 
 use crate::actions::{first_line, read_action};
 use crate::check::{is_complete, is_partial};
@@ -35,15 +35,15 @@ pub fn trace<K: Sink>(
     out: &mut K,
 ) -> Result<(), TraceFault>
     requires built { IsBuilt (form_of expr.now) }
-    requires names { Each IsPlainName (lines_of actions.now) }
+    requires lines { Each IsActionText (lines_of actions.now) }
 
-    ensures whole { OnOk result ((text : List ℕ) × Traces (form_of expr.now) (actions_in actions.now) 0 text
+    ensures whole { OnOk result ((text : List ℕ) × TracesLines (form_of expr.now) actions.now 0 text
         × (K.written out.new ≡ append_known (K.written out.old) text)) }
     ensures memory { IsErrOf result TraceFault.Memory → (text : List ℕ)
-        × Traces (form_of expr.now) (actions_in actions.now) 9 (text ++ line (codes "refused memory"))
+        × TracesLines (form_of expr.now) actions.now 9 (text ++ line (codes "refused memory"))
         × (K.written out.new ≡ append_known (K.written out.old) text) }
     ensures output { IsErrOf result TraceFault.Output → (status : ℕ) × (text : List ℕ)
-        × Traces (form_of expr.now) (actions_in actions.now) status text
+        × TracesLines (form_of expr.now) actions.now status text
         × AppendsPart (K.written out.old) text (K.written out.new) }
     ensures failed { IsErrOf result TraceFault.Output → Rose (K.faults out.old) (K.faults out.new) }
     ensures count { K.faults out.old ≤ K.faults out.new }
@@ -53,9 +53,7 @@ pub fn trace<K: Sink>(
     let mut rest = actions;
     while !rest.is_empty() {
         let first = first_line(rest);
-        let Some(action) = read_action(first.line) else {
-            unreachable!();
-        };
+        let action = read_action(first.line);
         match answer(expr, &mut history, action, out) {
             Ok(()) => {}
             Err(fault) => return Err(fault),

@@ -1,9 +1,11 @@
-use Rattle.std.proofs.Common.{[], ◌++◌, Err, map, string_bytes, ap, subst}
+use Rattle.std.proofs.Common.{[], ◌++◌, Err, map, string_bytes, ap, subst, sym}
 use Rattle.std.specs.Prelude.{codes}
 use Rattle.ix_expr.specs.FormOf.{form_of}
 use Rattle.ix_manage.specs.Refusal.{RefusesActions}
-use Rattle.ix_manage.specs.Trace.{line, other_words}
-use Rattle.ix_manage.proofs.Ending.{text_built, refused_expression, refused_actions, trace_ends_run}
+use Rattle.ix_manage.specs.ActionLines.{line}
+use Rattle.ix_manage.specs.Built.{IsBuilt}
+use Rattle.ix_manage.specs.Trace.{other_words}
+use Rattle.ix_manage.proofs.Ending.{refused_expression, refused_actions, trace_ends_run}
 use Rattle.ix_manage.proofs.Tracing.{append_nothing}
 use Rattle.ix_manage.proofs.run.run.Goals as goal
 
@@ -22,21 +24,21 @@ pub returns-in-Err-load_actions-clause-refused : goal.returns-in-Err-load_action
 returns-in-Err-load_actions-clause-refused g c = (
   [],
   refused_actions (map string_bytes c.args.words.now) (g.F.Files.contents c.args.files.now) c.in-Some.names.expression.now c.in-Some.names.actions.now
-      c.in-Some.ensures (form_of c.in-Ok.expr) c.in-Ok.ensures.ok c.in-Err-load_actions.refusal
+      c.in-Some.ensures c.in-Ok.expression c.in-Ok.ensures.ok c.in-Err-load_actions.refusal
       (subst (λ files. RefusesActions files c.in-Some.names.actions.now c.in-Err-load_actions.refusal) c.in-Ok.ensures.files c.in-Err-load_actions.ensures.err),
   append_nothing _,
 )
 
 pub trace-requires-clause-built : goal.trace-requires-clause-built
-trace-requires-clause-built g c = text_built c.in-Ok.ensures.ok.stands
+trace-requires-clause-built g c = subst IsBuilt (sym c.expr.ensures.value) c.in-Ok.ensures.ok.reads.built
 
 pub returns-in-Ok-trace-clause-done : goal.returns-in-Ok-trace-clause-done
 returns-in-Ok-trace-clause-done g c =
     let put = c.in-Ok-trace.ensures.whole in (
       put.0,
       trace_ends_run (map string_bytes c.args.words.now) (g.F.Files.contents c.args.files.now) c.in-Some.names.expression.now c.in-Some.names.actions.now
-          c.in-Some.ensures (form_of c.in-Ok.expr) (g.F.Files.contents c.load_expression.new.files) c.in-Ok-load_actions.actions.items c.deref.result.now 0 put.0
-          c.in-Ok.ensures.ok c.in-Ok.ensures.files c.in-Ok-load_actions.ensures.file c.in-Ok-load_actions.ensures.ok c.deref.ensures.value put.1,
+          c.in-Some.ensures c.in-Ok.expression (form_of c.expr.result.now) (g.F.Files.contents c.load_expression.new.files) c.in-Ok-load_actions.actions.items c.deref.result.now 0 put.0
+          c.in-Ok.ensures.ok c.expr.ensures.value c.in-Ok.ensures.files c.in-Ok-load_actions.ensures.file c.in-Ok-load_actions.ensures.short c.deref.ensures.value put.1,
       put.2,
     )
 
@@ -45,8 +47,8 @@ returns-in-Err-Memory-clause-refused g c =
     let put = c.in-Err-Memory.ensures.memory (ap Err c.in-Err-Memory.field-0-is) in (
       put.0,
       trace_ends_run (map string_bytes c.args.words.now) (g.F.Files.contents c.args.files.now) c.in-Some.names.expression.now c.in-Some.names.actions.now
-          c.in-Some.ensures (form_of c.in-Ok.expr) (g.F.Files.contents c.load_expression.new.files) c.in-Ok-load_actions.actions.items c.deref.result.now 9 (put.0 ++ line (codes "refused memory"))
-          c.in-Ok.ensures.ok c.in-Ok.ensures.files c.in-Ok-load_actions.ensures.file c.in-Ok-load_actions.ensures.ok c.deref.ensures.value put.1,
+          c.in-Some.ensures c.in-Ok.expression (form_of c.expr.result.now) (g.F.Files.contents c.load_expression.new.files) c.in-Ok-load_actions.actions.items c.deref.result.now 9 (put.0 ++ line (codes "refused memory"))
+          c.in-Ok.ensures.ok c.expr.ensures.value c.in-Ok.ensures.files c.in-Ok-load_actions.ensures.file c.in-Ok-load_actions.ensures.short c.deref.ensures.value put.1,
       put.2,
     )
 
@@ -56,7 +58,7 @@ returns-clause-output g c is =
       put.0,
       put.1,
       trace_ends_run (map string_bytes c.args.words.now) (g.F.Files.contents c.args.files.now) c.in-Some.names.expression.now c.in-Some.names.actions.now
-          c.in-Some.ensures (form_of c.in-Ok.expr) (g.F.Files.contents c.load_expression.new.files) c.in-Ok-load_actions.actions.items c.deref.result.now put.0 put.1
-          c.in-Ok.ensures.ok c.in-Ok.ensures.files c.in-Ok-load_actions.ensures.file c.in-Ok-load_actions.ensures.ok c.deref.ensures.value put.2,
+          c.in-Some.ensures c.in-Ok.expression (form_of c.expr.result.now) (g.F.Files.contents c.load_expression.new.files) c.in-Ok-load_actions.actions.items c.deref.result.now put.0 put.1
+          c.in-Ok.ensures.ok c.expr.ensures.value c.in-Ok.ensures.files c.in-Ok-load_actions.ensures.file c.in-Ok-load_actions.ensures.short c.deref.ensures.value put.2,
       put.3,
     )

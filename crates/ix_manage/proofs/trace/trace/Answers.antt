@@ -2,29 +2,32 @@ use Rattle.std.proofs.Common.{[], ◌∷◌, ◌++◌, refl, sym, subst, ◌∙�
 use Rattle.std.specs.Prelude.{codes}
 use Rattle.ix_words.proofs.Each.{Each-head, Each-tail}
 use Rattle.ix_words.specs.Each.{Each}
+use Rattle.ix_values.specs.Faults.{IsActionText}
 use Rattle.ix_expr.specs.FormOf.{form_of}
-use Rattle.ix_manage.specs.ActionLines.{actions_in}
-use Rattle.ix_manage.specs.PlainText.{IsPlainName}
-use Rattle.ix_manage.specs.Trace.{Answers, done, short, line}
+use Rattle.ix_manage.specs.ActionLines.{line}
+use Rattle.ix_manage.specs.Trace.{Answers, done}
 use Rattle.ix_manage.proofs.Answering.{answers_join}
-use Rattle.ix_manage.proofs.Tracing.{append_nothing, append_on, part_on, part_last, front_step, trace_ends}
+use Rattle.ix_manage.proofs.Tracing.{append_nothing, append_on, part_on, part_last, front_start, front_step, trace_ends, trace_short}
 use Rattle.ix_manage.proofs.trace.trace.Goals as goal
 
 pub loop-rest-init : goal.loop-rest-init
 loop-rest-init g c = (
-  c.requires.names,
+  c.requires.lines,
   omega arith,
   refl,
-  ([], refl, ([], subst (Answers (form_of c.args.expr.now) [] [] []) (sym c.new-history.ensures.items) done, append_nothing _)),
+  ([], front_start c.args.actions.now, ([], subst (Answers (form_of c.args.expr.now) [] [] []) (sym c.new-history.ensures.items) done, append_nothing _)),
 )
 
-pub unreachable-requires : goal.unreachable-requires
-unreachable-requires g c = c.in_default.ensures (Each-head (subst (Each IsPlainName) c.first_line-first.ensures.lines c.loop-rest.invariant.0))
+pub read_action-action-requires : goal.read_action-action-requires
+read_action-action-requires g c = Each-head (subst (Each IsActionText) c.first_line-first.ensures.lines c.loop-rest.invariant.0)
 
 pub returns-in-Err-clause-memory : goal.returns-in-Err-clause-memory
 returns-in-Err-clause-memory g c is =
-    let so_far = c.loop-rest.invariant.3 in
-    (so_far.2.0, short (actions_in c.loop-rest.rest.now) so_far.1 so_far.2.1, c.in-Err.ensures.memory is ∙ so_far.2.2)
+    let so_far = c.loop-rest.invariant.3 in (
+      so_far.2.0,
+      trace_short (form_of c.args.expr.now) c.args.actions.now c.loop-rest.rest.now so_far.0 c.loop-rest.history.items so_far.2.0 so_far.1 c.loop-rest.invariant.0 so_far.2.1,
+      c.in-Err.ensures.memory is ∙ so_far.2.2,
+    )
 
 pub returns-in-Err-clause-output : goal.returns-in-Err-clause-output
 returns-in-Err-clause-output g c is =
@@ -32,9 +35,10 @@ returns-in-Err-clause-output g c is =
     let more = c.in-Err.ensures.output is in (
       9,
       (so_far.2.0 ++ more.0) ++ line (codes "refused memory"),
-      short (actions_in c.first_line-first.result.rest.now)
-          (front_step c.args.actions.now c.loop-rest.rest.now c.first_line-first.result.rest.now c.first_line-first.result.line.now so_far.0 c.in-Some.action
-          c.first_line-first.ensures.lines c.in-Some.ensures.0 so_far.1)
+      trace_short (form_of c.args.expr.now) c.args.actions.now c.first_line-first.result.rest.now (so_far.0 ++ c.read_action-action.result ∷ []) more.1 (so_far.2.0 ++ more.0)
+          (front_step c.args.actions.now c.loop-rest.rest.now c.first_line-first.result.rest.now c.first_line-first.result.line.now so_far.0 c.read_action-action.result
+          c.first_line-first.ensures.lines c.read_action-action.ensures.valid c.read_action-action.ensures.same so_far.1)
+          (Each-tail (subst (Each IsActionText) c.first_line-first.ensures.lines c.loop-rest.invariant.0))
           (answers_join so_far.2.1 more.2),
       part_on _ _ _ so_far.2.0 more.0 (line (codes "refused memory")) so_far.2.2 more.3,
     )
@@ -43,13 +47,13 @@ pub loop-rest-preserved : goal.loop-rest-preserved
 loop-rest-preserved g c =
     let so_far = c.loop-rest.invariant.3 in
     let more = c.in-Ok.ensures.whole in (
-      Each-tail (subst (Each IsPlainName) c.first_line-first.ensures.lines c.loop-rest.invariant.0),
+      Each-tail (subst (Each IsActionText) c.first_line-first.ensures.lines c.loop-rest.invariant.0),
       omega (arith, c.in-Ok.ensures.count),
       c.in-Ok.ensures.held ∙ c.loop-rest.invariant.2,
       (
-        so_far.0 ++ c.in-Some.action ∷ [],
-        front_step c.args.actions.now c.loop-rest.rest.now c.first_line-first.result.rest.now c.first_line-first.result.line.now so_far.0 c.in-Some.action
-            c.first_line-first.ensures.lines c.in-Some.ensures.0 so_far.1,
+        so_far.0 ++ c.read_action-action.result ∷ [],
+        front_step c.args.actions.now c.loop-rest.rest.now c.first_line-first.result.rest.now c.first_line-first.result.line.now so_far.0 c.read_action-action.result
+            c.first_line-first.ensures.lines c.read_action-action.ensures.valid c.read_action-action.ensures.same so_far.1,
         (so_far.2.0 ++ more.0, answers_join so_far.2.1 more.1, append_on _ _ _ so_far.2.0 more.0 so_far.2.2 more.2),
       ),
     )

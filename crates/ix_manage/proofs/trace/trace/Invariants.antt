@@ -1,20 +1,21 @@
-use Rattle.std.proofs.Common.{◌≡◌, ◌≤◌, ℕ, List, [], ◌++◌, length}
+use Rattle.std.proofs.Common.{◌≡◌, ◌≤◌, ℕ, List, [], length}
 use Rattle.std.specs.Io.KnownBytes.{append_known}
 use Rattle.ix_words.specs.Each.{Each}
+use Rattle.ix_values.specs.Faults.{IsActionText}
 use Rattle.ix_values.specs.PlainAction.{Word}
 use Rattle.ix_expr.specs.FormOf.{form_of}
-use Rattle.ix_manage.specs.ActionLines.{actions_in, lines_of}
-use Rattle.ix_manage.specs.PlainText.{IsPlainName}
+use Rattle.ix_manage.specs.ActionLines.{lines_of}
 use Rattle.ix_manage.specs.Trace.{Answers}
+use Rattle.ix_manage.proofs.Tracing.{StandBefore}
 use Rattle.ix_manage.proofs.trace.trace.Given as goal
 
 -- the actions before what is left are answered, and their answers put
 abbrev pub invariant-loop-rest : goal.invariant-loop-rest
 invariant-loop-rest g l =
-    Each IsPlainName (lines_of l.rest)
+    Each IsActionText (lines_of l.rest)
     × (g.K.Sink.faults l.fn.out ≤ g.K.Sink.faults l.out)
     × (g.K.Sink.held l.out ≡ g.K.Sink.held l.fn.out)
-    × ((front : Word) × (front ++ actions_in l.rest ≡ actions_in l.actions)
+    × ((front : Word) × StandBefore l.actions l.rest front
     × ((text : List ℕ) × Answers (form_of l.expr) [] front text l.history.items
     × (g.K.Sink.written l.out ≡ append_known (g.K.Sink.written l.fn.out) text)))
 

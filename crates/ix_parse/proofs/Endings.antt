@@ -1,0 +1,35 @@
+-- What `read` answers, by what the text means.
+use Rattle.std.proofs.Common.{ℕ, zero, suc, ◌<◌, List, [], ◌∷◌, length, arith, Ok, Err, Result, sym, subst}
+use Rattle.std.specs.Prelude.{IfOk, IfErr, IsSomeAnd, slice_get}
+use Rattle.ix_expr.specs.Form.{Form}
+use Rattle.ix_expr.specs.FormFaults.{IsWellFormed}
+use Rattle.ix_parse.specs.declared.TextFault.{TextFault}
+use Rattle.ix_parse.specs.declared.TextFault.TheVariants.{Bad, Memory}
+use Rattle.ix_parse.specs.Symbols.{Meaning}
+use Rattle.ix_parse.specs.Faults.{HasMeaning, StandsFor, IsFirstFault}
+use Rattle.ix_parse.specs.Outcomes.{IsFaultOf, HasPlaces, IsWellFormedOr}
+use Rattle.ix_parse.proofs.Places.{Stands-places}
+
+pub HasMeaning-places : (text : List ℕ) (x : Meaning) → HasMeaning text x → HasPlaces x
+HasMeaning-places text x means = Stands-places _ x means.stands
+
+pub read-ok : (text : List ℕ) (x : Meaning) (r : Result Form TextFault) → HasMeaning text x → IsWellFormedOr x r → IfOk r (λ form. StandsFor text form)
+read-ok text x (Ok form) means is =
+    record {
+      places = x.places;
+      means = subst (λ (f : Form). HasMeaning text (record { form = f; places = x.places })) (sym is.0) means;
+      well_formed = subst (λ (f : Form). IsWellFormed f) (sym is.0) is.1;
+    }
+read-ok text x (Err (Bad code at)) means is = tt
+read-ok text x (Err Memory) means is = tt
+
+pub read-fault : (text : List ℕ) (x : Meaning) (r : Result Form TextFault) → HasMeaning text x → IsWellFormedOr x r → IfErr r (λ fault. IsFaultOf text fault)
+read-fault text x (Ok form) means is = tt
+read-fault text x (Err (Bad code at)) means is = IsFirstFault.form_fault x code is.0 at means is.1 is.2
+read-fault text x (Err Memory) means is = tt
+
+-- a place with an item is in range
+pub in_range : {X : Type 0} (xs : List X) (i : ℕ) (P : X → Type 0) → IsSomeAnd (slice_get xs i) P → i < length xs
+in_range [] i P there = absurd there
+in_range (x ∷ xs) zero P there = omega arith
+in_range (x ∷ xs) (suc i) P there = let inner = in_range xs i P there in omega arith

@@ -1,0 +1,296 @@
+-- The canonical text of an expression is cut into tokens that stand for it.
+use Rattle.std.proofs.Common.{◌≡◌, ℕ, suc, ◌+◌, ◌<◌, ◌≤◌, Bool, true, false, leb, ltb, List, [], ◌∷◌, ◌++◌, length, codes, Some, refl, sym, ap, ◌∙◌, subst, arith, append_assoc, leb-false, ltb-false}
+use Rattle.std.specs.Prelude.{All}
+use Rattle.std.specs.List.{list_all}
+use Rattle.std.proofs.lemmas.List.{append-nil}
+use Rattle.std.proofs.lemmas.List.Elements.{All-head, All-tail}
+use Rattle.ix_values.specs.Texts.{IsName, begins_with_letter}
+use Rattle.ix_expr.specs.declared.arg.Arg.{Arg}
+use Rattle.ix_expr.specs.declared.arg.Arg.TheVariants.{Fixed, Param}
+use Rattle.ix_expr.specs.Form as forms
+use Rattle.ix_expr.specs.Form.{Form, PlainAtom, atom_of}
+use Rattle.ix_expr.specs.Spelling.{IsArgument, IsAtom, IsSpelled}
+use Rattle.ix_expr.specs.CanonicalText.{binding, enclosed, argument_text, more_arguments_text, arguments_text, operand_text, canonical_text}
+use Rattle.ix_lex.specs.declared.TokenKind.{TokenKind}
+use Rattle.ix_lex.specs.declared.TokenKind.TheVariants as kinds
+use Rattle.ix_lex.specs.WordBytes.{is_letter, is_word_byte, sign_of, begins}
+use Rattle.ix_lex.specs.Lexing.{PlainToken}
+use Rattle.ix_parse.specs.declared.signs.Operator.{Operator}
+use Rattle.ix_parse.specs.declared.signs.Operator.TheVariants as operators
+use Rattle.ix_parse.specs.declared.signs.Prefix.{Prefix}
+use Rattle.ix_parse.specs.declared.signs.Prefix.TheVariants as prefixes
+use Rattle.ix_parse.specs.declared.signs.Quantifier.{Quantifier}
+use Rattle.ix_parse.specs.declared.signs.Quantifier.TheVariants as quantifiers
+use Rattle.ix_parse.specs.declared.signs.WordClass.TheVariants.{Quantifies}
+use Rattle.ix_parse.specs.Symbols.{Symbol, word, opening, closing, before, between, symbol_by, symbol_of, class_of, level, Meaning, joined_form, prefixed_form, quantified_form, argument_of}
+use Rattle.ix_parse.specs.Grammar.{Arguments, Stands}
+use Rattle.ix_parse.specs.Faults.{IsLong, symbols_of}
+use Rattle.ix_parse.proofs.Classes.{named-class}
+use Rattle.ix_parse.proofs.Cuts.{Stands-loosen}
+use Rattle.ix_parse.proofs.Cutting.{token_at, CutsEnded, any-ended, any-then, any-any, ended-any, ended-ended, cuts-blank, cuts-sign, cuts-word, cuts-param}
+
+abbrev pub meaning : Form → List ℕ → Meaning
+meaning x places = record { form = x; places = places }
+
+-- no name among the tokens is long
+abbrev pub NoneLong : List PlainToken → Type 0
+NoneLong [] = Unit {0}
+NoneLong (t ∷ ts) = (¬ IsLong (symbol_of t)) × NoneLong ts
+
+none_long-append : (ts us : List PlainToken) → NoneLong ts → NoneLong us → NoneLong (ts ++ us)
+none_long-append [] us first second = second
+none_long-append (t ∷ ts) us first second = (first.0, none_long-append ts us first.1 second)
+
+symbols-append : (ts us : List PlainToken) → symbols_of (ts ++ us) ≡ symbols_of ts ++ symbols_of us
+symbols-append [] us = refl
+symbols-append (t ∷ ts) us = ap (λ l. symbol_of t ∷ l) (symbols-append ts us)
+
+-- the text at this place is cut into tokens that stand for the form at level n
+pub record Printed (at : ℕ) (text : List ℕ) (n : ℕ) (x : Form) : Type 0 where
+  pub tokens : List PlainToken
+  pub places : List ℕ
+  pub cuts : CutsEnded at text tokens
+  pub short : NoneLong tokens
+  pub stands : Stands n (symbols_of tokens) (meaning x places)
+
+pub binding-some : (x : Form) → 1 ≤ binding x
+binding-some (forms.atom a) = omega arith
+binding-some (forms.opt y) = omega arith
+binding-some (forms.seq y z) = omega arith
+binding-some (forms.star y) = omega arith
+binding-some (forms.par y z) = omega arith
+binding-some (forms.par_star y) = omega arith
+binding-some (forms.or y z) = omega arith
+binding-some (forms.and y z) = omega arith
+binding-some (forms.couple y z) = omega arith
+binding-some (forms.any p y) = omega arith
+binding-some (forms.every p y) = omega arith
+binding-some (forms.sync p y) = omega arith
+binding-some (forms.all p y) = omega arith
+
+pub binding-low : (x : Form) → binding x ≤ 6
+binding-low (forms.atom a) = omega arith
+binding-low (forms.opt y) = omega arith
+binding-low (forms.seq y z) = omega arith
+binding-low (forms.star y) = omega arith
+binding-low (forms.par y z) = omega arith
+binding-low (forms.par_star y) = omega arith
+binding-low (forms.or y z) = omega arith
+binding-low (forms.and y z) = omega arith
+binding-low (forms.couple y z) = omega arith
+binding-low (forms.any p y) = omega arith
+binding-low (forms.every p y) = omega arith
+binding-low (forms.sync p y) = omega arith
+binding-low (forms.all p y) = omega arith
+
+-- an operand, in parentheses where it binds too weakly
+printed-enclosed : (test : Bool) (k : ℕ) (x : Form) (text : List ℕ) (at : ℕ) → k ≤ 6 → ((from : ℕ) → Printed from text (binding x) x) → (test ≡ false → k ≤ binding x) → Printed at (enclosed test text) k x
+printed-enclosed false k x text at low inner tight =
+    let p = inner at in
+    record { tokens = p.tokens; places = p.places; cuts = p.cuts; short = p.short; stands = Stands-loosen (binding x) k (symbols_of p.tokens) (meaning x p.places) (tight refl) (binding-low x) p.stands }
+printed-enclosed true k x text at low inner tight =
+    let p = inner (at + 1) in
+    let open_token = token_at kinds.Open (40 ∷ []) at in
+    let close_token = token_at kinds.Close (41 ∷ []) (at + length (40 ∷ text)) in
+    let symbols : symbols_of (open_token ∷ p.tokens ++ close_token ∷ []) ≡ opening ∷ symbols_of p.tokens ++ closing ∷ [] = ap (λ l. opening ∷ l) (symbols-append p.tokens (close_token ∷ [])) in
+    record {
+      tokens = open_token ∷ p.tokens ++ close_token ∷ [];
+      places = p.places;
+      cuts =
+          any-ended at ((40 ∷ text) ++ 41 ∷ []) (open_token ∷ p.tokens ++ close_token ∷ [])
+          (ended-any at 41 (40 ∷ text) [] (open_token ∷ p.tokens) (close_token ∷ []) refl
+          (any-then at (40 ∷ []) text (open_token ∷ []) p.tokens (cuts-sign at 40 kinds.Open refl) p.cuts)
+          (cuts-sign (at + length (40 ∷ text)) 41 kinds.Close refl));
+      short = (λ long. long, none_long-append p.tokens (close_token ∷ []) p.short (λ long. long, tt));
+      stands =
+          subst (λ l. Stands k l (meaning x p.places)) (sym symbols)
+          (Stands-loosen 6 k _ (meaning x p.places) low (omega arith)
+          (Stands.group (symbols_of p.tokens) (meaning x p.places) (Stands-loosen (binding x) 1 (symbols_of p.tokens) (meaning x p.places) (binding-some x) (binding-low x) p.stands)));
+    }
+
+-- an operator between two operands
+printed-binary : (o : Operator) (b : ℕ) (kind : TokenKind) (x y : Form) (at : ℕ) (t u : List ℕ) → sign_of b ≡ Some kind → ((n : ℕ) → symbol_by kind n (b ∷ []) ≡ between n o) → Printed at t (level o) x → ((from : ℕ) → Printed from u (suc (level o)) y) → Printed at ((t ++ (32 ∷ b ∷ 32 ∷ [])) ++ u) (level o) (joined_form o x y)
+printed-binary o b kind x y at t u is_sign is_between l right =
+    let place = at + length t + 1 in
+    let sign_token = token_at kind (b ∷ []) place in
+    let r = right (at + length (t ++ (32 ∷ b ∷ 32 ∷ []))) in
+    let all = (l.tokens ++ sign_token ∷ []) ++ r.tokens in
+    let symbols : symbols_of all ≡ symbols_of l.tokens ++ between place o ∷ symbols_of r.tokens =
+    symbols-append (l.tokens ++ sign_token ∷ []) r.tokens ∙ ap (λ s. s ++ symbols_of r.tokens) (symbols-append l.tokens (sign_token ∷ []))
+    ∙ append_assoc (symbols_of l.tokens) (symbol_of sign_token ∷ []) (symbols_of r.tokens) ∙ ap (λ s. symbols_of l.tokens ++ s ∷ symbols_of r.tokens) (is_between place) in
+    let not_long : ¬ IsLong (symbol_of sign_token) = λ long. (let P : Symbol → Type 0 = λ s. IsLong s in subst P (is_between place) long) in
+    record {
+      tokens = all;
+      places = place ∷ l.places ++ r.places;
+      cuts =
+          any-then at (t ++ (32 ∷ b ∷ 32 ∷ [])) u (l.tokens ++ sign_token ∷ []) r.tokens
+          (ended-any at 32 t (b ∷ 32 ∷ []) l.tokens (sign_token ∷ []) refl l.cuts
+          (any-any (at + length t) (32 ∷ []) (b ∷ 32 ∷ []) [] (sign_token ∷ []) (cuts-blank (at + length t))
+          (any-any place (b ∷ []) (32 ∷ []) (sign_token ∷ []) [] (cuts-sign place b kind is_sign) (cuts-blank (place + 1)))))
+          r.cuts;
+      short = none_long-append (l.tokens ++ sign_token ∷ []) r.tokens (none_long-append l.tokens (sign_token ∷ []) l.short (not_long, tt)) r.short;
+      stands =
+          subst (λ s. Stands (level o) s (meaning (joined_form o x y) (place ∷ l.places ++ r.places))) (sym symbols)
+          (Stands.binary place o (symbols_of l.tokens) (symbols_of r.tokens) (meaning x l.places) (meaning y r.places) l.stands r.stands);
+    }
+
+-- a prefix in front of an operand
+printed-prefix : (sign : Prefix) (b : ℕ) (kind : TokenKind) (x : Form) (at : ℕ) (t : List ℕ) → sign_of b ≡ Some kind → ((n : ℕ) → symbol_by kind n (b ∷ []) ≡ before n sign) → Printed (at + 1) t 6 x → Printed at (b ∷ t) 6 (prefixed_form sign x)
+printed-prefix sign b kind x at t is_sign is_before p =
+    let sign_token = token_at kind (b ∷ []) at in
+    let not_long : ¬ IsLong (symbol_of sign_token) = λ long. (let P : Symbol → Type 0 = λ s. IsLong s in subst P (is_before at) long) in
+    record {
+      tokens = sign_token ∷ p.tokens;
+      places = at ∷ p.places;
+      cuts = any-then at (b ∷ []) t (sign_token ∷ []) p.tokens (cuts-sign at b kind is_sign) p.cuts;
+      short = (not_long, p.short);
+      stands =
+          subst (λ s. Stands 6 (s ∷ symbols_of p.tokens) (meaning (prefixed_form sign x) (at ∷ p.places))) (sym (is_before at))
+          (Stands.prefixes at sign (symbols_of p.tokens) (meaning x p.places) p.stands);
+    }
+
+not_long : (n : ℕ) → n ≤ 32 → ¬ (32 < n)
+not_long n short long = omega arith
+
+begins-letter : (p : List ℕ) → begins_with_letter p ≡ true → begins is_letter p ≡ true
+begins-letter [] e = e
+begins-letter (b ∷ bs) e = e
+
+-- a quantifier in front of an operand
+printed-quantifier : (q : Quantifier) (w p : List ℕ) (x : Form) (at : ℕ) (t : List ℕ) → class_of w ≡ Quantifies q → 0 < length w → list_all is_word_byte w ≡ true → length w ≤ 32 → IsName p → ((from : ℕ) → Printed from t 6 x) → Printed at ((w ++ (32 ∷ 36 ∷ p)) ++ (32 ∷ t)) 6 (quantified_form q p x)
+printed-quantifier q w p x at t is some all few name inner =
+    let word_token = token_at kinds.Word w at in
+    let param_token = token_at kinds.Param (36 ∷ p) (at + length w + 1) in
+    let from = at + length (w ++ (32 ∷ 36 ∷ p)) in
+    let r = inner (from + 1) in
+    record {
+      tokens = word_token ∷ param_token ∷ r.tokens;
+      places = at ∷ r.places;
+      cuts =
+          ended-ended at 32 (w ++ (32 ∷ 36 ∷ p)) t (word_token ∷ param_token ∷ []) r.tokens refl
+          (ended-ended at 32 w (36 ∷ p) (word_token ∷ []) (param_token ∷ []) refl (cuts-word at w some all)
+          (any-then (at + length w) (32 ∷ []) (36 ∷ p) [] (param_token ∷ []) (cuts-blank (at + length w)) (cuts-param (at + length w + 1) p (begins-letter p name.begins) name.word)))
+          (any-then from (32 ∷ []) t [] r.tokens (cuts-blank from) r.cuts);
+      short = (not_long (length w) few, (not_long (length p) name.short, r.short));
+      stands = Stands.quantifies at w q p (symbols_of r.tokens) (meaning x r.places) is r.stands;
+    }
+
+-- an argument
+pub record PrintedArgument (at : ℕ) (a : Arg) : Type 0 where
+  pub the_token : PlainToken
+  pub cuts : CutsEnded at (argument_text a) (the_token ∷ [])
+  pub short : ¬ IsLong (symbol_of the_token)
+  pub is : argument_of (symbol_of the_token) ≡ Some a
+
+printed-argument : (at : ℕ) (a : Arg) → IsArgument a → PrintedArgument at a
+printed-argument at (Fixed v) value = record { the_token = token_at kinds.Word v at; cuts = cuts-word at v value.begins value.word; short = not_long (length v) value.short; is = refl }
+printed-argument at (Param p) name = record { the_token = token_at kinds.Param (36 ∷ p) at; cuts = cuts-param at p (begins-letter p name.begins) name.word; short = not_long (length p) name.short; is = refl }
+
+-- arguments with commas between them
+pub record PrintedArguments (at : ℕ) (text : List ℕ) (args : List Arg) : Type 0 where
+  pub tokens : List PlainToken
+  pub cuts : CutsEnded at text tokens
+  pub short : NoneLong tokens
+  pub list : Arguments (symbols_of tokens) args
+
+printed-arguments : (at : ℕ) (a : Arg) (args : List Arg) → IsArgument a → All IsArgument args → PrintedArguments at (argument_text a ++ more_arguments_text args) (a ∷ args)
+printed-arguments at a [] is_a are =
+    let p = printed-argument at a is_a in
+    record {
+      tokens = p.the_token ∷ [];
+      cuts = subst (λ l. CutsEnded at l (p.the_token ∷ [])) (sym (append-nil (argument_text a))) p.cuts;
+      short = (p.short, tt);
+      list = Arguments.one (symbol_of p.the_token) a p.is;
+    }
+printed-arguments at a (b ∷ args) is_a are =
+    let p = printed-argument at a is_a in
+    let from = at + length (argument_text a) in
+    let r = printed-arguments (from + 1) b args (All-head IsArgument b args are) (All-tail IsArgument b args are) in
+    let comma_token = token_at kinds.Comma (44 ∷ []) from in
+    record {
+      tokens = p.the_token ∷ comma_token ∷ r.tokens;
+      cuts =
+          ended-ended at 44 (argument_text a) (argument_text b ++ more_arguments_text args) (p.the_token ∷ []) (comma_token ∷ r.tokens) refl p.cuts
+          (any-then from (44 ∷ []) (argument_text b ++ more_arguments_text args) (comma_token ∷ []) r.tokens (cuts-sign from 44 kinds.Comma refl) r.cuts);
+      short = (p.short, (λ long. long, r.short));
+      list = Arguments.more (symbol_of p.the_token) a (symbols_of r.tokens) (b ∷ args) p.is r.list;
+    }
+
+letter-some : (w : List ℕ) → begins_with_letter w ≡ true → 0 < length w
+letter-some [] e = absurd cc
+letter-some (b ∷ bs) e = omega arith
+
+printed-atom : (at : ℕ) (w : List ℕ) (args : List Arg) → IsAtom (atom_of w args) → Printed at (w ++ arguments_text args) 6 (forms.atom (atom_of w args))
+printed-atom at w [] a =
+    let name_token = token_at kinds.Word w at in
+    record {
+      tokens = name_token ∷ [];
+      places = at ∷ [];
+      cuts = subst (λ l. CutsEnded at l (name_token ∷ [])) (sym (append-nil w)) (cuts-word at w (letter-some w a.name.begins) a.name.word);
+      short = (not_long (length w) a.name.short, tt);
+      stands = Stands.bare at w (named-class w a.unreserved a.name.begins);
+    }
+printed-atom at w (b ∷ args) a =
+    let name_token = token_at kinds.Word w at in
+    let from = at + length w in
+    let inner = argument_text b ++ more_arguments_text args in
+    let r = printed-arguments (from + 1) b args (All-head IsArgument b args a.arguments) (All-tail IsArgument b args a.arguments) in
+    let open_token = token_at kinds.Open (40 ∷ []) from in
+    let close_token = token_at kinds.Close (41 ∷ []) (from + length (40 ∷ inner)) in
+    let symbols : symbols_of (name_token ∷ open_token ∷ r.tokens ++ close_token ∷ []) ≡ word at w ∷ opening ∷ symbols_of r.tokens ++ closing ∷ [] = ap (λ l. word at w ∷ opening ∷ l) (symbols-append r.tokens (close_token ∷ [])) in
+    record {
+      tokens = name_token ∷ open_token ∷ r.tokens ++ close_token ∷ [];
+      places = at ∷ [];
+      cuts =
+          any-ended at (w ++ arguments_text (b ∷ args)) (name_token ∷ open_token ∷ r.tokens ++ close_token ∷ [])
+          (ended-any at 40 w (inner ++ 41 ∷ []) (name_token ∷ []) (open_token ∷ r.tokens ++ close_token ∷ []) refl (cuts-word at w (letter-some w a.name.begins) a.name.word)
+          (ended-any from 41 (40 ∷ inner) [] (open_token ∷ r.tokens) (close_token ∷ []) refl
+          (any-then from (40 ∷ []) inner (open_token ∷ []) r.tokens (cuts-sign from 40 kinds.Open refl) r.cuts)
+          (cuts-sign (from + length (40 ∷ inner)) 41 kinds.Close refl)));
+      short = (not_long (length w) a.name.short, (λ long. long, none_long-append r.tokens (close_token ∷ []) r.short (λ long. long, tt)));
+      stands =
+          subst (λ l. Stands 6 l (meaning (forms.atom (atom_of w (b ∷ args))) (at ∷ []))) (sym symbols)
+          (Stands.applied at w (symbols_of r.tokens) (b ∷ args) (named-class w a.unreserved a.name.begins) r.list a.few);
+    }
+
+-- operands of an operator and of a prefix
+left-operand : (k : ℕ) (x : Form) (text : List ℕ) (at : ℕ) → k ≤ 5 → ((from : ℕ) → Printed from text (binding x) x) → Printed at (enclosed (ltb (binding x) k) text) k x
+left-operand k x text at low inner = printed-enclosed (ltb (binding x) k) k x text at (omega arith) inner (λ e. ltb-false (binding x) k e)
+
+right-operand : (k : ℕ) (x : Form) (text : List ℕ) (at : ℕ) → k ≤ 5 → ((from : ℕ) → Printed from text (binding x) x) → Printed at (enclosed (leb (binding x) k) text) (suc k) x
+right-operand k x text at low inner = printed-enclosed (leb (binding x) k) (suc k) x text at (omega arith) inner (λ e. leb-false (binding x) k e)
+
+operand : (x : Form) (text : List ℕ) (at : ℕ) → ((from : ℕ) → Printed from text (binding x) x) → Printed at (operand_text (binding x, text)) 6 x
+operand x text at inner = printed-enclosed (leb (binding x) 5) 6 x text at (omega arith) inner (λ e. leb-false (binding x) 5 e)
+
+any_class : class_of (codes "any") ≡ Quantifies quantifiers.Any
+unfolding class_of
+any_class = refl
+
+every_class : class_of (codes "every") ≡ Quantifies quantifiers.Every
+unfolding class_of
+every_class = refl
+
+sync_class : class_of (codes "sync") ≡ Quantifies quantifiers.Sync
+unfolding class_of
+sync_class = refl
+
+all_class : class_of (codes "all") ≡ Quantifies quantifiers.All
+unfolding class_of
+all_class = refl
+
+-- the canonical text of an expression is cut into tokens that stand for it
+pub printed : (x : Form) → IsSpelled x → (at : ℕ) → Printed at (canonical_text x) (binding x) x
+printed (forms.atom a) spelled at = printed-atom at a.name a.arguments spelled
+printed (forms.opt y) spelled at = printed-prefix prefixes.Opt 63 kinds.Question y at _ refl (λ n. refl) (operand y (canonical_text y) (at + 1) (printed y spelled))
+printed (forms.star y) spelled at = printed-prefix prefixes.Star 42 kinds.Star y at _ refl (λ n. refl) (operand y (canonical_text y) (at + 1) (printed y spelled))
+printed (forms.par_star y) spelled at = printed-prefix prefixes.ParStar 35 kinds.Hash y at _ refl (λ n. refl) (operand y (canonical_text y) (at + 1) (printed y spelled))
+printed (forms.or y z) spelled at = printed-binary operators.Or 124 kinds.Bar y z at _ _ refl (λ n. refl) (left-operand 1 y (canonical_text y) at (omega arith) (printed y spelled.0)) (λ from. right-operand 1 z (canonical_text z) from (omega arith) (printed z spelled.1))
+printed (forms.and y z) spelled at = printed-binary operators.And 38 kinds.Amp y z at _ _ refl (λ n. refl) (left-operand 2 y (canonical_text y) at (omega arith) (printed y spelled.0)) (λ from. right-operand 2 z (canonical_text z) from (omega arith) (printed z spelled.1))
+printed (forms.couple y z) spelled at = printed-binary operators.Couple 64 kinds.At y z at _ _ refl (λ n. refl) (left-operand 3 y (canonical_text y) at (omega arith) (printed y spelled.0)) (λ from. right-operand 3 z (canonical_text z) from (omega arith) (printed z spelled.1))
+printed (forms.par y z) spelled at = printed-binary operators.Par 43 kinds.Plus y z at _ _ refl (λ n. refl) (left-operand 4 y (canonical_text y) at (omega arith) (printed y spelled.0)) (λ from. right-operand 4 z (canonical_text z) from (omega arith) (printed z spelled.1))
+printed (forms.seq y z) spelled at = printed-binary operators.Seq 45 kinds.Minus y z at _ _ refl (λ n. refl) (left-operand 5 y (canonical_text y) at (omega arith) (printed y spelled.0)) (λ from. right-operand 5 z (canonical_text z) from (omega arith) (printed z spelled.1))
+printed (forms.any p y) spelled at = printed-quantifier quantifiers.Any (codes "any") p y at _ any_class (omega arith) refl (omega arith) spelled.0 (λ from. operand y (canonical_text y) from (printed y spelled.1))
+printed (forms.every p y) spelled at = printed-quantifier quantifiers.Every (codes "every") p y at _ every_class (omega arith) refl (omega arith) spelled.0 (λ from. operand y (canonical_text y) from (printed y spelled.1))
+printed (forms.sync p y) spelled at = printed-quantifier quantifiers.Sync (codes "sync") p y at _ sync_class (omega arith) refl (omega arith) spelled.0 (λ from. operand y (canonical_text y) from (printed y spelled.1))
+printed (forms.all p y) spelled at = printed-quantifier quantifiers.All (codes "all") p y at _ all_class (omega arith) refl (omega arith) spelled.0 (λ from. operand y (canonical_text y) from (printed y spelled.1))

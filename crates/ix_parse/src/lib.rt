@@ -1,0 +1,101 @@
+//! Reads expressions from their texts, and tells the first fault of a text that is none.
+#![tactic(auto)]
+
+ghost use Rattle.std.specs.Prelude.{◌≡◌, IfOk, IfErr};
+ghost use Rattle.ix_parse.specs.Canonical.{CanonicalTextReadsBack};
+ghost use Rattle.ix_parse.specs.Faults as spec;
+ghost use Rattle.ix_parse.specs.Outcomes.{IsFaultOf, HasPlaces, IsWellFormedOr};
+ghost use Rattle.ix_parse.specs.Operands.{meaning_of};
+
+mod faults;
+mod operand;
+mod reader;
+mod signs;
+mod stack;
+mod step;
+mod symbols;
+mod taking;
+mod words;
+
+use crate::faults::Fault;
+use crate::operand::Operand;
+use crate::taking::read_operand;
+use ix_expr::Expression;
+use std::alloc::Global;
+
+/// Why a text is no expression: its first fault, by its code and the place where it is met, or want of memory.
+#[derive(Clone, Copy, Debug, PartialEq, Eq)]
+pub enum TextFault {
+    Bad { code: u8, at: usize },
+    Memory,
+}
+
+// The code of a fault, at a place.
+fn fault_at(fault: Fault, at: usize) -> TextFault
+    ensures { result ≡ TextFault.Bad (spec.code_of fault) at }
+{
+    let code = match fault {
+        Fault::NoToken => 2,
+        Fault::Reserved => 12,
+        Fault::FifthArgument => 10,
+        Fault::Unexpected => 3,
+        Fault::LongName => 11,
+        Fault::TooDeep => 9,
+        Fault::TooManyNodes => 8,
+        Fault::Ended => 4,
+    };
+    TextFault::Bad { code, at }
+}
+
+/// The expression that a text stands for, or the first fault of the text.
+///
+/// The codes, and where each is met:
+/// - 1, at 16384: the text has more than 16,384 bytes. This fault comes before all others.
+/// - 2: a byte that begins no token.
+/// - 12: in the place of an operand `times`, or another reserved word with no parameter behind it.
+/// - 10: the comma after a fourth argument.
+/// - 3: a token with which no text of the grammar could go on.
+/// - 11: a word, or a parameter without its `$`, of more than 32 bytes.
+/// - 9: a parenthesis of a group or a prefix that opens the 65th level.
+/// - 8: the token of the 513th node.
+/// - 4, at the text's end: the text isn't whole.
+///
+/// Of these the one at the least place is given, and at one place the first of this list. Where none is met, the first
+/// form fault is given (5, 6, 7, 8, 9 and 13, as `ix_expr` tells them), at the start of its node's token: an atom's name,
+/// an operator, a prefix or a quantifier's word.
+pub fn read(alloc: Global, text: &[u8]) -> Result<Expression, TextFault>
+    ensures ok { IfOk result (λ x. spec.StandsFor text.now x) }
+    ensures fault { IfErr result (λ fault. IsFaultOf text.now fault) }
+{
+    if text.len() > 16384 {
+        return Err(TextFault::Bad { code: 1, at: 16384 });
+    }
+    match read_operand(alloc, text) {
+        Ok(operand) => checked(operand),
+        Err(fault) => Err(fault),
+    }
+}
+
+/// Law: the canonical text of each well-formed expression stands for it, where the text is of at most 16,384 bytes and
+/// opens at most 64 levels.
+pub fn canonical_text_reads_back()
+    ensures { CanonicalTextReadsBack }
+{}
+
+// The expression of an operand, or its first form fault at its node's token.
+fn checked(operand: Operand) -> Result<Expression, TextFault>
+    requires { HasPlaces (meaning_of operand) }
+    ensures { IsWellFormedOr (meaning_of operand) result }
+{
+    let Operand { expr, places } = operand;
+    match Expression::new(expr) {
+        Ok(expression) => Ok(expression),
+        Err(fault) => Err(TextFault::Bad {
+            code: fault.code,
+            at: places[fault.node],
+        }),
+    }
+}
+
+#[cfg(test)]
+mod tests;

@@ -1,0 +1,213 @@
+//! The reader of operands: a stack machine that takes one token after the other.
+
+ghost use Rattle.std.specs.Prelude.{◌≡◌, ℕ, ◌≤◌, ◌<◌, true, false, length, List, Some, IfOk, IsSome, option_map};
+ghost use Rattle.ix_parse.specs.Symbols as spec;
+ghost use Rattle.ix_parse.specs.Machine as machine;
+ghost use Rattle.ix_parse.specs.Judging as judging;
+ghost use Rattle.ix_parse.specs.Operands.{meaning_of};
+ghost use Rattle.ix_parse.specs.Stack.{stack_of};
+ghost use Rattle.ix_parse.specs.Views.{symbol_at};
+ghost use Rattle.ix_parse.specs.Configs.{config_of, mode_of, IsSound, IsReadable};
+ghost use Rattle.ix_parse.specs.declared.signs.WordClass.TheVariants.{Names};
+
+use crate::faults::Fault;
+use crate::operand::Operand;
+use crate::signs::{Quantifier, WordClass};
+use crate::stack::{Entry, Left, Taking, closed, groups, level, levels, reduced};
+use crate::symbols::Sign;
+use crate::words::{class_of, name_of, value_of};
+use ix_expr::Arg;
+use ix_values::Name;
+use std::alloc::{AllocError, Global};
+
+/// What was read last.
+#[derive(Drop)]
+pub enum Mode {
+    /// Nothing that an operand could follow: one is wanted.
+    Wanted,
+    /// The name of an atom.
+    NameRead(usize, Name),
+    /// The parenthesis of an atom's arguments, or a comma in them.
+    ArgumentWanted(usize, Name, Vec<Arg>),
+    /// An argument.
+    ArgumentRead(usize, Name, Vec<Arg>),
+    /// The word of a quantifier.
+    QuantifierRead(usize, Quantifier),
+    /// An operand.
+    OperandRead(Operand),
+}
+
+/// What is open, and what was read last.
+#[derive(Drop)]
+pub struct Reader {
+    pub stack: Vec<Entry>,
+    pub mode: Mode,
+}
+
+impl Reader {
+    /// Nothing was read.
+    pub fn new(alloc: Global) -> Reader
+        ensures { config_of result ≡ machine.start }
+    {
+        Reader {
+            stack: Vec::new(alloc),
+            mode: Mode::Wanted,
+        }
+    }
+
+    /// The fault that the next token meets after so many nodes' tokens, by whether a parameter follows it.
+    pub fn fault_of(
+        &self,
+        nodes: usize,
+        at: usize,
+        sign: Sign<'_>,
+        param_next: bool,
+    ) -> Option<Fault>
+        ensures { result ≡ judging.judged (config_of self.now) nodes (symbol_at at sign.entry) param_next }
+    {
+        if self.wants_operand() && is_reserved_word(sign, param_next) {
+            Some(Fault::Reserved)
+        } else if self.has_four_arguments() && matches!(sign, Sign::Comma) {
+            Some(Fault::FifthArgument)
+        } else if !self.may_come(sign) {
+            Some(Fault::Unexpected)
+        } else if is_long(sign) {
+            Some(Fault::LongName)
+        } else if self.wants_operand() && opens_level(sign) && levels(self.stack.as_slice()) == 64 {
+            Some(Fault::TooDeep)
+        } else if is_node(self.wants_operand(), sign) && nodes == 512 {
+            Some(Fault::TooManyNodes)
+        } else {
+            None
+        }
+    }
+
+    /// Whether an operand is wanted.
+    pub fn wants_operand(&self) -> bool
+        ensures { result ≡ judging.is_wanted (mode_of self.now.mode) }
+    {
+        matches!(&self.mode, Mode::Wanted)
+    }
+
+    fn has_four_arguments(&self) -> bool
+        ensures { result ≡ judging.has_four (mode_of self.now.mode) }
+    {
+        match &self.mode {
+            Mode::ArgumentRead(_, _, args) => args.len() >= 4,
+            _ => false,
+        }
+    }
+
+    // Whether some text goes on with the token.
+    fn may_come(&self, sign: Sign<'_>) -> bool
+        ensures { (at : ℕ) → result ≡ judging.may_come (config_of self.now) (symbol_at at sign.entry) }
+    {
+        let in_group = groups(self.stack.as_slice()) > 0;
+        match &self.mode {
+            Mode::Wanted => may_begin(sign),
+            Mode::NameRead(_, _) => matches!(sign, Sign::Opening) || may_follow(in_group, sign),
+            Mode::ArgumentWanted(_, _, _) => matches!(sign, Sign::Word(_) | Sign::Param(_)),
+            Mode::ArgumentRead(_, _, args) => may_follow_argument(args.len(), sign),
+            Mode::QuantifierRead(_, _) => matches!(sign, Sign::Param(_)),
+            Mode::OperandRead(_) => may_follow(in_group, sign),
+        }
+    }
+}
+
+fn is_reserved_word(sign: Sign<'_>, param_next: bool) -> bool
+    ensures { (at : ℕ) → result ≡ judging.is_reserved_word (symbol_at at sign.entry) param_next }
+{
+    let Sign::Word(word) = sign else { return false };
+    match class_of(word) {
+        WordClass::Quantifies(_) => !param_next,
+        WordClass::Withheld => true,
+        WordClass::Names => false,
+        WordClass::Other => false,
+    }
+}
+
+fn may_begin(sign: Sign<'_>) -> bool
+    ensures { (at : ℕ) → result ≡ judging.may_begin (symbol_at at sign.entry) }
+{
+    match sign {
+        Sign::Word(word) => begins_operand(class_of(word)),
+        Sign::Opening => true,
+        Sign::Before(_) => true,
+        _ => false,
+    }
+}
+
+fn begins_operand(class: WordClass) -> bool
+    ensures { result ≡ judging.begins_operand class }
+{
+    match class {
+        WordClass::Quantifies(_) => true,
+        WordClass::Withheld => false,
+        WordClass::Names => true,
+        WordClass::Other => false,
+    }
+}
+
+fn may_follow(in_group: bool, sign: Sign<'_>) -> bool
+    ensures { (at : ℕ) → result ≡ judging.may_follow in_group (symbol_at at sign.entry) }
+{
+    match sign {
+        Sign::Closing => in_group,
+        Sign::Between(_) => true,
+        _ => false,
+    }
+}
+
+fn may_follow_argument(count: usize, sign: Sign<'_>) -> bool
+    ensures { (at : ℕ) → result ≡ judging.may_follow_argument count (symbol_at at sign.entry) }
+{
+    match sign {
+        Sign::Closing => true,
+        Sign::Comma => count < 4,
+        _ => false,
+    }
+}
+
+fn is_long(sign: Sign<'_>) -> bool
+    ensures { (at : ℕ) → result ≡ judging.is_long (symbol_at at sign.entry) }
+{
+    match sign {
+        Sign::Word(word) => word.len() > 32,
+        Sign::Param(name) => name.len() > 32,
+        _ => false,
+    }
+}
+
+fn opens_level(sign: Sign<'_>) -> bool
+    ensures { (at : ℕ) → result ≡ judging.opens_level (symbol_at at sign.entry) }
+{
+    match sign {
+        Sign::Word(word) => is_quantifier(class_of(word)),
+        Sign::Opening => true,
+        Sign::Before(_) => true,
+        _ => false,
+    }
+}
+
+fn is_quantifier(class: WordClass) -> bool
+    ensures { result ≡ judging.is_quantifier class }
+{
+    match class {
+        WordClass::Quantifies(_) => true,
+        WordClass::Withheld => false,
+        WordClass::Names => false,
+        WordClass::Other => false,
+    }
+}
+
+/// Whether the token is a node's, by whether an operand is wanted.
+pub fn is_node(wants_operand: bool, sign: Sign<'_>) -> bool
+    ensures { (at : ℕ) → result ≡ judging.is_node wants_operand (symbol_at at sign.entry) }
+{
+    match sign {
+        Sign::Word(_) => wants_operand,
+        Sign::Before(_) => true,
+        Sign::Between(_) => true,
+        _ => false,
+    }
+}

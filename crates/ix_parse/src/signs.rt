@@ -1,0 +1,41 @@
+//! Operators, prefixes and the words of quantifiers.
+
+/// A binary operator.
+#[derive(Clone, Copy, Debug, PartialEq, Eq)]
+pub enum Operator {
+    Or,
+    And,
+    Couple,
+    Par,
+    Seq,
+}
+
+/// A prefix of one byte.
+#[derive(Clone, Copy, Debug, PartialEq, Eq)]
+pub enum Prefix {
+    Opt,
+    Star,
+    ParStar,
+}
+
+/// A quantifier.
+#[derive(Clone, Copy, Debug, PartialEq, Eq)]
+pub enum Quantifier {
+    Any,
+    Every,
+    Sync,
+    All,
+}
+
+/// What a word is in the place of an operand.
+#[derive(Clone, Copy, Debug, PartialEq, Eq)]
+pub enum WordClass {
+    /// The word of a quantifier.
+    Quantifies(Quantifier),
+    /// The word `times`, which is reserved and begins nothing.
+    Withheld,
+    /// A word that begins with a letter and isn't reserved.
+    Names,
+    /// A word that begins with a digit or `_`.
+    Other,
+}

@@ -1,0 +1,115 @@
+//! The reader's loop over the tokens of a text.
+
+ghost use Rattle.std.specs.Prelude.{◌≡◌, ℕ, ◌≤◌, length, IsSome, MatchResult, None, Some, ◌+◌, if◌then◌else◌};
+ghost use Rattle.ix_lex.specs.Items.{plain_token};
+ghost use Rattle.ix_parse.specs.Symbols.{symbol_of};
+ghost use Rattle.ix_parse.specs.Machine as machine;
+ghost use Rattle.ix_parse.specs.Judging as judging;
+ghost use Rattle.ix_parse.specs.Operands.{meaning_of};
+ghost use Rattle.ix_parse.specs.Configs.{config_of, mode_of, IsSound, IsReadable};
+ghost use Rattle.ix_parse.specs.Outcomes.{IsTaken, IsMeaning, IsEnded, is_param_piece};
+
+use crate::faults::Fault;
+use crate::operand::Operand;
+use crate::reader::{Reader, is_node};
+use crate::step::{step, whole};
+use crate::symbols::sign_of;
+use crate::{TextFault, fault_at};
+use ix_lex::{LexFault, Token, TokenKind, Tokens};
+use std::alloc::Global;
+
+/// What was read, and how many nodes' tokens came.
+#[derive(Drop)]
+pub struct Reading {
+    pub reader: Reader,
+    pub nodes: usize,
+}
+
+// Whether the next piece is a parameter.
+fn is_param(ahead: &Option<Result<Token<'_>, LexFault>>) -> bool
+    ensures { result ≡ is_param_piece ahead.now }
+{
+    match ahead {
+        Some(Ok(token)) => matches!(token.kind, TokenKind::Param),
+        Some(Err(_)) => false,
+        None => false,
+    }
+}
+
+// The reading after a token, or the fault that it meets.
+fn take(
+    alloc: Global,
+    reading: Reading,
+    token: &Token<'_>,
+    param_next: bool,
+) -> Result<Reading, TextFault>
+    requires may { judging.judged (config_of reading.reader) reading.nodes (symbol_of (plain_token token.now)) param_next ≡ None
+        → IsSome (machine.step (config_of reading.reader) (symbol_of (plain_token token.now))) }
+    requires readable { judging.judged (config_of reading.reader) reading.nodes (symbol_of (plain_token token.now)) param_next ≡ None
+        → IsReadable (symbol_of (plain_token token.now)) }
+    requires sound { IsSound (mode_of reading.reader.mode) }
+    requires few { reading.nodes ≤ 512 }
+    ensures { IsTaken (config_of reading.reader) reading.nodes (plain_token token.now) param_next result }
+{
+    let Reading { reader, nodes } = reading;
+    let at = token.start;
+    let sign = sign_of(token);
+    if let Some(fault) = reader.fault_of(nodes, at, sign, param_next) {
+        return Err(fault_at(fault, at));
+    }
+    let more = with_node(nodes, is_node(reader.wants_operand(), sign));
+    match step(alloc, reader, at, sign) {
+        Ok(reader) => Ok(Reading {
+            reader,
+            nodes: more,
+        }),
+        Err(_) => Err(TextFault::Memory),
+    }
+}
+
+// The number of nodes' tokens, with one more if the token is a node's.
+fn with_node(nodes: usize, is_one: bool) -> usize
+    requires { nodes ≤ 512 }
+    ensures { result ≡ (if is_one then nodes + 1 else nodes) }
+{
+    if is_one { nodes + 1 } else { nodes }
+}
+
+/// The operand that a text is, with the places of its nodes.
+pub fn read_operand(alloc: Global, text: &[u8]) -> Result<Operand, TextFault>
+    requires { length text.now ≤ 16384 }
+    ensures { IsMeaning text.now result }
+{
+    let mut tokens = Tokens::new(text);
+    let mut ahead = tokens.next();
+    let mut reading = Reading {
+        reader: Reader::new(alloc),
+        nodes: 0,
+    };
+    while let Some(piece) = ahead {
+        ahead = tokens.next();
+        let token = match piece {
+            Ok(token) => token,
+            Err(fault) => return Err(fault_at(Fault::NoToken, fault.at)),
+        };
+        reading = match take(alloc, reading, &token, is_param(&ahead)) {
+            Ok(reading) => reading,
+            Err(fault) => return Err(fault),
+        };
+    }
+    finish(alloc, reading.reader, text.len())
+}
+
+// The operand that was read, if it is whole at the end.
+fn finish(alloc: Global, reader: Reader, end: usize) -> Result<Operand, TextFault>
+    requires { IsSound (mode_of reader.mode) }
+    ensures { MatchResult result
+        (λ x. machine.whole (config_of reader) ≡ Some (meaning_of x))
+        (λ fault. IsEnded (config_of reader) end fault) }
+{
+    match whole(alloc, reader) {
+        Ok(Some(operand)) => Ok(operand),
+        Ok(None) => Err(fault_at(Fault::Ended, end)),
+        Err(_) => Err(TextFault::Memory),
+    }
+}

@@ -1,0 +1,61 @@
+//! Words in the place of an operand, and the names and values that words spell.
+
+ghost use Rattle.std.specs.Prelude.{◌≡◌};
+ghost use Rattle.ix_values.specs.Texts.{IsName, IsValue, begins_with_letter};
+ghost use Rattle.ix_parse.specs.Symbols as spec;
+
+use crate::signs::{Quantifier, WordClass};
+use ix_values::{Name, Value};
+
+/// What the word is in the place of an operand.
+#[tactic(auto, unfolding(crate::specs::Symbols::class_of))]
+pub fn class_of(word: &[u8]) -> WordClass
+    ensures { result ≡ spec.class_of word.now }
+{
+    if word == b"any".as_slice() {
+        WordClass::Quantifies(Quantifier::Any)
+    } else if word == b"every".as_slice() {
+        WordClass::Quantifies(Quantifier::Every)
+    } else if word == b"sync".as_slice() {
+        WordClass::Quantifies(Quantifier::Sync)
+    } else if word == b"all".as_slice() {
+        WordClass::Quantifies(Quantifier::All)
+    } else if word == b"times".as_slice() {
+        WordClass::Withheld
+    } else if begins_with_letter(word) {
+        WordClass::Names
+    } else {
+        WordClass::Other
+    }
+}
+
+fn begins_with_letter(word: &[u8]) -> bool
+    ensures { result ≡ begins_with_letter word.now }
+{
+    match word {
+        [first, ..] => first.is_ascii_alphabetic(),
+        [] => false,
+    }
+}
+
+/// The name that the word spells.
+pub fn name_of(word: &[u8]) -> Name
+    requires { IsName word.now }
+    ensures { result ≡ word.now }
+{
+    match Name::read(word) {
+        Some(name) => name,
+        None => unreachable!(),
+    }
+}
+
+/// The value that the word spells.
+pub fn value_of(word: &[u8]) -> Value
+    requires { IsValue word.now }
+    ensures { result ≡ word.now }
+{
+    match Value::read(word) {
+        Some(value) => value,
+        None => unreachable!(),
+    }
+}
