@@ -1,0 +1,12 @@
+pub mod Lists
+pub mod Testing
+pub mod Ways
+pub mod Nodes
+pub mod OperatorsTell
+pub mod QuantifiersTell
+pub mod TreesTell
+pub mod Naming
+pub mod Agreeing
+pub mod Proper
+pub mod Ends
+pub mod MayTell

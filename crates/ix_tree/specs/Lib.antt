@@ -1,0 +1,4 @@
+pub mod Plain
+pub mod Size
+pub mod Order
+pub mod Laws

@@ -1,0 +1,134 @@
+-- The order of trees: by form, and within a form part by part, the first difference deciding.
+use Rattle.std.specs.Prelude.{ℕ, true, false, List, [], ◌∷◌}
+use Rattle.std.specs.declared.cmp.Ordering.{Ordering}
+use Rattle.std.specs.declared.cmp.Ordering.TheVariants.{Equal}
+use Rattle.std.specs.Ordering.{nat_cmp, ordering_then}
+use Rattle.ix_values.specs.Order.{text_cmp}
+use Rattle.ix_tree.specs.Plain.{Plain, dead, start, done, opt, seq, star, par, par_star, or, and, couple, any, every, sync, all, pair, bag, map, entry, none, more}
+
+-- the place of a form; the empty list stands before every other
+abbrev pub place : Plain → ℕ
+place dead = 0
+place start = 1
+place done = 2
+place (opt empty x) = 3
+place (seq x xs) = 4
+place (star again xs) = 5
+place (par pairs) = 6
+place (par_star bags) = 7
+place (or x y) = 8
+place (and x y) = 9
+place (couple x y) = 10
+place (any common entries) = 11
+place (every common entries) = 12
+place (sync common entries) = 13
+place (all maps) = 14
+place (pair x y) = 15
+place (bag xs) = 16
+place (map entries) = 17
+place (entry v x) = 18
+place none = 19
+place (more x xs) = 20
+
+-- what a node has beside trees, as bytes: false before true, and an entry's value
+abbrev pub key : Plain → List ℕ
+key (opt true x) = 1 ∷ []
+key (opt false x) = 0 ∷ []
+key (star true xs) = 1 ∷ []
+key (star false xs) = 0 ∷ []
+key (entry v x) = v
+key dead = []
+key start = []
+key done = []
+key (seq x xs) = []
+key (par pairs) = []
+key (par_star bags) = []
+key (or x y) = []
+key (and x y) = []
+key (couple x y) = []
+key (any common entries) = []
+key (every common entries) = []
+key (sync common entries) = []
+key (all maps) = []
+key (pair x y) = []
+key (bag xs) = []
+key (map entries) = []
+key none = []
+key (more x xs) = []
+
+-- the first tree or list in a node
+abbrev pub first_part : Plain → Plain
+first_part (opt empty x) = x
+first_part (seq x xs) = x
+first_part (star again xs) = xs
+first_part (par pairs) = pairs
+first_part (par_star bags) = bags
+first_part (or x y) = x
+first_part (and x y) = x
+first_part (couple x y) = x
+first_part (any common entries) = common
+first_part (every common entries) = common
+first_part (sync common entries) = common
+first_part (all maps) = maps
+first_part (pair x y) = x
+first_part (bag xs) = xs
+first_part (map entries) = entries
+first_part (entry v x) = x
+first_part (more x xs) = x
+first_part dead = none
+first_part start = none
+first_part done = none
+first_part none = none
+
+-- the second tree or list in a node
+abbrev pub second_part : Plain → Plain
+second_part (seq x xs) = xs
+second_part (or x y) = y
+second_part (and x y) = y
+second_part (couple x y) = y
+second_part (any common entries) = entries
+second_part (every common entries) = entries
+second_part (sync common entries) = entries
+second_part (pair x y) = y
+second_part (more x xs) = xs
+second_part (opt empty x) = none
+second_part (star again xs) = none
+second_part (par pairs) = none
+second_part (par_star bags) = none
+second_part (all maps) = none
+second_part (bag xs) = none
+second_part (map entries) = none
+second_part (entry v x) = none
+second_part dead = none
+second_part start = none
+second_part done = none
+second_part none = none
+
+-- by form, then by what stands beside the trees, then as the first parts compare, then as the second do
+abbrev pub in_turn : Plain → Plain → Ordering → Ordering → Ordering
+in_turn x y first second =
+    ordering_then (nat_cmp (place x) (place y)) (ordering_then (text_cmp (key x) (key y)) (ordering_then first second))
+
+-- the order; a proper prefix of a list stands before the longer list, since the empty list stands before any other
+abbrev pub tree_cmp : Plain → Plain → Ordering
+tree_cmp (opt empty x) y = in_turn (opt empty x) y (tree_cmp x (first_part y)) Equal
+tree_cmp (seq x xs) y = in_turn (seq x xs) y (tree_cmp x (first_part y)) (tree_cmp xs (second_part y))
+tree_cmp (star again xs) y = in_turn (star again xs) y (tree_cmp xs (first_part y)) Equal
+tree_cmp (par pairs) y = in_turn (par pairs) y (tree_cmp pairs (first_part y)) Equal
+tree_cmp (par_star bags) y = in_turn (par_star bags) y (tree_cmp bags (first_part y)) Equal
+tree_cmp (or x z) y = in_turn (or x z) y (tree_cmp x (first_part y)) (tree_cmp z (second_part y))
+tree_cmp (and x z) y = in_turn (and x z) y (tree_cmp x (first_part y)) (tree_cmp z (second_part y))
+tree_cmp (couple x z) y = in_turn (couple x z) y (tree_cmp x (first_part y)) (tree_cmp z (second_part y))
+tree_cmp (any common entries) y = in_turn (any common entries) y (tree_cmp common (first_part y)) (tree_cmp entries (second_part y))
+tree_cmp (every common entries) y = in_turn (every common entries) y (tree_cmp common (first_part y)) (tree_cmp entries (second_part y))
+tree_cmp (sync common entries) y = in_turn (sync common entries) y (tree_cmp common (first_part y)) (tree_cmp entries (second_part y))
+tree_cmp (all maps) y = in_turn (all maps) y (tree_cmp maps (first_part y)) Equal
+tree_cmp (pair x z) y = in_turn (pair x z) y (tree_cmp x (first_part y)) (tree_cmp z (second_part y))
+tree_cmp (bag xs) y = in_turn (bag xs) y (tree_cmp xs (first_part y)) Equal
+tree_cmp (map entries) y = in_turn (map entries) y (tree_cmp entries (first_part y)) Equal
+tree_cmp (entry v x) y = in_turn (entry v x) y (tree_cmp x (first_part y)) Equal
+tree_cmp (more x xs) y = in_turn (more x xs) y (tree_cmp x (first_part y)) (tree_cmp xs (second_part y))
+tree_cmp dead y = in_turn dead y Equal Equal
+tree_cmp start y = in_turn start y Equal Equal
+tree_cmp done y = in_turn done y Equal Equal
+tree_cmp none y = in_turn none y Equal Equal
