@@ -3,53 +3,127 @@ use ix_expr::Expr;
 use std::alloc::AllocError;
 use std::test::Fail;
 
-// The fault of a text, with its place.
-fn fault(alloc: Global, text: &[u8]) -> Option<(u8, usize)> {
+// 0 and the number of nodes of an expression, the code and the place of a fault, or None for want of memory.
+fn outcome(alloc: Global, text: &[u8]) -> Option<(u8, usize)> {
     match read(alloc, text) {
+        Ok(expression) => Some((0, expression.nodes())),
         Err(TextFault::Bad { code, at }) => Some((code, at)),
-        _ => None,
+        Err(TextFault::Memory) => None,
     }
 }
 
-// A text so many times over.
-fn repeated(alloc: Global, text: &[u8], times: usize) -> Result<Vec<u8>, AllocError> {
+// The outcome of a text with so many copies of another before it, and so many of a third behind it.
+fn outcome_between(
+    alloc: Global,
+    before: &[u8],
+    times: usize,
+    text: &[u8],
+    after: &[u8],
+) -> Result<Option<(u8, usize)>, AllocError> {
     let mut all = Vec::new(alloc);
     for _ in 0..times {
-        all.extend_from_slice(text)?;
+        all.extend_from_slice(before)?;
     }
-    Ok(all)
+    all.extend_from_slice(text)?;
+    for _ in 0..times {
+        all.extend_from_slice(after)?;
+    }
+    Ok(outcome(alloc, all.as_slice()))
 }
 
 #[test]
-fn syntax_faults(rt: HostRuntime) -> Result<(), Fail> {
-    assert_eq!(rt; fault(rt.alloc(), b"a -"), Some((4, 3)));
-    assert_eq!(rt; fault(rt.alloc(), b"a ! b"), Some((2, 2)));
-    assert_eq!(rt; fault(rt.alloc(), b"a b"), Some((3, 2)));
-    assert_eq!(rt; fault(rt.alloc(), b"9a"), Some((3, 0)));
-    assert_eq!(rt; fault(rt.alloc(), b"all(x)"), Some((12, 0)));
-    assert_eq!(rt; fault(rt.alloc(), b"any !"), Some((12, 0)));
-    assert_eq!(rt; fault(rt.alloc(), b"a(p,q,r,s,t)"), Some((10, 9)));
+fn first_faults(rt: HostRuntime) -> Result<(), Fail> {
+    let rows = [
+        (b"! a".as_slice(), 2, 0),
+        (b"a ! b c".as_slice(), 2, 2),
+        (b"a - b!".as_slice(), 2, 5),
+        (b")a".as_slice(), 3, 0),
+        (b"a b !".as_slice(), 3, 2),
+        (b"a - b c".as_slice(), 3, 6),
+        (b"9a".as_slice(), 3, 0),
+        (b"".as_slice(), 4, 0),
+        (b"(a".as_slice(), 4, 2),
+        (b"a -".as_slice(), 4, 3),
+        (b"a | - b".as_slice(), 3, 4),
+        (b"a($q) | b".as_slice(), 5, 0),
+        (b"b | a($q) | c".as_slice(), 5, 4),
+        (b"b | c | a($q)".as_slice(), 5, 8),
+        (b"any $p a($q)".as_slice(), 5, 7),
+        (b"any $p a($q) !".as_slice(), 2, 13),
+        (b"any $p any $p a($q)".as_slice(), 6, 7),
+        (b"b | any $p every $p a".as_slice(), 6, 11),
+        (b"all $p b".as_slice(), 7, 7),
+        (b"all $p (a($p) - b - c($p))".as_slice(), 7, 16),
+        (b"all $p (a($p) - b)".as_slice(), 7, 16),
+        (b"a(p,q,r,s,t)".as_slice(), 10, 9),
+        (b"b - a(p,q,r,s,t,".as_slice(), 10, 13),
+        (b"all(x)".as_slice(), 12, 0),
+        (b"b - times - c".as_slice(), 12, 4),
+        (b"b | any !".as_slice(), 12, 4),
+    ];
+    for (text, code, at) in rows {
+        assert_eq!(rt; outcome(rt.alloc(), text), Some((code, at)));
+    }
     Ok(())
 }
 
 #[test]
-fn form_faults(rt: HostRuntime) -> Result<(), Fail> {
-    assert_eq!(rt; fault(rt.alloc(), b"all $p (a($p) - b)"), Some((7, 16)));
-    assert_eq!(rt; fault(rt.alloc(), b"any $p a($q)"), Some((5, 7)));
-    assert_eq!(rt; fault(rt.alloc(), b"any $p any $p a($p)"), Some((6, 7)));
+fn levels_and_depth(rt: HostRuntime) -> Result<(), Fail> {
+    assert_eq!(rt;
+        outcome_between(rt.alloc(), b"(", 64, b"a", b")")?,
+        Some((0, 1))
+    );
+    assert_eq!(rt;
+        outcome_between(rt.alloc(), b"(", 65, b"a", b")")?,
+        Some((9, 64))
+    );
+    assert_eq!(rt;
+        outcome_between(rt.alloc(), b"any $p ", 65, b"a", b"")?,
+        Some((9, 448))
+    );
+    assert_eq!(rt;
+        outcome_between(rt.alloc(), b"?", 64, b"a", b"")?,
+        Some((0, 65))
+    );
+    assert_eq!(rt;
+        outcome_between(rt.alloc(), b"", 255, b"a", b"|a")?,
+        Some((0, 511))
+    );
+    let nine = b"any $a any $b any $c any $d any $e any $f any $g any $h any $i j";
+    assert_eq!(rt; outcome(rt.alloc(), nine), Some((13, 56)));
     Ok(())
 }
 
 #[test]
-fn limits(rt: HostRuntime) -> Result<(), Fail> {
-    let groups = repeated(rt.alloc(), b"(", 65)?;
-    assert_eq!(rt; fault(rt.alloc(), groups.as_slice()), Some((9, 64)));
-    let chain = repeated(rt.alloc(), b"a|", 300)?;
-    assert_eq!(rt; fault(rt.alloc(), chain.as_slice()), Some((8, 512)));
-    let name = repeated(rt.alloc(), b"n", 33)?;
-    assert_eq!(rt; fault(rt.alloc(), name.as_slice()), Some((11, 0)));
-    let blanks = repeated(rt.alloc(), b" ", 16385)?;
-    assert_eq!(rt; fault(rt.alloc(), blanks.as_slice()), Some((1, 16384)));
+fn lengths_and_nodes(rt: HostRuntime) -> Result<(), Fail> {
+    assert_eq!(rt;
+        outcome_between(rt.alloc(), b"a|", 8192, b"", b"")?,
+        Some((8, 512))
+    );
+    assert_eq!(rt;
+        outcome_between(rt.alloc(), b" ", 16381, b"a|a", b"")?,
+        Some((0, 3))
+    );
+    assert_eq!(rt;
+        outcome_between(rt.alloc(), b" ", 16382, b"a|a", b"")?,
+        Some((1, 16384))
+    );
+    assert_eq!(rt;
+        outcome_between(rt.alloc(), b"n", 32, b"", b"")?,
+        Some((0, 1))
+    );
+    assert_eq!(rt;
+        outcome_between(rt.alloc(), b"n", 33, b"", b"")?,
+        Some((11, 0))
+    );
+    assert_eq!(rt;
+        outcome_between(rt.alloc(), b"", 32, b"b - n", b"n")?,
+        Some((11, 4))
+    );
+    assert_eq!(rt;
+        outcome_between(rt.alloc(), b"", 32, b"any $n", b"n")?,
+        Some((11, 4))
+    );
     Ok(())
 }
 
