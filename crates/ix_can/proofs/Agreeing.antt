@@ -49,7 +49,7 @@ module _ {A : Type 0} where
   any-alike [] e = refl
   any-alike (a ∷ w) e = (λ i. e a here i || any-alike w (λ b m. e b (there m)) i)
 
-  filter-each : {G : A → Type 0} (f : A → Bool) (w : List A) → Each G w → Each G (filter f w)
+  pub filter-each : {G : A → Type 0} (f : A → Bool) (w : List A) → Each G w → Each G (filter f w)
   filter-each {G} f w h = Each-members (filter f w) (λ a m. Each-member h (Member-filter f w m).0)
 
 -- Alphabets
@@ -57,7 +57,7 @@ module _ {A : Type 0} where
 alphabet_to : (y : Form) {e f : Environment} (a : PlainAction) → AgreeAt e f a → InAlphabet y e a → InAlphabet y f a
 alphabet_to y a k i = alphabet-leads y a (record { at = λ q u m. (k.agree q u m).0 }) i
 
-alphabet_alike : (y : Form) {e f : Environment} (a : PlainAction) → AgreeAt e f a → in_alphabet y e a ≡ in_alphabet y f a
+pub alphabet_alike : (y : Form) {e f : Environment} (a : PlainAction) → AgreeAt e f a → in_alphabet y e a ≡ in_alphabet y f a
 alphabet_alike y {e} {f} a k = one_test (in_alphabet y e a) (in_alphabet y f a) (
   λ h. (alphabet_says y f a).1 (alphabet_to y a k ((alphabet_says y e a).0 h)),
   λ h. (alphabet_says y e a).1 (alphabet_to y a (agree-sym k) ((alphabet_says y f a).0 h)),
@@ -93,7 +93,7 @@ module _ {e f : Environment} {w : Word} (k : AgreeOn e f w) where
   bound : (p : List ℕ) (v : Option (List ℕ)) → AgreeOn (bind p v e) (bind p v f) w
   bound p v = Each-weaker (λ a g. bind-agree p v a g) k
 
-  own_alike : (y : Form) → filter (in_alphabet y e) w ≡ filter (in_alphabet y f) w
+  pub own_alike : (y : Form) → filter (in_alphabet y e) w ≡ filter (in_alphabet y f) w
   own_alike y = filter-alike w (Each-weaker (λ a g. alphabet_alike y a g) k)
 
 again_alike : (y : Form) → Alike y → (e f : Environment) (w : Word) → AgreeOn e f w → is_concatenation (λ u. is_final y (tree_of y e u)) w ≡ is_concatenation (λ u. is_final y (tree_of y f u)) w

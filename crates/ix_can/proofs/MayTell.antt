@@ -15,7 +15,7 @@ use Rattle.ix_words.proofs.Laws.{parts_grow}
 use Rattle.std.proofs.lemmas.List.{length-map}
 use Rattle.ix_words.proofs.Words.{Repeated-empty}
 use Rattle.ix_values.specs.PlainAction.{PlainAction, Word}
-use Rattle.ix_expr.specs.Form.{PlainAtom, Form, atom, opt, seq, star, par, par_star, or, and, couple, any, every, sync, all}
+use Rattle.ix_expr.specs.Form.{PlainAtom, Form, atom, opt, seq, star, par, par_star, or, and, couple}
 use Rattle.ix_expr.specs.Environment.{Environment, Matches}
 use Rattle.ix_expr.specs.Meaning.{InAlphabet, IsOneMatch, IsComplete, IsPartial}
 use Rattle.ix_expr.proofs.LawsOfMeaning.{empty-partial, complete-partial, prefix-partial}
@@ -25,19 +25,17 @@ use Rattle.ix_can.specs.Tests.{is_match, in_alphabet, accepts_empty}
 use Rattle.ix_can.specs.Ways.{is_empty, numberings, nonempty_parts, numbers_below}
 use Rattle.ix_can.specs.Nodes.{is_dead, is_live, listed, items_of, set_of, sorted, live, dead_if}
 use Rattle.ix_can.specs.TreeOf.{tree_of}
-use Rattle.ix_can.specs.May.{HasNoQuantifier, both_move, may_first, may}
+use Rattle.ix_can.specs.May.{both_move, may_first, may}
 use Rattle.ix_can.proofs.Lists.{itself, both_iff, same_test, iff_trans, iff_sym, when_either, when_both, when_not, SomeWay, when_passes, one_passes, made_says, all_map, any_map, filled_says, filter-Member, Member-filter}
 use Rattle.ix_can.proofs.Testing.{match_says, alphabet_says, empty_complete}
 use Rattle.ix_can.proofs.Ways.{numbered_part, long_to, long_from, parts_to, parts_from, numbers_to, each_below, below_from, owner_or_none}
 use Rattle.ix_can.proofs.Nodes.{tree_live, any_set, any_sorted, projected_says}
 use Rattle.ix_can.proofs.OperatorsTell.{Tells, opt_told, seq_told, par_told, or_told, and_told, couple_told, star_told, par_star_told, again, again_says, seq_rest, seq_says, par_pair, star_rest, par_star_bag}
-use Rattle.ix_can.specs.Laws.{EachAllNames}
-use Rattle.ix_can.proofs.TreesTell.{told}
 use Rattle.ix_can.proofs.Ends.{joined_end, joined_more, split_end, repeated_end, filter_end}
 
 -- A dead tree
 
-may_dead : (x : Form) (e : Environment) (a : PlainAction) → may x e dead a ≡ false
+pub may_dead : (x : Form) (e : Environment) (a : PlainAction) → may x e dead a ≡ false
 may_dead (atom x) e a = refl
 may_dead _ e a = refl
 
@@ -49,13 +47,13 @@ nothing_joined (a ∷ u) v e = absurd (cc)
 
 module _ (a : PlainAction) where
   -- the word of the action
-  abbrev only : Word
+  abbrev pub only : Word
   only = a ∷ []
 
-  abbrev Begins : Form → Environment → Type 0
+  abbrev pub Begins : Form → Environment → Type 0
   Begins y e = (may_first y e a ≡ true) ↔ IsPartial y e only
 
-  first_atom : (x : PlainAtom) (e : Environment) → Begins (atom x) e
+  pub first_atom : (x : PlainAtom) (e : Environment) → Begins (atom x) e
   first_atom x e = iff_trans (match_says x e a) (λ m. inr (a, refl, m), λ h. elim h [ inl n ↦ absurd (not_empty n) | inr k ↦ matches k ])
     where
       not_empty : ¬ (a ∷ [] ≡ [])
@@ -67,7 +65,7 @@ module _ (a : PlainAction) where
           let same : k.0 ≡ a = cc in
           subst (Matches x e) same k.2
 
-  first_seq : (y z : Form) (e : Environment) → Begins y e → Begins z e → Begins (seq y z) e
+  pub first_seq : (y z : Form) (e : Environment) → Begins y e → Begins z e → Begins (seq y z) e
   first_seq y z e k l = iff_trans
       (when_either (may_first y e a) (accepts_empty y && may_first z e a) k (when_both (accepts_empty y) (may_first z e a) (empty_complete y e) l)) (
         λ h. elim h [ inl p ↦ inl p | inr b ↦ inr (record { front = []; back = only; whole = refl; front_has = b.0; back_has = b.1 }) ],
@@ -81,7 +79,7 @@ module _ (a : PlainAction) where
           let same : b ∷ u ≡ only = let n = nothing_joined u v rest in let h : u ≡ [] = n.0 in cc in
           inl (complete-partial y e only (subst (IsComplete y e) same c))
 
-  first_star : (y : Form) (e : Environment) → Begins y e → Begins (star y) e
+  pub first_star : (y : Form) (e : Environment) → Begins y e → Begins (star y) e
   first_star y e k = iff_trans k (
     λ p. record { front = []; back = only; whole = refl; front_has = Repeated-empty; back_has = p },
     λ h. elim (joined_end {Q = Repeated (IsComplete y e)} {R = IsPartial y e} [] a h) [
@@ -99,7 +97,7 @@ module _ (a : PlainAction) where
       one_cut : {c : Word × Word} → Member c (cuts []) → [] ≡ c.0 ++ c.1
       one_cut m = elim (Member-cases m) [ inl e ↦ sym (ap (λ (q : Word × Word). q.0 ++ q.1) e) | inr n ↦ elim n [ ] ]
 
-  first_par : (y z : Form) (e : Environment) → Begins y e → Begins z e → Begins (par y z) e
+  pub first_par : (y z : Form) (e : Environment) → Begins y e → Begins z e → Begins (par y z) e
   first_par y z e k l = iff_trans (when_either (may_first y e a) (may_first z e a) k l) (iff_trans (
     λ h. record {
       way = ([], []);
@@ -117,15 +115,15 @@ module _ (a : PlainAction) where
       (iff_sym (split_end {Q = IsPartial y e} {R = IsPartial z e} [] a)))
 
   -- a coupling moves both sides by what is in their alphabets
-  moved : (t : Bool) (P : Word → Type 0) (u : Word) → P u → {q : Bool} → (q ≡ true) ↔ P (u ++ only) → (not t || q ≡ true) ↔ P (u ++ cond t only [])
+  pub moved : (t : Bool) (P : Word → Type 0) (u : Word) → P u → {q : Bool} → (q ≡ true) ↔ P (u ++ only) → (not t || q ≡ true) ↔ P (u ++ cond t only [])
   moved true P u p k = k
   moved false P u p k = (λ h. subst P (sym (append-nil u)) p, λ h. refl)
 
-  one_inside : (b : Bool) {G : Type 0} → (b ≡ true) ↔ G → {H : PlainAction → Type 0} → H a ↔ G → (u : Word) → Each H u → (b ≡ true) ↔ Each H (u ++ only)
+  pub one_inside : (b : Bool) {G : Type 0} → (b ≡ true) ↔ G → {H : PlainAction → Type 0} → H a ↔ G → (u : Word) → Each H u → (b ≡ true) ↔ Each H (u ++ only)
   one_inside b k same u h = iff_trans k (λ g. Each-append h (item (same.1 g) no_item), λ i. same.0 (Each-head (Each-right u only i)))
 
   -- the longer word is partial in a coupling exactly where the action is inside and moves both sides
-  couple_end : (y z : Form) (e : Environment) (w : Word) → IsPartial (couple y z) e w → {q r : Bool} →
+  pub couple_end : (y z : Form) (e : Environment) (w : Word) → IsPartial (couple y z) e w → {q r : Bool} →
       (q ≡ true) ↔ IsPartial y e (filter (in_alphabet y e) w ++ only) → (r ≡ true) ↔ IsPartial z e (filter (in_alphabet z e) w ++ only) →
       (both_move (in_alphabet y e a) (in_alphabet z e a) q r ≡ true) ↔ IsPartial (couple y z) e (w ++ only)
   couple_end y z e w h {q} {r} k l =
@@ -145,7 +143,7 @@ module _ (a : PlainAction) where
       (when_both (not i || q) (not j || r) left right))
       (λ g. (g.0, g.1.0, g.1.1), λ g. (g.0, (g.1, g.2)))
 
-  first_par_star : (y : Form) (e : Environment) → Begins y e → Begins (par_star y) e
+  pub first_par_star : (y : Form) (e : Environment) → Begins y e → Begins (par_star y) e
   first_par_star y e k = iff_trans k (λ p. record { owners = 0 ∷ []; as_long = refl; each_has = item p no_item }, λ h. from h.owners h.as_long h.each_has)
     where
       owned : (b : Bool) → b ≡ true → IsPartial y e (cond b only []) → IsPartial y e only
@@ -157,30 +155,14 @@ module _ (a : PlainAction) where
       from (j ∷ []) l h = owned (j == j) (eq-eqb j j refl) (Each-head h)
       from (j ∷ i ∷ owners) l h = absurd (omega arith)
 
-  -- the test of the first action
-  pub first_tells : (x : Form) → HasNoQuantifier x → (e : Environment) → (may_first x e a ≡ true) ↔ IsPartial x e (a ∷ [])
-  first_tells (atom x) n e = first_atom x e
-  first_tells (opt y) n e = first_tells y n e
-  first_tells (seq y z) n e = first_seq y z e (first_tells y n.0 e) (first_tells z n.1 e)
-  first_tells (star y) n e = first_star y e (first_tells y n e)
-  first_tells (par y z) n e = first_par y z e (first_tells y n.0 e) (first_tells z n.1 e)
-  first_tells (par_star y) n e = first_par_star y e (first_tells y n e)
-  first_tells (or y z) n e = when_either (may_first y e a) (may_first z e a) (first_tells y n.0 e) (first_tells z n.1 e)
-  first_tells (and y z) n e = when_both (may_first y e a) (may_first z e a) (first_tells y n.0 e) (first_tells z n.1 e)
-  first_tells (couple y z) n e = couple_end y z e [] (empty-partial (couple y z) e) (first_tells y n.0 e) (first_tells z n.1 e)
-  first_tells (any p y) n e = absurd n
-  first_tells (every p y) n e = absurd n
-  first_tells (sync p y) n e = absurd n
-  first_tells (all p y) n e = absurd n
-
 -- Numbers as owners of one more action
 
 -- the place of the first k, or the length
-abbrev place : List ℕ → ℕ → ℕ
+abbrev pub place : List ℕ → ℕ → ℕ
 place [] k = 0
 place (j ∷ owners) k = cond (k == j) 0 (suc (place owners k))
 
-place-below : (owners : List ℕ) (k : ℕ) → Member k owners → place owners k < length owners
+pub place-below : (owners : List ℕ) (k : ℕ) → Member k owners → place owners k < length owners
 place-below [] k m = elim m [ ]
 place-below (j ∷ owners) k m = chosen (k == j) refl (Member-cases m) (place-below owners k)
   where
@@ -189,7 +171,7 @@ place-below (j ∷ owners) k m = chosen (k == j) refl (Member-cases m) (place-be
     chosen false e (inl same) later = absurd (true≢false (sym (eq-eqb k j same) ∙ e))
     chosen false e (inr n) later = let h : place owners k < length owners = later n in omega arith
 
-place-once : (owners : List ℕ) (k j : ℕ) → Member k owners → place owners k ≡ place owners j → k ≡ j
+pub place-once : (owners : List ℕ) (k j : ℕ) → Member k owners → place owners k ≡ place owners j → k ≡ j
 place-once [] k j m e = elim m [ ]
 place-once (i ∷ owners) k j m e = both (k == i) (j == i) refl refl (Member-cases m) (place-once owners k j) e
   where
@@ -200,23 +182,23 @@ place-once (i ∷ owners) k j m e = both (k == i) (j == i) refl refl (Member-cas
     both false false f g (inl same) later d = absurd (true≢false (sym (eq-eqb k i same) ∙ f))
     both false false f g (inr n) later d = later n (omega arith)
 
-place-test : (owners : List ℕ) (j i : ℕ) → Member i owners → (place owners j == place owners i) ≡ (j == i)
+pub place-test : (owners : List ℕ) (j i : ℕ) → Member i owners → (place owners j == place owners i) ≡ (j == i)
 place-test owners j i m = both_ways (place owners j == place owners i) (j == i)
     (λ e. eq-eqb j i (sym (place-once owners i j m (sym (eqb-true _ _ e)))))
     (λ e. eq-eqb _ _ (ap (place owners) (eqb-true j i e)))
 
 -- numbered by places each number has the part that it had
-placed_part : (owners : List ℕ) (w : Word) (k : ℕ) → numbered_part (map (place owners) owners) w (place owners k) ≡ numbered_part owners w k
+pub placed_part : (owners : List ℕ) (w : Word) (k : ℕ) → numbered_part (map (place owners) owners) w (place owners k) ≡ numbered_part owners w k
 placed_part owners w k =
     part-map (λ other. place owners k == other) (place owners) owners w
     ∙ part-members (λ i. place owners k == place owners i) (λ i. k == i) owners w (λ i m. place-test owners k i m)
 
 module _ (P : Word → Type 0) (closed : Closed P) (w : Word) (a : PlainAction) where
   -- one more action goes to a part, or makes one of its own
-  abbrev Goes : List ℕ → Type 0
+  abbrev pub Goes : List ℕ → Type 0
   Goes owners = Each P (nonempty_parts owners w) × (P (a ∷ []) ⊎ SomeWay (λ u. P (u ++ a ∷ [])) (nonempty_parts owners w))
 
-  one_more : (owners : List ℕ) → length owners ≡ length w → Each (λ j. P (numbered_part owners w j)) owners → (k : ℕ) → P (numbered_part owners w k ++ a ∷ []) → Numbered P (w ++ a ∷ [])
+  pub one_more : (owners : List ℕ) → length owners ≡ length w → Each (λ j. P (numbered_part owners w j)) owners → (k : ℕ) → P (numbered_part owners w k ++ a ∷ []) → Numbered P (w ++ a ∷ [])
   one_more owners l h k p = record {
     owners = owners ++ k ∷ [];
     as_long = omega (arith, length-append owners (k ∷ []), length-append w (a ∷ []));
@@ -238,14 +220,14 @@ module _ (P : Word → Type 0) (closed : Closed P) (w : Word) (a : PlainAction) 
       chosen j false e q = subst P (sym (append-nil (numbered_part owners w j))) q
 
   -- a number that owns nothing
-  new_part : (owners : List ℕ) → Each (λ k. k < length w) owners → numbered_part owners w (length w) ≡ []
+  pub new_part : (owners : List ℕ) → Each (λ k. k < length w) owners → numbered_part owners w (length w) ≡ []
   new_part owners h = part-unused (λ other. length w == other) owners w (Each-weaker (λ k b. other k (length w == k) refl b) h)
     where
       other : (k : ℕ) (t : Bool) → (length w == k) ≡ t → k < length w → t ≡ false
       other k true e b = let same : length w ≡ k = eqb-true (length w) k e in absurd (omega arith)
       other k false e b = refl
 
-  more_to : SomeWay Goes (numberings w) → Numbered P (w ++ a ∷ [])
+  pub more_to : SomeWay Goes (numberings w) → Numbered P (w ++ a ∷ [])
   more_to k =
       let long : length k.way ≡ length w = long_to (numbers_below (length w)) w k.way k.among in
       let low : Each (λ j. j < length w) k.way = each_below (numbers_to (numbers_below (length w)) w k.way k.among) in
@@ -257,7 +239,7 @@ module _ (P : Word → Type 0) (closed : Closed P) (w : Word) (a : PlainAction) 
             one_more k.way long parts i.0 (subst (λ u. P (u ++ a ∷ [])) i.2 j.has)
       ]
 
-  less_from : (owners : List ℕ) (k : ℕ) → length owners ≡ length w → Each (λ j. P (part (λ other. j == other) (owners ++ k ∷ []) (w ++ a ∷ []))) (owners ++ k ∷ []) → SomeWay Goes (numberings w)
+  pub less_from : (owners : List ℕ) (k : ℕ) → length owners ≡ length w → Each (λ j. P (part (λ other. j == other) (owners ++ k ∷ []) (w ++ a ∷ []))) (owners ++ k ∷ []) → SomeWay Goes (numberings w)
   less_from owners k l h = record {
     way = numbers;
     among = long_from (numbers_below (length w)) w numbers long (Each-map (place owners) (Each-members owners (λ j m. below_from (length w) (place owners j) (below_length j m))));
@@ -300,7 +282,7 @@ module _ (P : Word → Type 0) (closed : Closed P) (w : Word) (a : PlainAction) 
               let none_is : b ∷ u ≡ [] = sym e ∙ placed_part owners w k ∙ part-unused (λ other. k == other) owners w n in
               absurd (cc)
 
-  more_from : Numbered P (w ++ a ∷ []) → SomeWay Goes (numberings w)
+  pub more_from : Numbered P (w ++ a ∷ []) → SomeWay Goes (numberings w)
   more_from h = let c = cut h.owners w (a ∷ []) h.as_long in last c.first c.second c.whole c.first_long c.second_long
     where
       last : (u v : List ℕ) → h.owners ≡ u ++ v → length u ≡ length w → length v ≡ length (a ∷ []) → SomeWay Goes (numberings w)
@@ -308,26 +290,26 @@ module _ (P : Word → Type 0) (closed : Closed P) (w : Word) (a : PlainAction) 
       last u (k ∷ []) e l m = less_from u k l (subst (λ ks. Each (λ j. P (part (λ other. j == other) ks (w ++ a ∷ []))) ks) e h.each_has)
       last u (k ∷ j ∷ v) e l m = absurd (omega arith)
 
-  numbered_end : SomeWay Goes (numberings w) ↔ Numbered P (w ++ a ∷ [])
+  pub numbered_end : SomeWay Goes (numberings w) ↔ Numbered P (w ++ a ∷ [])
   numbered_end = (more_to, more_from)
 
 module _ (a : PlainAction) where
   -- the trees of all words tell whether one more action is partial
-  abbrev MayTells : Form → Environment → Type 0
+  abbrev pub MayTells : Form → Environment → Type 0
   MayTells y e = (w : Word) → (may y e (tree_of y e w) a ≡ true) ↔ IsPartial y e (w ++ a ∷ [])
 
-  node_may : (x : Form) (e : Environment) (b : Bool) (t : Plain) {P Q : Type 0} → is_dead t ≡ false → (is_dead (dead_if b t) ≡ false) ↔ P → (Q → P) → (P → (may x e t a ≡ true) ↔ Q) → (may x e (dead_if b t) a ≡ true) ↔ Q
+  pub node_may : (x : Form) (e : Environment) (b : Bool) (t : Plain) {P Q : Type 0} → is_dead t ≡ false → (is_dead (dead_if b t) ≡ false) ↔ P → (Q → P) → (P → (may x e t a ≡ true) ↔ Q) → (may x e (dead_if b t) a ≡ true) ↔ Q
   node_may x e true t l p g c = (λ h. absurd (true≢false (sym h ∙ may_dead x e a)), λ q. absurd (true≢false (p.1 (g q))))
   node_may x e false t l p g c = c (p.0 l)
 
-  live_may : (y : Form) (e : Environment) → Tells y e → MayTells y e → (v : Word) → (list_any (λ s. may y e s a) (live (tree_of y e v)) ≡ true) ↔ IsPartial y e (v ++ a ∷ [])
+  pub live_may : (y : Form) (e : Environment) → Tells y e → MayTells y e → (v : Word) → (list_any (λ s. may y e s a) (live (tree_of y e v)) ≡ true) ↔ IsPartial y e (v ++ a ∷ [])
   live_may y e k m v = iff_trans
       (when_passes (λ s. may y e s a) (is_live (tree_of y e v)) (tree_of y e v ∷ []))
       (iff_trans
       (both_iff (tree_live (tree_of y e v) (k v)) (iff_trans (one_passes (λ s. may y e s a) (tree_of y e v)) (m v)))
       (λ h. h.1, λ p. (prefix-partial y e v (a ∷ []) p, p)))
 
-  atom_may : (x : PlainAtom) (e : Environment) → MayTells (atom x) e
+  pub atom_may : (x : PlainAtom) (e : Environment) → MayTells (atom x) e
   atom_may x e [] = first_atom a x e
   atom_may x e (b ∷ []) = (λ h. absurd (true≢false (sym h ∙ started (is_match x e b))), λ h. absurd (too_long h))
     where
@@ -344,11 +326,11 @@ module _ (a : PlainAction) where
       too_long (inl n) = cc
       too_long (inr k) = let one : b ∷ c ∷ (w ++ a ∷ []) ≡ k.0 ∷ [] = k.1 in cc
 
-  opt_may : (y : Form) (e : Environment) → Tells y e → MayTells y e → MayTells (opt y) e
+  pub opt_may : (y : Form) (e : Environment) → Tells y e → MayTells y e → MayTells (opt y) e
   opt_may y e k m w = node_may (opt y) e (is_dead (tree_of y e w)) (opt_tree (is_empty w) (tree_of y e w)) refl (opt_told y e k w).partial (prefix-partial y e w (a ∷ [])) (λ p. m w)
 
   module _ (y z : Form) (e : Environment) where
-    seq_end : (w : Word) → (IsPartial y e (w ++ a ∷ []) ⊎ SomeWay (λ c. IsComplete y e c.0 × IsPartial z e (c.1 ++ a ∷ [])) (cuts w)) ↔ IsPartial (seq y z) e (w ++ a ∷ [])
+    pub seq_end : (w : Word) → (IsPartial y e (w ++ a ∷ []) ⊎ SomeWay (λ c. IsComplete y e c.0 × IsPartial z e (c.1 ++ a ∷ [])) (cuts w)) ↔ IsPartial (seq y z) e (w ++ a ∷ [])
     seq_end w = (
       λ h. elim h [ inl p ↦ inl p | inr k ↦ inr (joined_more w a k) ],
       λ h. elim h [
@@ -357,7 +339,7 @@ module _ (a : PlainAction) where
       ],
     )
 
-    seq_may : Tells y e → Tells z e → MayTells y e → MayTells z e → MayTells (seq y z) e
+    pub seq_may : Tells y e → Tells z e → MayTells y e → MayTells z e → MayTells (seq y z) e
     seq_may k l m n w =
         let test : Plain → Bool = λ s. may z e s a in
         let rest : List Plain = flat_map (seq_rest y z e) (cuts w) in
@@ -367,7 +349,7 @@ module _ (a : PlainAction) where
         (same_test (any_set test rest) (made_says test (seq_rest y z e) (cuts w) (λ c i. seq_says y z e k test c (live_may z e l n c.1)))))
         (seq_end w))
 
-    pair_may : Tells y e → Tells z e → MayTells y e → MayTells z e → (s : Word × Word) → (list_any (λ p. may y e (first_part p) a || may z e (second_part p) a) (par_pair y z e s) ≡ true) ↔ ((IsPartial y e (s.0 ++ a ∷ []) × IsPartial z e s.1) ⊎ (IsPartial y e s.0 × IsPartial z e (s.1 ++ a ∷ [])))
+    pub pair_may : Tells y e → Tells z e → MayTells y e → MayTells z e → (s : Word × Word) → (list_any (λ p. may y e (first_part p) a || may z e (second_part p) a) (par_pair y z e s) ≡ true) ↔ ((IsPartial y e (s.0 ++ a ∷ []) × IsPartial z e s.1) ⊎ (IsPartial y e s.0 × IsPartial z e (s.1 ++ a ∷ [])))
     pair_may k l m n s =
         let t : Plain = tree_of y e s.0 in
         let u : Plain = tree_of z e s.1 in
@@ -384,30 +366,30 @@ module _ (a : PlainAction) where
           ],
         ))
 
-    par_may : Tells y e → Tells z e → MayTells y e → MayTells z e → MayTells (par y z) e
+    pub par_may : Tells y e → Tells z e → MayTells y e → MayTells z e → MayTells (par y z) e
     par_may k l m n w =
         let test : Plain → Bool = λ p. may y e (first_part p) a || may z e (second_part p) a in
         let pairs : List Plain = flat_map (par_pair y z e) (splits w) in
         node_may (par y z) e (is_empty pairs) (par_tree (set_of pairs)) refl (par_told y z e k l w).partial (prefix-partial (par y z) e w (a ∷ []))
         (λ p. same_test (any_set test pairs) (iff_trans (made_says test (par_pair y z e) (splits w) (λ s i. pair_may k l m n s)) (iff_sym (split_end w a))))
 
-    or_may : Tells y e → Tells z e → MayTells y e → MayTells z e → MayTells (or y z) e
+    pub or_may : Tells y e → Tells z e → MayTells y e → MayTells z e → MayTells (or y z) e
     or_may k l m n w =
         node_may (or y z) e (is_dead (tree_of y e w) && is_dead (tree_of z e w)) (or_tree (tree_of y e w) (tree_of z e w)) refl (or_told y z e k l w).partial (prefix-partial (or y z) e w (a ∷ []))
         (λ p. when_either (may y e (tree_of y e w) a) (may z e (tree_of z e w) a) (m w) (n w))
 
-    and_may : Tells y e → Tells z e → MayTells y e → MayTells z e → MayTells (and y z) e
+    pub and_may : Tells y e → Tells z e → MayTells y e → MayTells z e → MayTells (and y z) e
     and_may k l m n w =
         node_may (and y z) e (is_dead (tree_of y e w) || is_dead (tree_of z e w)) (and_tree (tree_of y e w) (tree_of z e w)) refl (and_told y z e k l w).partial (prefix-partial (and y z) e w (a ∷ []))
         (λ p. when_both (may y e (tree_of y e w) a) (may z e (tree_of z e w) a) (m w) (n w))
 
-    couple_may : Tells y e → Tells z e → MayTells y e → MayTells z e → MayTells (couple y z) e
+    pub couple_may : Tells y e → Tells z e → MayTells y e → MayTells z e → MayTells (couple y z) e
     couple_may k l m n w =
         node_may (couple y z) e _ (couple_tree (tree_of y e (filter (in_alphabet y e) w)) (tree_of z e (filter (in_alphabet z e) w))) refl (couple_told y z e k l w).partial (prefix-partial (couple y z) e w (a ∷ []))
         (λ p. couple_end a y z e w p (m (filter (in_alphabet y e) w)) (n (filter (in_alphabet z e) w)))
 
   module _ (y : Form) (e : Environment) where
-    star_end : (w : Word) → ((Repeated (IsComplete y e) w × IsPartial y e (a ∷ [])) ⊎ SomeWay (λ c. Repeated (IsComplete y e) c.0 × (¬ (c.1 ≡ []) × IsPartial y e (c.1 ++ a ∷ []))) (cuts w)) ↔ IsPartial (star y) e (w ++ a ∷ [])
+    pub star_end : (w : Word) → ((Repeated (IsComplete y e) w × IsPartial y e (a ∷ [])) ⊎ SomeWay (λ c. Repeated (IsComplete y e) c.0 × (¬ (c.1 ≡ []) × IsPartial y e (c.1 ++ a ∷ []))) (cuts w)) ↔ IsPartial (star y) e (w ++ a ∷ [])
     star_end w = (
       λ h. elim h [
         | inl b ↦ record { front = w; back = a ∷ []; whole = refl; front_has = b.0; back_has = b.1 }
@@ -423,14 +405,14 @@ module _ (a : PlainAction) where
         from u [] i r p = inl (subst (Repeated (IsComplete y e)) (sym (i ∙ append-nil u)) r, p)
         from u (b ∷ v) i r p = inr (record { way = (u, b ∷ v); among = cut_among w u (b ∷ v) i; has = (r, (λ n. cc, p)) })
 
-    rest_may : Tells y e → MayTells y e → (c : Word × Word) → (list_any (λ s. may y e s a) (star_rest y e c) ≡ true) ↔ (Repeated (IsComplete y e) c.0 × (¬ (c.1 ≡ []) × IsPartial y e (c.1 ++ a ∷ [])))
+    pub rest_may : Tells y e → MayTells y e → (c : Word × Word) → (list_any (λ s. may y e s a) (star_rest y e c) ≡ true) ↔ (Repeated (IsComplete y e) c.0 × (¬ (c.1 ≡ []) × IsPartial y e (c.1 ++ a ∷ [])))
     rest_may k m c = iff_trans
         (when_passes (λ s. may y e s a) (not (is_empty c.1) && again y e c.0) (live (tree_of y e c.1)))
         (iff_trans
         (both_iff (when_both (not (is_empty c.1)) (again y e c.0) (when_not (is_empty c.1) (filled_says c.1)) (again_says y e k c.0)) (live_may y e k m c.1))
         (λ h. (h.0.1, (h.0.0, h.1)), λ h. ((h.1.0, h.0), h.1.1)))
 
-    star_may : Tells y e → (may_first y e a ≡ true) ↔ IsPartial y e (a ∷ []) → MayTells y e → MayTells (star y) e
+    pub star_may : Tells y e → (may_first y e a ≡ true) ↔ IsPartial y e (a ∷ []) → MayTells y e → MayTells (star y) e
     star_may k f m w =
         let test : Plain → Bool = λ s. may y e s a in
         let rest : List Plain = flat_map (star_rest y e) (cuts w) in
@@ -441,7 +423,7 @@ module _ (a : PlainAction) where
         (same_test (any_set test rest) (made_says test (star_rest y e) (cuts w) (λ c i. rest_may k m c))))
         (star_end w))
 
-    bag_may : Tells y e → (may_first y e a ≡ true) ↔ IsPartial y e (a ∷ []) → MayTells y e → (w : Word) (owners : List ℕ) → (list_any (λ b. may_first y e a || list_any (λ s. may y e s a) (items_of (first_part b))) (par_star_bag y e w owners) ≡ true) ↔ Goes (IsPartial y e) (prefix-partial y e) w a owners
+    pub bag_may : Tells y e → (may_first y e a ≡ true) ↔ IsPartial y e (a ∷ []) → MayTells y e → (w : Word) (owners : List ℕ) → (list_any (λ b. may_first y e a || list_any (λ s. may y e s a) (items_of (first_part b))) (par_star_bag y e w owners) ≡ true) ↔ Goes (IsPartial y e) (prefix-partial y e) w a owners
     bag_may k f m w owners =
         let test : Plain → Bool = λ b. may_first y e a || list_any (λ s. may y e s a) (items_of (first_part b)) in
         let parts : List Word = nonempty_parts owners w in
@@ -453,40 +435,9 @@ module _ (a : PlainAction) where
         (when_either (may_first y e a) (list_any (λ s. may y e s a) (items_of (listed (sorted trees)))) f
         (same_test (any_sorted (λ s. may y e s a) trees) (any_map (λ s. may y e s a) (tree_of y e) parts (λ u i. m u))))))
 
-    par_star_may : Tells y e → (may_first y e a ≡ true) ↔ IsPartial y e (a ∷ []) → MayTells y e → MayTells (par_star y) e
+    pub par_star_may : Tells y e → (may_first y e a ≡ true) ↔ IsPartial y e (a ∷ []) → MayTells y e → MayTells (par_star y) e
     par_star_may k f m w =
         let test : Plain → Bool = λ b. may_first y e a || list_any (λ s. may y e s a) (items_of (first_part b)) in
         let bags : List Plain = flat_map (par_star_bag y e w) (numberings w) in
         node_may (par_star y) e (is_empty bags) (par_star_tree (set_of bags)) refl (par_star_told y e k w).partial (prefix-partial (par_star y) e w (a ∷ []))
         (λ p. same_test (any_set test bags) (iff_trans (made_says test (par_star_bag y e w) (numberings w) (λ owners i. bag_may k f m w owners)) (numbered_end (IsPartial y e) (prefix-partial y e) w a)))
-
-  alls_none : (x : Form) → HasNoQuantifier x → EachAllNames x
-  alls_none (atom x) n = tt
-  alls_none (opt y) n = alls_none y n
-  alls_none (seq y z) n = (alls_none y n.0, alls_none z n.1)
-  alls_none (star y) n = alls_none y n
-  alls_none (par y z) n = (alls_none y n.0, alls_none z n.1)
-  alls_none (par_star y) n = alls_none y n
-  alls_none (or y z) n = (alls_none y n.0, alls_none z n.1)
-  alls_none (and y z) n = (alls_none y n.0, alls_none z n.1)
-  alls_none (couple y z) n = (alls_none y n.0, alls_none z n.1)
-  alls_none (any p y) n = absurd n
-  alls_none (every p y) n = absurd n
-  alls_none (sync p y) n = absurd n
-  alls_none (all p y) n = absurd n
-
-  -- the test on the tree of a word says whether one more action is partial
-  pub may_tells : (x : Form) → HasNoQuantifier x → (e : Environment) → MayTells x e
-  may_tells (atom x) n e = atom_may x e
-  may_tells (opt y) n e = opt_may y e (told y (alls_none y n) e) (may_tells y n e)
-  may_tells (seq y z) n e = seq_may y z e (told y (alls_none y n.0) e) (told z (alls_none z n.1) e) (may_tells y n.0 e) (may_tells z n.1 e)
-  may_tells (star y) n e = star_may y e (told y (alls_none y n) e) (first_tells a y n e) (may_tells y n e)
-  may_tells (par y z) n e = par_may y z e (told y (alls_none y n.0) e) (told z (alls_none z n.1) e) (may_tells y n.0 e) (may_tells z n.1 e)
-  may_tells (par_star y) n e = par_star_may y e (told y (alls_none y n) e) (first_tells a y n e) (may_tells y n e)
-  may_tells (or y z) n e = or_may y z e (told y (alls_none y n.0) e) (told z (alls_none z n.1) e) (may_tells y n.0 e) (may_tells z n.1 e)
-  may_tells (and y z) n e = and_may y z e (told y (alls_none y n.0) e) (told z (alls_none z n.1) e) (may_tells y n.0 e) (may_tells z n.1 e)
-  may_tells (couple y z) n e = couple_may y z e (told y (alls_none y n.0) e) (told z (alls_none z n.1) e) (may_tells y n.0 e) (may_tells z n.1 e)
-  may_tells (any p y) n e = absurd n
-  may_tells (every p y) n e = absurd n
-  may_tells (sync p y) n e = absurd n
-  may_tells (all p y) n e = absurd n

@@ -14,7 +14,7 @@ use Rattle.ix_expr.specs.Form.{Form, atom}
 use Rattle.ix_expr.proofs.Agreement.{member-or-not}
 use Rattle.ix_tree.specs.Plain.{Plain, dead, entry}
 use Rattle.ix_tree.specs.Order.{tree_cmp, first_part}
-use Rattle.ix_tree.proofs.TreeOrder.{tree_order, tree_cmp-same}
+use Rattle.ix_tree.specs.TreeOrder.{tree_order, tree_cmp-same}
 use Rattle.ix_can.specs.Ways.{is_empty}
 use Rattle.ix_can.specs.Nodes.{is_dead, is_live, same_tree, listed, items_of, set_of, put_in, sorted, live, dead_if, has_dead_entry}
 use Rattle.ix_can.specs.TreeOf.{is_final, entries_of}
@@ -138,7 +138,7 @@ module _ (common : Plain) (tree : List ℕ → Plain) where
   abbrev entry_at : List ℕ → List Plain
   entry_at v = when (not (same_tree (tree v) common)) (entry v (tree v) ∷ [])
 
-  differs_or_not : (v : List ℕ) → (tree v ≡ common) ⊎ (same_tree (tree v) common ≡ false)
+  pub differs_or_not : (v : List ℕ) → (tree v ≡ common) ⊎ (same_tree (tree v) common ≡ false)
   differs_or_not v = either (same_tree (tree v) common) refl
     where
       either : (b : Bool) → same_tree (tree v) common ≡ b → (tree v ≡ common) ⊎ (same_tree (tree v) common ≡ false)
@@ -177,7 +177,7 @@ module _ (common : Plain) (tree : List ℕ → Plain) where
         has = ((when_not (same_tree (tree k.0) common) itself).0 j.0, elim (Member-cases j.1) [ inl e ↦ e | inr n ↦ elim n [ ] ]);
       }
 
-  entry_among : (values : List (List ℕ)) {v : List ℕ} → Member v values → same_tree (tree v) common ≡ false → Member (entry v (tree v)) (entries_of common tree values)
+  pub entry_among : (values : List (List ℕ)) {v : List ℕ} → Member v values → same_tree (tree v) common ≡ false → Member (entry v (tree v)) (entries_of common tree values)
   entry_among values {v} m d = flat_map-Member entry_at m (when-Member ((when_not (same_tree (tree v) common) itself).1 d) here)
 
   all_entries_to : (test : Plain → Bool) (values : List (List ℕ)) → test common ≡ true → list_all (λ x. test (first_part x)) (entries_of common tree values) ≡ true → Each (λ v. test (tree v) ≡ true) values

@@ -14,7 +14,7 @@ use Rattle.ix_expr.specs.Form.{Form, atom, opt, seq, star, par, par_star, or, an
 use Rattle.ix_expr.specs.Environment.{Environment, bind}
 use Rattle.ix_tree.specs.Plain.{Plain, dead, none, opt as opt_tree, seq as seq_tree, star as star_tree, par as par_tree, par_star as par_star_tree, or as or_tree, and as and_tree, couple as couple_tree, any as any_tree, every as every_tree, sync as sync_tree, all as all_tree, pair as pair_of, bag as bag_of, map as map_of, entry}
 use Rattle.ix_tree.specs.Order.{key, tree_cmp, first_part, second_part}
-use Rattle.ix_tree.proofs.TreeOrder.{tree_order}
+use Rattle.ix_tree.specs.TreeOrder.{tree_order}
 use Rattle.ix_can.specs.Tests.{in_alphabet}
 use Rattle.ix_can.specs.Ways.{is_empty, is_concatenation, numberings, nonempty_parts, ownings}
 use Rattle.ix_can.specs.Nodes.{is_dead, is_live, same_tree, listed, items_of, set_of, put_in, sorted, live, dead_if}
@@ -116,7 +116,7 @@ put_rises x (y ∷ ys) h = chosen (is_gt (tree_cmp x y)) refl (put_rises x ys h.
     chosen true e k = (each_put x ys (ap is_gt (tree_order.total.antisymm y x) ∙ not_above (tree_cmp x y) e) h.0, k)
     chosen false e k = (item e (Each-weaker (λ z g. upto tree_order.total x y z e g) h.0), h)
 
-sorted_rises : (xs : List Plain) → IsRising (sorted xs)
+pub sorted_rises : (xs : List Plain) → IsRising (sorted xs)
 sorted_rises [] = tt
 sorted_rises (x ∷ xs) = put_rises x (sorted xs) (sorted_rises xs)
 

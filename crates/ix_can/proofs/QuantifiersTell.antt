@@ -37,16 +37,16 @@ module _ (p : List ℕ) (y : Form) (e : Environment) where
   abbrev pub TellAll : Type 0
   TellAll = (v : Option (List ℕ)) → Tells y (bind p v e)
 
-  abbrev given : Option (List ℕ) → Word → Plain
+  abbrev pub given : Option (List ℕ) → Word → Plain
   given v w = tree_of y (bind p v e) w
 
-  partial_outside : (w : Word) (v : List ℕ) → ¬ Member v (values_of w) → IsPartial y (bind p None e) w ↔ IsPartial y (bind p (Some v) e) w
+  pub partial_outside : (w : Word) (v : List ℕ) → ¬ Member v (values_of w) → IsPartial y (bind p None e) w ↔ IsPartial y (bind p (Some v) e) w
   partial_outside w v n = iff_sym (outside-same y e p v w (unused_value w v n)).partial
 
   complete_outside : (w : Word) (v : List ℕ) → ¬ Member v (values_of w) → IsComplete y (bind p None e) w ↔ IsComplete y (bind p (Some v) e) w
   complete_outside w v n = iff_sym (outside-same y e p v w (unused_value w v n)).complete
 
-  abbrev entries : Word → List Plain
+  abbrev pub entries : Word → List Plain
   entries w = entries_of (given None w) (λ v. given (Some v) w) (values_of w)
 
   pub any_told : TellAll → Tells (any p y) e
@@ -78,16 +78,16 @@ module _ (p : List ℕ) (y : Form) (e : Environment) where
       (complete-partial (every p y) e w)
 
   -- the word projected to the operand's alphabet under a value
-  abbrev own : Option (List ℕ) → Word → Word
+  abbrev pub own : Option (List ℕ) → Word → Word
   own v w = filter (in_alphabet y (bind p v e)) w
 
-  abbrev Own : (Form → Environment → Word → Type 0) → Word → Option (List ℕ) → Type 0
+  abbrev pub Own : (Form → Environment → Word → Type 0) → Word → Option (List ℕ) → Type 0
   Own Q w v = Projected (InAlphabet y (bind p v e)) (Q y (bind p v e)) w
 
-  own_says : (Q : Form → Environment → Word → Type 0) (w : Word) (v : Option (List ℕ)) → Q y (bind p v e) (own v w) ↔ Own Q w v
+  pub own_says : (Q : Form → Environment → Word → Type 0) (w : Word) (v : Option (List ℕ)) → Q y (bind p v e) (own v w) ↔ Own Q w v
   own_says Q w v = projected_says (Q y (bind p v e)) (in_alphabet y (bind p v e)) (alphabet_says y (bind p v e)) w
 
-  agree_outside : (w : Word) (v : List ℕ) → ¬ Member v (values_of w) → AgreeOn (bind p (Some v) e) (bind p None e) w
+  pub agree_outside : (w : Word) (v : List ℕ) → ¬ Member v (values_of w) → AgreeOn (bind p (Some v) e) (bind p None e) w
   agree_outside w v n = Each-weaker (λ a u. outside-agree e p v a u) (unused_value w v n)
 
   alphabet_moved : {f g : Environment} (a : PlainAction) → AgreeAt f g a → InAlphabet y f a → InAlphabet y g a
@@ -102,7 +102,7 @@ module _ (p : List ℕ) (y : Form) (e : Environment) where
   turned : {f g : Environment} {w : Word} → AgreeOn f g w → AgreeOn g f w
   turned k = Each-weaker (λ a j. agree-sym j) k
 
-  own_partial_outside : (w : Word) (v : List ℕ) → ¬ Member v (values_of w) → Own IsPartial w None ↔ Own IsPartial w (Some v)
+  pub own_partial_outside : (w : Word) (v : List ℕ) → ¬ Member v (values_of w) → Own IsPartial w None ↔ Own IsPartial w (Some v)
   own_partial_outside w v n = (
     partial_moved (bind p None e) (bind p (Some v) e) w (turned (agree_outside w v n)),
     partial_moved (bind p (Some v) e) (bind p None e) w (agree_outside w v n),
@@ -114,10 +114,10 @@ module _ (p : List ℕ) (y : Form) (e : Environment) where
     complete_moved (bind p (Some v) e) (bind p None e) w (agree_outside w v n),
   )
 
-  abbrev own_tree : Word → Option (List ℕ) → Plain
+  abbrev pub own_tree : Word → Option (List ℕ) → Plain
   own_tree w v = tree_of y (bind p v e) (own v w)
 
-  abbrev own_entries : Word → List Plain
+  abbrev pub own_entries : Word → List Plain
   own_entries w = entries_of (own_tree w None) (λ v. own_tree w (Some v)) (values_of w)
 
   pub sync_told : TellAll → Tells (sync p y) e
@@ -141,7 +141,7 @@ module _ (p : List ℕ) (y : Form) (e : Environment) where
 
   -- Owners
 
-  abbrev part_of : List (List ℕ) → Word → List ℕ → Word
+  abbrev pub part_of : List (List ℕ) → Word → List ℕ → Word
   part_of owners w v = part (text_eq v) owners w
 
   not_own : (v : List ℕ) (owners : List (List ℕ)) → ¬ Member v owners → Each (λ u. text_eq v u ≡ false) owners
@@ -151,7 +151,7 @@ module _ (p : List ℕ) (y : Form) (e : Environment) where
       other u m true h = absurd (n (subst (λ x. Member x owners) (sym ((text_eq-decides v u).0 h)) m))
       other u m false h = refl
 
-  unused_part : (v : List ℕ) (owners : List (List ℕ)) (w : Word) → ¬ Member v owners → part_of owners w v ≡ []
+  pub unused_part : (v : List ℕ) (owners : List (List ℕ)) (w : Word) → ¬ Member v owners → part_of owners w v ≡ []
   unused_part v owners w n = part-unused (text_eq v) owners w (not_own v owners n)
 
   owners_say : (Q : List ℕ → Word → Type 0) (owners : List (List ℕ)) (w : Word) → ((v : List ℕ) → Q v []) → Each (λ v. Q v (part_of owners w v)) owners ↔ ((v : List ℕ) → Q v (part_of owners w v))
@@ -161,28 +161,28 @@ module _ (p : List ℕ) (y : Form) (e : Environment) where
       from h v (inl m) = Each-member h m
       from h v (inr n) = subst (Q v) (sym (unused_part v owners w n)) (z v)
 
-  owned_says : {Q : List ℕ → Word → Type 0} (w : Word) → SomeWay (λ owners. (v : List ℕ) → Q v (part_of owners w v)) (ownings w) ↔ OwnedByValues Q w
+  pub owned_says : {Q : List ℕ → Word → Type 0} (w : Word) → SomeWay (λ owners. (v : List ℕ) → Q v (part_of owners w v)) (ownings w) ↔ OwnedByValues Q w
   owned_says w = (
     λ k. record { owners = k.way; are_values = ownings_to w k.way k.among; each_has = k.has },
     λ h. record { way = h.owners; among = ownings_from h.are_values; has = h.each_has },
   )
 
-  abbrev initial : Plain
+  abbrev pub initial : Plain
   initial = tree_of y e []
 
-  abbrev owned_tree : Word → List (List ℕ) → List ℕ → Plain
+  abbrev pub owned_tree : Word → List (List ℕ) → List ℕ → Plain
   owned_tree w owners v = tree_of y (bind p (Some v) e) (part_of owners w v)
 
-  abbrev owned_entries : Word → List (List ℕ) → List Plain
+  abbrev pub owned_entries : Word → List (List ℕ) → List Plain
   owned_entries w owners = entries_of initial (owned_tree w owners) owners
 
-  abbrev owned_map : Word → List (List ℕ) → List Plain
+  abbrev pub owned_map : Word → List (List ℕ) → List Plain
   owned_map w owners = live_map initial (owned_tree w owners) owners
 
   abbrev map_final : Plain → Bool
   map_final m = list_all (λ x. is_final y (first_part x)) (items_of (first_part m))
 
-  owned_live : TellAll → (w : Word) (owners : List (List ℕ)) → (list_all (λ v. is_live (owned_tree w owners v)) owners ≡ true) ↔ ((v : List ℕ) → IsPartial y (bind p (Some v) e) (part_of owners w v))
+  pub owned_live : TellAll → (w : Word) (owners : List (List ℕ)) → (list_all (λ v. is_live (owned_tree w owners v)) owners ≡ true) ↔ ((v : List ℕ) → IsPartial y (bind p (Some v) e) (part_of owners w v))
   owned_live k w owners = iff_trans
       (all_are (λ v. is_live (owned_tree w owners v)) (λ v. tree_live (owned_tree w owners v) (k (Some v) (part_of owners w v))) owners)
       (owners_say (λ v u. IsPartial y (bind p (Some v) e) u) owners w (λ v. empty-partial y (bind p (Some v) e)))

@@ -3,5 +3,7 @@ pub mod Ways
 pub mod Nodes
 pub mod TreeOf
 pub mod May
+pub mod Asked
+pub mod Moved
 pub mod Laws
 pub mod Examples

@@ -1,16 +1,12 @@
 -- The nodes of trees: how each is made of its parts, and when it is dead instead.
-use Rattle.std.specs.Prelude.{Bool, true, false, not, ◌&&◌, ◌||◌, List, [], ◌∷◌, if◌then◌else◌}
+use Rattle.std.specs.Prelude.{Bool, not, ◌&&◌, ◌||◌, List, [], ◌∷◌, if◌then◌else◌}
 use Rattle.std.specs.List.{list_any}
 use Rattle.std.specs.Ordering.{is_eq, is_gt}
 use Rattle.ix_words.specs.Canon.{canon, when}
-use Rattle.ix_tree.specs.Plain.{Plain, dead, opt, seq, star, par, par_star, or, and, couple, any, every, sync, all, none, more}
+use Rattle.ix_tree.specs.Plain.{Plain, dead, opt, seq, star, par, par_star, or, and, couple, any, every, sync, all}
 use Rattle.ix_tree.specs.Order.{tree_cmp, first_part}
 use Rattle.ix_can.specs.Ways.{is_empty}
-
--- whether the tree is dead
-abbrev pub is_dead : Plain → Bool
-is_dead dead = true
-is_dead _ = false
+pub use Rattle.ix_tree.specs.Plain.{is_dead, listed, items_of}
 
 -- whether the tree is live
 abbrev pub is_live : Plain → Bool
@@ -19,15 +15,6 @@ is_live x = not (is_dead x)
 -- whether two trees are the same
 abbrev pub same_tree : Plain → Plain → Bool
 same_tree x y = is_eq (tree_cmp x y)
-
--- a list of trees or parts as one part, and the items of such a part
-abbrev pub listed : List Plain → Plain
-listed [] = none
-listed (x ∷ xs) = more x (listed xs)
-
-abbrev pub items_of : Plain → List Plain
-items_of (more x xs) = x ∷ items_of xs
-items_of _ = []
 
 -- the strictly ascending list, each item once
 abbrev pub set_of : List Plain → Plain

@@ -1,1 +1,4 @@
-pub mod TreeOrder
+pub mod TreeCases
+pub mod PlainLists
+pub mod Equal
+pub mod Alternatives

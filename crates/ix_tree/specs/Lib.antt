@@ -1,4 +1,9 @@
 pub mod Plain
+pub mod PlainOf
+pub mod PlainParts
 pub mod Size
 pub mod Order
+pub mod TreeOrder
+pub mod DerivedOrder
+pub mod Weights
 pub mod Laws

@@ -1,5 +1,5 @@
--- State trees as contracts see them: plain data of the same forms, with no pointers in it.
-use Rattle.std.specs.Prelude.{ℕ, Bool, List}
+-- State trees as contracts see them: plain data of the same forms, with no pointers in it; and lists as parts.
+use Rattle.std.specs.Prelude.{ℕ, Bool, true, false, List, [], ◌∷◌}
 
 -- a tree, or a part of one: a pair, a bag, a map, an entry, or a list of trees or parts
 pub data Plain : Type 0 where
@@ -24,3 +24,56 @@ pub data Plain : Type 0 where
   entry : List ℕ → Plain → Plain
   none : Plain
   more : Plain → Plain → Plain
+
+-- whether the tree is dead
+abbrev pub is_dead : Plain → Bool
+is_dead dead = true
+is_dead start = false
+is_dead done = false
+is_dead (opt empty x) = false
+is_dead (seq x xs) = false
+is_dead (star again xs) = false
+is_dead (par pairs) = false
+is_dead (par_star bags) = false
+is_dead (or x y) = false
+is_dead (and x y) = false
+is_dead (couple x y) = false
+is_dead (any common entries) = false
+is_dead (every common entries) = false
+is_dead (sync common entries) = false
+is_dead (all maps) = false
+is_dead (pair x y) = false
+is_dead (bag xs) = false
+is_dead (map entries) = false
+is_dead (entry v x) = false
+is_dead none = false
+is_dead (more x xs) = false
+
+-- a list of trees or parts as one part
+abbrev pub listed : List Plain → Plain
+listed [] = none
+listed (x ∷ xs) = more x (listed xs)
+
+-- the items of such a part
+abbrev pub items_of : Plain → List Plain
+items_of (more x xs) = x ∷ items_of xs
+items_of dead = []
+items_of start = []
+items_of done = []
+items_of (opt empty x) = []
+items_of (seq x xs) = []
+items_of (star again xs) = []
+items_of (par pairs) = []
+items_of (par_star bags) = []
+items_of (or x y) = []
+items_of (and x y) = []
+items_of (couple x y) = []
+items_of (any common entries) = []
+items_of (every common entries) = []
+items_of (sync common entries) = []
+items_of (all maps) = []
+items_of (pair x y) = []
+items_of (bag xs) = []
+items_of (map entries) = []
+items_of (entry v x) = []
+items_of none = []

@@ -38,9 +38,11 @@ induct P n s (more x xs) = s (more x xs) (induct P n s x) (induct P n s xs)
 has_first : ℕ → Bool
 has_first n = not (nat_le n 2 || n == 19)
 
+-- whether the trees of a form have a second part
 has_second : ℕ → Bool
 has_second n = (n == 4) || ((nat_le 8 n && nat_le n 13) || ((n == 15) || (n == 20)))
 
+-- a form without a first part has none there
 no_first : (x : Plain) → has_first (place x) ≡ false → first_part x ≡ none
 unfolding has_first
 no_first dead e = refl
@@ -49,6 +51,7 @@ no_first done e = refl
 no_first none e = refl
 no_first _ e = absurd (true≢false e)
 
+-- a form without a second part has none there
 no_second : (x : Plain) → has_second (place x) ≡ false → second_part x ≡ none
 unfolding has_second
 no_second (seq x xs) e = absurd (true≢false e)
@@ -62,6 +65,7 @@ no_second (pair x y) e = absurd (true≢false e)
 no_second (more x xs) e = absurd (true≢false e)
 no_second _ e = refl
 
+-- only what stands behind Equal counts
 turn_same : (r : Ordering) {o p : Ordering} → (r ≡ Equal → o ≡ p) → ordering_then r o ≡ ordering_then r p
 turn_same Less h = refl
 turn_same Equal h = h refl
@@ -75,9 +79,11 @@ same_turn x y a b c d f g =
     ap (λ (o : Ordering). ordering_then (text_cmp (key x) (key y)) (ordering_then o b)) (f same)
     ∙ ap (λ (o : Ordering). ordering_then (text_cmp (key x) (key y)) (ordering_then c o)) (g same))
 
+-- first parts of one form that has none are level
 level_first : (x y : Plain) → has_first (place x) ≡ false → place x ≡ place y → Equal ≡ tree_cmp none (first_part y)
 level_first x y e same = sym (ap (tree_cmp none) (no_first y (ap has_first (sym same) ∙ e)))
 
+-- second parts of one form that has none are level
 level_second : (x y : Plain) → has_second (place x) ≡ false → place x ≡ place y → Equal ≡ tree_cmp none (second_part y)
 level_second x y e same = sym (ap (tree_cmp none) (no_second y (ap has_second (sym same) ∙ e)))
 
@@ -85,12 +91,15 @@ level_second x y e same = sym (ap (tree_cmp none) (no_second y (ap has_second (s
 abbrev by_parts : Plain → Plain → Ordering
 by_parts x y = in_turn x y (tree_cmp (first_part x) (first_part y)) (tree_cmp (second_part x) (second_part y))
 
+-- a form with a first part alone
 one_part : (x y : Plain) (a : Ordering) → has_second (place x) ≡ false → in_turn x y a Equal ≡ in_turn x y a (tree_cmp none (second_part y))
 one_part x y a e = same_turn x y a Equal a (tree_cmp none (second_part y)) (λ s. refl) (level_second x y e)
 
+-- a form with no parts
 no_part : (x y : Plain) → has_first (place x) ≡ false → has_second (place x) ≡ false → in_turn x y Equal Equal ≡ in_turn x y (tree_cmp none (first_part y)) (tree_cmp none (second_part y))
 no_part x y e f = same_turn x y Equal Equal (tree_cmp none (first_part y)) (tree_cmp none (second_part y)) (level_first x y e) (level_second x y f)
 
+-- the order goes by the parts
 turns : (x y : Plain) → tree_cmp x y ≡ by_parts x y
 unfolding has_first has_second
 turns dead y = no_part dead y refl refl
@@ -117,6 +126,7 @@ turns (more x xs) y = refl
 
 -- Trees that aren't told apart
 
+-- whether the first byte is 1
 is_one : List ℕ → Bool
 is_one [] = false
 is_one (b ∷ v) = b == 1
@@ -130,6 +140,7 @@ made n k x y =
     (cond (n == 13) (sync x y) (cond (n == 14) (all x) (cond (n == 15) (pair x y) (cond (n == 16) (bag x) (cond (n == 17) (map x)
     (cond (n == 18) (entry k x) (cond (n == 19) none (more x y))))))))))))))))))))
 
+-- a tree is made of its form, bytes and parts
 made_again : (x : Plain) → made (place x) (key x) (first_part x) (second_part x) ≡ x
 unfolding made is_one
 made_again (opt true x) = refl
@@ -139,18 +150,22 @@ made_again (star false xs) = refl
 made_again dead = refl
 made_again _ = refl
 
+-- both of two answers in turn are Equal where the whole is
 both_equal : (o p : Ordering) → ordering_then o p ≡ Equal → (o ≡ Equal) × (p ≡ Equal)
 both_equal Less p e = cc
 both_equal Equal p e = (refl, e)
 both_equal Greater p e = cc
 
+-- only x itself compares as equal to x
 abbrev Apart : Plain → Type 0
 Apart x = (y : Plain) → tree_cmp x y ≡ Equal → x ≡ y
 
+-- so with the empty list
 none_apart : Apart none
 none_apart none e = refl
 none_apart _ e = cc
 
+-- so with a tree, where it holds of its parts
 apart : (x : Plain) → Apart (first_part x) → Apart (second_part x) → Apart x
 apart x f s y e =
     let a = both_equal (nat_cmp (place x) (place y)) _ (sym (turns x y) ∙ e) in
@@ -162,29 +177,36 @@ apart x f s y e =
     let h : second_part x ≡ second_part y = s (second_part y) c.1 in
     sym (made_again x) ∙ (λ i. made (p i) (k i) (g i) (h i)) ∙ made_again y
 
+-- trees that compare as equal are the same
 pub tree_cmp-same : (x y : Plain) → tree_cmp x y ≡ Equal → x ≡ y
 tree_cmp-same = induct Apart none_apart apart
 
 -- The order the other way round
 
+-- answers in turn, the other way round
 turned_then : (o p : Ordering) → ordering_then (ordering_reverse o) (ordering_reverse p) ≡ ordering_reverse (ordering_then o p)
 turned_then Less p = refl
 turned_then Equal p = refl
 turned_then Greater p = refl
 
+-- so with answers that are turned
 both_turned : (q r : Ordering) {o p : Ordering} → o ≡ ordering_reverse q → p ≡ ordering_reverse r → ordering_then o p ≡ ordering_reverse (ordering_then q r)
 both_turned q r e f = (λ i. ordering_then (e i) (f i)) ∙ turned_then q r
 
+-- x compares with y as y with x, the other way round
 abbrev Turned : Plain → Type 0
 Turned x = (y : Plain) → tree_cmp x y ≡ ordering_reverse (tree_cmp y x)
 
+-- so with the empty list
 none_turned : Turned none
 none_turned none = refl
 none_turned _ = refl
 
+-- the order of texts is total
 text_cmp-total : IsTotalOrder text_cmp
 text_cmp-total = lists_total nat_cmp_total
 
+-- so with a tree, where it holds of its parts
 turned : (x : Plain) → Turned (first_part x) → Turned (second_part x) → Turned x
 turned x f s y =
     turns x y
@@ -194,6 +216,7 @@ turned x f s y =
 
 -- Chains
 
+-- answers in turn that are below and below again are below
 chained : (o p q s t u : Ordering) → (o ≡ Less → p ≡ Less → q ≡ Less) → (o ≡ Equal → q ≡ p) → (p ≡ Equal → q ≡ o) → (s ≡ Less → t ≡ Less → u ≡ Less) →
     ordering_then o s ≡ Less → ordering_then p t ≡ Less → ordering_then q u ≡ Less
 chained Less Less q s t u f g h k d e = ap (λ (r : Ordering). ordering_then r u) (f refl refl)
@@ -204,20 +227,25 @@ chained Equal Equal q s t u f g h k d e = ap (λ (r : Ordering). ordering_then r
 chained Equal Greater q s t u f g h k d e = cc
 chained Greater p q s t u f g h k d e = cc
 
+-- what is above something above x is above x
 abbrev Chains : Plain → Type 0
 Chains x = (y z : Plain) → tree_cmp x y ≡ Less → tree_cmp y z ≡ Less → tree_cmp x z ≡ Less
 
+-- so with the empty list
 none_chains : Chains none
 none_chains (more x xs) (more y ys) d e = refl
 none_chains (more x xs) _ d e = cc
 none_chains _ z d e = cc
 
+-- a tree that compares as equal may stand in the first place
 tree_first : (x y z : Plain) → tree_cmp x y ≡ Equal → tree_cmp x z ≡ tree_cmp y z
 tree_first x y z e = ap (λ (t : Plain). tree_cmp t z) (tree_cmp-same x y e)
 
+-- and in the last place
 tree_last : (x y z : Plain) → tree_cmp y z ≡ Equal → tree_cmp x z ≡ tree_cmp x y
 tree_last x y z e = ap (tree_cmp x) (sym (tree_cmp-same y z e))
 
+-- so with a tree, where it holds of its parts
 chains : (x : Plain) → Chains (first_part x) → Chains (second_part x) → Chains x
 chains x f s y z d e =
     turns x z
@@ -236,6 +264,7 @@ chains x f s y z d e =
     (s (second_part y) (second_part z))))
     (sym (turns x y) ∙ d) (sym (turns y z) ∙ e)
 
+-- the order is total
 pub tree_cmp-total : IsTotalOrder tree_cmp
 tree_cmp-total = record {
   antisymm = induct Turned none_turned turned;

@@ -1,0 +1,61 @@
+-- Entries in memory by their values: the tree of a value there is its tree among the plain entries.
+use Rattle.std.proofs.Common.{◌≡◌, ℕ, Bool, true, false, cond, List, [], ◌∷◌, map, Some, refl, sym, ap, ◌∙◌, subst, if◌then◌else◌}
+use Rattle.std.specs.BTreeMap.{is_at}
+use Rattle.std.specs.Cmp.{Equal-is, tied_itself}
+use Rattle.std.specs.List.{AllByRecursion}
+use Rattle.std.specs.List.Sorted.{IsStrictlySortedBy}
+use Rattle.std.specs.Map.{keys_of, lookup}
+use Rattle.std.specs.Option.{unwrap_or}
+use Rattle.std.specs.declared.cmp.Ordering.TheVariants.{Less, Equal}
+use Rattle.std.specs.Cmp.{nat_cmp_total}
+use Rattle.std.specs.Cmp.Lexicographic.{lists_total}
+use Rattle.ix_words.specs.Canon.{Ascending, below}
+use Rattle.ix_words.specs.Each.{Each}
+use Rattle.ix_words.proofs.Each.{Each-head, Each-tail}
+use Rattle.ix_values.specs.Order.{text_eq, text_cmp, text_cmp-same, text_eq-decides}
+use Rattle.ix_entries.specs.Entries.{KeysAscend, item_at}
+use Rattle.ix_tree.specs.Order.{key, first_part}
+use Rattle.ix_tree.specs.Plain.{Plain}
+use Rattle.ix_tree.specs.PlainOf.{plain, plain_entry}
+use Rattle.ix_tree.specs.declared.tree.Tree.{Tree}
+use Rattle.ix_can.specs.May.{tree_at}
+use Rattle.ix_can.proofs.Lists.{one_test}
+
+-- where plain entries ascend by their values, so do the entries in memory
+pub keys_ascend : (es : List (List ℕ × Tree)) → Ascending (λ x y. text_cmp (key x) (key y)) (map plain_entry es) → KeysAscend text_cmp es
+unfolding IsStrictlySortedBy
+keys_ascend [] h = tt
+keys_ascend (e ∷ es) (below first rest) = (later es first, keys_ascend es rest)
+  where
+    later : (fs : List (List ℕ × Tree)) → Each (λ x. text_cmp e.0 (key x) ≡ Less) (map plain_entry fs) → AllByRecursion (λ k. text_cmp e.0 k ≡ Less) (keys_of fs)
+    later [] h = tt
+    later (f ∷ fs) h = (Each-head h, later fs (Each-tail h))
+
+text_itself : (v : List ℕ) → text_cmp v v ≡ Equal
+text_itself v = tied_itself (lists_total nat_cmp_total) v
+
+-- the two tests of a value being the key
+key_test : (k v : List ℕ) → text_eq k v ≡ is_at (text_cmp v) k
+key_test k v = one_test (text_eq k v) (is_at (text_cmp v) k) (
+  λ h. (Equal-is (text_cmp v k)).1 (subst (λ u. text_cmp v u ≡ Equal) (sym ((text_eq-decides k v).0 h)) (text_itself v)),
+  λ h. (text_eq-decides k v).1 (sym (text_cmp-same v k ((Equal-is (text_cmp v k)).0 h))),
+)
+
+-- the tree of a value is that of its entry, or the common one
+pub tree_of_value : (es : List (List ℕ × Tree)) (common : Tree) (v : List ℕ) → plain (item_at text_cmp es common v) ≡ tree_at v (plain common) (map plain_entry es)
+tree_of_value [] common v = refl
+tree_of_value (e ∷ es) common v =
+    here (is_at (text_cmp v) e.0) (tree_of_value es common v) ∙ ap (λ (b : Bool). if b then plain e.1 else tree_at v (plain common) (map plain_entry es)) (sym (key_test e.0 v))
+  where
+    here : (b : Bool) → plain (item_at text_cmp es common v) ≡ tree_at v (plain common) (map plain_entry es) → plain (unwrap_or (cond b (Some e.1) (lookup (is_at (text_cmp v)) es)) common) ≡ (if b then plain e.1 else tree_at v (plain common) (map plain_entry es))
+    here true rest = refl
+    here false rest = rest
+
+-- what the common tree and each entry's have, the tree of every value has
+pub tree_at_has : (G : Plain → Type 0) (common : Plain) (v : List ℕ) (xs : List Plain) → G common → Each (λ x. G (first_part x)) xs → G (tree_at v common xs)
+tree_at_has G common v [] h each = h
+tree_at_has G common v (x ∷ xs) h each = one (text_eq (key x) v) (Each-head each) (tree_at_has G common v xs h (Each-tail each))
+  where
+    one : (b : Bool) → G (first_part x) → G (tree_at v common xs) → G (if b then first_part x else tree_at v common xs)
+    one true here later = here
+    one false here later = later

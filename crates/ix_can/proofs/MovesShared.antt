@@ -1,0 +1,158 @@
+-- What the moved trees of all forms have in common: nodes, and lists of alternatives that are moved.
+use Rattle.std.proofs.Common.{◌≡◌, ◌↔◌, inl, inr, Bool, true, false, not, if◌then◌else◌, List, [], ◌∷◌, ◌++◌, map, flat_map, refl, sym, ap, ◌∙◌, true≢false, append-nil}
+use Rattle.ix_words.specs.Each.{Member}
+use Rattle.ix_words.specs.Canon.{SameMembers, canon, when, cuts, with_start, with_end}
+use Rattle.ix_words.proofs.Each.{Member-left, Member-right, Member-either}
+use Rattle.ix_words.proofs.Ways.{cuts-end}
+use Rattle.ix_words.proofs.Canon.{Member-flat_map, flat_map-Member, SameMembers-refl, SameMembers-trans, SameMembers-eq, SameMembers-flat_map, canon-members, canon-same, flat_map-append, flat_map-flat_map}
+use Rattle.ix_values.specs.PlainAction.{PlainAction}
+use Rattle.ix_expr.specs.Form.{Form, atom, opt, seq, star, par, par_star, or, and, couple, any, every, sync, all}
+use Rattle.ix_expr.specs.Environment.{Environment}
+use Rattle.ix_expr.proofs.LawsOfMeaning.{empty-partial}
+use Rattle.ix_tree.specs.Plain.{Plain, dead, start, done, opt as opt_of, seq as seq_of, star as star_of, par as par_of, par_star as par_star_of, or as or_of, and as and_of, couple as couple_of, any as any_of, every as every_of, sync as sync_of, all as all_of}
+use Rattle.ix_tree.specs.Order.{tree_cmp}
+use Rattle.ix_tree.specs.TreeOrder.{tree_order}
+use Rattle.ix_can.specs.Tests.{is_match}
+use Rattle.ix_can.specs.Ways.{is_empty}
+use Rattle.ix_can.specs.Nodes.{is_dead, is_live, listed, items_of, set_of, live, dead_if}
+use Rattle.ix_can.specs.TreeOf.{tree_of}
+use Rattle.ix_can.specs.May.{may_first, may}
+use Rattle.ix_can.specs.Moved.{moved}
+use Rattle.ix_can.proofs.Lists.{one_test, iff_trans, iff_sym}
+use Rattle.ix_can.proofs.Nodes.{dead_is, live_says, items_listed}
+use Rattle.ix_can.proofs.OperatorsTell.{Tells}
+use Rattle.ix_can.proofs.MayTell.{may_dead, Begins, MayTells}
+use Rattle.ix_can.proofs.Agreeing.{empty_tree}
+
+-- Dead and live
+
+-- a dead tree stays dead
+pub moved_dead : (x : Form) (e : Environment) (a : PlainAction) → moved x e dead a ≡ dead
+moved_dead (atom x) e a = refl
+moved_dead _ e a = refl
+
+kept_live : (b : Bool) (t : Plain) → is_dead t ≡ false → is_live (dead_if (not b) t) ≡ b
+kept_live true t l = ap not l
+kept_live false t l = refl
+
+match_live : (b : Bool) → is_live (if b then done else dead) ≡ b
+match_live true = refl
+match_live false = refl
+
+module _ {P : Type 0} (x : Form) (e : Environment) (a : PlainAction) where
+  -- a node moves where its parts do: b and c say where it and the next one are dead, s is the node with moved parts
+  pub node_moves : (b c : Bool) (t u s : Plain) → moved x e t a ≡ dead_if (not (may x e t a)) s →
+      (may x e (dead_if b t) a ≡ true) ↔ P → is_dead u ≡ false → (is_dead (dead_if c u) ≡ false) ↔ P →
+      (b ≡ false → P → s ≡ u) → moved x e (dead_if b t) a ≡ dead_if c u
+  node_moves true true t u s m f l g same = moved_dead x e a
+  node_moves true false t u s m f l g same = absurd (true≢false (sym (f.1 (g.0 l)) ∙ may_dead x e a))
+  node_moves false true t u s m f l g same = m ∙ stays (may x e t a) refl
+    where
+      stays : (q : Bool) → may x e t a ≡ q → dead_if (not q) s ≡ dead
+      stays true h = absurd (true≢false (g.1 (f.0 h)))
+      stays false h = refl
+  node_moves false false t u s m f l g same =
+      let p : P = g.0 l in
+      m ∙ ap (λ q. dead_if (not q) s) (f.1 p) ∙ same refl p
+
+-- a tree is live after an action exactly where the action may come next
+pub moved_live : (x : Form) (e : Environment) (t : Plain) (a : PlainAction) → is_live (moved x e t a) ≡ may x e t a
+moved_live (atom x) e start a = match_live (is_match x e a)
+moved_live (opt y) e (opt_of empty t) a = kept_live (may (opt y) e (opt_of empty t) a) _ refl
+moved_live (seq y z) e (seq_of t rest) a = kept_live (may (seq y z) e (seq_of t rest) a) _ refl
+moved_live (star y) e (star_of again rest) a = kept_live (may (star y) e (star_of again rest) a) _ refl
+moved_live (par y z) e (par_of pairs) a = kept_live (may (par y z) e (par_of pairs) a) _ refl
+moved_live (par_star y) e (par_star_of bags) a = kept_live (may (par_star y) e (par_star_of bags) a) _ refl
+moved_live (or y z) e (or_of t u) a = kept_live (may (or y z) e (or_of t u) a) _ refl
+moved_live (and y z) e (and_of t u) a = kept_live (may (and y z) e (and_of t u) a) _ refl
+moved_live (couple y z) e (couple_of t u) a = kept_live (may (couple y z) e (couple_of t u) a) _ refl
+moved_live (any p y) e (any_of common entries) a = kept_live (may (any p y) e (any_of common entries) a) _ refl
+moved_live (every p y) e (every_of common entries) a = kept_live (may (every p y) e (every_of common entries) a) _ refl
+moved_live (sync p y) e (sync_of common entries) a = kept_live (may (sync p y) e (sync_of common entries) a) _ refl
+moved_live (all p y) e (all_of maps) a = kept_live (may (all p y) e (all_of maps) a) _ refl
+moved_live _ e _ a = refl
+
+-- the tree of the empty word is live
+pub empty_live : (y : Form) (e f : Environment) → Tells y e → is_live (tree_of y f []) ≡ true
+empty_live y e f k = ap is_live (empty_tree y f e) ∙ (live_says (tree_of y e [])).1 ((k []).partial.1 (empty-partial y e))
+
+-- the first action is tried on the tree of the empty word
+pub first_may : (y : Form) (e f : Environment) (a : PlainAction) → Begins a y e → MayTells a y e → may_first y e a ≡ may y e (tree_of y f []) a
+first_may y e f a b m = one_test (may_first y e a) (may y e (tree_of y e []) a) (iff_trans b (iff_sym (m []))) ∙ ap (λ t. may y e t a) (empty_tree y e f)
+
+-- Lists that are made
+
+module _ {A B C : Type 0} where
+  pub flat_map-map : (f : B → List C) (g : A → B) (w : List A) → flat_map f (map g w) ≡ flat_map (λ a. f (g a)) w
+  flat_map-map f g [] = refl
+  flat_map-map f g (a ∷ w) = ap (λ x. f (g a) ++ x) (flat_map-map f g w)
+
+module _ {A B : Type 0} where
+  pub flat_map-when : (f : A → List B) (b : Bool) (w : List A) → flat_map f (when b w) ≡ when b (flat_map f w)
+  flat_map-when f true w = refl
+  flat_map-when f false w = refl
+
+  both_to : (f g : A → List B) (w : List A) (b : B) → Member b (flat_map (λ a. f a ++ g a) w) → Member b (flat_map f w ++ flat_map g w)
+  both_to f g w b m =
+      let k = Member-flat_map (λ a. f a ++ g a) w m in
+      elim (Member-either (f k.0) (g k.0) k.2) [
+        | inl l ↦ Member-left (flat_map-Member f k.1 l) (flat_map g w)
+        | inr r ↦ Member-right (flat_map f w) (flat_map-Member g k.1 r)
+      ]
+
+  both_from : (f g : A → List B) (w : List A) (b : B) → Member b (flat_map f w ++ flat_map g w) → Member b (flat_map (λ a. f a ++ g a) w)
+  both_from f g w b m = elim (Member-either (flat_map f w) (flat_map g w) m) [
+    | inl l ↦ let k = Member-flat_map f w l in flat_map-Member (λ a. f a ++ g a) k.1 (Member-left k.2 (g k.0))
+    | inr r ↦ let k = Member-flat_map g w r in flat_map-Member (λ a. f a ++ g a) k.1 (Member-right (f k.0) k.2)
+  ]
+
+  -- two comprehensions in one
+  pub flat_map-both : (f g : A → List B) (w : List A) → SameMembers (flat_map (λ a. f a ++ g a) w) (flat_map f w ++ flat_map g w)
+  flat_map-both f g w = record { to = both_to f g w; from = both_from f g w }
+
+  -- what is made of the cuts of a word with one more item
+  pub cuts_more : (f : List A × List A → List B) (w : List A) (a : A) → flat_map f (cuts (w ++ a ∷ [])) ≡ flat_map (λ c. f (with_end a c)) (cuts w) ++ f (w ++ a ∷ [], [])
+  cuts_more f w a =
+      ap (flat_map f) (cuts-end w a)
+      ∙ flat_map-append f (map (with_end a) (cuts w)) ((w ++ a ∷ [], []) ∷ [])
+      ∙ ap (λ x. x ++ (f (w ++ a ∷ [], []) ++ [])) (flat_map-map f (with_end a) (cuts w))
+      ∙ ap (λ x. flat_map (λ c. f (with_end a c)) (cuts w) ++ x) (append-nil (f (w ++ a ∷ [], [])))
+
+  -- only the last cut has nothing behind it
+  pub last_cut : (f : List A × List A → List B) (w : List A) → flat_map (λ c. when (is_empty c.1) (f c)) (cuts w) ≡ f (w, [])
+  last_cut f [] = append-nil (f ([], []))
+  last_cut f (a ∷ w) =
+      flat_map-map (λ c. when (is_empty c.1) (f c)) (with_start a) (cuts w) ∙ last_cut (λ c. f (with_start a c)) w
+
+-- Alternatives
+
+-- sets are compared by their members
+pub set_same : (xs ys : List Plain) → SameMembers xs ys → set_of xs ≡ set_of ys
+set_same xs ys s = ap listed (canon-same tree_order xs ys s)
+
+pub set_members : (xs : List Plain) → SameMembers (items_of (set_of xs)) xs
+set_members xs = SameMembers-trans (SameMembers-eq (items_listed (canon tree_cmp xs))) (canon-members tree_order xs)
+
+-- what is made of the alternatives of a set
+pub set_flat_map : {B : Type 0} (f : Plain → List B) (xs : List Plain) → SameMembers (flat_map f (items_of (set_of xs))) (flat_map f xs)
+set_flat_map f xs = SameMembers-flat_map f f (set_members xs) (λ x m. SameMembers-refl (f x))
+
+-- what is made of the alternatives that ways give
+pub set_made : {A B : Type 0} (f : Plain → List B) (make : A → List Plain) (ways : List A) → SameMembers (flat_map f (items_of (set_of (flat_map make ways)))) (flat_map (λ way. flat_map f (make way)) ways)
+set_made f make ways = SameMembers-trans (set_flat_map f (flat_map make ways)) (SameMembers-eq (flat_map-flat_map make f ways))
+
+-- what is made where the tree is live, if nothing is made of a dead one
+pub live_made : {B : Type 0} (f : Plain → List B) → f dead ≡ [] → (t : Plain) → flat_map f (live t) ≡ f t
+live_made f n t = one (is_dead t) refl
+  where
+    one : (b : Bool) → is_dead t ≡ b → flat_map f (when (not b) (t ∷ [])) ≡ f t
+    one true e = sym (ap f (dead_is t e) ∙ n)
+    one false e = append-nil (f t)
+
+-- a dead tree isn't listed where it moves
+pub dead_unlisted : (x : Form) (e : Environment) (a : PlainAction) → live (moved x e dead a) ≡ []
+dead_unlisted x e a = ap live (moved_dead x e a)
+
+-- what is listed where the tree is live, moved
+pub live_moved : (x : Form) (e : Environment) (a : PlainAction) (t : Plain) → flat_map (λ s. live (moved x e s a)) (live t) ≡ live (moved x e t a)
+live_moved x e a t = live_made (λ s. live (moved x e s a)) (dead_unlisted x e a) t

@@ -1,0 +1,102 @@
+-- What each call behind `can_first` asks holds, and what the quantifiers answer.
+use Rattle.std.proofs.Common.{◌≡◌, inl, inr, ℕ, Bool, true, List, Option, Some, None, refl, sym, ◌∙◌, subst, rules}
+use Rattle.ix_expr.specs.declared.expr.Expr.{Expr}
+use Rattle.ix_expr.specs.declared.expr.Expr.TheViews.{the_lemmas}
+use Rattle.ix_expr.specs.Environment.{bind}
+use Rattle.ix_expr.specs.Fitting.{FitsInside, OperandsFit}
+use Rattle.ix_expr.specs.Form.{couple}
+use Rattle.ix_expr.specs.FormFaults.{Fits}
+use Rattle.ix_expr.specs.FormOf.{form_of}
+use Rattle.ix_expr.proofs.Parts.{fits-operands}
+use Rattle.ix_can.specs.Asked.{first_or_stays}
+use Rattle.ix_can.specs.May.{may_first}
+use Rattle.ix_can.specs.Tests.{in_alphabet}
+use Rattle.ix_can.proofs.Children.{either_else, both_then, any_made, all_made}
+use Rattle.ix_can.proofs.first.+begins.Goals as goal
+
+pub begins-begins_seq-requires : goal.begins-begins_seq-requires
+begins-begins_seq-requires t c =
+    let e = c.args.env.now in
+    let parts : Fits (form_of c.in-Seq.y.value) e × Fits (form_of c.in-Seq.z.value) e = subst (λ (x : Expr). OperandsFit (form_of x) e) c.in-Seq.is (fits-operands (form_of c.args.expr.now) e c.requires) in
+    (search (rules, the_lemmas), (subst (λ (x : Expr). Fits (form_of x) e) (sym c.deref.ensures) parts.0, subst (λ (x : Expr). Fits (form_of x) e) (sym c.deref-in-Seq.ensures) parts.1))
+
+pub begins-begins_both-requires : goal.begins-begins_both-requires
+begins-begins_both-requires t c =
+    let e = c.args.env.now in
+    let parts : Fits (form_of c.in-And.y.value) e × Fits (form_of c.in-And.z.value) e = subst (λ (x : Expr). OperandsFit (form_of x) e) c.in-And.is (fits-operands (form_of c.args.expr.now) e c.requires) in
+    (search (rules, the_lemmas), (subst (λ (x : Expr). Fits (form_of x) e) (sym c.deref-in-And.ensures) parts.0, subst (λ (x : Expr). Fits (form_of x) e) (sym c.deref-in-And-2.ensures) parts.1))
+
+pub begins-begins_couple-requires : goal.begins-begins_couple-requires
+begins-begins_couple-requires t c =
+    let e = c.args.env.now in
+    let parts : Fits (form_of c.in-Couple.y.value) e × Fits (form_of c.in-Couple.z.value) e = subst (λ (x : Expr). OperandsFit (form_of x) e) c.in-Couple.is (fits-operands (form_of c.args.expr.now) e c.requires) in
+    let inside : in_alphabet (couple (form_of c.in-Couple.y.value) (form_of c.in-Couple.z.value)) e c.args.action.now ≡ true =
+    subst (λ (x : Expr). in_alphabet (form_of x) e c.args.action.now ≡ true) c.in-Couple.is (sym c.in_alphabet.ensures ∙ c.if-in_alphabet.true) in (
+      search (rules, the_lemmas),
+      (
+        subst (λ (x : Expr). Fits (form_of x) e) (sym c.deref-then-in_alphabet.ensures) parts.0,
+        (
+          subst (λ (x : Expr). Fits (form_of x) e) (sym c.deref-then-in_alphabet-2.ensures) parts.1,
+          subst (λ (x : Expr). in_alphabet (couple (form_of c.deref-then-in_alphabet.result.now) (form_of x)) e c.args.action.now ≡ true) (sym c.deref-then-in_alphabet-2.ensures)
+              (subst (λ (x : Expr). in_alphabet (couple (form_of x) (form_of c.in-Couple.z.value)) e c.args.action.now ≡ true) (sym c.deref-then-in_alphabet.ensures) inside),
+        ),
+      ),
+    )
+
+pub begins-begins_either-requires : goal.begins-begins_either-requires
+begins-begins_either-requires t c =
+    let e = c.args.env.now in
+    let both = λ (x : Expr). OperandsFit (form_of x) e in
+    let fits : both c.args.expr.now = fits-operands (form_of c.args.expr.now) e c.requires in
+    let parts : Fits (form_of c.in-Par.y.value) e × Fits (form_of c.in-Par.z.value) e = elim c.in-Par.is [ inl is ↦ subst both is fits | inr is ↦ subst both is fits ] in
+    (search (rules, the_lemmas), (subst (λ (x : Expr). Fits (form_of x) e) (sym c.deref-in-Par.ensures) parts.0, subst (λ (x : Expr). Fits (form_of x) e) (sym c.deref-in-Par-2.ensures) parts.1))
+
+pub begins-begins-requires : goal.begins-begins-requires
+begins-begins-requires t c =
+    let e = c.args.env.now in
+    let one = λ (x : Expr). OperandsFit (form_of x) e in
+    let fits : one c.args.expr.now = fits-operands (form_of c.args.expr.now) e c.requires in
+    let part : Fits (form_of c.in-Opt.y.value) e = elim c.in-Opt.is [ inl is ↦ subst one is fits | inr r ↦ elim r [ inl is ↦ subst one is fits | inr is ↦ subst one is fits ] ] in
+    (search (rules, the_lemmas), subst (λ (x : Expr). Fits (form_of x) e) (sym c.deref-in-Opt.ensures) part)
+
+pub begins-begins_for_some-requires : goal.begins-begins_for_some-requires
+begins-begins_for_some-requires t c =
+    let e = c.args.env.now in
+    let inside : FitsInside c.in-Any.p (form_of c.in-Any.y.value) e = subst (λ (x : Expr). OperandsFit (form_of x) e) c.in-Any.is (fits-operands (form_of c.args.expr.now) e c.requires) in
+    (search (rules, the_lemmas), subst (λ (x : Expr). FitsInside c.in-Any.p (form_of x) e) (sym c.deref-in-Any.ensures) inside)
+
+pub begins-begins_for_each-requires : goal.begins-begins_for_each-requires
+begins-begins_for_each-requires t c =
+    let e = c.args.env.now in
+    let inside : FitsInside c.in-Every.p (form_of c.in-Every.y.value) e = subst (λ (x : Expr). OperandsFit (form_of x) e) c.in-Every.is (fits-operands (form_of c.args.expr.now) e c.requires) in
+    (search (rules, the_lemmas), subst (λ (x : Expr). FitsInside c.in-Every.p (form_of x) e) (sym c.deref-in-Every.ensures) inside)
+
+pub begins-begins_for_each-requires-then-in_alphabet-2 : goal.begins-begins_for_each-requires-then-in_alphabet-2
+begins-begins_for_each-requires-then-in_alphabet-2 t c =
+    let e = c.args.env.now in
+    let inside : FitsInside c.in-Sync.p (form_of c.in-Sync.y.value) e = subst (λ (x : Expr). OperandsFit (form_of x) e) c.in-Sync.is (fits-operands (form_of c.args.expr.now) e c.requires) in
+    (search (rules, the_lemmas), subst (λ (x : Expr). FitsInside c.in-Sync.p (form_of x) e) (sym c.deref-then-in_alphabet-2-2.ensures) inside)
+
+pub begins-some_value_begins-requires : goal.begins-some_value_begins-requires
+begins-some_value_begins-requires t c =
+    let e = c.args.env.now in
+    let inside : FitsInside c.in-All.p (form_of c.in-All.y.value) e = subst (λ (x : Expr). OperandsFit (form_of x) e) c.in-All.is (fits-operands (form_of c.args.expr.now) e c.requires) in
+    (search (rules, the_lemmas), subst (λ (x : Expr). FitsInside c.in-All.p (form_of x) e) (sym c.deref-in-All.ensures) inside)
+
+pub begins_at-begins_or_stays-requires : goal.begins_at-begins_or_stays-requires
+begins_at-begins_or_stays-requires t c =
+    (search (rules, the_lemmas), subst (λ e. Fits (form_of c.args.y.now) e) (sym c.with.ensures) (c.requires.body c.args.value))
+
+pub begins_for_each-returns-then-begins_at : goal.begins_for_each-returns-then-begins_at
+begins_for_each-returns-then-begins_at t c =
+    let y = form_of c.args.y.now in
+    let f : Option (List ℕ) → Bool = λ v. first_or_stays c.args.stays y (bind c.args.p.now v c.args.env.now) c.args.action.now in
+    both_then c.begins_at.result c.each_value_begins.result (f None) _ c.if-begins_at.true c.begins_at.ensures
+    (c.each_value_begins.ensures ∙ all_made f Some (λ v. f (Some v)) (λ v. refl) c.args.action.now.values)
+
+pub begins_for_some-returns-else-begins_at : goal.begins_for_some-returns-else-begins_at
+begins_for_some-returns-else-begins_at t c =
+    let y = form_of c.args.y.now in
+    let f : Option (List ℕ) → Bool = λ v. may_first y (bind c.args.p.now v c.args.env.now) c.args.action.now in
+    either_else c.begins_at.result c.some_value_begins.result (f None) _ c.if-begins_at.false c.begins_at.ensures
+    (c.some_value_begins.ensures ∙ any_made f Some (λ v. f (Some v)) (λ v. refl) c.args.action.now.values)

@@ -1,0 +1,163 @@
+//! Whether an action may come first.
+
+ghost use Rattle.std.specs.Prelude.{◌≡◌, ◌↔◌, ◌∷◌, [], Some, true, IsTrue};
+ghost use Rattle.std.specs.List.{list_all, list_any};
+ghost use Rattle.ix_expr.specs.Environment.{bind};
+ghost use Rattle.ix_expr.specs.Fitting.{FitsInside};
+ghost use Rattle.ix_expr.specs.Form.{seq, par, or, and, couple};
+ghost use Rattle.ix_expr.specs.FormFaults.{Fits};
+ghost use Rattle.ix_expr.specs.FormOf.{form_of};
+ghost use Rattle.ix_expr.specs.Meaning.{IsPartial};
+ghost use Rattle.ix_can.specs.Asked.{first_or_stays};
+ghost use Rattle.ix_can.specs.May.{may_first};
+ghost use Rattle.ix_can.specs.Tests.{in_alphabet, values_and_outside};
+
+use crate::plain_tests::{accepts_empty, in_alphabet, is_match};
+use ix_expr::{Env, Expr};
+use ix_values::{Action, Name, Value};
+
+/// Whether the word of this one action is partial.
+pub fn can_first(expr: &Expr, env: &Env, action: &Action) -> bool
+    requires fits { Fits (form_of expr.now) env.now }
+    ensures by_form { result ≡ may_first (form_of expr.now) env.now action.now }
+    ensures tells { IsTrue result ↔ IsPartial (form_of expr.now) env.now (action.now ∷ []) }
+{
+    begins(expr, env, action)
+}
+
+/// What `can_first` answers.
+#[cycle(begins)]
+pub(crate) fn begins(expr: &Expr, env: &Env, action: &Action) -> bool
+    requires { Fits (form_of expr.now) env.now }
+    ensures { result ≡ may_first (form_of expr.now) env.now action.now }
+{
+    match expr {
+        Expr::Atom(atom) => is_match(atom, env, action),
+        Expr::Opt(y) | Expr::Star(y) | Expr::ParStar(y) => begins(y, env, action),
+        Expr::Seq(y, z) => begins_seq(y, z, env, action),
+        Expr::Par(y, z) | Expr::Or(y, z) => begins_either(y, z, env, action),
+        Expr::And(y, z) => begins_both(y, z, env, action),
+        Expr::Couple(y, z) => in_alphabet(expr, env, action) && begins_couple(y, z, env, action),
+        Expr::Any(p, y) => begins_for_some(p, y, env, action),
+        Expr::Every(p, y) => begins_for_each(false, p, y, env, action),
+        Expr::Sync(p, y) => in_alphabet(expr, env, action)
+            && begins_for_each(true, p, y, env, action),
+        Expr::All(p, y) => some_value_begins(p, y, env, action),
+    }
+}
+
+/// `can_first` of a sequence: its first part begins, or that may be empty and the second begins.
+#[cycle(begins)]
+fn begins_seq(y: &Expr, z: &Expr, env: &Env, action: &Action) -> bool
+    requires first { Fits (form_of y.now) env.now }
+    requires second { Fits (form_of z.now) env.now }
+    ensures { result ≡ may_first (seq (form_of y.now) (form_of z.now)) env.now action.now }
+{
+    begins(y, env, action) || (accepts_empty(y) && begins(z, env, action))
+}
+
+/// Whether one of the two may begin with the action.
+#[cycle(begins)]
+fn begins_either(y: &Expr, z: &Expr, env: &Env, action: &Action) -> bool
+    requires first { Fits (form_of y.now) env.now }
+    requires second { Fits (form_of z.now) env.now }
+    ensures { result ≡ may_first (or (form_of y.now) (form_of z.now)) env.now action.now }
+{
+    begins(y, env, action) || begins(z, env, action)
+}
+
+/// Whether both may begin with the action.
+#[cycle(begins)]
+fn begins_both(y: &Expr, z: &Expr, env: &Env, action: &Action) -> bool
+    requires first { Fits (form_of y.now) env.now }
+    requires second { Fits (form_of z.now) env.now }
+    ensures { result ≡ may_first (and (form_of y.now) (form_of z.now)) env.now action.now }
+{
+    begins(y, env, action) && begins(z, env, action)
+}
+
+/// Whether each of the two that has the action in its alphabet may begin with it, where one has.
+#[cycle(begins)]
+fn begins_couple(y: &Expr, z: &Expr, env: &Env, action: &Action) -> bool
+    requires first { Fits (form_of y.now) env.now }
+    requires second { Fits (form_of z.now) env.now }
+    requires inside { in_alphabet (couple (form_of y.now) (form_of z.now)) env.now action.now ≡ true }
+    ensures { result ≡ may_first (couple (form_of y.now) (form_of z.now)) env.now action.now }
+{
+    begins_or_stays(true, y, env, action) && begins_or_stays(true, z, env, action)
+}
+
+/// Whether the expression may begin with the action or, where standing still counts, hasn't it in its alphabet.
+#[cycle(begins)]
+fn begins_or_stays(stays: bool, y: &Expr, env: &Env, action: &Action) -> bool
+    requires { Fits (form_of y.now) env.now }
+    ensures { result ≡ first_or_stays stays (form_of y.now) env.now action.now }
+{
+    if stays {
+        !in_alphabet(y, env, action) || begins(y, env, action)
+    } else {
+        begins(y, env, action)
+    }
+}
+
+/// `begins_or_stays` with the parameter given the value, or outside.
+#[cycle(begins)]
+fn begins_at(
+    stays: bool,
+    p: &Name,
+    y: &Expr,
+    value: Option<Value>,
+    env: &Env,
+    action: &Action,
+) -> bool
+    requires { FitsInside p.now (form_of y.now) env.now }
+    ensures { result ≡ first_or_stays stays (form_of y.now) (bind p.now value env.now) action.now }
+{
+    begins_or_stays(stays, y, &env.with(*p, value), action)
+}
+
+/// Whether the body may begin with the action for outside or for one of the action's values.
+#[cycle(begins)]
+fn begins_for_some(p: &Name, y: &Expr, env: &Env, action: &Action) -> bool
+    requires { FitsInside p.now (form_of y.now) env.now }
+    ensures { result ≡ list_any (λ v. may_first (form_of y.now) (bind p.now v env.now) action.now) (values_and_outside action.now) }
+{
+    begins_at(false, p, y, None, env, action) || some_value_begins(p, y, env, action)
+}
+
+/// Whether the body begins or stays for outside and for each of the action's values.
+#[cycle(begins)]
+fn begins_for_each(stays: bool, p: &Name, y: &Expr, env: &Env, action: &Action) -> bool
+    requires { FitsInside p.now (form_of y.now) env.now }
+    ensures { result ≡ list_all (λ v. first_or_stays stays (form_of y.now) (bind p.now v env.now) action.now) (values_and_outside action.now) }
+{
+    begins_at(stays, p, y, None, env, action) && each_value_begins(stays, p, y, env, action)
+}
+
+/// Whether the body may begin with the action for one of the action's values.
+#[cycle(begins)]
+fn some_value_begins(p: &Name, y: &Expr, env: &Env, action: &Action) -> bool
+    requires { FitsInside p.now (form_of y.now) env.now }
+    ensures { result ≡ list_any (λ v. may_first (form_of y.now) (bind p.now (Some v) env.now) action.now) action.now.values }
+{
+    for value in action.values() {
+        if begins_at(false, p, y, Some(*value), env, action) {
+            return true;
+        }
+    }
+    false
+}
+
+/// Whether the body begins or stays for each of the action's values.
+#[cycle(begins)]
+fn each_value_begins(stays: bool, p: &Name, y: &Expr, env: &Env, action: &Action) -> bool
+    requires { FitsInside p.now (form_of y.now) env.now }
+    ensures { result ≡ list_all (λ v. first_or_stays stays (form_of y.now) (bind p.now (Some v) env.now) action.now) action.now.values }
+{
+    for value in action.values() {
+        if !begins_at(stays, p, y, Some(*value), env, action) {
+            return false;
+        }
+    }
+    true
+}
