@@ -1,0 +1,190 @@
+//! The engine.
+
+ghost use Rattle.std.specs.Prelude.{◌≡◌, ◌<◌, ◌≤◌, ◌↔◌, ℕ, [], ◌∷◌, ◌++◌, length, IsTrue, IfOk, OnOk};
+ghost use Rattle.ix_expr.specs.Meaning.{IsComplete, IsPartial};
+ghost use Rattle.ix_tree.specs.PlainOf.{plain};
+ghost use Rattle.ix_tree.specs.Size.{size_of};
+ghost use Rattle.ix_can.specs.TreeOf.{tree_of};
+ghost use Rattle.ix_engine.specs.Engine.{IsPermitted, Follows, extended, size_after};
+
+use crate::{Next, PrepareFault};
+use ix_can::{can, is_final};
+use ix_expr::{Env, Expression};
+use ix_step::{BuildFault, initial, step};
+use ix_tree::Tree;
+use ix_values::Action;
+use std::alloc::{AllocError, Global};
+use std::marker::Model;
+
+/// The most actions of a history.
+pub const MOST_ACTIONS: usize = 1_000_000;
+
+/// The confirmed actions of an expression, and the state tree of this history, which is always there.
+#[derive(Drop)]
+pub struct Engine {
+    expression: Expression,
+    history: Vec<Action>,
+    tree: Tree,
+    limit: usize,
+}
+
+impl Model for Engine {
+    ghost use Rattle.ix_engine.specs.Engine.{EngineState};
+    ghost use Rattle.ix_expr.specs.FormCode.{form_code};
+    ghost use Rattle.std.specs.Coded.{codes};
+
+    ghost Value = { EngineState };
+
+    ghost coded = { Prim.hlevel (codes, form_code) };
+
+    ghost use Rattle.std.specs.Prelude.{◌≡◌, ◌≤◌, ◌-◌, [], length};
+    ghost use Rattle.std.specs.Vec.{vec_capacity, vec_len};
+    ghost use Rattle.ix_tree.specs.PlainOf.{plain};
+    ghost use Rattle.ix_tree.specs.Size.{size_of};
+    ghost use Rattle.ix_can.specs.TreeOf.{tree_of};
+
+    ghost view = { λ s. record {
+      form = s.expression;
+      history = s.history.items;
+      limit = s.limit;
+      spare = vec_capacity s.history - vec_len s.history;
+    } };
+
+    // The tree is that of the history, and both are within their limits.
+    ghost invariant = { λ s. (plain s.tree ≡ tree_of s.expression [] s.history.items)
+        × (length s.history.items ≤ 1000000)
+        × (size_of (plain s.tree) ≤ s.limit)
+        × (s.limit ≤ 1000000) };
+}
+
+impl Engine {
+    /// The engine of an expression with an empty history. The limit, 1 to 1,000,000, is the most that the Size of its
+    /// tree may be; `Over` comes exactly where the tree of the empty word is above it. A refused expression is dropped.
+    pub fn new(alloc: Global, expression: Expression, limit: usize) -> Result<Engine, BuildFault>
+        requires least { 1 ≤ limit }
+        requires most { limit ≤ 1000000 }
+        ensures form { IfOk result (λ s. s.form ≡ expression) }
+        ensures history { IfOk result (λ s. s.history ≡ []) }
+        ensures limit { IfOk result (λ s. s.limit ≡ limit) }
+        ensures within { OnOk result (size_of (tree_of expression [] []) ≤ limit) }
+        ensures over { (l : ℕ) → result ≡ Err (BuildFault.Over l)
+            → (l ≡ limit) × (limit < size_of (tree_of expression [] [])) }
+    {
+        match initial(alloc, expression.expr(), limit) {
+            Ok(tree) => Ok(Engine {
+                expression,
+                history: Vec::new(alloc),
+                tree,
+                limit,
+            }),
+            Err(fault) => Err(fault),
+        }
+    }
+
+    /// Whether the history extended by the action is a partial word.
+    pub fn may(&self, action: &Action) -> bool
+        ensures { IsTrue result ↔ IsPartial self.now.form [] (extended self.now action.now) }
+    {
+        can(&self.tree, self.expression.expr(), &Env::new(), action)
+    }
+
+    /// Whether the history is a complete word.
+    pub fn is_complete(&self) -> bool
+        ensures { IsTrue result ↔ IsComplete self.now.form [] self.now.history }
+    {
+        is_final(&self.tree, self.expression.expr())
+    }
+
+    /// The confirmed actions, the oldest first, at most 1,000,000.
+    pub fn history(&self) -> &[Action]
+        ensures value { result.now ≡ self.now.history }
+        ensures most { length self.now.history ≤ 1000000 }
+    {
+        self.history.as_slice()
+    }
+
+    /// The Size of the history's tree, at most the limit.
+    pub fn nodes(&self) -> usize
+        ensures value { result ≡ size_after self.now self.now.history }
+        ensures within { result ≤ self.now.limit }
+    {
+        self.tree.size()
+    }
+
+    /// The most that the Size of the tree may be.
+    pub fn limit(&self) -> usize
+        ensures { result ≡ self.now.limit }
+    {
+        self.limit
+    }
+
+    /// The action with the tree of the extended history; it follows this engine. The refusals in their order:
+    /// `NotPartial` exactly where the action may not come next, `Full` exactly where the history has 1,000,000
+    /// actions, `Over` exactly where the Size of the extended history's tree is above the limit, and want of memory.
+    pub fn prepare(&self, alloc: Global, action: &Action) -> Result<Next, PrepareFault>
+        ensures follows { IfOk result (λ next. Follows self.now next.action (plain next.tree)) }
+        ensures action { IfOk result (λ next. next.action ≡ action.now) }
+        ensures permitted { OnOk result (IsPermitted self.now action.now) }
+        ensures not_partial { (result ≡ Err PrepareFault.NotPartial)
+            ↔ ¬ IsPartial self.now.form [] (extended self.now action.now) }
+        ensures full { (result ≡ Err PrepareFault.Full)
+            ↔ (IsPartial self.now.form [] (extended self.now action.now) × (length self.now.history ≡ 1000000)) }
+        ensures over { (l : ℕ) → result ≡ Err (PrepareFault.Over l)
+            → (l ≡ self.now.limit)
+            × IsPartial self.now.form [] (extended self.now action.now)
+            × (length self.now.history < 1000000)
+            × (self.now.limit < size_after self.now (extended self.now action.now)) }
+    {
+        let expr = self.expression.expr();
+        let env = Env::new();
+        if !can(&self.tree, expr, &env, action) {
+            return Err(PrepareFault::NotPartial);
+        }
+        if self.history.len() == MOST_ACTIONS {
+            return Err(PrepareFault::Full);
+        }
+        match step(alloc, &self.tree, expr, &env, action, self.limit) {
+            Ok(tree) => Ok(Next {
+                action: *action,
+                tree,
+            }),
+            Err(BuildFault::Over { limit }) => Err(PrepareFault::Over { limit }),
+            Err(BuildFault::Memory) => Err(PrepareFault::Memory),
+        }
+    }
+
+    /// Takes the memory for one more action, so that `commit` needs none. Nothing else changes.
+    pub fn reserve_one(&mut self) -> Result<(), AllocError>
+        ensures spare { OnOk result (1 ≤ self.new.spare) }
+        ensures form { self.new.form ≡ self.old.form }
+        ensures history { self.new.history ≡ self.old.history }
+        ensures limit { self.new.limit ≡ self.old.limit }
+    {
+        self.history.reserve(1)
+    }
+
+    /// Extends the history by a prepared action. Takes no memory.
+    pub fn commit(&mut self, next: Next)
+        requires follows { Follows self.old next.action (plain next.tree) }
+        requires spare { 1 ≤ self.old.spare }
+        ensures history { self.new.history ≡ extended self.old next.action }
+        ensures form { self.new.form ≡ self.old.form }
+        ensures limit { self.new.limit ≡ self.old.limit }
+    {
+        let Next { action, tree } = next;
+        let pushed = self.history.push(action);
+        prove!(pushed.is_ok());
+        self.tree = tree;
+    }
+
+    /// Whether `prepare` would give the action, were there memory enough.
+    pub fn permitted(&self, alloc: Global, action: &Action) -> Result<bool, AllocError>
+        ensures { IfOk result (λ answer. IsTrue answer ↔ IsPermitted self.now action.now) }
+    {
+        let prepared = self.prepare(alloc, action);
+        if matches!(prepared, Err(PrepareFault::Memory)) {
+            return Err(AllocError);
+        }
+        Ok(prepared.is_ok())
+    }
+}

@@ -1,0 +1,13 @@
+//! The engine: the confirmed actions of one expression, and the one tree that tells what may come next.
+#![tactic(auto)]
+
+mod engine;
+mod faults;
+mod next;
+
+pub use engine::Engine;
+pub use faults::PrepareFault;
+pub use next::Next;
+
+#[cfg(test)]
+mod tests;

@@ -1,0 +1,161 @@
+//! Asks and confirmations on the engine, with answers worked out by hand.
+
+ghost use Rattle.std.specs.Prelude.{◌≤◌};
+
+use super::*;
+use ix_expr::{Arg, Atom, Expr, Expression};
+use ix_step::BuildFault;
+use ix_values::{Action, Name};
+use std::alloc::{AllocError, Global};
+use std::test::Fail;
+
+fn name(text: &[u8]) -> Result<Name, Fail> {
+    Ok(Name::read(text).ok_or("not a name")?)
+}
+
+fn action(text: &[u8]) -> Result<Action, Fail> {
+    Ok(Action::read(text).map_err(|_| "not an action")?)
+}
+
+fn atom(text: &[u8], args: &[Arg]) -> Result<Expr, Fail> {
+    Ok(Expr::Atom(Atom::new(name(text)?, args).ok_or("not an atom")?))
+}
+
+fn boxed(alloc: Global, expr: Expr) -> Result<Box<Expr>, Fail> {
+    Ok(Box::new(alloc, expr).map_err(|_| AllocError)?)
+}
+
+/// `left - right`.
+fn in_turn(alloc: Global, left: Expr, right: Expr) -> Result<Expr, Fail> {
+    Ok(Expr::Seq(boxed(alloc, left)?, boxed(alloc, right)?))
+}
+
+/// What an engine answered and how it stands then.
+#[derive(Drop)]
+struct Seen {
+    answers: Vec<u8>,
+    nodes: usize,
+    actions: usize,
+    is_complete: bool,
+}
+
+/// Asks for an action and confirms it where it is granted: `y`, `n` where it is not partial, `l` where it is too large, and
+/// `?` where `may` or `permitted` says something else.
+fn ask(alloc: Global, engine: &mut Engine, text: &[u8]) -> Result<u8, Fail> {
+    let action = action(text)?;
+    let may = engine.may(&action);
+    let permitted = engine.permitted(alloc, &action)?;
+    match engine.prepare(alloc, &action) {
+        Ok(next) => {
+            engine.reserve_one()?;
+            engine.commit(next);
+            Ok(if may && permitted { b'y' } else { b'?' })
+        }
+        Err(PrepareFault::NotPartial) => Ok(if may || permitted { b'?' } else { b'n' }),
+        Err(PrepareFault::Over { .. }) => Ok(if may && !permitted { b'l' } else { b'?' }),
+        Err(_) => Err("full, or no memory".into()),
+    }
+}
+
+/// The answers to all asks, in order, and how the engine stands then.
+fn ask_all(alloc: Global, engine: &mut Engine, texts: &[&[u8]]) -> Result<Seen, Fail> {
+    let mut answers = Vec::new(alloc);
+    for text in texts {
+        let answer = ask(alloc, engine, text)?;
+        answers.push(answer).map_err(|_| AllocError)?;
+    }
+    Ok(Seen {
+        answers,
+        nodes: engine.nodes(),
+        actions: engine.history().len(),
+        is_complete: engine.is_complete(),
+    })
+}
+
+/// What a new engine of the expression answers, or none where its first tree is above the limit.
+fn new_engine_answers(
+    alloc: Global,
+    expr: Expr,
+    limit: usize,
+    texts: &[&[u8]],
+) -> Result<Option<Seen>, Fail>
+    requires least { 1 ≤ limit }
+    requires most { limit ≤ 1000000 }
+{
+    let expression = Expression::new(expr).map_err(|_| "not well formed")?;
+    match Engine::new(alloc, expression, limit) {
+        Ok(mut engine) => Ok(Some(ask_all(alloc, &mut engine, texts)?)),
+        Err(BuildFault::Over { .. }) => Ok(None),
+        Err(BuildFault::Memory) => Err("no memory".into()),
+    }
+}
+
+/// `text($p,$x)`.
+fn of_both(text: &[u8]) -> Result<Expr, Fail> {
+    atom(text, &[Arg::Param(name(b"p")?), Arg::Param(name(b"x")?)])
+}
+
+/// `all $p *(any $x (call($p,$x) - perform($p,$x)))`: each patient is in one examination at a time.
+fn patients(alloc: Global) -> Result<Expr, Fail> {
+    let visit = in_turn(alloc, of_both(b"call")?, of_both(b"perform")?)?;
+    let some = Expr::Any(name(b"x")?, boxed(alloc, visit)?);
+    let visits = Expr::Star(boxed(alloc, some)?);
+    Ok(Expr::All(name(b"p")?, boxed(alloc, visits)?))
+}
+
+/// `*(a - b)`.
+fn repeated(alloc: Global) -> Result<Expr, Fail> {
+    let pair = in_turn(alloc, atom(b"a", &[])?, atom(b"b", &[])?)?;
+    Ok(Expr::Star(boxed(alloc, pair)?))
+}
+
+/// Whether the engine answers so, and then has so many nodes and actions and is complete or not.
+fn answers_so(
+    seen: Option<Seen>,
+    answers: &[u8],
+    nodes: usize,
+    actions: usize,
+    is_complete: bool,
+) -> bool {
+    match seen {
+        Some(seen) => {
+            seen.answers.as_slice() == answers
+                && seen.nodes == nodes
+                && seen.actions == actions
+                && seen.is_complete == is_complete
+        }
+        None => false,
+    }
+}
+
+#[test]
+fn a_repeated_sequence_is_asked_for(rt: HostRuntime) -> Result<(), Fail> {
+    let alloc = rt.alloc();
+    let texts: [&[u8]; 5] = [b"b", b"a", b"a", b"b", b"a"];
+    let seen = new_engine_answers(alloc, repeated(alloc)?, 4, &texts)?;
+    assert!(rt; answers_so(seen, b"nynyy", 4, 3, false));
+    Ok(())
+}
+
+#[test]
+fn a_tree_above_the_limit_is_refused(rt: HostRuntime) -> Result<(), Fail> {
+    let alloc = rt.alloc();
+    let texts: [&[u8]; 1] = [b"a"];
+    let large = new_engine_answers(alloc, repeated(alloc)?, 3, &texts)?;
+    assert!(rt; answers_so(large, b"l", 1, 0, true));
+    let above = new_engine_answers(alloc, patients(alloc)?, 1, &texts)?;
+    assert!(rt; above.is_none());
+    Ok(())
+}
+
+#[test]
+fn a_called_patient_is_busy_and_another_is_not(rt: HostRuntime) -> Result<(), Fail> {
+    let alloc = rt.alloc();
+    let called: [&[u8]; 1] = [b"call(p1,x1)"];
+    let first = new_engine_answers(alloc, patients(alloc)?, 100, &called)?;
+    assert!(rt; answers_so(first, b"y", 10, 1, false));
+    let texts: [&[u8]; 3] = [b"call(p1,x1)", b"call(p1,x2)", b"call(p2,x1)"];
+    let both = new_engine_answers(alloc, patients(alloc)?, 100, &texts)?;
+    assert!(rt; answers_so(both, b"yny", 18, 2, false));
+    Ok(())
+}

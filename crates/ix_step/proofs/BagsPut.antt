@@ -1,0 +1,87 @@
+-- Bags with one more tree in its place, and the bags in which each tree in turn is taken out.
+use Rattle.std.proofs.Common.{◌≡◌, ℕ, zero, suc, ◌<◌, ◌≤◌, ◌+◌, Bool, true, false, List, [], ◌∷◌, ◌++◌, map, length, get_or, take, drop, refl, ap, ◌∙◌, arith, if◌then◌else◌}
+use Rattle.std.specs.List.{insert, remove}
+use Rattle.std.specs.Ordering.{is_gt}
+use Rattle.std.proofs.lemmas.List.{get_or-map, length-map}
+use Rattle.ix_tree.specs.Plain.{Plain, listed}
+use Rattle.ix_tree.specs.Order.{tree_cmp}
+use Rattle.ix_tree.specs.Size.{size_of}
+use Rattle.ix_can.specs.Nodes.{put_in}
+use Rattle.ix_can.specs.Moved.{picks}
+
+-- Each item with the others
+
+module _ {A : Type 0} where
+  pub length-picks : (xs : List A) → length (picks xs) ≡ length xs
+  length-picks [] = refl
+  length-picks (x ∷ xs) = ap suc (length-map (picks xs) (λ (p : A × List A). (p.0, x ∷ p.1)) ∙ length-picks xs)
+
+  -- the item at a place, with the list without that place
+  pub get-picks : (xs : List A) (i : ℕ) (d : A) (k : A × List A) → i < length xs → get_or (picks xs) i k ≡ (get_or xs i d, remove xs i)
+  get-picks [] i d k lt = absurd (omega arith)
+  get-picks (x ∷ xs) zero d k lt = refl
+  get-picks (x ∷ xs) (suc i) d k lt =
+      get_or-map (λ p. (p.0, x ∷ p.1)) (picks xs) i k k (omega (arith, length-picks xs))
+      ∙ ap (λ (p : A × List A). (p.0, x ∷ p.1)) (get-picks xs i d k (omega arith))
+
+  pub map-insert : {B : Type 0} (f : A → B) (xs : List A) (i : ℕ) (x : A) → map f (insert xs i x) ≡ insert (map f xs) i (f x)
+  map-insert f [] zero x = refl
+  map-insert f [] (suc i) x = refl
+  map-insert f (y ∷ ys) zero x = refl
+  map-insert f (y ∷ ys) (suc i) x = ap (λ l. f y ∷ l) (map-insert f ys i x)
+
+  pub map-remove : {B : Type 0} (f : A → B) (xs : List A) (i : ℕ) → map f (remove xs i) ≡ remove (map f xs) i
+  map-remove f [] zero = refl
+  map-remove f [] (suc i) = refl
+  map-remove f (y ∷ ys) zero = refl
+  map-remove f (y ∷ ys) (suc i) = ap (λ l. f y ∷ l) (map-remove f ys i)
+
+-- The place of a tree
+
+-- the trees before the place i, and then the rest with x in its place
+abbrev pub placed_after : Plain → List Plain → ℕ → List Plain
+placed_after x ys i = take i ys ++ put_in x (drop i ys)
+
+further : (x : Plain) (ys : List Plain) (i : ℕ) (d : Plain) → i < length ys → is_gt (tree_cmp x (get_or ys i d)) ≡ true → placed_after x ys i ≡ placed_after x ys (suc i)
+further x [] i d lt above = absurd (omega arith)
+further x (y ∷ ys) zero d lt above = rw above refl
+further x (y ∷ ys) (suc i) d lt above = ap (λ l. y ∷ l) (further x ys i d (omega arith) above)
+
+-- x goes further than a tree that it is above
+pub place_further : (x : Plain) (ys : List Plain) (i : ℕ) (d : Plain) → i < length ys → is_gt (tree_cmp x (get_or ys i d)) ≡ true → placed_after x ys i ≡ placed_after x ys (i + 1)
+place_further x ys i d lt above =
+    let next : suc i ≡ i + 1 = omega arith in
+    further x ys i d lt above ∙ ap (placed_after x ys) next
+
+-- x stands before a tree that it isn't above
+pub place_found : (x : Plain) (ys : List Plain) (i : ℕ) (d : Plain) → i < length ys → is_gt (tree_cmp x (get_or ys i d)) ≡ false → placed_after x ys i ≡ insert ys i x
+place_found x [] i d lt above = absurd (omega arith)
+place_found x (y ∷ ys) zero d lt above = rw above refl
+place_found x (y ∷ ys) (suc i) d lt above = ap (λ l. y ∷ l) (place_found x ys i d (omega arith) above)
+
+-- x stands at the end, where it is above all trees
+pub place_end : (x : Plain) (ys : List Plain) → placed_after x ys (length ys) ≡ insert ys (length ys) x
+place_end x [] = refl
+place_end x (y ∷ ys) = ap (λ l. y ∷ l) (place_end x ys)
+
+-- Sizes
+
+pub size-insert : (x : Plain) (ys : List Plain) (i : ℕ) → size_of (listed (insert ys i x)) ≡ size_of x + size_of (listed ys)
+size-insert x [] zero = refl
+size-insert x [] (suc i) = refl
+size-insert x (y ∷ ys) zero = refl
+size-insert x (y ∷ ys) (suc i) = omega (arith, size-insert x ys i)
+
+pub size-remove : (ys : List Plain) (i : ℕ) → size_of (listed (remove ys i)) ≤ size_of (listed ys)
+size-remove [] zero = omega arith
+size-remove [] (suc i) = omega arith
+size-remove (y ∷ ys) zero = omega arith
+size-remove (y ∷ ys) (suc i) = omega (arith, size-remove ys i)
+
+pub size-put_in : (x : Plain) (ys : List Plain) → size_of (listed (put_in x ys)) ≡ size_of x + size_of (listed ys)
+size-put_in x [] = refl
+size-put_in x (y ∷ ys) = by_test (is_gt (tree_cmp x y)) (size-put_in x ys)
+  where
+    by_test : (b : Bool) → size_of (listed (put_in x ys)) ≡ size_of x + size_of (listed ys) → size_of (listed (if b then y ∷ put_in x ys else x ∷ y ∷ ys)) ≡ size_of x + size_of (listed (y ∷ ys))
+    by_test true h = omega (arith, h)
+    by_test false h = omega arith

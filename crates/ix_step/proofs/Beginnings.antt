@@ -1,0 +1,161 @@
+-- The tree of the empty word is the one that is said form by form; it is live, final where the empty word is complete, and small.
+use Rattle.std.proofs.Common.{Option, slice_get, ⊎_elim, zero, ◌≡◌, ℕ, suc, ◌<◌, ◌≤◌, ◌*◌, Bool, true, false, not, ◌&&◌, ◌||◌, List, [], ◌∷◌, ◌++◌, length, None, Some, refl, ap, ◌∙◌, subst, arith, length-append}
+use Rattle.std.specs.List.{list_any}
+use Rattle.ix_words.specs.Canon.{when}
+use Rattle.ix_expr.specs.Form.{Form, atom, opt, seq, star, par, par_star, or, and, couple, any, every, sync, all}
+use Rattle.ix_expr.specs.Environment.{Environment, bind}
+use Rattle.std.proofs.lemmas.Bool.{cases_lt}
+use Rattle.ix_expr.specs.FormFaults.{Binder, Node, nodes_below, binders_of, HaveNoFault, fault_at, Fits}
+use Rattle.ix_can.specs.Laws.{IsProper}
+use Rattle.ix_can.proofs.Proper.{proper}
+use Rattle.ix_tree.specs.Plain.{Plain, opt as opt_of, seq as seq_of, par as par_of, or as or_of, and as and_of, couple as couple_of, any as any_of, every as every_of, sync as sync_of, pair as pair_of, none, listed, items_of}
+use Rattle.ix_tree.specs.Size.{size_of}
+use Rattle.ix_can.specs.Tests.{accepts_empty}
+use Rattle.ix_can.specs.Nodes.{is_dead, is_live, opt_node, seq_node, par_node, or_node, and_node, couple_node, any_node, every_node, sync_node, live, set_of, dead_if}
+use Rattle.ix_can.specs.Ways.{is_empty}
+use Rattle.ix_can.specs.TreeOf.{is_final, tree_of, live_pair}
+use Rattle.ix_step.specs.Initial.{initial_tree}
+
+pub initial_live : (x : Form) → is_dead (initial_tree x) ≡ false
+initial_live (atom x) = refl
+initial_live _ = refl
+
+both_and : (a b c d : Bool) → a ≡ c → b ≡ d → (a && b) ≡ (c && d)
+both_and a b c d e f = ap (λ x. x && b) e ∙ ap (λ y. c && y) f
+
+-- Final where the empty word is complete
+
+or_false : (b : Bool) → (b || false) ≡ b
+or_false true = refl
+or_false false = refl
+
+and_true : (b : Bool) → (b && true) ≡ b
+and_true true = refl
+and_true false = refl
+
+last_listed : (test : Plain → Bool) (b : Bool) (t : Plain) → list_any test (items_of (listed (when b (t ∷ [])))) ≡ (b && test t)
+last_listed test true t = or_false (test t)
+last_listed test false t = refl
+
+pub initial_final : (x : Form) → is_final x (initial_tree x) ≡ accepts_empty x
+initial_final (atom x) = refl
+initial_final (opt y) = refl
+initial_final (seq y z) = last_listed (is_final z) (accepts_empty y) (initial_tree z) ∙ ap (λ b. accepts_empty y && b) (initial_final z)
+initial_final (star y) = refl
+initial_final (par y z) = or_false (is_final y (initial_tree y) && is_final z (initial_tree z)) ∙ both_and (is_final y (initial_tree y)) (is_final z (initial_tree z)) (accepts_empty y) (accepts_empty z) (initial_final y) (initial_final z)
+initial_final (par_star y) = refl
+initial_final (or y z) = ap (λ b. b || is_final z (initial_tree z)) (initial_final y) ∙ ap (λ b. accepts_empty y || b) (initial_final z)
+initial_final (and y z) = both_and (is_final y (initial_tree y)) (is_final z (initial_tree z)) (accepts_empty y) (accepts_empty z) (initial_final y) (initial_final z)
+initial_final (couple y z) = both_and (is_final y (initial_tree y)) (is_final z (initial_tree z)) (accepts_empty y) (accepts_empty z) (initial_final y) (initial_final z)
+initial_final (any p y) = or_false (is_final y (initial_tree y)) ∙ initial_final y
+initial_final (every p y) = and_true (is_final y (initial_tree y)) ∙ initial_final y
+initial_final (sync p y) = and_true (is_final y (initial_tree y)) ∙ initial_final y
+initial_final (all p y) = and_true (accepts_empty y)
+
+-- The tree of the empty word
+
+opt_first : (t : Plain) → is_dead t ≡ false → opt_node true t ≡ opt_of true t
+opt_first t e = ap (λ d. dead_if d (opt_of true t)) e
+
+set_first : (b : Bool) (t : Plain) → set_of (when b (t ∷ []) ++ []) ≡ listed (when b (t ∷ []))
+set_first true t = refl
+set_first false t = refl
+
+seq_first : (t u : Plain) (b : Bool) → is_dead t ≡ false → is_dead u ≡ false → seq_node t (when b (live u) ++ []) ≡ seq_of t (listed (when b (u ∷ [])))
+seq_first t u b e f =
+    ap (λ d. seq_node t (when b (when (not d) (u ∷ [])) ++ [])) f
+    ∙ ap (λ d. dead_if (d && is_empty (when b (u ∷ []) ++ [])) (seq_of t (set_of (when b (u ∷ []) ++ [])))) e
+    ∙ ap (seq_of t) (set_first b u)
+
+par_first : (t u : Plain) → is_dead t ≡ false → is_dead u ≡ false → par_node (live_pair t u ++ []) ≡ par_of (listed (pair_of t u ∷ []))
+par_first t u e f =
+    ap (λ d. par_node (when (not d && is_live u) (pair_of t u ∷ []) ++ [])) e
+    ∙ ap (λ d. par_node (when (not d) (pair_of t u ∷ []) ++ [])) f
+
+or_first : (t u : Plain) → is_dead t ≡ false → or_node t u ≡ or_of t u
+or_first t u e = ap (λ d. dead_if (d && is_dead u) (or_of t u)) e
+
+-- a node that is dead where one of two is
+neither : (t u s : Plain) → is_dead t ≡ false → is_dead u ≡ false → dead_if (is_dead t || is_dead u) s ≡ s
+neither t u s e f = ap (λ d. dead_if (d || is_dead u) s) e ∙ ap (λ d. dead_if d s) f
+
+common_first : (t s : Plain) → is_dead t ≡ false → dead_if (is_dead t || false) s ≡ s
+common_first t s e = ap (λ d. dead_if (d || false) s) e
+
+two_are : (node : Plain → Plain → Plain) {t u v w : Plain} → t ≡ v → u ≡ w → node t u ≡ node v w
+two_are node {t} {w = w} e f = ap (node t) f ∙ ap (λ x. node x w) e
+
+pub initial_is : (x : Form) (e : Environment) → tree_of x e [] ≡ initial_tree x
+initial_is (atom x) e = refl
+initial_is (opt y) e = ap (opt_node true) (initial_is y e) ∙ opt_first (initial_tree y) (initial_live y)
+initial_is (seq y z) e =
+    two_are (λ t u. seq_node t (when (is_final y t) (live u) ++ [])) (initial_is y e) (initial_is z e)
+    ∙ ap (λ b. seq_node (initial_tree y) (when b (live (initial_tree z)) ++ [])) (initial_final y)
+    ∙ seq_first (initial_tree y) (initial_tree z) (accepts_empty y) (initial_live y) (initial_live z)
+initial_is (star y) e = refl
+initial_is (par y z) e =
+    two_are (λ t u. par_node (live_pair t u ++ [])) (initial_is y e) (initial_is z e)
+    ∙ par_first (initial_tree y) (initial_tree z) (initial_live y) (initial_live z)
+initial_is (par_star y) e = refl
+initial_is (or y z) e = two_are or_node (initial_is y e) (initial_is z e) ∙ or_first (initial_tree y) (initial_tree z) (initial_live y)
+initial_is (and y z) e =
+    two_are and_node (initial_is y e) (initial_is z e)
+    ∙ neither (initial_tree y) (initial_tree z) (and_of (initial_tree y) (initial_tree z)) (initial_live y) (initial_live z)
+initial_is (couple y z) e =
+    two_are (couple_node true) (initial_is y e) (initial_is z e)
+    ∙ neither (initial_tree y) (initial_tree z) (couple_of (initial_tree y) (initial_tree z)) (initial_live y) (initial_live z)
+initial_is (any p y) e =
+    ap (λ t. any_node t []) (initial_is y (bind p None e))
+    ∙ ap (λ d. dead_if (d && true) (any_of (initial_tree y) none)) (initial_live y)
+initial_is (every p y) e = ap (λ t. every_node t []) (initial_is y (bind p None e)) ∙ common_first (initial_tree y) (every_of (initial_tree y) none) (initial_live y)
+initial_is (sync p y) e = ap (λ t. sync_node true t []) (initial_is y (bind p None e)) ∙ common_first (initial_tree y) (sync_of (initial_tree y) none) (initial_live y)
+initial_is (all p y) e = refl
+
+-- Its Size
+
+nodes_least : (d : ℕ) (around : List Binder) (x : Form) → 1 ≤ length (nodes_below d around x)
+nodes_least d around (atom x) = omega arith
+nodes_least d around _ = omega arith
+
+when_size : (b : Bool) (t : Plain) → size_of (listed (when b (t ∷ []))) ≤ size_of t
+when_size true t = omega arith
+when_size false t = omega arith
+
+pub initial_size : (d : ℕ) (around : List Binder) (x : Form) → size_of (initial_tree x) ≤ 2 * length (nodes_below d around x)
+initial_size d around (atom x) = omega arith
+initial_size d around (opt y) = omega (arith, initial_size (suc d) around y)
+initial_size d around (seq y z) = omega (arith, initial_size (suc d) around y, initial_size (suc d) around z, when_size (accepts_empty y) (initial_tree z), length-append (nodes_below (suc d) around y) (nodes_below (suc d) around z))
+initial_size d around (star y) = omega arith
+initial_size d around (par y z) = omega (arith, initial_size (suc d) around y, initial_size (suc d) around z, length-append (nodes_below (suc d) around y) (nodes_below (suc d) around z))
+initial_size d around (par_star y) = omega (arith, nodes_least (suc d) around y)
+initial_size d around (or y z) = omega (arith, initial_size (suc d) around y, initial_size (suc d) around z, length-append (nodes_below (suc d) around y) (nodes_below (suc d) around z))
+initial_size d around (and y z) = omega (arith, initial_size (suc d) around y, initial_size (suc d) around z, length-append (nodes_below (suc d) around y) (nodes_below (suc d) around z))
+initial_size d around (couple y z) = omega (arith, initial_size (suc d) around y, initial_size (suc d) around z, length-append (nodes_below (suc d) around y) (nodes_below (suc d) around z))
+initial_size d around (any p y) = omega (arith, initial_size (suc d) (record { is_all = false; parameter = p } ∷ around) y)
+initial_size d around (every p y) = omega (arith, initial_size (suc d) (record { is_all = false; parameter = p } ∷ around) y)
+initial_size d around (sync p y) = omega (arith, initial_size (suc d) (record { is_all = false; parameter = p } ∷ around) y)
+initial_size d around (all p y) = omega (arith, nodes_least (suc d) (record { is_all = true; parameter = p } ∷ around) y)
+
+some_at : (nodes : List Node) (k : ℕ) → k < length nodes → (node : Node) × (slice_get nodes k ≡ Some node)
+some_at [] k lt = absurd (omega arith)
+some_at (x ∷ xs) zero lt = (x, refl)
+some_at (x ∷ xs) (suc k) lt = some_at xs k (omega arith)
+
+not_none : (code : Option ℕ) → code ≡ Some 8 → code ≡ None → ⊥
+not_none code e f = cc
+
+few_nodes : (nodes : List Node) → HaveNoFault nodes → length nodes ≤ 512
+few_nodes nodes h = ⊎_elim (λ lt. absurd (too_many lt)) (λ le. le) (cases_lt 512 (length nodes))
+  where
+    too_many : 512 < length nodes → ⊥
+    too_many lt =
+        let found = some_at nodes 512 lt in
+        not_none (fault_at 512 found.0) refl (h.none 512 found.0 found.1)
+
+-- of an expression that fits its environment the tree of the empty word is small
+pub initial_small : (x : Form) (e : Environment) → Fits x e → size_of (initial_tree x) ≤ 1000000
+initial_small x e h = omega (arith, initial_size 1 (binders_of e) x, few_nodes (nodes_below 1 (binders_of e) x) h)
+
+-- and it is proper
+pub initial_proper : (x : Form) → IsProper x (initial_tree x)
+initial_proper x = subst (IsProper x) (initial_is x []) (proper x [] [])

@@ -1,0 +1,251 @@
+-- Entries in memory as plain entries: the tree at a value, and what they hold after a tree is put among them.
+use Rattle.std.proofs.Common.{◌≡◌, ◌⊎◌, inl, inr, ℕ, suc, ◌+◌, ◌<◌, ◌≤◌, Bool, true, false, not, cond, List, [], ◌∷◌, ◌++◌, length, take, drop, get_or, map, append-nil, Some, Result, Ok, Err, refl, sym, ap, ◌∙◌, subst, true≢false, arith, Ordering, Less, Equal, Greater, if◌then◌else◌}
+use Rattle.std.specs.BTreeMap.{is_at, insert_entry}
+use Rattle.std.specs.Cmp.{tied_itself}
+use Rattle.std.specs.Cmp.Lexicographic.{texts_ties}
+use Rattle.std.specs.List.{AllByRecursion}
+use Rattle.std.specs.List.Sorted.{IsStrictlySortedBy}
+use Rattle.std.specs.Map.{keys_of, lookup, remove_entry}
+use Rattle.std.specs.Option.{unwrap_or}
+use Rattle.std.specs.Ordering.{is_eq, match_ordering, ordering_then}
+use Rattle.std.proofs.lemmas.List.{length-map, take_more, take-append-drop}
+use Rattle.ix_words.specs.Each.{Each, Member, here}
+use Rattle.ix_words.specs.Canon.{Ascending, below, by_order, put_once, canon, when}
+use Rattle.ix_words.proofs.Each.{Each-head, Each-tail, Each-members}
+use Rattle.ix_words.proofs.Canon.{by_order-has, canon-members, flat_map-append, flat_map-Member, when-Member}
+use Rattle.ix_values.specs.Order.{text_eq, text_cmp, text_cmp-same, text_eq-decides}
+use Rattle.ix_entries.specs.Entries.{KeysAscend, IsProper, item_at, with_entry}
+use Rattle.ix_tree.specs.Plain.{Plain, entry, listed, pair}
+use Rattle.ix_tree.specs.PlainOf.{plain, plain_entry, plain_entries}
+use Rattle.ix_tree.specs.Order.{key, first_part, tree_cmp}
+use Rattle.ix_tree.specs.Size.{size_of}
+use Rattle.ix_tree.specs.declared.tree.Tree.{Tree}
+use Rattle.ix_tree.specs.TreeOrder.{tree_order}
+use Rattle.ix_can.specs.Nodes.{same_tree}
+use Rattle.ix_can.specs.TreeOf.{entries_of}
+use Rattle.ix_can.specs.May.{tree_at}
+use Rattle.ix_can.proofs.Lists.{itself, one_test, when_not}
+use Rattle.ix_can.proofs.Nodes.{same_is, entry_is}
+use Rattle.ix_step.specs.Building.{IsAbove, put_all}
+use Rattle.ix_step.specs.Entering.{entries_put, HoldTrees, EnterTrees, Counts}
+use Rattle.ix_step.specs.declared.fault.BuildFault.{BuildFault}
+use Rattle.ix_step.specs.declared.fault.BuildFault.TheVariants.{Over, Memory}
+use Rattle.ix_step.proofs.Limits.{above_grows}
+use Rattle.ix_step.proofs.Gathered.{put_all-nothing, put_all-append, put_all_grows, put_all_holds, size_all}
+
+-- Keys
+
+-- a key is found exactly where it is the value
+pub key_at : (v u : List ℕ) → is_eq (text_cmp v u) ≡ text_eq u v
+key_at v u =
+    sym (texts_ties v u)
+    ∙ one_test (text_eq v u) (text_eq u v) (
+      λ e. (text_eq-decides u v).1 (sym ((text_eq-decides v u).0 e)),
+      λ e. (text_eq-decides v u).1 (sym ((text_eq-decides u v).0 e)),
+    )
+
+keys_above : (v : List ℕ) (es : List (List ℕ × Tree)) → Each (λ y. text_cmp v (key y) ≡ Less) (map plain_entry es) → AllByRecursion (λ u. text_cmp v u ≡ Less) (keys_of es)
+keys_above v [] h = tt
+keys_above v (e ∷ es) h = (Each-head h, keys_above v es (Each-tail h))
+
+-- entries that ascend by their values have keys that ascend strictly
+pub keys_ascend : (es : List (List ℕ × Tree)) → Ascending (λ x y. text_cmp (key x) (key y)) (map plain_entry es) → KeysAscend text_cmp es
+unfolding IsStrictlySortedBy
+keys_ascend [] h = tt
+keys_ascend (e ∷ es) (below g h) = (keys_above e.0 es g, keys_ascend es h)
+
+-- the plain tree of the item at a value is the tree at that value
+pub tree_at_item : (v : List ℕ) (common : Tree) (es : List (List ℕ × Tree)) → tree_at v (plain common) (map plain_entry es) ≡ plain (item_at text_cmp es common v)
+tree_at_item v common [] = refl
+tree_at_item v common (e ∷ es) =
+    chosen (text_eq e.0 v) (tree_at_item v common es)
+    ∙ ap (λ b. plain (unwrap_or (cond b (Some e.1) (lookup (is_at (text_cmp v)) es)) common)) (sym (key_at v e.0))
+  where
+    chosen : (b : Bool) → tree_at v (plain common) (map plain_entry es) ≡ plain (item_at text_cmp es common v) → (if b then plain e.1 else tree_at v (plain common) (map plain_entry es)) ≡ plain (unwrap_or (cond b (Some e.1) (lookup (is_at (text_cmp v)) es)) common)
+    chosen true rest = refl
+    chosen false rest = rest
+
+-- One more entry
+
+-- the entry is that of its value's tree
+abbrev pub IsOf : (List ℕ → Plain) → Plain → Type 0
+IsOf tree x = x ≡ entry (key x) (tree (key x))
+
+-- where each value has one tree, an entry that is inserted is put in its place, once
+insert_is_put : (tree : List ℕ → Plain) (es : List (List ℕ × Tree)) (v : List ℕ) (x : Tree) → Each (IsOf tree) (map plain_entry es) → plain x ≡ tree v → map plain_entry (insert_entry text_cmp es v x) ≡ put_once tree_cmp (entry v (plain x)) (map plain_entry es)
+insert_is_put tree [] v x h s = refl
+insert_is_put tree (e ∷ es) v x h s = placed (text_cmp v e.0) refl (insert_is_put tree es v x (Each-tail h) s)
+  where
+    placed : (o : Ordering) → text_cmp v e.0 ≡ o → map plain_entry (insert_entry text_cmp es v x) ≡ put_once tree_cmp (entry v (plain x)) (map plain_entry es) →
+        map plain_entry (match_ordering o ((v, x) ∷ e ∷ es) ((e.0, x) ∷ es) (e ∷ insert_entry text_cmp es v x))
+        ≡ by_order (ordering_then o (ordering_then (tree_cmp (plain x) (plain e.1)) Equal)) (entry v (plain x) ∷ map plain_entry (e ∷ es)) (map plain_entry (e ∷ es)) (plain_entry e ∷ put_once tree_cmp (entry v (plain x)) (map plain_entry es))
+    placed Less c rest = refl
+    placed Greater c rest = ap (λ l. plain_entry e ∷ l) rest
+    placed Equal c rest =
+        let same : plain x ≡ plain e.1 = s ∙ ap tree (text_cmp-same v e.0 c) ∙ sym (ap first_part (Each-head h)) in
+        let tied : tree_cmp (plain x) (plain e.1) ≡ Equal = subst (λ z. tree_cmp (plain x) z ≡ Equal) same (tied_itself tree_order.total (plain x)) in
+        ap (λ z. entry e.0 z ∷ map plain_entry es) same
+        ∙ sym (ap (λ o. by_order (ordering_then o Equal) (entry v (plain x) ∷ map plain_entry (e ∷ es)) (map plain_entry (e ∷ es)) (plain_entry e ∷ put_once tree_cmp (entry v (plain x)) (map plain_entry es))) tied)
+
+-- where the value has no entry, none is removed
+remove_none : (es : List (List ℕ × Tree)) (v : List ℕ) → Each (λ z. text_eq (key z) v ≡ false) (map plain_entry es) → remove_entry (is_at (text_cmp v)) es ≡ es
+remove_none [] v h = refl
+remove_none (e ∷ es) v h =
+    ap (λ b. cond b es (e ∷ remove_entry (is_at (text_cmp v)) es)) (key_at v e.0 ∙ Each-head h)
+    ∙ ap (λ l. e ∷ l) (remove_none es v (Each-tail h))
+
+-- The entries of values
+
+module _ (common : Plain) (tree : List ℕ → Plain) where
+  each_put : {G : Plain → Type 0} (values : List (List ℕ)) → ((x : Plain) → Member x (entries_of common tree values) → G x) → Each G (entries_put common tree values)
+  each_put {G} values h =
+      subst (Each G) (sym (put_all-nothing (entries_of common tree values)))
+      (Each-members (canon tree_cmp (entries_of common tree values)) (λ x m. h x ((canon-members tree_order (entries_of common tree values)).to x m)))
+
+  -- each is the entry of its value's tree
+  pub put_are : (values : List (List ℕ)) → Each (IsOf tree) (entries_put common tree values)
+  put_are values = each_put {G = IsOf tree} values (λ x m. let e = (entry_is common tree values m).has.1 in e ∙ ap (λ u. entry u (tree u)) (sym (ap key e)))
+
+  -- a value whose tree is the common one has no entry
+  put_others : (values : List (List ℕ)) (v : List ℕ) → same_tree (tree v) common ≡ true → Each (λ z. text_eq (key z) v ≡ false) (entries_put common tree values)
+  put_others values v s = each_put {G = λ z. text_eq (key z) v ≡ false} values (λ x m. other x m (text_eq (key x) v) refl)
+    where
+      other : (x : Plain) → Member x (entries_of common tree values) → (b : Bool) → text_eq (key x) v ≡ b → b ≡ false
+      other x m false e = refl
+      other x m true e =
+          let k = entry_is common tree values m in
+          let same : k.way ≡ v = sym (ap key k.has.1) ∙ (text_eq-decides (key x) v).0 e in
+          absurd (true≢false (sym s ∙ ap (λ u. same_tree (tree u) common) (sym same) ∙ k.has.0))
+
+  -- one more value
+  pub put_next : (values : List (List ℕ)) (v : List ℕ) → entries_put common tree (values ++ v ∷ []) ≡ put_all (when (not (same_tree (tree v) common)) (entry v (tree v) ∷ [])) (entries_put common tree values)
+  put_next values v =
+      ap (λ l. put_all l []) (flat_map-append (λ u. when (not (same_tree (tree u) common)) (entry u (tree u) ∷ [])) values (v ∷ []))
+      ∙ ap (λ l. put_all (entries_of common tree values ++ l) []) (append-nil (when (not (same_tree (tree v) common)) (entry v (tree v) ∷ [])))
+      ∙ put_all-append (entries_of common tree values) (when (not (same_tree (tree v) common)) (entry v (tree v) ∷ [])) []
+
+module _ (eq : Tree → Tree → Bool) (agree : (x y : Tree) → eq x y ≡ same_tree (plain x) (plain y)) where
+  -- a value's tree that is put among the entries of values
+  pub with_entry_put : (common : Tree) (tree : List ℕ → Plain) (values : List (List ℕ)) (es : List (List ℕ × Tree)) (v : List ℕ) (x : Tree) → map plain_entry es ≡ entries_put (plain common) tree values → plain x ≡ tree v → map plain_entry (with_entry text_cmp eq common es v x) ≡ put_all (when (not (same_tree (tree v) (plain common))) (entry v (tree v) ∷ [])) (map plain_entry es)
+  with_entry_put common tree values es v x held s = by_test (eq x common) (agree x common ∙ ap (λ t. same_tree t (plain common)) s)
+    where
+      by_test : (b : Bool) → b ≡ same_tree (tree v) (plain common) → map plain_entry (cond b (remove_entry (is_at (text_cmp v)) es) (insert_entry text_cmp es v x)) ≡ put_all (when (not (same_tree (tree v) (plain common))) (entry v (tree v) ∷ [])) (map plain_entry es)
+      by_test true e =
+          ap (map plain_entry) (remove_none es v (subst (Each (λ z. text_eq (key z) v ≡ false)) (sym held) (put_others (plain common) tree values v (sym e))))
+          ∙ ap (λ b. put_all (when (not b) (entry v (tree v) ∷ [])) (map plain_entry es)) e
+      by_test false e =
+          insert_is_put tree es v x (subst (Each (IsOf tree)) (sym held) (put_are (plain common) tree values)) s
+          ∙ ap (λ t. put_once tree_cmp (entry v t) (map plain_entry es)) s
+          ∙ ap (λ b. put_all (when (not b) (entry v (tree v) ∷ [])) (map plain_entry es)) e
+
+-- How many they are, and how large
+
+-- one tree more is put, or none
+put_counts : (y : Plain) (xs : List Plain) → (put_once tree_cmp y xs ≡ xs) ⊎ ((length (put_once tree_cmp y xs) ≡ suc (length xs)) × (size_all (put_once tree_cmp y xs) ≡ size_all xs + size_of y))
+put_counts y [] = inr (omega arith, omega arith)
+put_counts y (x ∷ xs) =
+    by_order-has (λ l. (l ≡ x ∷ xs) ⊎ ((length l ≡ suc (length (x ∷ xs))) × (size_all l ≡ size_all (x ∷ xs) + size_of y))) (tree_cmp y x) (y ∷ x ∷ xs) (x ∷ xs) (x ∷ put_once tree_cmp y xs)
+    (λ e. inr (omega arith, omega arith))
+    (λ e. inl refl)
+    (λ e. elim (put_counts y xs) [
+      | inl h ↦ inl (ap (λ l. x ∷ l) h)
+      | inr h ↦ inr (omega (arith, h.0), omega (arith, h.1))
+    ])
+
+-- what the entries are after one more value: they are more by the entry's Size where they are more
+pub record Entered (common : Plain) (tree : List ℕ → Plain) (values : List (List ℕ)) (old : List (List ℕ × Tree)) (total : ℕ) (new : List (List ℕ × Tree)) (x : Plain) : Type 0 where
+  pub items : map plain_entry new ≡ entries_put common tree values
+  pub grown : length old < length new → total + 1 + size_of x ≡ size_of (plain_entries new)
+  pub kept : length new ≤ length old → total ≡ size_of (plain_entries new)
+
+count_when : (b : Bool) (y : Plain) (xs : List Plain) → (put_all (when b (y ∷ [])) xs ≡ xs) ⊎ ((length (put_all (when b (y ∷ [])) xs) ≡ suc (length xs)) × (size_all (put_all (when b (y ∷ [])) xs) ≡ size_all xs + size_of y))
+count_when true y xs = put_counts y xs
+count_when false y xs = inl refl
+
+module _ (eq : Tree → Tree → Bool) (agree : (x y : Tree) → eq x y ≡ same_tree (plain x) (plain y)) where
+  pub entered : (common : Tree) (tree : List ℕ → Plain) (values : List (List ℕ)) (old : List (List ℕ × Tree)) (total : ℕ) (v : List ℕ) (x : Tree) (new : List (List ℕ × Tree)) → HoldTrees (plain common) tree values old total → plain x ≡ tree v → new ≡ with_entry text_cmp eq common old v x → Entered (plain common) tree (values ++ v ∷ []) old total new (plain x)
+  entered common tree values old total v x new held s e =
+      let b : Bool = not (same_tree (tree v) (plain common)) in
+      let put : map plain_entry new ≡ put_all (when (not (same_tree (tree v) (plain common))) (entry v (tree v) ∷ [])) (map plain_entry old) = ap (map plain_entry) e ∙ with_entry_put eq agree common tree values old v x held.items s in
+      let counts = count_when (not (same_tree (tree v) (plain common))) (entry v (tree v)) (map plain_entry old) in
+      record {
+        items = put ∙ ap (put_all (when (not (same_tree (tree v) (plain common))) (entry v (tree v) ∷ []))) held.items ∙ sym (put_next (plain common) tree values v);
+        grown = λ lt. elim counts [
+          | inl h ↦ let k : length (map plain_entry new) ≡ length (map plain_entry old) = ap length (put ∙ h) in absurd (omega (arith, k, length-map new plain_entry, length-map old plain_entry))
+          | inr h ↦
+              let k : size_all (map plain_entry new) ≡ size_all (map plain_entry old) + (1 + size_of (tree v)) = ap size_all put ∙ h.1 in
+              omega (arith, k, held.counted, ap size_of s)
+        ];
+        kept = λ le. elim counts [
+          | inl h ↦ held.counted ∙ ap size_all (sym (put ∙ h))
+          | inr h ↦ let k : length (map plain_entry new) ≡ suc (length (map plain_entry old)) = ap length put ∙ h.0 in absurd (omega (arith, k, length-map new plain_entry, length-map old plain_entry))
+        ];
+      }
+
+-- The limit
+
+-- a value's tree is no larger than the entries of all values with the common tree
+pub value_size : (common : Plain) (tree : List ℕ → Plain) (values : List (List ℕ)) (v : List ℕ) → Member v values → size_of (tree v) ≤ size_of (pair common (listed (entries_put common tree values)))
+value_size common tree values v m = by_test (same_tree (tree v) common) refl
+  where
+    by_test : (b : Bool) → same_tree (tree v) common ≡ b → size_of (tree v) ≤ size_of (pair common (listed (entries_put common tree values)))
+    by_test true e = let s : size_of (tree v) ≡ size_of common = ap size_of (same_is (tree v) common e) in omega arith
+    by_test false e =
+        let k : size_of (entry v (tree v)) ≤ size_all (put_all (entries_of common tree values) []) = put_all_holds (entry v (tree v)) (entries_of common tree values) [] (flat_map-Member (λ u. when (not (same_tree (tree u) common)) (entry u (tree u) ∷ [])) m (when-Member ((when_not (same_tree (tree v) common) itself).1 e) here)) in
+        omega arith
+
+-- a fault of a value's tree
+pub fault_of_value : (limit : ℕ) (common : Plain) (tree : List ℕ → Plain) (values : List (List ℕ)) (v : List ℕ) (fault : BuildFault) → Member v values → IsAbove limit (tree v) fault → IsAbove limit (pair common (listed (entries_put common tree values))) fault
+fault_of_value limit common tree values v fault m h = above_grows limit (tree v) (pair common (listed (entries_put common tree values))) fault (value_size common tree values v m) h
+
+-- a fault met before the last values
+pub fault_of_some : (limit : ℕ) (common : Plain) (tree : List ℕ → Plain) (us vs : List (List ℕ)) (fault : BuildFault) → IsAbove limit (pair common (listed (entries_put common tree us))) fault → IsAbove limit (pair common (listed (entries_put common tree (us ++ vs)))) fault
+fault_of_some limit common tree us vs fault h =
+    above_grows limit (pair common (listed (entries_put common tree us))) (pair common (listed (entries_put common tree (us ++ vs)))) fault (omega (arith, grown)) h
+  where
+    grown : size_all (put_all (entries_of common tree us) []) ≤ size_all (put_all (entries_of common tree (us ++ vs)) [])
+    grown =
+        subst (λ l. size_all (put_all (entries_of common tree us) []) ≤ size_all l)
+        (sym (ap (λ l. put_all l []) (flat_map-append (λ u. when (not (same_tree (tree u) common)) (entry u (tree u) ∷ [])) us vs) ∙ put_all-append (entries_of common tree us) (entries_of common tree vs) []))
+        (put_all_grows (entries_of common tree vs) (put_all (entries_of common tree us) []))
+
+-- what the count tells of the entries
+pub entered_counts : {common : Plain} {tree : List ℕ → Plain} {values : List (List ℕ)} {old new : List (List ℕ × Tree)} {total : ℕ} {x : Plain} (limit size : ℕ) → Entered common tree values old total new x → size ≡ size_of x → total ≤ limit → (b : Bool) → (b ≡ true → length old < length new) → (b ≡ false → length new ≤ length old) → (r : Result ℕ BuildFault) → Counts limit total (1 + size) b r → EnterTrees limit common tree values new r
+entered_counts limit size d s w false more less (Ok now) h =
+    (record { items = d.items; counted = h ∙ d.kept (less refl) }, omega (arith, h))
+entered_counts limit size d s w false more less (Err fault) h = absurd h
+entered_counts limit size d s w true more less (Ok now) h =
+    let k = d.grown (more refl) in
+    (record { items = d.items; counted = omega (arith, h.0, s, k) }, omega (arith, h.0, h.1))
+entered_counts {common} {tree} {values} {new = new} limit size d s w true more less (Err (Over told)) h =
+    let k = d.grown (more refl) in
+    let i : size_all (map plain_entry new) ≡ size_all (entries_put common tree values) = ap size_all d.items in
+    (h.0, omega (arith, h.1, s, k, i))
+entered_counts limit size d s w true more less (Err Memory) h = absurd h
+
+-- Nothing is put yet
+
+pub nothing_proper : (eq : Tree → Tree → Bool) (common : Tree) (es : List (List ℕ × Tree)) → es ≡ [] → IsProper text_cmp eq common es
+unfolding IsStrictlySortedBy
+nothing_proper eq common es e = subst (IsProper text_cmp eq common) (sym e) (record { ascending = tt; differing = λ k d lt. absurd (omega arith) })
+
+pub nothing_held : (common : Plain) (tree : List ℕ → Plain) (es : List (List ℕ × Tree)) → es ≡ [] → HoldTrees common tree [] es 0
+nothing_held common tree es e = subst (λ l. HoldTrees common tree [] l 0) (sym e) (record { items = refl; counted = refl })
+
+-- One value after the other
+
+-- the entries of the values up to the next
+pub after_put : (limit : ℕ) (common : Plain) (tree : List ℕ → Plain) (vs : List (List ℕ)) (i : ℕ) (v : List ℕ) (new : List (List ℕ × Tree)) (r : Result ℕ BuildFault) (sum : ℕ) → i < length vs → v ≡ get_or vs i v → EnterTrees limit common tree (take i vs ++ v ∷ []) new r → r ≡ Ok sum → HoldTrees common tree (take (i + 1) vs) new sum × (sum ≤ limit)
+after_put limit common tree vs i v new r sum lt same h e =
+    subst (λ us. HoldTrees common tree us new sum × (sum ≤ limit))
+    (ap (λ u. take i vs ++ u ∷ []) same ∙ sym (take_more vs i v lt))
+    (subst (EnterTrees limit common tree (take i vs ++ v ∷ []) new) e h)
+
+-- a fault met at the next value
+pub fault_at : (limit : ℕ) (common : Plain) (tree : List ℕ → Plain) (vs : List (List ℕ)) (i : ℕ) (v : List ℕ) (new : List (List ℕ × Tree)) (r : Result ℕ BuildFault) (fault : BuildFault) → i < length vs → v ≡ get_or vs i v → EnterTrees limit common tree (take i vs ++ v ∷ []) new r → r ≡ Err fault → IsAbove limit (pair common (listed (entries_put common tree vs))) fault
+fault_at limit common tree vs i v new r fault lt same h e =
+    let us : take i vs ++ v ∷ [] ≡ take (i + 1) vs = ap (λ u. take i vs ++ u ∷ []) same ∙ sym (take_more vs i v lt) in
+    subst (λ l. IsAbove limit (pair common (listed (entries_put common tree l))) fault) (take-append-drop (i + 1) vs)
+    (fault_of_some limit common tree (take (i + 1) vs) (drop (i + 1) vs) fault
+    (subst (λ l. IsAbove limit (pair common (listed (entries_put common tree l))) fault) us
+    (subst (EnterTrees limit common tree (take i vs ++ v ∷ []) new) e h)))

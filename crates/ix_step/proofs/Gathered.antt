@@ -1,0 +1,180 @@
+-- Lists into which trees are put one by one: what they hold at last, and that they only grow.
+use Rattle.std.proofs.Common.{◌||◌, inl, inr, not, ◌≡◌, ℕ, ◌<◌, ◌≤◌, ◌+◌, Bool, true, false, List, [], ◌∷◌, ◌++◌, map, flat_map, drop, get_or, length, add-one, drop-cons, Result, Ok, Err, refl, sym, ap, ◌∙◌, subst, arith, append_assoc, append-nil, Ordering, Equal}
+use Rattle.ix_words.specs.Each.{Member, here, there}
+use Rattle.ix_words.specs.Canon.{put_once, canon}
+use Rattle.std.specs.List.{list_any}
+use Rattle.std.proofs.lemmas.List.{drop_all}
+use Rattle.ix_words.specs.Canon.{when}
+use Rattle.ix_words.proofs.Canon.{Member-cases, canon-end, canon-members, by_order-has}
+use Rattle.ix_tree.specs.Plain.{dead, is_dead}
+use Rattle.ix_can.specs.Nodes.{live, set_of}
+use Rattle.ix_can.proofs.Nodes.{dead_is}
+use Rattle.ix_can.proofs.Lists.{any_same}
+use Rattle.ix_tree.proofs.Alternatives.{insert_key-put_once, Member-HasItem, weight_of-list}
+use Rattle.ix_alts.specs.Alternatives.{Alternatives, HasItem}
+use Rattle.ix_tree.specs.Plain.{Plain, listed}
+use Rattle.ix_tree.specs.Order.{tree_cmp}
+use Rattle.ix_tree.specs.Size.{size_of}
+use Rattle.ix_tree.specs.PlainOf.{plain}
+use Rattle.ix_tree.specs.declared.tree.Tree.{Tree}
+use Rattle.ix_tree.specs.TreeOrder.{tree_order, tree_cmp-same}
+use Rattle.ix_step.specs.Building.{IsAbove, put_all, Gathers, Puts}
+use Rattle.ix_step.specs.declared.fault.BuildFault.{BuildFault}
+use Rattle.ix_step.specs.declared.fault.BuildFault.TheVariants.{Over, Memory}
+use Rattle.ix_step.proofs.Limits.{above_grows}
+
+-- What the list holds
+
+put_all-canon : (us ys : List Plain) → put_all ys (canon tree_cmp us) ≡ canon tree_cmp (us ++ ys)
+put_all-canon us [] = ap (canon tree_cmp) (sym (append-nil us))
+put_all-canon us (y ∷ ys) =
+    ap (put_all ys) (sym (canon-end tree_order us y))
+    ∙ put_all-canon (us ++ y ∷ []) ys
+    ∙ ap (canon tree_cmp) (append_assoc us (y ∷ []) ys)
+
+-- from nothing, the list is the canonical one
+pub put_all-nothing : (ys : List Plain) → put_all ys [] ≡ canon tree_cmp ys
+put_all-nothing ys = put_all-canon [] ys
+
+pub put_all-append : (us vs xs : List Plain) → put_all (us ++ vs) xs ≡ put_all vs (put_all us xs)
+put_all-append [] vs xs = refl
+put_all-append (u ∷ us) vs xs = put_all-append us vs (put_once tree_cmp u xs)
+
+-- How large it is
+
+-- the Size of the items of a list
+abbrev pub size_all : List Plain → ℕ
+size_all xs = size_of (listed xs)
+
+-- the list with one more tree is no smaller, and the tree is no larger than it
+record Grows (y : Plain) (xs ys : List Plain) : Type 0 where
+  pub list : size_all xs ≤ size_all ys
+  pub tree : size_of y ≤ size_all ys
+
+put_grows : (y : Plain) (xs : List Plain) → Grows y xs (put_once tree_cmp y xs)
+put_grows y [] = record { list = omega arith; tree = omega arith }
+put_grows y (x ∷ xs) =
+    by_order-has (Grows y (x ∷ xs)) (tree_cmp y x) (y ∷ x ∷ xs) (x ∷ xs) (x ∷ put_once tree_cmp y xs)
+    (λ e. record { list = omega arith; tree = omega arith })
+    (λ e. let s : size_of y ≡ size_of x = ap size_of (tree_cmp-same y x e) in record { list = omega arith; tree = omega arith })
+    (λ e. let g = put_grows y xs in record { list = omega (arith, g.list); tree = omega (arith, g.tree) })
+
+pub put_all_grows : (ys xs : List Plain) → size_all xs ≤ size_all (put_all ys xs)
+put_all_grows [] xs = omega arith
+put_all_grows (y ∷ ys) xs = omega (arith, (put_grows y xs).list, put_all_grows ys (put_once tree_cmp y xs))
+
+pub put_all_holds : (y : Plain) (ys xs : List Plain) → Member y ys → size_of y ≤ size_all (put_all ys xs)
+put_all_holds y [] xs m = elim m [ ]
+put_all_holds y (z ∷ ys) xs m = elim (Member-cases m) [
+  | inl e ↦ let s : size_of y ≡ size_of z = ap size_of e in omega (arith, s, (put_grows z xs).tree, put_all_grows ys (put_once tree_cmp z xs))
+  | inr n ↦ put_all_holds y ys (put_once tree_cmp z xs) n
+]
+
+-- a new tree adds its Size
+put_adds : (y : Plain) (xs : List Plain) → ((x : Plain) → Member x xs → ¬ (tree_cmp y x ≡ Equal)) → size_all (put_once tree_cmp y xs) ≡ size_all xs + size_of y
+put_adds y [] n = omega arith
+put_adds y (x ∷ xs) n =
+    by_order-has (λ l. size_all l ≡ size_all (x ∷ xs) + size_of y) (tree_cmp y x) (y ∷ x ∷ xs) (x ∷ xs) (x ∷ put_once tree_cmp y xs)
+    (λ e. omega arith)
+    (λ e. absurd (n x here e))
+    (λ e. let h = put_adds y xs (λ z m. n z (there m)) in omega (arith, h))
+
+-- Faults
+
+-- a fault of some trees of the list
+pub fault_of_tree : (limit : ℕ) (y : Plain) (ys xs : List Plain) (fault : BuildFault) → Member y ys → IsAbove limit y fault → IsAbove limit (listed (put_all ys xs)) fault
+fault_of_tree limit y ys xs fault m h = above_grows limit y (listed (put_all ys xs)) fault (put_all_holds y ys xs m) h
+
+-- a fault met before the last trees were put
+pub fault_before : (limit : ℕ) (us vs xs : List Plain) (fault : BuildFault) → IsAbove limit (listed (put_all us xs)) fault → IsAbove limit (listed (put_all (us ++ vs) xs)) fault
+fault_before limit us vs xs fault h =
+    above_grows limit (listed (put_all us xs)) (listed (put_all (us ++ vs) xs)) fault
+    (subst (λ l. size_all (put_all us xs) ≤ size_all l) (sym (put_all-append us vs xs)) (put_all_grows vs (put_all us xs))) h
+
+-- Sets of items in memory
+
+module _ {T : Type 0} (f : T → Plain) (cmp : T → T → Ordering) (is : (x y : T) → cmp x y ≡ tree_cmp (f x) (f y)) where
+  is_new : (xs : List T) (item : T) → ¬ HasItem cmp xs item → (x : Plain) → Member x (map f xs) → ¬ (tree_cmp (f item) x ≡ Equal)
+  is_new xs item n x m e = n (Member-HasItem f cmp is xs item (subst (λ y. Member y (map f xs)) (sym (tree_cmp-same (f item) x e)) m))
+
+  -- an item that is put into a set is its tree put into the list of trees
+  pub gathers_put : (set : Alternatives T) (new : List T) (item : T) (r : Result (Unit {0}) BuildFault) → Puts cmp (λ x. size_of (f x)) set new item r → Gathers set.budget (f item ∷ []) (map f set.items) (map f new) r
+  gathers_put set new item (Ok done) h = ap (map f) h ∙ insert_key-put_once f cmp is set.items item
+  gathers_put set new item (Err (Over told)) h =
+      let sum = weight_of-list f set.items in
+      let size = put_adds (f item) (map f set.items) (is_new set.items item h.1) in
+      (h.0, omega (arith, h.2, sum, size))
+  gathers_put set new item (Err Memory) h = tt
+
+-- Loops over the items of a list
+
+module _ {T : Type 0} (h : T → Plain) (f : Plain → List Plain) (ts : List T) (i : ℕ) (d : T) where
+  rest_is : i < length ts → flat_map f (map h (drop i ts)) ≡ f (h (get_or ts i d)) ++ flat_map f (map h (drop (i + 1) ts))
+  rest_is lt =
+      let cut : drop i ts ≡ get_or ts i d ∷ drop (i + 1) ts = rw (add-one, drop-cons ts i d) refl in
+      ap (λ l. flat_map f (map h l)) cut
+
+  -- the trees of one item were put into the list, and those of the items after it are still to be
+  pub gather_next : (s new total : List Plain) → i < length ts → put_all (flat_map f (map h (drop i ts))) s ≡ total → new ≡ put_all (f (h (get_or ts i d))) s → put_all (flat_map f (map h (drop (i + 1) ts))) new ≡ total
+  gather_next s new total lt e g =
+      ap (put_all (flat_map f (map h (drop (i + 1) ts)))) g
+      ∙ sym (put_all-append (f (h (get_or ts i d))) (flat_map f (map h (drop (i + 1) ts))) s)
+      ∙ ap (λ l. put_all l s) (sym (rest_is lt)) ∙ e
+
+  -- a fault met at one item
+  pub gather_fault : (limit : ℕ) (s total : List Plain) (fault : BuildFault) → i < length ts → put_all (flat_map f (map h (drop i ts))) s ≡ total → IsAbove limit (listed (put_all (f (h (get_or ts i d))) s)) fault → IsAbove limit (listed total) fault
+  gather_fault limit s total fault lt e g =
+      subst (λ l. IsAbove limit (listed l) fault) (ap (λ l. put_all l s) (sym (rest_is lt)) ∙ e)
+      (fault_before limit (f (h (get_or ts i d))) (flat_map f (map h (drop (i + 1) ts))) s fault g)
+
+-- Faults of trees that may be dead
+
+absent : (limit : ℕ) (fault : BuildFault) (y : Plain) → 1 ≤ limit → IsAbove limit dead fault → IsAbove limit y fault
+absent limit (Over told) y le h = absurd (omega (arith, h.1, le))
+absent limit Memory y le h = tt
+
+-- a tree above the limit is live, so it would be put into the list
+pub live_fault : (limit : ℕ) (x : Plain) (xs : List Plain) (fault : BuildFault) → 1 ≤ limit → IsAbove limit x fault → IsAbove limit (listed (put_all (live x) xs)) fault
+live_fault limit x xs fault le h = go (is_dead x) refl
+  where
+    go : (b : Bool) → is_dead x ≡ b → IsAbove limit (listed (put_all (when (not b) (x ∷ [])) xs)) fault
+    go true e = absent limit fault (listed xs) le (subst (λ y. IsAbove limit y fault) (dead_is x e) h)
+    go false e = fault_of_tree limit x (x ∷ []) xs fault here h
+
+-- a fault met before some trees were put is one of the whole set
+pub set_fault : (limit : ℕ) (us vs : List Plain) (fault : BuildFault) → IsAbove limit (listed (put_all us [])) fault → IsAbove limit (set_of (us ++ vs)) fault
+set_fault limit us vs fault h = subst (λ l. IsAbove limit (listed l) fault) (put_all-nothing (us ++ vs)) (fault_before limit us vs [] fault h)
+
+-- a fault met at the last trees
+pub last_fault : (limit : ℕ) (us vs old : List Plain) (fault : BuildFault) → old ≡ put_all us [] → IsAbove limit (listed (put_all vs old)) fault → IsAbove limit (set_of (us ++ vs)) fault
+last_fault limit us vs old fault e h =
+    subst (λ l. IsAbove limit (listed l) fault) (ap (put_all vs) e ∙ sym (put_all-append us vs []) ∙ put_all-nothing (us ++ vs)) h
+
+-- what the set holds at last
+pub set_is : (us vs old new : List Plain) → old ≡ put_all us [] → new ≡ put_all vs old → new ≡ canon tree_cmp (us ++ vs)
+set_is us vs old new e f = f ∙ ap (put_all vs) e ∙ sym (put_all-append us vs []) ∙ put_all-nothing (us ++ vs)
+
+-- a test of the items of a set
+pub any_of_set : (test : Plain → Bool) (us : List Plain) → list_any test (canon tree_cmp us) ≡ list_any test us
+any_of_set test us = any_same test (canon tree_cmp us) us (canon-members tree_order us)
+
+-- Tests of the trees of a list, one by one
+
+module _ (test : Plain → Bool) (ts : List Tree) (i : ℕ) where
+  one_more : (d : Tree) → i < length ts → d ≡ get_or ts i d → list_any test (map plain (drop i ts)) ≡ (test (plain d) || list_any test (map plain (drop (i + 1) ts)))
+  one_more d lt is =
+      let cut : drop i ts ≡ get_or ts i d ∷ drop (i + 1) ts = rw (add-one, drop-cons ts i d) refl in
+      ap (λ l. list_any test (map plain l)) cut ∙ ap (λ t. test (plain t) || list_any test (map plain (drop (i + 1) ts))) (sym is)
+
+  pub any_found : (d : Tree) → i < length ts → d ≡ get_or ts i d → test (plain d) ≡ true → true ≡ list_any test (map plain (drop i ts))
+  any_found d lt is e = sym (one_more d lt is ∙ ap (λ b. b || list_any test (map plain (drop (i + 1) ts))) e)
+
+  pub any_passed : (d : Tree) → i < length ts → d ≡ get_or ts i d → test (plain d) ≡ false → list_any test (map plain (drop (i + 1) ts)) ≡ list_any test (map plain (drop i ts))
+  any_passed d lt is e = sym (one_more d lt is ∙ ap (λ b. b || list_any test (map plain (drop (i + 1) ts))) e)
+
+  pub any_none : length ts ≤ i → false ≡ list_any test (map plain (drop i ts))
+  any_none le = ap (λ l. list_any test (map plain l)) (sym (drop_all i ts le))
+
+  -- where no tree is left, nothing more is put
+  pub gather_end : (f : Plain → List Plain) (s total : List Plain) → length ts ≤ i → put_all (flat_map f (map plain (drop i ts))) s ≡ total → s ≡ total
+  gather_end f s total le e = ap (λ l. put_all (flat_map f (map plain l)) s) (sym (drop_all i ts le)) ∙ e

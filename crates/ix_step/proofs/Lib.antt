@@ -1,0 +1,15 @@
+pub mod Shapes
+pub mod Limits
+pub mod Gathered
+pub mod Beginnings
+pub mod Measure
+pub mod Arms
+pub mod BagsPut
+pub mod Gathering
+pub mod LivePuts
+pub mod ParallelArms
+pub mod EntriesPut
+pub mod SameTrees
+pub mod Quantifying
+pub mod MapEntries
+pub mod Mapping

@@ -1,0 +1,234 @@
+-- The quantifiers' trees: what is asked of the trees of values before they are moved, and the entries after an action.
+use Rattle.std.proofs.Common.{◌≡◌, ℕ, ◌+◌, ◌≤◌, Bool, true, false, not, List, [], ◌∷◌, ◌++◌, map, flat_map, Some, None, Result, Ok, Err, Vec, Global, refl, sym, ap, ◌∙◌, subst, true≢false, arith, Less, if◌then◌else◌}
+use Rattle.std.specs.declared.boxed.Box.{Box}
+use Rattle.std.specs.Map.{keys_of}
+use Rattle.std.specs.Ordering.{is_eq}
+use Rattle.ix_words.specs.Each.{Each, no_item, item}
+use Rattle.ix_words.specs.Canon.{Ascending, below}
+use Rattle.ix_words.proofs.Each.{Each-head, Each-tail, Each-weaker, Each-both}
+use Rattle.ix_words.proofs.Canon.{flat_map-append}
+use Rattle.ix_values.specs.Order.{text_eq, text_cmp, text_eq-decides}
+use Rattle.ix_values.specs.PlainAction.{PlainAction}
+use Rattle.ix_expr.specs.Form.{Form, any, every, sync}
+use Rattle.ix_expr.specs.Environment.{Environment, bind}
+use Rattle.ix_expr.proofs.Parts.{fits-operands}
+use Rattle.ix_tree.specs.Plain.{Plain, pair, listed, items_of, any as any_of, every as every_of, sync as sync_of}
+use Rattle.ix_tree.specs.PlainOf.{plain, plain_entry, plain_entries}
+use Rattle.ix_tree.specs.Order.{key, first_part}
+use Rattle.ix_tree.specs.Size.{size_of}
+use Rattle.ix_tree.specs.declared.tree.Tree.{Tree}
+use Rattle.ix_tree.proofs.PlainLists.{items_of-listed}
+use Rattle.ix_can.specs.Nodes.{set_of, dead_if}
+use Rattle.ix_can.specs.TreeOf.{entries_of}
+use Rattle.ix_can.specs.Laws.{IsProper, ProperEntries}
+use Rattle.ix_can.specs.May.{may, tree_at}
+use Rattle.ix_can.specs.Moved.{moved, entry_with}
+use Rattle.ix_step.specs.Building.{Builds, IsAbove}
+use Rattle.ix_step.specs.declared.fault.BuildFault.{BuildFault}
+use Rattle.ix_step.specs.Ready.{Ready}
+use Rattle.ix_step.specs.Entering.{entries_put}
+use Rattle.ix_step.specs.Quantified.{ReadyInside, moved_part, common_after, tree_after, touched, BuildsParts, AreSmallParts}
+use Rattle.ix_step.proofs.Limits.{above_grows, builds_arm}
+use Rattle.ix_step.proofs.Gathered.{put_all-nothing}
+use Rattle.ix_step.proofs.EntriesPut.{key_at}
+
+-- The trees of values
+
+-- what the common tree and each entry's have, the tree of every value has
+pub tree_at_has : (G : Plain → Type 0) (v : List ℕ) (common : Plain) (xs : List Plain) → G common → Each (λ x. G (first_part x)) xs → G (tree_at v common xs)
+tree_at_has G v common [] g h = g
+tree_at_has G v common (x ∷ xs) g h = chosen (text_eq (key x) v) (tree_at_has G v common xs g (Each-tail h))
+  where
+    chosen : (b : Bool) → G (tree_at v common xs) → G (if b then first_part x else tree_at v common xs)
+    chosen true k = Each-head h
+    chosen false k = k
+
+-- it is no larger than the common tree and the entries together
+pub tree_at_size : (v : List ℕ) (common : Plain) (es : List (List ℕ × Tree)) → size_of (tree_at v common (map plain_entry es)) ≤ size_of common + size_of (plain_entries es)
+tree_at_size v common [] = omega arith
+tree_at_size v common (e ∷ es) = chosen (text_eq e.0 v) (tree_at_size v common es)
+  where
+    chosen : (b : Bool) → size_of (tree_at v common (map plain_entry es)) ≤ size_of common + size_of (plain_entries es) → size_of (if b then plain e.1 else tree_at v common (map plain_entry es)) ≤ size_of common + size_of (plain_entries (e ∷ es))
+    chosen true k = omega arith
+    chosen false k = omega (arith, k)
+
+not_below : (v : List ℕ) → ¬ (text_cmp v v ≡ Less)
+not_below v h =
+    let tied : text_eq v v ≡ true = (text_eq-decides v v).1 refl in
+    true≢false (sym tied ∙ sym (key_at v v) ∙ ap is_eq h)
+
+-- an entry's value has its tree
+tree_at_own : (common : Plain) (xs : List Plain) → Ascending (λ x y. text_cmp (key x) (key y)) xs → Each (λ x. tree_at (key x) common xs ≡ first_part x) xs
+tree_at_own common [] h = no_item
+tree_at_own common (x ∷ xs) (below g h) =
+    item
+    (ap (λ b. if b then first_part x else tree_at (key x) common xs) ((text_eq-decides (key x) (key x)).1 refl))
+    (Each-weaker (λ z k. ap (λ b. if b then first_part x else tree_at (key z) common xs) (differs z (text_eq (key x) (key z)) refl k.0) ∙ k.1) (Each-both g (tree_at_own common xs h)))
+  where
+    differs : (z : Plain) (b : Bool) → text_eq (key x) (key z) ≡ b → text_cmp (key x) (key z) ≡ Less → text_eq (key x) (key z) ≡ false
+    differs z false e l = e
+    differs z true e l =
+        let same : key x ≡ key z = (text_eq-decides (key x) (key z)).0 e in
+        let itself : text_cmp (key x) (key x) ≡ Less = ap (text_cmp (key x)) same ∙ l in
+        absurd (not_below (key x) itself)
+
+-- What is asked of them
+
+module _ (limit : ℕ) (p : List ℕ) (y : Form) (e : Environment) (common : Plain) where
+  -- of the common tree
+  pub common_ready : (xs : List Plain) → ReadyInside limit p y e common xs → Ready limit y (bind p None e) common
+  common_ready xs r =
+      record { fits = r.fits.body None; proper = r.proper; small = omega (arith, r.small); positive = r.positive; bounded = r.bounded }
+
+  -- of the tree of each value
+  pub value_ready : (es : List (List ℕ × Tree)) (v : List ℕ) → ReadyInside limit p y e common (map plain_entry es) → Ready limit y (bind p (Some v) e) (tree_at v common (map plain_entry es))
+  value_ready es v r =
+      record {
+        fits = r.fits.body (Some v);
+        proper = tree_at_has (IsProper y) v common (map plain_entry es) r.proper r.beside.each;
+        small = omega (arith, r.small, tree_at_size v common es);
+        positive = r.positive;
+        bounded = r.bounded;
+      }
+
+module _ (limit : ℕ) (p : List ℕ) (y : Form) (e : Environment) (common : Plain) (es : List (List ℕ × Tree)) where
+  beside_listed : ProperEntries (IsProper y) common (items_of (plain_entries es)) → ProperEntries (IsProper y) common (map plain_entry es)
+  beside_listed h = subst (ProperEntries (IsProper y) common) (items_of-listed (map plain_entry es)) h
+
+  pub any_ready : Ready limit (any p y) e (any_of common (plain_entries es)) → ReadyInside limit p y e common (map plain_entry es)
+  any_ready r =
+      record {
+        fits = fits-operands (any p y) e r.fits;
+        proper = r.proper.0;
+        beside = beside_listed r.proper.1;
+        small = r.small;
+        positive = r.positive;
+        bounded = r.bounded;
+      }
+
+  pub every_ready : Ready limit (every p y) e (every_of common (plain_entries es)) → ReadyInside limit p y e common (map plain_entry es)
+  every_ready r =
+      record {
+        fits = fits-operands (every p y) e r.fits;
+        proper = r.proper.0;
+        beside = beside_listed r.proper.1;
+        small = r.small;
+        positive = r.positive;
+        bounded = r.bounded;
+      }
+
+  pub sync_ready : Ready limit (sync p y) e (sync_of common (plain_entries es)) → ReadyInside limit p y e common (map plain_entry es)
+  sync_ready r =
+      record {
+        fits = fits-operands (sync p y) e r.fits;
+        proper = r.proper.0;
+        beside = beside_listed r.proper.1;
+        small = r.small;
+        positive = r.positive;
+        bounded = r.bounded;
+      }
+
+-- the same is asked of an equal tree in an equal environment
+pub ready_same : (limit : ℕ) (y : Form) (e f : Environment) (t u : Plain) → f ≡ e → u ≡ t → Ready limit y e t → Ready limit y f u
+ready_same limit y e f t u p q r =
+    subst (λ (x : Plain). Ready limit y f x) (sym q) (subst (λ (g : Environment). Ready limit y g t) (sym p) r)
+
+-- what was built from an equal tree in an equal environment
+pub builds_same : (limit : ℕ) (only_inside : Bool) (y : Form) (e f : Environment) (a : PlainAction) (t u : Plain) (r : Result Tree BuildFault) → f ≡ e → u ≡ t → Builds limit (moved_part only_inside y f a u) r → Builds limit (moved_part only_inside y e a t) r
+builds_same limit only_inside y e f a t u r p q b =
+    subst (λ (x : Plain). Builds limit (moved_part only_inside y e a x) r) q (subst (λ (g : Environment). Builds limit (moved_part only_inside y g a u) r) p b)
+
+-- The entries after an action
+
+-- the entry of the value's tree, where that differs from the common one
+abbrev entry_at : Plain → (List ℕ → Plain) → List ℕ → List Plain
+entry_at next tree v = entry_with next v (tree v)
+
+made_by_keys : (next : Plain) (tree : List ℕ → Plain) (made : Plain → List Plain) (xs : List Plain) → Each (λ x. made x ≡ entry_at next tree (key x)) xs → flat_map made xs ≡ flat_map (entry_at next tree) (map key xs)
+made_by_keys next tree made [] h = refl
+made_by_keys next tree made (x ∷ xs) h = λ i. Each-head h i ++ made_by_keys next tree made xs (Each-tail h) i
+
+-- what is made of the entries and of other values is put for the keys and those values
+made_is_put : (next : Plain) (tree : List ℕ → Plain) (made : Plain → List Plain) (xs : List Plain) (vs : List (List ℕ)) → Each (λ x. made x ≡ entry_at next tree (key x)) xs → set_of (flat_map made xs ++ flat_map (entry_at next tree) vs) ≡ listed (entries_put next tree (map key xs ++ vs))
+made_is_put next tree made xs vs h =
+    ap (λ l. set_of (l ++ flat_map (entry_at next tree) vs)) (made_by_keys next tree made xs h)
+    ∙ ap set_of (sym (flat_map-append (entry_at next tree) (map key xs) vs))
+    ∙ ap listed (sym (put_all-nothing (entries_of next tree (map key xs ++ vs))))
+
+keys_listed : (es : List (List ℕ × Tree)) → map key (map plain_entry es) ≡ keys_of es
+keys_listed [] = refl
+keys_listed (e ∷ es) = ap (λ l. e.0 ∷ l) (keys_listed es)
+
+module _ (move : List ℕ → Plain → Plain) (common next : Plain) (vs : List (List ℕ)) where
+  -- the tree of the value after a move
+  abbrev tree_moved : List Plain → List ℕ → Plain
+  tree_moved xs v = move v (tree_at v common xs)
+
+  abbrev own_made : Plain → List Plain
+  own_made x = entry_with next (key x) (move (key x) (first_part x))
+
+  own_is_moved : (xs : List Plain) (x : Plain) → tree_at (key x) common xs ≡ first_part x → own_made x ≡ entry_at next (tree_moved xs) (key x)
+  own_is_moved xs x k = ap (λ (t : Plain). entry_with next (key x) (move (key x) t)) (sym k)
+
+  -- the moved entries and those of other values, for the entries as a list
+  moved_is_put : (xs : List Plain) → Ascending (λ x z. text_cmp (key x) (key z)) xs → set_of (flat_map own_made xs ++ flat_map (λ v. entry_with next v (move v (tree_at v common xs))) vs) ≡ listed (entries_put next (tree_moved xs) (map key xs ++ vs))
+  moved_is_put xs h =
+      made_is_put next (tree_moved xs) own_made xs vs
+      (Each-weaker {G = λ x. tree_at (key x) common xs ≡ first_part x} {H = λ x. own_made x ≡ entry_at next (tree_moved xs) (key x)} (own_is_moved xs) (tree_at_own common xs h))
+
+  -- and for the entries in memory
+  pub entries_after : (es : List (List ℕ × Tree)) → Ascending (λ x z. text_cmp (key x) (key z)) (map plain_entry es) → set_of (flat_map (λ x. entry_with next (key x) (move (key x) (first_part x))) (items_of (plain_entries es)) ++ flat_map (λ v. entry_with next v (move v (tree_at v common (items_of (plain_entries es))))) vs) ≡ listed (entries_put next (λ v. move v (tree_at v common (map plain_entry es))) (keys_of es ++ vs))
+  entries_after es h =
+      ap (λ (xs : List Plain). set_of (flat_map own_made xs ++ flat_map (λ v. entry_with next v (move v (tree_at v common xs))) vs)) (items_of-listed (map plain_entry es))
+      ∙ moved_is_put (map plain_entry es) h
+      ∙ ap (λ (ks : List (List ℕ)). listed (entries_put next (tree_moved (map plain_entry es)) (ks ++ vs))) (keys_listed es)
+
+-- The arms
+
+module _ (p : List ℕ) (y : Form) (e : Environment) (a : PlainAction) (common : Plain) (es : List (List ℕ × Tree)) (ascending : Ascending (λ x z. text_cmp (key x) (key z)) (map plain_entry es)) where
+  pub any_after : moved (any p y) e (any_of common (plain_entries es)) a ≡ dead_if (not (may (any p y) e (any_of common (plain_entries es)) a)) (any_of (common_after false p y e a common) (listed (entries_put (common_after false p y e a common) (tree_after false p y e a common (map plain_entry es)) (touched es a))))
+  any_after =
+      ap (λ t. dead_if (not (may (any p y) e (any_of common (plain_entries es)) a)) (any_of (common_after false p y e a common) t))
+      (entries_after (λ v t. moved_part false y (bind p (Some v) e) a t) common (common_after false p y e a common) a.values es ascending)
+
+  pub every_after : moved (every p y) e (every_of common (plain_entries es)) a ≡ dead_if (not (may (every p y) e (every_of common (plain_entries es)) a)) (every_of (common_after false p y e a common) (listed (entries_put (common_after false p y e a common) (tree_after false p y e a common (map plain_entry es)) (touched es a))))
+  every_after =
+      ap (λ t. dead_if (not (may (every p y) e (every_of common (plain_entries es)) a)) (every_of (common_after false p y e a common) t))
+      (entries_after (λ v t. moved_part false y (bind p (Some v) e) a t) common (common_after false p y e a common) a.values es ascending)
+
+  pub sync_after : moved (sync p y) e (sync_of common (plain_entries es)) a ≡ dead_if (not (may (sync p y) e (sync_of common (plain_entries es)) a)) (sync_of (common_after true p y e a common) (listed (entries_put (common_after true p y e a common) (tree_after true p y e a common (map plain_entry es)) (touched es a))))
+  sync_after =
+      ap (λ t. dead_if (not (may (sync p y) e (sync_of common (plain_entries es)) a)) (sync_of (common_after true p y e a common) t))
+      (entries_after (λ v t. moved_part true y (bind p (Some v) e) a t) common (common_after true p y e a common) a.values es ascending)
+
+-- What was built
+
+-- a fault of the common tree
+pub fault_of_common : (limit : ℕ) (common : Plain) (rest : Plain) (fault : BuildFault) → IsAbove limit common fault → IsAbove limit (pair common rest) fault
+fault_of_common limit common rest fault h = above_grows limit common (pair common rest) fault (omega arith) h
+
+-- the parts of an equal common tree, for equal values
+pub parts_same : (limit : ℕ) (common next : Plain) (tree : List ℕ → Plain) (us vs : List (List ℕ)) (r : Result (Box Tree Global × Vec (List ℕ × Tree) Global) BuildFault) → common ≡ next → us ≡ vs → BuildsParts limit common tree us r → BuildsParts limit next tree vs r
+parts_same limit common next tree us vs r p q h =
+    subst (λ (x : Plain). BuildsParts limit x tree vs r) p (subst (λ (l : List (List ℕ)). BuildsParts limit common tree l r) q h)
+
+-- parts that were built are small
+pub parts_small : (limit : ℕ) (common : Plain) (tree : List ℕ → Plain) (values : List (List ℕ)) (r : Result (Box Tree Global × Vec (List ℕ × Tree) Global) BuildFault) → limit ≤ 1000000 → BuildsParts limit common tree values r → AreSmallParts r
+parts_small limit common tree values (Ok parts) le h = (omega (arith, ap size_of h.0, h.2), omega (arith, h.3))
+parts_small limit common tree values (Err fault) le h = tt
+
+module _ (limit : ℕ) (p : List ℕ) (y : Form) (e : Environment) (a : PlainAction) (x : Plain) (common : Plain) (es : List (List ℕ × Tree)) (r : Result Tree BuildFault) where
+  pub any_built : x ≡ any_of common (plain_entries es) → ReadyInside limit p y e common (map plain_entry es) → may (any p y) e x a ≡ true → Builds limit (any_of (common_after false p y e a common) (listed (entries_put (common_after false p y e a common) (tree_after false p y e a common (map plain_entry es)) (touched es a)))) r → Builds limit (moved (any p y) e x a) r
+  any_built shape ready h b =
+      builds_arm limit (any p y) e a x (any_of common (plain_entries es)) (any_of (common_after false p y e a common) (listed (entries_put (common_after false p y e a common) (tree_after false p y e a common (map plain_entry es)) (touched es a)))) r
+      shape (any_after p y e a common es ready.beside.ascending) h b
+
+  pub every_built : x ≡ every_of common (plain_entries es) → ReadyInside limit p y e common (map plain_entry es) → may (every p y) e x a ≡ true → Builds limit (every_of (common_after false p y e a common) (listed (entries_put (common_after false p y e a common) (tree_after false p y e a common (map plain_entry es)) (touched es a)))) r → Builds limit (moved (every p y) e x a) r
+  every_built shape ready h b =
+      builds_arm limit (every p y) e a x (every_of common (plain_entries es)) (every_of (common_after false p y e a common) (listed (entries_put (common_after false p y e a common) (tree_after false p y e a common (map plain_entry es)) (touched es a)))) r
+      shape (every_after p y e a common es ready.beside.ascending) h b
+
+  pub sync_built : x ≡ sync_of common (plain_entries es) → ReadyInside limit p y e common (map plain_entry es) → may (sync p y) e x a ≡ true → Builds limit (sync_of (common_after true p y e a common) (listed (entries_put (common_after true p y e a common) (tree_after true p y e a common (map plain_entry es)) (touched es a)))) r → Builds limit (moved (sync p y) e x a) r
+  sync_built shape ready h b =
+      builds_arm limit (sync p y) e a x (sync_of common (plain_entries es)) (sync_of (common_after true p y e a common) (listed (entries_put (common_after true p y e a common) (tree_after true p y e a common (map plain_entry es)) (touched es a)))) r
+      shape (sync_after p y e a common es ready.beside.ascending) h b

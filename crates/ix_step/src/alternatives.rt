@@ -1,0 +1,203 @@
+//! Sets of trees within a limit, and the nodes that are made of them.
+
+ghost use Rattle.std.specs.Prelude.{◌≡◌, ◌≤◌, ◌^◌, ◌++◌, ◌∷◌, [], List, map};
+ghost use Rattle.std.specs.List.{list_any};
+ghost use Rattle.ix_words.specs.Canon.{when};
+ghost use Rattle.ix_expr.specs.FormOf.{form_of};
+ghost use Rattle.ix_tree.specs.Plain.{Plain, seq, star, listed};
+ghost use Rattle.ix_tree.specs.PlainOf.{plain};
+ghost use Rattle.ix_tree.specs.Size.{size_of};
+ghost use Rattle.ix_can.specs.Nodes.{live, set_of};
+ghost use Rattle.ix_can.specs.TreeOf.{is_final as is_final_by};
+ghost use Rattle.ix_step.specs.Building.{Builds, Gathers, IsSmall, put_all};
+ghost use Rattle.ix_step.specs.Initial.{initial_tree};
+
+use crate::fault::BuildFault;
+use crate::first::first_tree;
+use crate::nodes::boxed;
+use crate::sets::put;
+use ix_alts::AltSet;
+use ix_can::is_final;
+use ix_expr::Expr;
+use ix_tree::Tree;
+use std::alloc::Global;
+
+/// Puts the tree into the set, if it is live.
+#[tactic(none)]
+pub(crate) fn put_live(
+    set: &mut AltSet<Tree>,
+    tree: Result<Tree, BuildFault>,
+) -> Result<(), BuildFault>
+    requires small { IsSmall tree }
+    requires positive { 1 ≤ set.old.budget }
+    ensures gathers { (x : Plain) → Builds set.old.budget x tree
+        → Gathers set.old.budget (live x) (map plain set.old.items) (map plain set.new.items) result }
+    ensures budget { set.new.budget ≡ set.old.budget }
+{
+    match tree {
+        Ok(tree) => put_unless_dead(set, tree),
+        Err(fault) => Err(fault),
+    }
+}
+
+/// Puts the tree into the set, unless it is dead.
+#[tactic(none)]
+fn put_unless_dead(set: &mut AltSet<Tree>, tree: Tree) -> Result<(), BuildFault>
+    requires { size_of (plain tree) ≤ 1000000 }
+    ensures gathers { Gathers set.old.budget (live (plain tree)) (map plain set.old.items) (map plain set.new.items) result }
+    ensures budget { set.new.budget ≡ set.old.budget }
+{
+    if tree.is_dead() {
+        Ok(())
+    } else {
+        put(set, tree)
+    }
+}
+
+/// Puts the tree of the empty word into the set, where it may begin.
+#[tactic(none)]
+fn put_first(
+    set: &mut AltSet<Tree>,
+    begins: bool,
+    expr: &Expr,
+    alloc: Global,
+) -> Result<(), BuildFault>
+    requires { size_of (initial_tree (form_of expr.now)) ≤ 1000000 }
+    ensures gathers { Gathers set.old.budget (when begins (initial_tree (form_of expr.now) ∷ [])) (map plain set.old.items) (map plain set.new.items) result }
+    ensures budget { set.new.budget ≡ set.old.budget }
+{
+    if !begins {
+        return Ok(());
+    }
+    match first_tree(expr, alloc) {
+        Ok(tree) => put(set, tree),
+        Err(_) => Err(BuildFault::Memory),
+    }
+}
+
+/// Whether one of the trees is final.
+fn any_final(trees: &[Tree], expr: &Expr) -> bool
+    ensures { result ≡ list_any (is_final_by (form_of expr.now)) (map plain trees.now) }
+{
+    for tree in trees {
+        if is_final(tree, expr) {
+            return true;
+        }
+    }
+    false
+}
+
+/// The node of `*y` after an action: the alternatives moved, and one that begins again.
+#[tactic(none)]
+pub(crate) fn star_node(
+    y: &Expr,
+    moved: Result<(), BuildFault>,
+    begun: Result<Tree, BuildFault>,
+    mut set: AltSet<Tree>,
+    limit: usize,
+) -> Result<Tree, BuildFault>
+    requires budget { set.budget ≡ limit }
+    requires positive { 1 ≤ limit }
+    requires limit { limit ≤ 1000000 }
+    requires begun { IsSmall begun }
+    ensures { (ms : List Plain) (x : Plain) → Gathers limit ms [] (map plain set.items) moved → Builds limit x begun
+        → Builds limit (star (list_any (is_final_by (form_of y.now)) (ms ++ live x)) (set_of (ms ++ live x))) result }
+{
+    match moved {
+        Ok(()) => match put_live(&mut set, begun) {
+            Ok(()) => star_of_set(y, set, limit),
+            Err(fault) => Err(fault),
+        },
+        Err(fault) => Err(fault),
+    }
+}
+
+/// The node of `*y` with these alternatives.
+#[tactic(none)]
+fn star_of_set(y: &Expr, set: AltSet<Tree>, limit: usize) -> Result<Tree, BuildFault>
+    requires budget { set.budget ≡ limit }
+    requires limit { limit ≤ 1000000 }
+    ensures { Builds limit (star (list_any (is_final_by (form_of y.now)) (map plain set.items)) (listed (map plain set.items))) result }
+{
+    let size = 1 + set.total();
+    if size > limit {
+        return Err(BuildFault::Over { limit });
+    }
+    let items = set.into_items();
+    let again = any_final(items.as_slice(), y);
+    Ok(Tree::Star(again, items))
+}
+
+/// The node of `y - z` after an action: the first part, the alternatives moved, and one that begins where the first part
+/// is final.
+#[tactic(none)]
+pub(crate) fn seq_node(
+    y: &Expr,
+    z: &Expr,
+    first: Result<Tree, BuildFault>,
+    moved: Result<(), BuildFault>,
+    set: AltSet<Tree>,
+    alloc: Global,
+    limit: usize,
+) -> Result<Tree, BuildFault>
+    requires initial { size_of (initial_tree (form_of z.now)) ≤ 1000000 }
+    requires budget { set.budget ≡ limit }
+    requires limit { limit ≤ 1000000 }
+    requires first { IsSmall first }
+    ensures { (x : Plain) (ms : List Plain) → Builds limit x first → Gathers limit ms [] (map plain set.items) moved
+        → Builds limit (seq x (set_of (ms ++ when (is_final_by (form_of y.now) x) (initial_tree (form_of z.now) ∷ [])))) result }
+{
+    match moved {
+        Ok(()) => match first {
+            Ok(first) => seq_begun(y, z, first, set, alloc, limit),
+            Err(fault) => Err(fault),
+        },
+        Err(fault) => Err(fault),
+    }
+}
+
+/// The node of `y - z` with this first part, these alternatives, and one that begins where the first part is final.
+#[tactic(none)]
+fn seq_begun(
+    y: &Expr,
+    z: &Expr,
+    first: Tree,
+    mut set: AltSet<Tree>,
+    alloc: Global,
+    limit: usize,
+) -> Result<Tree, BuildFault>
+    requires initial { size_of (initial_tree (form_of z.now)) ≤ 1000000 }
+    requires budget { set.budget ≡ limit }
+    requires limit { limit ≤ 1000000 }
+    requires first { size_of (plain first) ≤ 1000000 }
+    ensures { (ms : List Plain) → map plain set.items ≡ put_all ms []
+        → Builds limit (seq (plain first) (set_of (ms ++ when (is_final_by (form_of y.now) (plain first)) (initial_tree (form_of z.now) ∷ [])))) result }
+{
+    match put_first(&mut set, is_final(&first, y), z, alloc) {
+        Ok(()) => seq_of_set(first, set, alloc, limit),
+        Err(fault) => Err(fault),
+    }
+}
+
+/// The node of `y - z` with this first part and these alternatives.
+#[tactic(none)]
+fn seq_of_set(
+    first: Tree,
+    set: AltSet<Tree>,
+    alloc: Global,
+    limit: usize,
+) -> Result<Tree, BuildFault>
+    requires budget { set.budget ≡ limit }
+    requires limit { limit ≤ 1000000 }
+    requires first { size_of (plain first) ≤ 1000000 }
+    ensures { Builds limit (seq (plain first) (listed (map plain set.items))) result }
+{
+    let size = 1 + first.size() + set.total();
+    if size > limit {
+        return Err(BuildFault::Over { limit });
+    }
+    match boxed(first, alloc) {
+        Ok(first) => Ok(Tree::Seq(first, set.into_items())),
+        Err(fault) => Err(fault),
+    }
+}

@@ -1,0 +1,150 @@
+//! Sets of bags, and the node of `#` that is made of them.
+
+ghost use Rattle.std.specs.Prelude.{◌≡◌, ◌+◌, ◌<◌, ◌≤◌, List, [], ◌∷◌, length, map, insert, remove, IfOk};
+ghost use Rattle.ix_tree.specs.Plain.{Plain, bag, par_star, listed};
+ghost use Rattle.ix_tree.specs.PlainOf.{plain, plain_trees, plain_bag};
+ghost use Rattle.ix_tree.specs.Size.{size_of};
+ghost use Rattle.ix_can.specs.Nodes.{put_in, set_of};
+ghost use Rattle.ix_can.specs.Moved.{bag_with};
+ghost use Rattle.ix_step.specs.Building.{Builds, Gathers, IsSmall};
+
+use crate::fault::BuildFault;
+use crate::sets::put;
+use ix_alts::AltSet;
+use ix_tree::{Bag, Tree, copy_trees};
+use std::alloc::{AllocError, Global};
+
+/// The place before the first of the trees that isn't below this one.
+fn place_of(tree: &Tree, others: &[Tree]) -> usize
+    ensures within { result ≤ length others.now }
+    ensures place { put_in (plain tree.now) (map plain others.now) ≡ insert (map plain others.now) result (plain tree.now) }
+{
+    for (place, other) in others.iter().enumerate() {
+        if !tree.cmp(other).is_gt() {
+            return place;
+        }
+    }
+    others.len()
+}
+
+/// Copies of the trees but the one at the place.
+fn others_of(items: &[Tree], place: usize, alloc: Global) -> Result<Vec<Tree>, AllocError>
+    requires { place < length items.now }
+    ensures { IfOk result (λ v. map plain v.items ≡ remove (map plain items.now) place) }
+{
+    let mut others = copy_trees(alloc, items)?;
+    let _ = others.remove(place);
+    Ok(others)
+}
+
+/// Puts the bag of the others and the tree in its place into the set.
+#[tactic(none)]
+fn put_bag(set: &mut AltSet<Bag>, tree: Tree, others: Vec<Tree>) -> Result<(), BuildFault>
+    requires { size_of (plain tree) + size_of (plain_trees others.items) ≤ 2000000 }
+    ensures gathers { Gathers set.old.budget (bag (listed (put_in (plain tree) (map plain others.items))) ∷ []) (map plain_bag set.old.items) (map plain_bag set.new.items) result }
+    ensures budget { set.new.budget ≡ set.old.budget }
+{
+    let mut items = others;
+    let place = place_of(&tree, items.as_slice());
+    match items.insert(place, tree) {
+        Ok(()) => put(set, Bag { items }),
+        Err(_) => Err(BuildFault::Memory),
+    }
+}
+
+/// Puts into the set the bag of the items with the tree for the one at the place, if the tree is live.
+#[tactic(none)]
+pub(crate) fn put_moved(
+    set: &mut AltSet<Bag>,
+    moved: Result<Tree, BuildFault>,
+    items: &[Tree],
+    place: usize,
+    alloc: Global,
+) -> Result<(), BuildFault>
+    requires moved { IsSmall moved }
+    requires items { size_of (plain_trees items.now) ≤ 1000000 }
+    requires place { place < length items.now }
+    requires positive { 1 ≤ set.old.budget }
+    ensures gathers { (x : Plain) → Builds set.old.budget x moved
+        → Gathers set.old.budget (bag_with x (remove (map plain items.now) place)) (map plain_bag set.old.items) (map plain_bag set.new.items) result }
+    ensures budget { set.new.budget ≡ set.old.budget }
+{
+    let tree = match moved {
+        Ok(tree) => tree,
+        Err(fault) => return Err(fault),
+    };
+    if tree.is_dead() {
+        return Ok(());
+    }
+    match others_of(items, place, alloc) {
+        Ok(others) => put_bag(set, tree, others),
+        Err(_) => Err(BuildFault::Memory),
+    }
+}
+
+/// Puts into the set the bag of the items and one more tree, if that one is live.
+#[tactic(none)]
+fn put_more(
+    set: &mut AltSet<Bag>,
+    more: &Tree,
+    items: &[Tree],
+    alloc: Global,
+) -> Result<(), BuildFault>
+    requires more { size_of (plain more.now) ≤ 1000000 }
+    requires items { size_of (plain_trees items.now) ≤ 1000000 }
+    ensures gathers { Gathers set.old.budget (bag_with (plain more.now) (map plain items.now)) (map plain_bag set.old.items) (map plain_bag set.new.items) result }
+    ensures budget { set.new.budget ≡ set.old.budget }
+{
+    if more.is_dead() {
+        return Ok(());
+    }
+    let tree = match more.copy(alloc) {
+        Ok(tree) => tree,
+        Err(_) => return Err(BuildFault::Memory),
+    };
+    match copy_trees(alloc, items) {
+        Ok(others) => put_bag(set, tree, others),
+        Err(_) => Err(BuildFault::Memory),
+    }
+}
+
+/// Puts into the set the bag of the items and the tree that begins, if that one is live.
+#[tactic(none)]
+pub(crate) fn put_first(
+    set: &mut AltSet<Bag>,
+    first: &Result<Tree, BuildFault>,
+    items: &[Tree],
+    alloc: Global,
+) -> Result<(), BuildFault>
+    requires first { IsSmall first.now }
+    requires items { size_of (plain_trees items.now) ≤ 1000000 }
+    requires positive { 1 ≤ set.old.budget }
+    ensures gathers { (x : Plain) → Builds set.old.budget x first.now
+        → Gathers set.old.budget (bag_with x (map plain items.now)) (map plain_bag set.old.items) (map plain_bag set.new.items) result }
+    ensures budget { set.new.budget ≡ set.old.budget }
+{
+    match first {
+        Ok(tree) => put_more(set, tree, items, alloc),
+        Err(fault) => Err(*fault),
+    }
+}
+
+/// The node of `#y` after an action: the bags that were gathered.
+#[tactic(none)]
+pub(crate) fn par_star_node(
+    gathered: Result<(), BuildFault>,
+    set: AltSet<Bag>,
+    limit: usize,
+) -> Result<Tree, BuildFault>
+    requires budget { set.budget ≡ limit }
+    ensures { (bs : List Plain) → Gathers limit bs [] (map plain_bag set.items) gathered
+        → Builds limit (par_star (set_of bs)) result }
+{
+    if let Err(fault) = gathered {
+        return Err(fault);
+    }
+    if set.total() >= limit {
+        return Err(BuildFault::Over { limit });
+    }
+    Ok(Tree::ParStar(set.into_items()))
+}

@@ -1,0 +1,93 @@
+//! The two calls: the tree of the empty word, and the step to the tree of a word with one more action.
+
+ghost use Rattle.std.specs.Prelude.{◌≡◌, ◌≤◌, ◌++◌, ◌∷◌, [], true};
+ghost use Rattle.ix_values.specs.PlainAction.{Word};
+ghost use Rattle.ix_expr.specs.Environment.{Environment};
+ghost use Rattle.ix_expr.specs.FormFaults.{Fits};
+ghost use Rattle.ix_expr.specs.FormOf.{form_of};
+ghost use Rattle.ix_tree.specs.PlainOf.{plain};
+ghost use Rattle.ix_tree.specs.Size.{size_of};
+ghost use Rattle.ix_can.specs.Laws.{IsProper};
+ghost use Rattle.ix_can.specs.May.{may};
+ghost use Rattle.ix_can.specs.Moved.{moved};
+ghost use Rattle.ix_can.specs.TreeOf.{tree_of};
+ghost use Rattle.ix_step.specs.Building.{Builds};
+
+use crate::advance::advance;
+use crate::fault::BuildFault;
+use crate::first::first_tree;
+use crate::nodes::within;
+use ix_expr::{Env, Expr};
+use ix_tree::Tree;
+use ix_values::Action;
+use std::alloc::Global;
+
+/// The tree of the empty word, if its Size is at most the limit. It is the same under every environment that the
+/// expression fits.
+#[tactic(none)]
+pub fn initial(alloc: Global, expr: &Expr, limit: usize) -> Result<Tree, BuildFault>
+    requires fits { (e : Environment) × Fits (form_of expr.now) e }
+    requires limit { limit ≤ 1000000 }
+    ensures { Builds limit (tree_of (form_of expr.now) [] []) result }
+{
+    match first_tree(expr, alloc) {
+        Ok(tree) => within(tree, limit),
+        Err(_) => Err(BuildFault::Memory),
+    }
+}
+
+/// The tree of the word with one more action, `tree` being that of the word, if its Size is at most the limit. The action
+/// may come next.
+#[tactic(none)]
+pub fn step(
+    alloc: Global,
+    tree: &Tree,
+    expr: &Expr,
+    env: &Env,
+    action: &Action,
+    limit: usize,
+) -> Result<Tree, BuildFault>
+    requires fits { Fits (form_of expr.now) env.now }
+    requires proper { IsProper (form_of expr.now) (plain tree.now) }
+    requires may { may (form_of expr.now) env.now (plain tree.now) action.now ≡ true }
+    requires limit { limit ≤ 1000000 }
+    requires size { size_of (plain tree.now) ≤ 1000000 }
+    ensures by_tree { Builds limit (moved (form_of expr.now) env.now (plain tree.now) action.now) result }
+    ensures by_word { (w : Word) → plain tree.now ≡ tree_of (form_of expr.now) env.now w
+        → Builds limit (tree_of (form_of expr.now) env.now (w ++ action.now ∷ [])) result }
+{
+    moved_within(expr, tree, env, action, alloc, limit)
+}
+
+/// The moved tree, if its Size is at most the limit, which may be 0.
+#[tactic(none)]
+fn moved_within(
+    expr: &Expr,
+    tree: &Tree,
+    env: &Env,
+    action: &Action,
+    alloc: Global,
+    limit: usize,
+) -> Result<Tree, BuildFault>
+    requires fits { Fits (form_of expr.now) env.now }
+    requires proper { IsProper (form_of expr.now) (plain tree.now) }
+    requires limit { limit ≤ 1000000 }
+    requires size { size_of (plain tree.now) ≤ 1000000 }
+    ensures { Builds limit (moved (form_of expr.now) env.now (plain tree.now) action.now) result }
+{
+    match advance(expr, tree, env, action, alloc, at_least_one(limit)) {
+        Ok(moved) => within(moved, limit),
+        Err(BuildFault::Over { .. }) => Err(BuildFault::Over { limit }),
+        Err(BuildFault::Memory) => Err(BuildFault::Memory),
+    }
+}
+
+/// The limit, or 1 in place of 0.
+fn at_least_one(limit: usize) -> usize
+    requires { limit ≤ 1000000 }
+    ensures positive { 1 ≤ result }
+    ensures above { limit ≤ result }
+    ensures bounded { result ≤ 1000000 }
+{
+    if limit == 0 { 1 } else { limit }
+}

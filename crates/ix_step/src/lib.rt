@@ -1,0 +1,22 @@
+//! The tree of the empty word, and the step from the tree of a word to that of the word with one more action.
+#![tactic(auto)]
+
+mod advance;
+mod alternatives;
+mod bags;
+mod calls;
+mod entries;
+mod fault;
+mod first;
+mod maps;
+mod nodes;
+mod pairs;
+mod parallel;
+mod quantifiers;
+mod sets;
+
+pub use calls::{initial, step};
+pub use fault::BuildFault;
+
+#[cfg(test)]
+mod tests;

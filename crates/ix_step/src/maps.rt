@@ -1,0 +1,272 @@
+//! The moved tree of the quantifier `all`.
+
+ghost use Rattle.std.specs.Prelude.{◌≡◌, ℕ, ◌≤◌, ◌++◌, [], List, IfOk, MatchResult, true, map, flat_map};
+ghost use Rattle.ix_words.specs.Each.{Each};
+ghost use Rattle.ix_expr.specs.FormOf.{form_of};
+ghost use Rattle.ix_expr.specs.Form.{Form, all};
+ghost use Rattle.ix_tree.specs.Plain.{Plain, listed, items_of, all as all_of, map as map_of};
+ghost use Rattle.ix_tree.specs.PlainOf.{plain, plain_map};
+ghost use Rattle.ix_tree.specs.Order.{first_part};
+ghost use Rattle.ix_tree.specs.Size.{size_of};
+ghost use Rattle.ix_can.specs.May.{may};
+ghost use Rattle.ix_can.specs.Nodes.{set_of, is_live};
+ghost use Rattle.ix_can.specs.Moved.{moved, map_with, entry_with};
+ghost use Rattle.ix_step.specs.Building.{Builds, Gathers, IsSmall};
+ghost use Rattle.ix_step.specs.Ready.{Ready};
+ghost use Rattle.ix_step.specs.Mapped.{HoldsWell, ReadyToBegin, begun_tree, map_after, maps_after, with_tree, Retold};
+
+use crate::advance::advance;
+use crate::fault::BuildFault;
+use crate::first::first_tree;
+use crate::sets::put as put_alternative;
+use ix_alts::AltSet;
+use ix_entries::{at, put};
+use ix_expr::{Env, Expr};
+use ix_tree::{Map, Tree, copy_entries};
+use ix_values::{Action, Name, Value};
+use std::alloc::{AllocError, Global};
+
+/// The moved tree of `all $p y`.
+#[cycle(advance)]
+#[tactic(none)]
+pub(crate) fn advance_all(
+    parameter: &Name,
+    y: &Expr,
+    tree: &Tree,
+    env: &Env,
+    action: &Action,
+    alloc: Global,
+    limit: usize,
+) -> Result<Tree, BuildFault>
+    requires ready { Ready limit (all parameter.now (form_of y.now)) env.now (plain tree.now) }
+    requires may { may (all parameter.now (form_of y.now)) env.now (plain tree.now) action.now ≡ true }
+    ensures { Builds limit (moved (all parameter.now (form_of y.now)) env.now (plain tree.now) action.now) result }
+{
+    let Tree::All(maps) = tree else {
+        return Ok(Tree::Dead);
+    };
+    let first = match first_tree(y, alloc) {
+        Ok(first) => first,
+        Err(_) => return Err(BuildFault::Memory),
+    };
+    let room = larger(limit, first.size());
+    let mut set = AltSet::new(alloc, limit);
+    let moved = advance_maps(
+        y, parameter, maps, &first, &mut set, env, action, alloc, limit, room,
+    );
+    all_node(moved, set, limit)
+}
+
+/// The larger of the two numbers.
+fn larger(a: usize, b: usize) -> usize
+    ensures first { a ≤ result }
+    ensures second { b ≤ result }
+    ensures bound { (n : ℕ) → a ≤ n → b ≤ n → result ≤ n }
+{
+    if a < b { b } else { a }
+}
+
+/// Puts each map, with the tree of each of the action's values moved, into the set. No tree above the limit `room` is
+/// built, which is at least the set's budget and the Size of the initial tree.
+#[cycle(advance)]
+fn advance_maps(
+    y: &Expr,
+    parameter: &Name,
+    maps: &[Map],
+    first: &Tree,
+    set: &mut AltSet<Map>,
+    env: &Env,
+    action: &Action,
+    alloc: Global,
+    limit: usize,
+    room: usize,
+) -> Result<(), BuildFault>
+    requires ready { ReadyToBegin room parameter.now (form_of y.now) env.now (plain first.now) }
+    requires held { Each (HoldsWell (form_of y.now) (plain first.now)) (map plain_map maps.now) }
+    requires budget { set.old.budget ≡ limit }
+    requires room { limit ≤ room }
+    ensures gathers { Gathers limit
+        (flat_map (maps_after parameter.now (form_of y.now) env.now action.now (plain first.now) action.now.values) (map plain_map maps.now))
+        (map plain_map set.old.items) (map plain_map set.new.items) result }
+    ensures budget { set.new.budget ≡ limit }
+{
+    for state in maps {
+        match advance_map(
+            y, parameter, state, first, set, env, action, alloc, limit, room,
+        ) {
+            Ok(()) => {}
+            Err(fault) => return Err(fault),
+        }
+    }
+    Ok(())
+}
+
+/// Puts the map, with the tree of each of the action's values moved, into the set.
+#[cycle(advance)]
+fn advance_map(
+    y: &Expr,
+    parameter: &Name,
+    state: &Map,
+    first: &Tree,
+    set: &mut AltSet<Map>,
+    env: &Env,
+    action: &Action,
+    alloc: Global,
+    limit: usize,
+    room: usize,
+) -> Result<(), BuildFault>
+    requires ready { ReadyToBegin room parameter.now (form_of y.now) env.now (plain first.now) }
+    requires held { HoldsWell (form_of y.now) (plain first.now) (plain_map state.now) }
+    requires budget { set.old.budget ≡ limit }
+    requires room { limit ≤ room }
+    ensures gathers { Gathers limit
+        (maps_after parameter.now (form_of y.now) env.now action.now (plain first.now) action.now.values (plain_map state.now))
+        (map plain_map set.old.items) (map plain_map set.new.items) result }
+    ensures budget { set.new.budget ≡ limit }
+{
+    for value in action.values() {
+        let tree = tree_begun(y, parameter, state, first, value, env, action, alloc, room);
+        match put_moved(set, state, first, *value, tree, alloc, limit) {
+            Ok(()) => {}
+            Err(fault) => return Err(fault),
+        }
+    }
+    Ok(())
+}
+
+/// The tree of the value in the map after the action.
+#[cycle(advance)]
+fn tree_begun(
+    y: &Expr,
+    parameter: &Name,
+    state: &Map,
+    first: &Tree,
+    value: &Value,
+    env: &Env,
+    action: &Action,
+    alloc: Global,
+    room: usize,
+) -> Result<Tree, BuildFault>
+    requires ready { ReadyToBegin room parameter.now (form_of y.now) env.now (plain first.now) }
+    requires held { HoldsWell (form_of y.now) (plain first.now) (plain_map state.now) }
+    ensures { Builds room
+        (begun_tree parameter.now (form_of y.now) env.now action.now (plain first.now) (plain_map state.now) value.now)
+        result }
+{
+    let inside = env.with(*parameter, Some(*value));
+    let dead = Tree::Dead;
+    let tree = at(&state.entries, &dead, value);
+    if tree.is_dead() {
+        advance(y, first, &inside, action, alloc, room)
+    } else {
+        advance(y, tree, &inside, action, alloc, room)
+    }
+}
+
+/// Puts the map in which the value has this tree into the set, if the tree is live.
+fn put_moved(
+    set: &mut AltSet<Map>,
+    state: &Map,
+    first: &Tree,
+    value: Value,
+    tree: Result<Tree, BuildFault>,
+    alloc: Global,
+    limit: usize,
+) -> Result<(), BuildFault>
+    requires held { (y : Form) × HoldsWell y (plain first.now) (plain_map state.now) }
+    requires small { IsSmall tree }
+    requires budget { set.old.budget ≡ limit }
+    ensures gathers { (room : ℕ) (x : Plain) → 1 ≤ room → limit ≤ room → size_of (plain first.now) ≤ room → Builds room x tree
+        → Gathers limit (map_with (plain first.now) value x (items_of (first_part (plain_map state.now))))
+        (map plain_map set.old.items) (map plain_map set.new.items) result }
+    ensures budget { set.new.budget ≡ limit }
+{
+    match tree {
+        Ok(tree) => put_live(set, state, first, value, tree, alloc),
+        Err(fault) => Err(retold(fault, limit)),
+    }
+}
+
+/// The fault, told of this limit.
+fn retold(fault: BuildFault, limit: usize) -> BuildFault
+    ensures { Retold limit fault result }
+{
+    match fault {
+        BuildFault::Over { .. } => BuildFault::Over { limit },
+        BuildFault::Memory => BuildFault::Memory,
+    }
+}
+
+/// Puts the map in which the value has this tree into the set, if the tree is live.
+fn put_live(
+    set: &mut AltSet<Map>,
+    state: &Map,
+    first: &Tree,
+    value: Value,
+    tree: Tree,
+    alloc: Global,
+) -> Result<(), BuildFault>
+    requires held { (y : Form) × HoldsWell y (plain first.now) (plain_map state.now) }
+    requires small { size_of (plain tree) ≤ 1000000 }
+    ensures gathers { Gathers set.old.budget (map_with (plain first.now) value (plain tree) (items_of (first_part (plain_map state.now))))
+        (map plain_map set.old.items) (map plain_map set.new.items) result }
+    ensures budget { set.new.budget ≡ set.old.budget }
+{
+    if tree.is_dead() {
+        return Ok(());
+    }
+    match map_beside(state, first, value, tree, alloc) {
+        Ok(map) => put_alternative(set, map),
+        Err(_) => Err(BuildFault::Memory),
+    }
+}
+
+/// A copy of the map in which the value has this tree.
+fn map_beside(
+    state: &Map,
+    first: &Tree,
+    value: Value,
+    tree: Tree,
+    alloc: Global,
+) -> Result<Map, AllocError>
+    requires held { (y : Form) × HoldsWell y (plain first.now) (plain_map state.now) }
+    ensures { IfOk result (λ m. plain_map m ≡ with_tree (plain first.now) value (plain tree) (items_of (first_part (plain_map state.now)))) }
+{
+    let mut entries = match copy_entries(alloc, &state.entries) {
+        Ok(entries) => entries,
+        Err(fault) => return Err(fault),
+    };
+    match put(&mut entries, first, value, tree) {
+        Ok(()) => Ok(Map { entries }),
+        Err(fault) => Err(fault),
+    }
+}
+
+/// The node of `all $p y` with these maps.
+fn all_node(
+    moved: Result<(), BuildFault>,
+    set: AltSet<Map>,
+    limit: usize,
+) -> Result<Tree, BuildFault>
+    requires budget { set.budget ≡ limit }
+    requires limit { limit ≤ 1000000 }
+    ensures { (ms : List Plain) → Gathers limit ms [] (map plain_map set.items) moved → Builds limit (all_of (set_of ms)) result }
+{
+    match moved {
+        Ok(()) => all_of_set(set, limit),
+        Err(fault) => Err(fault),
+    }
+}
+
+/// The node of `all $p y` with the maps of the set.
+fn all_of_set(set: AltSet<Map>, limit: usize) -> Result<Tree, BuildFault>
+    requires budget { set.budget ≡ limit }
+    requires limit { limit ≤ 1000000 }
+    ensures { Builds limit (all_of (listed (map plain_map set.items))) result }
+{
+    let size = 1 + set.total();
+    if size > limit {
+        return Err(BuildFault::Over { limit });
+    }
+    Ok(Tree::All(set.into_items()))
+}

@@ -1,0 +1,206 @@
+//! The moving of `+` and `#`: each alternative gives one more for each of its parts that can move.
+
+ghost use Rattle.std.specs.Prelude.{◌≡◌, ◌≤◌, true, List, map, flat_map};
+ghost use Rattle.ix_words.specs.Each.{Each};
+ghost use Rattle.ix_expr.specs.FormOf.{form_of};
+ghost use Rattle.ix_expr.specs.Form.{par, par_star};
+ghost use Rattle.ix_tree.specs.PlainOf.{plain, plain_pair, plain_bag, plain_trees};
+ghost use Rattle.ix_tree.specs.Size.{size_of};
+ghost use Rattle.ix_can.specs.May.{may};
+ghost use Rattle.ix_can.specs.Moved.{moved};
+ghost use Rattle.ix_step.specs.Building.{Builds, Gathers, IsSmall};
+ghost use Rattle.ix_step.specs.Moves.{begun};
+ghost use Rattle.ix_step.specs.Parallel.{pair_moves, pick_moves, bag_moves, IsReadyPair, IsReadyBag, IsLimit};
+ghost use Rattle.ix_step.specs.Ready.{Ready};
+
+use crate::advance::{advance, advance_again};
+use crate::bags::{par_star_node, put_first, put_moved};
+use crate::fault::BuildFault;
+use crate::pairs::{par_node, put_left, put_right};
+use ix_alts::AltSet;
+use ix_expr::{Env, Expr};
+use ix_tree::{Bag, Pair, Tree};
+use ix_values::Action;
+use std::alloc::Global;
+
+/// The moved tree of `y + z`.
+#[cycle(advance)]
+#[tactic(none)]
+pub(crate) fn advance_par(
+    y: &Expr,
+    z: &Expr,
+    tree: &Tree,
+    env: &Env,
+    action: &Action,
+    alloc: Global,
+    limit: usize,
+) -> Result<Tree, BuildFault>
+    requires ready { Ready limit (par (form_of y.now) (form_of z.now)) env.now (plain tree.now) }
+    requires may { may (par (form_of y.now) (form_of z.now)) env.now (plain tree.now) action.now ≡ true }
+    ensures { Builds limit (moved (par (form_of y.now) (form_of z.now)) env.now (plain tree.now) action.now) result }
+{
+    let Tree::Par(pairs) = tree else {
+        return Ok(Tree::Dead);
+    };
+    let mut set = AltSet::new(alloc, limit);
+    let gathered = gather_pairs(y, z, pairs, env, action, alloc, limit, &mut set);
+    par_node(gathered, set, limit)
+}
+
+/// Puts into the set what each of the pairs gives.
+#[cycle(advance)]
+#[tactic(none)]
+fn gather_pairs(
+    y: &Expr,
+    z: &Expr,
+    pairs: &[Pair],
+    env: &Env,
+    action: &Action,
+    alloc: Global,
+    limit: usize,
+    set: &mut AltSet<Pair>,
+) -> Result<(), BuildFault>
+    requires ready { Each (IsReadyPair limit (form_of y.now) (form_of z.now) env.now) (map plain_pair pairs.now) }
+    requires budget { set.old.budget ≡ limit }
+    ensures gathers { Gathers limit (flat_map (pair_moves (form_of y.now) (form_of z.now) env.now action.now) (map plain_pair pairs.now)) (map plain_pair set.old.items) (map plain_pair set.new.items) result }
+    ensures budget { set.new.budget ≡ set.old.budget }
+{
+    for pair in pairs {
+        if let Err(fault) = gather_pair(y, z, pair, env, action, alloc, limit, set) {
+            return Err(fault);
+        }
+    }
+    Ok(())
+}
+
+/// Puts into the set the pair with its left side moved, and the pair with its right side moved.
+#[cycle(advance)]
+#[tactic(none)]
+fn gather_pair(
+    y: &Expr,
+    z: &Expr,
+    pair: &Pair,
+    env: &Env,
+    action: &Action,
+    alloc: Global,
+    limit: usize,
+    set: &mut AltSet<Pair>,
+) -> Result<(), BuildFault>
+    requires ready { IsReadyPair limit (form_of y.now) (form_of z.now) env.now (plain_pair pair.now) }
+    requires budget { set.old.budget ≡ limit }
+    ensures gathers { Gathers limit (pair_moves (form_of y.now) (form_of z.now) env.now action.now (plain_pair pair.now)) (map plain_pair set.old.items) (map plain_pair set.new.items) result }
+    ensures budget { set.new.budget ≡ set.old.budget }
+{
+    let left = advance(y, &pair.first, env, action, alloc, limit);
+    if let Err(fault) = put_left(set, left, &pair.second, alloc) {
+        return Err(fault);
+    }
+    let right = advance(z, &pair.second, env, action, alloc, limit);
+    put_right(set, &pair.first, right, alloc)
+}
+
+/// The moved tree of `#y`.
+#[cycle(advance)]
+#[tactic(none)]
+pub(crate) fn advance_par_star(
+    y: &Expr,
+    tree: &Tree,
+    env: &Env,
+    action: &Action,
+    alloc: Global,
+    limit: usize,
+) -> Result<Tree, BuildFault>
+    requires ready { Ready limit (par_star (form_of y.now)) env.now (plain tree.now) }
+    requires may { may (par_star (form_of y.now)) env.now (plain tree.now) action.now ≡ true }
+    ensures { Builds limit (moved (par_star (form_of y.now)) env.now (plain tree.now) action.now) result }
+{
+    let Tree::ParStar(bags) = tree else {
+        return Ok(Tree::Dead);
+    };
+    let mut set = AltSet::new(alloc, limit);
+    let first = advance_again(y, true, env, action, alloc, limit);
+    let gathered = gather_bags(y, bags, &first, env, action, alloc, limit, &mut set);
+    par_star_node(gathered, set, limit)
+}
+
+/// Puts into the set what each of the bags gives.
+#[cycle(advance)]
+#[tactic(none)]
+fn gather_bags(
+    y: &Expr,
+    bags: &[Bag],
+    first: &Result<Tree, BuildFault>,
+    env: &Env,
+    action: &Action,
+    alloc: Global,
+    limit: usize,
+    set: &mut AltSet<Bag>,
+) -> Result<(), BuildFault>
+    requires ready { Each (IsReadyBag limit (form_of y.now) env.now) (map plain_bag bags.now) }
+    requires range { IsLimit limit }
+    requires first { Builds limit (begun (form_of y.now) env.now action.now) first.now }
+    requires budget { set.old.budget ≡ limit }
+    ensures gathers { Gathers limit (flat_map (bag_moves (form_of y.now) env.now action.now) (map plain_bag bags.now)) (map plain_bag set.old.items) (map plain_bag set.new.items) result }
+    ensures budget { set.new.budget ≡ set.old.budget }
+{
+    for bag in bags {
+        if let Err(fault) = gather_bag(y, bag, first, env, action, alloc, limit, set) {
+            return Err(fault);
+        }
+    }
+    Ok(())
+}
+
+/// Puts into the set the bags with one tree moved, and the bag with one more.
+#[cycle(advance)]
+#[tactic(none)]
+fn gather_bag(
+    y: &Expr,
+    bag: &Bag,
+    first: &Result<Tree, BuildFault>,
+    env: &Env,
+    action: &Action,
+    alloc: Global,
+    limit: usize,
+    set: &mut AltSet<Bag>,
+) -> Result<(), BuildFault>
+    requires ready { IsReadyBag limit (form_of y.now) env.now (plain_bag bag.now) }
+    requires range { IsLimit limit }
+    requires first { Builds limit (begun (form_of y.now) env.now action.now) first.now }
+    requires budget { set.old.budget ≡ limit }
+    ensures gathers { Gathers limit (bag_moves (form_of y.now) env.now action.now (plain_bag bag.now)) (map plain_bag set.old.items) (map plain_bag set.new.items) result }
+    ensures budget { set.new.budget ≡ set.old.budget }
+{
+    if let Err(fault) = gather_picks(y, &bag.items, env, action, alloc, limit, set) {
+        return Err(fault);
+    }
+    put_first(set, first, &bag.items, alloc)
+}
+
+/// Puts into the set, for each of the trees, the bag of all of them with this one moved.
+#[cycle(advance)]
+#[tactic(none)]
+fn gather_picks(
+    y: &Expr,
+    items: &[Tree],
+    env: &Env,
+    action: &Action,
+    alloc: Global,
+    limit: usize,
+    set: &mut AltSet<Bag>,
+) -> Result<(), BuildFault>
+    requires ready { Each (Ready limit (form_of y.now) env.now) (map plain items.now) }
+    requires range { IsLimit limit }
+    requires size { size_of (plain_trees items.now) ≤ 1000000 }
+    requires budget { set.old.budget ≡ limit }
+    ensures gathers { Gathers limit (pick_moves (form_of y.now) env.now action.now (map plain items.now)) (map plain_bag set.old.items) (map plain_bag set.new.items) result }
+    ensures budget { set.new.budget ≡ set.old.budget }
+{
+    for (place, item) in items.iter().enumerate() {
+        let moved = advance(y, item, env, action, alloc, limit);
+        if let Err(fault) = put_moved(set, moved, items, place, alloc) {
+            return Err(fault);
+        }
+    }
+    Ok(())
+}

@@ -1,0 +1,333 @@
+//! The moved trees of the quantifiers.
+
+ghost use Rattle.std.specs.Prelude.{◌≡◌, ℕ, ◌≤◌, ◌++◌, ◌∷◌, [], List, IfOk, MatchResult, false, true, map};
+ghost use Rattle.std.specs.Map.{keys_of};
+ghost use Rattle.ix_expr.specs.FormOf.{form_of};
+ghost use Rattle.ix_expr.specs.Form.{any, every, sync};
+ghost use Rattle.ix_tree.specs.Plain.{Plain, listed, any as any_of, every as every_of, sync as sync_of};
+ghost use Rattle.ix_tree.specs.PlainOf.{plain, plain_entry, plain_entries};
+ghost use Rattle.ix_tree.specs.Size.{size_of};
+ghost use Rattle.ix_can.specs.May.{may};
+ghost use Rattle.ix_can.specs.Moved.{moved};
+ghost use Rattle.ix_step.specs.Building.{Builds};
+ghost use Rattle.ix_step.specs.Ready.{Ready};
+ghost use Rattle.ix_step.specs.Entering.{entries_put};
+ghost use Rattle.ix_step.specs.Quantified.{ReadyInside, moved_part, common_after, tree_after, touched, BuildsEntries, BuildsParts, AreSmallParts};
+
+use crate::advance::{advance, advance_inside};
+use crate::entries::put_tree;
+use crate::fault::BuildFault;
+use crate::nodes::{boxed, within};
+use ix_entries::at;
+use ix_expr::{Env, Expr};
+use ix_tree::Tree;
+use ix_values::{Action, Name, Value};
+use std::alloc::Global;
+
+/// The moved tree of `any $p y`.
+#[cycle(advance)]
+#[tactic(none)]
+pub(crate) fn advance_any(
+    parameter: &Name,
+    y: &Expr,
+    tree: &Tree,
+    env: &Env,
+    action: &Action,
+    alloc: Global,
+    limit: usize,
+) -> Result<Tree, BuildFault>
+    requires ready { Ready limit (any parameter.now (form_of y.now)) env.now (plain tree.now) }
+    requires may { may (any parameter.now (form_of y.now)) env.now (plain tree.now) action.now ≡ true }
+    ensures { Builds limit (moved (any parameter.now (form_of y.now)) env.now (plain tree.now) action.now) result }
+{
+    let Tree::Any(common, entries) = tree else {
+        return Ok(Tree::Dead);
+    };
+    let parts = advance_parts(
+        y, parameter, common, entries, env, action, false, alloc, limit,
+    );
+    any_node(parts, limit)
+}
+
+/// The moved tree of `every $p y`.
+#[cycle(advance)]
+#[tactic(none)]
+pub(crate) fn advance_every(
+    parameter: &Name,
+    y: &Expr,
+    tree: &Tree,
+    env: &Env,
+    action: &Action,
+    alloc: Global,
+    limit: usize,
+) -> Result<Tree, BuildFault>
+    requires ready { Ready limit (every parameter.now (form_of y.now)) env.now (plain tree.now) }
+    requires may { may (every parameter.now (form_of y.now)) env.now (plain tree.now) action.now ≡ true }
+    ensures { Builds limit (moved (every parameter.now (form_of y.now)) env.now (plain tree.now) action.now) result }
+{
+    let Tree::Every(common, entries) = tree else {
+        return Ok(Tree::Dead);
+    };
+    let parts = advance_parts(
+        y, parameter, common, entries, env, action, false, alloc, limit,
+    );
+    every_node(parts, limit)
+}
+
+/// The moved tree of `sync $p y`.
+#[cycle(advance)]
+#[tactic(none)]
+pub(crate) fn advance_sync(
+    parameter: &Name,
+    y: &Expr,
+    tree: &Tree,
+    env: &Env,
+    action: &Action,
+    alloc: Global,
+    limit: usize,
+) -> Result<Tree, BuildFault>
+    requires ready { Ready limit (sync parameter.now (form_of y.now)) env.now (plain tree.now) }
+    requires may { may (sync parameter.now (form_of y.now)) env.now (plain tree.now) action.now ≡ true }
+    ensures { Builds limit (moved (sync parameter.now (form_of y.now)) env.now (plain tree.now) action.now) result }
+{
+    let Tree::Sync(common, entries) = tree else {
+        return Ok(Tree::Dead);
+    };
+    let parts = advance_parts(
+        y, parameter, common, entries, env, action, true, alloc, limit,
+    );
+    sync_node(parts, limit)
+}
+
+/// The moved common tree, and the entries beside it of the values that have entries and of the action's values.
+#[cycle(advance)]
+fn advance_parts(
+    y: &Expr,
+    parameter: &Name,
+    common: &Tree,
+    entries: &[(Value, Tree)],
+    env: &Env,
+    action: &Action,
+    only_inside: bool,
+    alloc: Global,
+    limit: usize,
+) -> Result<(Box<Tree>, Vec<(Value, Tree)>), BuildFault>
+    requires { ReadyInside limit parameter.now (form_of y.now) env.now (plain common.now) (map plain_entry entries.now) }
+    ensures { BuildsParts limit
+        (common_after only_inside parameter.now (form_of y.now) env.now action.now (plain common.now))
+        (tree_after only_inside parameter.now (form_of y.now) env.now action.now (plain common.now) (map plain_entry entries.now))
+        (touched entries.now action.now)
+        result }
+{
+    let outside = env.with(*parameter, None);
+    let next = match advance_part(y, common, &outside, action, only_inside, alloc, limit) {
+        Ok(next) => next,
+        Err(fault) => return Err(fault),
+    };
+    let values = match touched_values(entries, action, alloc) {
+        Ok(values) => values,
+        Err(_) => return Err(BuildFault::Memory),
+    };
+    let moved = trees_after(
+        y,
+        parameter,
+        common,
+        entries,
+        &values,
+        &next,
+        env,
+        action,
+        only_inside,
+        alloc,
+        limit,
+    );
+    beside(next, moved, alloc)
+}
+
+/// The common tree in a box, and the entries beside it.
+fn beside(
+    common: Tree,
+    entries: Result<Vec<(Value, Tree)>, BuildFault>,
+    alloc: Global,
+) -> Result<(Box<Tree>, Vec<(Value, Tree)>), BuildFault>
+    ensures { (limit : ℕ) (tree : List ℕ → Plain) (values : List (List ℕ))
+        → size_of (plain common) ≤ limit
+        → BuildsEntries limit (plain common) tree values entries
+        → BuildsParts limit (plain common) tree values result }
+{
+    match entries {
+        Ok(entries) => match boxed(common, alloc) {
+            Ok(common) => Ok((common, entries)),
+            Err(_) => Err(BuildFault::Memory),
+        },
+        Err(fault) => Err(fault),
+    }
+}
+
+/// The entries of the values after the action, beside the moved common tree `next`.
+#[cycle(advance)]
+fn trees_after(
+    y: &Expr,
+    parameter: &Name,
+    common: &Tree,
+    entries: &[(Value, Tree)],
+    values: &[Value],
+    next: &Tree,
+    env: &Env,
+    action: &Action,
+    only_inside: bool,
+    alloc: Global,
+    limit: usize,
+) -> Result<Vec<(Value, Tree)>, BuildFault>
+    requires { ReadyInside limit parameter.now (form_of y.now) env.now (plain common.now) (map plain_entry entries.now) }
+    ensures { BuildsEntries limit (plain next.now)
+        (tree_after only_inside parameter.now (form_of y.now) env.now action.now (plain common.now) (map plain_entry entries.now))
+        values.now
+        result }
+{
+    let mut built = Vec::new(alloc);
+    let mut total = 0;
+    for value in values {
+        let tree = value_tree(
+            y,
+            parameter,
+            common,
+            entries,
+            value,
+            env,
+            action,
+            only_inside,
+            alloc,
+            limit,
+        );
+        match put_tree(&mut built, total, next, *value, tree, limit) {
+            Ok(sum) => total = sum,
+            Err(fault) => return Err(fault),
+        }
+    }
+    Ok(built)
+}
+
+/// The tree of the value after the action.
+#[cycle(advance)]
+fn value_tree(
+    y: &Expr,
+    parameter: &Name,
+    common: &Tree,
+    entries: &[(Value, Tree)],
+    value: &Value,
+    env: &Env,
+    action: &Action,
+    only_inside: bool,
+    alloc: Global,
+    limit: usize,
+) -> Result<Tree, BuildFault>
+    requires { ReadyInside limit parameter.now (form_of y.now) env.now (plain common.now) (map plain_entry entries.now) }
+    ensures { Builds limit
+        (tree_after only_inside parameter.now (form_of y.now) env.now action.now (plain common.now) (map plain_entry entries.now) value.now)
+        result }
+{
+    let inside = env.with(*parameter, Some(*value));
+    advance_part(
+        y,
+        at(entries, common, value),
+        &inside,
+        action,
+        only_inside,
+        alloc,
+        limit,
+    )
+}
+
+/// The moved tree; where only what is inside moves, a copy of the tree where the action is outside the alphabet.
+#[cycle(advance)]
+fn advance_part(
+    y: &Expr,
+    tree: &Tree,
+    env: &Env,
+    action: &Action,
+    only_inside: bool,
+    alloc: Global,
+    limit: usize,
+) -> Result<Tree, BuildFault>
+    requires { Ready limit (form_of y.now) env.now (plain tree.now) }
+    ensures { Builds limit (moved_part only_inside (form_of y.now) env.now action.now (plain tree.now)) result }
+{
+    if only_inside {
+        advance_inside(y, tree, env, action, alloc, limit)
+    } else {
+        advance(y, tree, env, action, alloc, limit)
+    }
+}
+
+/// The values that have entries, and those of the action.
+fn touched_values(
+    entries: &[(Value, Tree)],
+    action: &Action,
+    alloc: Global,
+) -> Result<Vec<Value>, BuildFault>
+    ensures { MatchResult result (λ values. values.items ≡ touched entries.now action.now) (λ fault. fault ≡ BuildFault.Memory) }
+{
+    let mut values = Vec::new(alloc);
+    for entry in entries {
+        match values.push(entry.0) {
+            Ok(()) => {}
+            Err(_) => return Err(BuildFault::Memory),
+        }
+    }
+    match values.extend_from_slice(action.values()) {
+        Ok(()) => Ok(values),
+        Err(_) => Err(BuildFault::Memory),
+    }
+}
+
+/// The node of `any $p y` after an action.
+#[tactic(auto, using(ix_tree::specs::PlainParts::plain_parts))]
+fn any_node(
+    parts: Result<(Box<Tree>, Vec<(Value, Tree)>), BuildFault>,
+    limit: usize,
+) -> Result<Tree, BuildFault>
+    requires { AreSmallParts parts }
+    ensures { (common : Plain) (tree : List ℕ → Plain) (values : List (List ℕ))
+        → BuildsParts limit common tree values parts
+        → Builds limit (any_of common (listed (entries_put common tree values))) result }
+{
+    match parts {
+        Ok((common, entries)) => within(Tree::Any(common, entries), limit),
+        Err(fault) => Err(fault),
+    }
+}
+
+/// The node of `every $p y` after an action.
+#[tactic(auto, using(ix_tree::specs::PlainParts::plain_parts))]
+fn every_node(
+    parts: Result<(Box<Tree>, Vec<(Value, Tree)>), BuildFault>,
+    limit: usize,
+) -> Result<Tree, BuildFault>
+    requires { AreSmallParts parts }
+    ensures { (common : Plain) (tree : List ℕ → Plain) (values : List (List ℕ))
+        → BuildsParts limit common tree values parts
+        → Builds limit (every_of common (listed (entries_put common tree values))) result }
+{
+    match parts {
+        Ok((common, entries)) => within(Tree::Every(common, entries), limit),
+        Err(fault) => Err(fault),
+    }
+}
+
+/// The node of `sync $p y` after an action.
+#[tactic(auto, using(ix_tree::specs::PlainParts::plain_parts))]
+fn sync_node(
+    parts: Result<(Box<Tree>, Vec<(Value, Tree)>), BuildFault>,
+    limit: usize,
+) -> Result<Tree, BuildFault>
+    requires { AreSmallParts parts }
+    ensures { (common : Plain) (tree : List ℕ → Plain) (values : List (List ℕ))
+        → BuildsParts limit common tree values parts
+        → Builds limit (sync_of common (listed (entries_put common tree values))) result }
+{
+    match parts {
+        Ok((common, entries)) => within(Tree::Sync(common, entries), limit),
+        Err(fault) => Err(fault),
+    }
+}
