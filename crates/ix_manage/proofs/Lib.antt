@@ -1,6 +1,6 @@
 pub mod FirstParts
-pub mod Chains
 pub mod LineLists
+pub mod NamedWords
 pub mod Answering
 pub mod Tracing
 pub mod Ending

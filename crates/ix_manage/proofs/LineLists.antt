@@ -1,8 +1,6 @@
 -- Lines, and lists of a known length.
-use Rattle.std.proofs.Common.{◌≡◌, ℕ, ◌<◌, ◌≤◌, List, [], ◌∷◌, ◌++◌, length, get_or, Option, Some, None, refl, sym, ap, subst, ◌∙◌, arith}
-use Rattle.std.specs.Option.{option_to_list, IsSome}
+use Rattle.std.proofs.Common.{◌≡◌, ℕ, ◌<◌, ◌≤◌, List, [], ◌∷◌, length, get_or, refl, sym, ap, subst, ◌∙◌, arith}
 use Rattle.std.specs.List.{slice_split, join_with_byte}
-use Rattle.std.proofs.lemmas.Bool.{false≢true}
 use Rattle.std.proofs.lemmas.List.Splits.{length-slice_split, join_with_byte-slice_split}
 use Rattle.ix_manage.specs.ActionLines.{is_line_end, without_empty_end, lines_of}
 
@@ -39,18 +37,12 @@ module _ {A : Type 0} where
   three_items (x ∷ y ∷ z ∷ []) a b c low high p q r = cc
   three_items (x ∷ y ∷ z ∷ w ∷ ws) a b c low high p q r = absurd (omega arith)
 
-  snoc_same : (xs ys : List A) (a b : A) → xs ++ a ∷ [] ≡ ys ++ b ∷ [] → xs ≡ ys
-  snoc_same [] [] a b e = refl
-  snoc_same [] (y ∷ []) a b e = cc
-  snoc_same [] (y ∷ z ∷ ys) a b e = cc
-  snoc_same (x ∷ []) [] a b e = cc
-  snoc_same (x ∷ z ∷ xs) [] a b e = cc
-  snoc_same (x ∷ xs) (y ∷ ys) a b e =
-      let heads : x ≡ y = cc in
-      let tails : xs ++ a ∷ [] ≡ ys ++ b ∷ [] = cc in
-      let fronts = snoc_same xs ys a b tails in cc
-
-  -- what a pop leaves of what a push made
-  pub popped : (xs ys pushed : List A) (a : A) (o : Option A) → pushed ≡ xs ++ a ∷ [] → pushed ≡ ys ++ option_to_list o → IsSome o → ys ≡ xs
-  popped xs ys pushed a None push pop some = absurd (false≢true some)
-  popped xs ys pushed a (Some b) push pop some = sym (snoc_same xs ys a b (sym push ∙ pop))
+  pub five_items : (xs : List A) (a b c d e : A) → 5 ≤ length xs → length xs < 6 → a ≡ get_or xs 0 a → b ≡ get_or xs 1 b → c ≡ get_or xs 2 c → d ≡ get_or xs 3 d → e ≡ get_or xs 4 e
+      → xs ≡ a ∷ b ∷ c ∷ d ∷ e ∷ []
+  five_items (v ∷ w ∷ x ∷ y ∷ z ∷ []) a b c d e low high p q r s t = cc
+  five_items [] a b c d e low high p q r s t = absurd (omega arith)
+  five_items (v ∷ []) a b c d e low high p q r s t = absurd (omega arith)
+  five_items (v ∷ w ∷ []) a b c d e low high p q r s t = absurd (omega arith)
+  five_items (v ∷ w ∷ x ∷ []) a b c d e low high p q r s t = absurd (omega arith)
+  five_items (v ∷ w ∷ x ∷ y ∷ []) a b c d e low high p q r s t = absurd (omega arith)
+  five_items (v ∷ w ∷ x ∷ y ∷ z ∷ u ∷ us) a b c d e low high p q r s t = absurd (omega arith)

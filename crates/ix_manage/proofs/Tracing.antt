@@ -77,9 +77,9 @@ word_of (text ∷ lines) (item good more) =
     (good.action ∷ rest.0, item good.valid rest.1, ap (λ t. t ∷ lines) good.same ∙ ap (λ ts. text_of good.action ∷ ts) rest.2)
 
 -- memory runs out with some lines left
-pub trace_short : (x : Form) (all rest : List ℕ) (front history : Word) (text : List ℕ) → StandBefore all rest front → Each IsActionText (lines_of rest)
-    → Answers x [] front text history → TracesLines x all 9 (text ++ line (codes "refused memory"))
-trace_short x all rest front history text so_far good answers =
+pub trace_short : (x : Form) (limit : ℕ) (all rest : List ℕ) (front history : Word) (text : List ℕ) → StandBefore all rest front → Each IsActionText (lines_of rest)
+    → Answers x limit [] front text history → TracesLines x limit all 9 (text ++ line (codes "refused memory"))
+trace_short x limit all rest front history text so_far good answers =
     let behind = word_of (lines_of rest) good in record {
       actions = front ++ behind.0;
       has = record {
@@ -90,10 +90,10 @@ trace_short x all rest front history text so_far good answers =
     }
 
 -- all actions are answered
-pub trace_ends : (x : Form) (all rest : List ℕ) (front history word : Word) (text last : List ℕ) → length rest ≡ 0 → StandBefore all rest front
-    → Answers x [] front text history → word ≡ history → Verdict x word last → TracesLines x all 0 (text ++ last)
-trace_ends x all rest front history word text last none so_far answers same verdict = record {
+pub trace_ends : (x : Form) (limit : ℕ) (all rest : List ℕ) (front history : Word) (text last : List ℕ) → length rest ≡ 0 → StandBefore all rest front
+    → Answers x limit [] front text history → Verdict x history last → TracesLines x limit all 0 (text ++ last)
+trace_ends x limit all rest front history text last none so_far answers verdict = record {
   actions = front;
   has = front_end all rest front none so_far;
-  traces = whole answers (subst (λ w. Verdict x w last) same verdict);
+  traces = whole answers verdict;
 }

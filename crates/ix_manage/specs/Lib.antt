@@ -1,9 +1,6 @@
 pub mod Command
 pub mod ActionLines
-pub mod Built
-pub mod Texts
 pub mod Trace
 pub mod Parts
-pub mod Walk
 pub mod Refusal
 pub mod Run

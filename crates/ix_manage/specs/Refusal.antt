@@ -1,16 +1,17 @@
 -- Why a run ends before it has its answer, and what it puts then.
-use Rattle.std.specs.Prelude.{ℕ, List, Option, codes, ⊤}
+use Rattle.std.specs.Prelude.{◌≡◌, ℕ, List, Option, codes, ⊤}
 use Rattle.ix_manage.specs.declared.refusal.Refusal.{Refusal}
-use Rattle.ix_manage.specs.declared.refusal.Refusal.TheVariants.{Words, BadText, LostExpression, BadActions, LostActions, Memory}
+use Rattle.ix_manage.specs.declared.refusal.Refusal.TheVariants.{Words, BadText, Large, LostExpression, BadActions, LostActions, Memory}
 use Rattle.ix_outside.specs.Files.{Listing}
+use Rattle.ix_parse.specs.Faults.{IsFirstFault}
 use Rattle.ix_manage.specs.ActionLines.{line}
-use Rattle.ix_manage.specs.Texts.{HasTextFault}
-use Rattle.ix_manage.specs.Trace.{fault_line, HasBadText, HasBadActions}
+use Rattle.ix_manage.specs.Trace.{fault_line, large_line, HasBadText, HasBadActions, StartsAbove}
 
 -- the line that says why
 abbrev pub refusal_line : Refusal → List ℕ
 refusal_line Words = line (codes "refused words")
 refusal_line (BadText code at) = fault_line (codes "expression") code at
+refusal_line (Large limit) = large_line limit
 refusal_line LostExpression = line (codes "refused file expression")
 refusal_line (BadActions code at) = fault_line (codes "actions") code at
 refusal_line LostActions = line (codes "refused file actions")
@@ -20,6 +21,7 @@ refusal_line Memory = line (codes "refused memory")
 abbrev pub refusal_status : Refusal → ℕ
 refusal_status Words = 2
 refusal_status (BadText code at) = 3
+refusal_status (Large limit) = 3
 refusal_status LostExpression = 4
 refusal_status (BadActions code at) = 3
 refusal_status LostActions = 4
@@ -27,9 +29,10 @@ refusal_status Memory = 9
 
 -- why a text of an expression is refused
 abbrev pub RefusesText : List ℕ → Refusal → Type 0
-RefusesText text (BadText code at) = HasTextFault text code at
+RefusesText text (BadText code at) = IsFirstFault text code at
 RefusesText text Memory = ⊤
 RefusesText text Words = ⊥
+RefusesText text (Large limit) = ⊥
 RefusesText text LostExpression = ⊥
 RefusesText text (BadActions code at) = ⊥
 RefusesText text LostActions = ⊥
@@ -39,9 +42,20 @@ abbrev pub RefusesExpression : Option Listing → List ℕ → Refusal → Type 
 RefusesExpression files name (BadText code at) = HasBadText files name code at
 RefusesExpression files name LostExpression = ⊤
 RefusesExpression files name Memory = ⊤
+RefusesExpression files name (Large limit) = ⊥
 RefusesExpression files name Words = ⊥
 RefusesExpression files name (BadActions code at) = ⊥
 RefusesExpression files name LostActions = ⊥
+
+-- why no engine is made of an expression file of this name under a limit
+abbrev pub RefusesStart : Option Listing → List ℕ → ℕ → Refusal → Type 0
+RefusesStart files name limit (BadText code at) = HasBadText files name code at
+RefusesStart files name limit (Large most) = (most ≡ limit) × StartsAbove files name limit
+RefusesStart files name limit LostExpression = ⊤
+RefusesStart files name limit Memory = ⊤
+RefusesStart files name limit Words = ⊥
+RefusesStart files name limit (BadActions code at) = ⊥
+RefusesStart files name limit LostActions = ⊥
 
 -- why an actions file of this name is refused
 abbrev pub RefusesActions : Option Listing → List ℕ → Refusal → Type 0
@@ -50,4 +64,5 @@ RefusesActions files name LostActions = ⊤
 RefusesActions files name Memory = ⊤
 RefusesActions files name Words = ⊥
 RefusesActions files name (BadText code at) = ⊥
+RefusesActions files name (Large limit) = ⊥
 RefusesActions files name LostExpression = ⊥

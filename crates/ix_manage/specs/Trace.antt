@@ -1,34 +1,62 @@
 -- What `trace` puts, and how it ends.
-use Rattle.std.specs.Prelude.{◌≡◌, ℕ, ◌≤◌, List, [], ◌∷◌, ◌++◌, length, Option, codes, decimal}
+use Rattle.std.specs.Prelude.{◌≡◌, ℕ, ◌<◌, ◌≤◌, List, [], ◌∷◌, ◌++◌, length, Option, codes, decimal}
 use Rattle.ix_values.specs.PlainAction.{PlainAction, Word}
 use Rattle.ix_expr.specs.Form.{Form}
 use Rattle.ix_expr.specs.Meaning.{IsComplete, IsPartial}
+use Rattle.ix_parse.specs.Faults.{StandsFor, IsFirstFault}
 use Rattle.ix_outside.specs.Files.{Listing, HasFile, HasLonger}
+use Rattle.ix_tree.specs.Size.{size_of}
+use Rattle.ix_can.specs.TreeOf.{tree_of}
 use Rattle.ix_manage.specs.ActionLines.{HasActions, IsFirstBadLine, line}
-use Rattle.ix_manage.specs.Texts.{ReadsText, HasTextFault}
 use Rattle.ix_manage.specs.Command.{NamesTrace}
 
--- The lines for actions after a history, and the history after them. An action with which the history is
--- partial is answered `yes` and joins the history; any other is answered `no`.
-pub data Answers (x : Form) : Word → Word → List ℕ → Word → Type 0 where
-  done : {history : Word} → Answers x history [] [] history
-  yes : {history actions after : Word} {action : PlainAction} {text : List ℕ}
-      → IsPartial x [] (history ++ action ∷ []) → Answers x (history ++ action ∷ []) actions text after
-      → Answers x history (action ∷ actions) (line (codes "yes") ++ text) after
+-- the Size of the tree of a word of the expression
+abbrev pub tree_size : Form → Word → ℕ
+tree_size x w = size_of (tree_of x [] w)
+
+-- The lines for actions after a history, and the history after them, under a limit of Size. An action with which the
+-- history isn't partial is answered `no`; any other `full` where the history has 1,000,000 actions, else `large` where
+-- the Size of the tree of the history with it is above the limit, and else `yes`. A `yes` action joins the history.
+pub data Answers (x : Form) (limit : ℕ) : Word → Word → List ℕ → Word → Type 0 where
+  done : {history : Word} → Answers x limit history [] [] history
   no : {history actions after : Word} {action : PlainAction} {text : List ℕ}
-      → (IsPartial x [] (history ++ action ∷ []) → ⊥) → Answers x history actions text after
-      → Answers x history (action ∷ actions) (line (codes "no") ++ text) after
+      → (IsPartial x [] (history ++ action ∷ []) → ⊥)
+      → Answers x limit history actions text after
+      → Answers x limit history (action ∷ actions) (line (codes "no") ++ text) after
+  full : {history actions after : Word} {action : PlainAction} {text : List ℕ}
+      → IsPartial x [] (history ++ action ∷ []) → length history ≡ 1000000
+      → Answers x limit history actions text after
+      → Answers x limit history (action ∷ actions) (line (codes "full") ++ text) after
+  large : {history actions after : Word} {action : PlainAction} {text : List ℕ}
+      → IsPartial x [] (history ++ action ∷ []) → length history < 1000000 → limit < tree_size x (history ++ action ∷ [])
+      → Answers x limit history actions text after
+      → Answers x limit history (action ∷ actions) (line (codes "large") ++ text) after
+  yes : {history actions after : Word} {action : PlainAction} {text : List ℕ}
+      → IsPartial x [] (history ++ action ∷ []) → length history < 1000000 → tree_size x (history ++ action ∷ []) ≤ limit
+      → Answers x limit (history ++ action ∷ []) actions text after
+      → Answers x limit history (action ∷ actions) (line (codes "yes") ++ text) after
 
 -- the last line
 pub data Verdict (x : Form) (history : Word) : List ℕ → Type 0 where
   complete : IsComplete x [] history → Verdict x history (line (codes "complete"))
   partial : (IsComplete x [] history → ⊥) → Verdict x history (line (codes "partial"))
 
--- the file of this name stands for the form, which is built
+-- the file of this name stands for the form
 pub record ReadsForm (files : Option Listing) (name : List ℕ) (x : Form) : Type 0 where
   pub text : List ℕ
   pub file : HasFile files name text
-  pub reads : ReadsText text x
+  pub stands : StandsFor text x
+
+-- the file of this name stands for the form, and the Size of its initial tree is within the limit
+pub record Starts (files : Option Listing) (name : List ℕ) (limit : ℕ) (x : Form) : Type 0 where
+  pub reads : ReadsForm files name x
+  pub small : tree_size x [] ≤ limit
+
+-- the file of this name stands for a form, and the Size of its initial tree is above the limit
+pub record StartsAbove (files : Option Listing) (name : List ℕ) (limit : ℕ) : Type 0 where
+  pub form : Form
+  pub reads : ReadsForm files name form
+  pub above : limit < tree_size form []
 
 -- the file of this name has these actions
 pub record ReadsActions (files : Option Listing) (name : List ℕ) (actions : Word) : Type 0 where
@@ -41,7 +69,7 @@ pub record ReadsActions (files : Option Listing) (name : List ℕ) (actions : Wo
 pub data HasBadText (files : Option Listing) (name : List ℕ) : ℕ → ℕ → Type 0 where
   longer : HasLonger files name 16384 → HasBadText files name 1 16384
   within : {text : List ℕ} {code at : ℕ}
-      → HasFile files name text → HasTextFault text code at
+      → HasFile files name text → IsFirstFault text code at
       → HasBadText files name code at
 
 -- the actions file of this name has this fault: its length, or that of its first line that is no action's text
@@ -55,41 +83,48 @@ pub data HasBadActions (files : Option Listing) (name : List ℕ) : ℕ → ℕ 
 abbrev pub fault_line : List ℕ → ℕ → ℕ → List ℕ
 fault_line file code at = line (codes "refused " ++ file ++ codes " " ++ decimal code ++ codes " at " ++ decimal at)
 
--- What `trace` may put for a form and actions, by the status: the answers to all actions and the last line, or,
--- where memory ran out, the answers to a front of them and the line that says so.
-pub data Traces (x : Form) (actions : Word) : ℕ → List ℕ → Type 0 where
-  whole : {history : Word} {text last : List ℕ}
-      → Answers x [] actions text history → Verdict x history last → Traces x actions 0 (text ++ last)
-  short : {front history : Word} {text : List ℕ} (rest : Word)
-      → front ++ rest ≡ actions → Answers x [] front text history
-      → Traces x actions 9 (text ++ line (codes "refused memory"))
+-- the line that says that the initial tree is above the limit
+abbrev pub large_line : ℕ → List ℕ
+large_line limit = line (codes "refused expression 14 large " ++ decimal limit)
 
--- what `trace` may put for a form and the bytes of an actions file, by the status
-pub record TracesLines (x : Form) (bytes : List ℕ) (status : ℕ) (text : List ℕ) : Type 0 where
+-- What `trace` may put for a form, a limit and actions, by the status: the answers to all actions and the last line, or,
+-- where memory ran out, the answers to a front of them and the line that says so.
+pub data Traces (x : Form) (limit : ℕ) (actions : Word) : ℕ → List ℕ → Type 0 where
+  whole : {history : Word} {text last : List ℕ}
+      → Answers x limit [] actions text history → Verdict x history last → Traces x limit actions 0 (text ++ last)
+  short : {front history : Word} {text : List ℕ} (rest : Word)
+      → front ++ rest ≡ actions → Answers x limit [] front text history
+      → Traces x limit actions 9 (text ++ line (codes "refused memory"))
+
+-- what `trace` may put for a form, a limit and the bytes of an actions file, by the status
+pub record TracesLines (x : Form) (limit : ℕ) (bytes : List ℕ) (status : ℕ) (text : List ℕ) : Type 0 where
   pub actions : Word
   pub has : HasActions bytes actions
-  pub traces : Traces x actions status text
+  pub traces : Traces x limit actions status text
 
 -- How a run may end, by the words and the files: its status, and all that it puts.
 pub data Ends (words : List (List ℕ)) (files : Option Listing) : ℕ → List ℕ → Type 0 where
-  other_words : ((expression actions : List ℕ) → NamesTrace words expression actions → ⊥)
+  other_words : ((limit : ℕ) (expression actions : List ℕ) → NamesTrace words limit expression actions → ⊥)
       → Ends words files 2 (line (codes "refused words"))
-  bad_text : {expression actions : List ℕ} {code at : ℕ}
-      → NamesTrace words expression actions → HasBadText files expression code at
+  bad_text : {limit : ℕ} {expression actions : List ℕ} {code at : ℕ}
+      → NamesTrace words limit expression actions → HasBadText files expression code at
       → Ends words files 3 (fault_line (codes "expression") code at)
-  bad_actions : {expression actions : List ℕ} {x : Form} {code at : ℕ}
-      → NamesTrace words expression actions → ReadsForm files expression x → HasBadActions files actions code at
+  large_start : {limit : ℕ} {expression actions : List ℕ}
+      → NamesTrace words limit expression actions → StartsAbove files expression limit
+      → Ends words files 3 (large_line limit)
+  bad_actions : {limit : ℕ} {expression actions : List ℕ} {x : Form} {code at : ℕ}
+      → NamesTrace words limit expression actions → Starts files expression limit x → HasBadActions files actions code at
       → Ends words files 3 (fault_line (codes "actions") code at)
-  lost_expression : {expression actions : List ℕ}
-      → NamesTrace words expression actions
+  lost_expression : {limit : ℕ} {expression actions : List ℕ}
+      → NamesTrace words limit expression actions
       → Ends words files 4 (line (codes "refused file expression"))
-  lost_actions : {expression actions : List ℕ} {x : Form}
-      → NamesTrace words expression actions → ReadsForm files expression x
+  lost_actions : {limit : ℕ} {expression actions : List ℕ} {x : Form}
+      → NamesTrace words limit expression actions → Starts files expression limit x
       → Ends words files 4 (line (codes "refused file actions"))
-  no_memory : {expression actions : List ℕ}
-      → NamesTrace words expression actions
+  no_memory : {limit : ℕ} {expression actions : List ℕ}
+      → NamesTrace words limit expression actions
       → Ends words files 9 (line (codes "refused memory"))
-  traced : {expression actions : List ℕ} {x : Form} {word : Word} {status : ℕ} {text : List ℕ}
-      → NamesTrace words expression actions → ReadsForm files expression x → ReadsActions files actions word
-      → Traces x word status text
+  traced : {limit : ℕ} {expression actions : List ℕ} {x : Form} {word : Word} {status : ℕ} {text : List ℕ}
+      → NamesTrace words limit expression actions → Starts files expression limit x → ReadsActions files actions word
+      → Traces x limit word status text
       → Ends words files status text

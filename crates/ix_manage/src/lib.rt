@@ -8,12 +8,11 @@ ghost use Rattle.ix_outside.specs.Sink.{AppendsPart};
 ghost use Rattle.ix_manage.specs.Trace.{Ends};
 
 mod actions;
-mod built;
-mod check;
 mod load;
 mod parts;
 mod refusal;
 mod run;
+mod start;
 mod trace;
 mod words;
 
@@ -23,12 +22,13 @@ use std::alloc::Global;
 
 /// Runs the program on the words after its name, and gives its status.
 ///
-/// The words are `trace EXPR ACTIONS`. What is put, and with which status a run ends, says `Ends`: the answers to
-/// the actions of the file ACTIONS by the expression of the file EXPR, and `complete` or `partial`, with status 0;
-/// or else a refusal, as its last line. A text that stands for no expression is refused with its first fault, one whose
-/// form isn't built with 15 at 0, and an actions file with the first line that is no action's text. A put that fails ends
-/// the run with status 10, and what went out by then is a front of such a text. A text that `files` doesn't tell may be
-/// any.
+/// The words are `trace EXPR ACTIONS`, or `trace --nodes N EXPR ACTIONS` with a limit N of Size from 1 to 1,000,000,
+/// which is 100,000 where the words don't say it. What is put, and with which status a run ends, says `Ends`: one line
+/// for each action of the file ACTIONS by the expression of the file EXPR, which is `no`, `full`, `large` or `yes`, and
+/// `complete` or `partial`, with status 0; or else a refusal, as its last line. A text that stands for no expression is
+/// refused with its first fault, one whose initial tree is above the limit with 14, and an actions file with the first
+/// line that is no action's text. A put that fails ends the run with status 10, and what went out by then is a front of
+/// such a text. A text that `files` doesn't tell may be any.
 pub fn manage<F: Files, S: Site, K: Sink>(
     alloc: Global,
     words: &[String],

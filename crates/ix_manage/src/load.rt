@@ -2,15 +2,14 @@
 ghost use Rattle.std.specs.Prelude.{◌≡◌, ◌≤◌, IfOk, IfErr, IsErrOf, length};
 ghost use Rattle.ix_words.specs.Each.{Each};
 ghost use Rattle.ix_values.specs.Faults.{IsActionText};
+ghost use Rattle.ix_parse.specs.Faults.{StandsFor};
 ghost use Rattle.ix_outside.specs.Counts.{Rose};
 ghost use Rattle.ix_outside.specs.Files.{HasFile};
 ghost use Rattle.ix_manage.specs.ActionLines.{lines_of};
 ghost use Rattle.ix_manage.specs.Refusal.{RefusesActions, RefusesExpression, RefusesText};
-ghost use Rattle.ix_manage.specs.Texts.{ReadsText};
 ghost use Rattle.ix_manage.specs.Trace.{ReadsForm};
 
 use crate::actions::{self, first_fault};
-use crate::built::is_built;
 use crate::refusal::Refusal;
 use ix_expr::Expression;
 use ix_outside::{Files, LoadFault};
@@ -20,7 +19,7 @@ use std::alloc::Global;
 /// The most bytes of an expression's text.
 const MOST_BYTES: usize = 16384;
 
-/// The expression that the file of this name stands for, where its form is built.
+/// The expression that the file of this name stands for.
 pub fn load_expression<F: Files>(
     alloc: Global,
     files: &mut F,
@@ -42,19 +41,13 @@ pub fn load_expression<F: Files>(
     }
 }
 
-// The expression that a text stands for, where its form is built.
+// The expression that a text stands for.
 fn read_expression(alloc: Global, text: &[u8]) -> Result<Expression, Refusal>
-    ensures ok { IfOk result (ReadsText text.now) }
+    ensures ok { IfOk result (StandsFor text.now) }
     ensures err { IfErr result (RefusesText text.now) }
 {
     match ix_parse::read(alloc, text) {
-        Ok(expression) => {
-            if is_built(expression.expr()) {
-                Ok(expression)
-            } else {
-                Err(Refusal::BadText { code: 15, at: 0 })
-            }
-        }
+        Ok(expression) => Ok(expression),
         Err(TextFault::Bad { code, at }) => Err(Refusal::BadText { code, at }),
         Err(TextFault::Memory) => Err(Refusal::Memory),
     }

@@ -1,7 +1,7 @@
 // Why a run ends before it has its answer.
 ghost use Rattle.std.specs.Prelude.{◌≡◌, ◌+◌, ◌≤◌, [], ◌∷◌, ◌++◌, codes, length};
 ghost use Rattle.arrayvec.specs.ArrayVec.{array_vec_len};
-ghost use Rattle.ix_manage.specs.Trace.{fault_line};
+ghost use Rattle.ix_manage.specs.Trace.{fault_line, large_line};
 
 use arrayvec::ArrayVec;
 use itoa::Buffer;
@@ -9,10 +9,12 @@ use itoa::Buffer;
 /// Why a run ends before it has its answer.
 #[derive(Clone, Copy)]
 pub enum Refusal {
-    /// The words aren't `trace EXPR ACTIONS`.
+    /// The words name no trace.
     Words,
     /// The expression file has this fault.
     BadText { code: u8, at: usize },
+    /// The initial tree is above this limit of Size.
+    Large { limit: usize },
     /// The expression file couldn't be read.
     LostExpression,
     /// The actions file has this fault.
@@ -34,6 +36,7 @@ impl Refusal {
         match self {
             Refusal::Words => append(&mut line, b"refused words\n"),
             Refusal::BadText { code, at } => append_fault(&mut line, b"expression", code, at),
+            Refusal::Large { limit } => append_large(&mut line, limit),
             Refusal::LostExpression => append(&mut line, b"refused file expression\n"),
             Refusal::BadActions { code, at } => append_fault(&mut line, b"actions", code, at),
             Refusal::LostActions => append(&mut line, b"refused file actions\n"),
@@ -48,7 +51,7 @@ impl Refusal {
     {
         match self {
             Refusal::Words => 2,
-            Refusal::BadText { .. } | Refusal::BadActions { .. } => 3,
+            Refusal::BadText { .. } | Refusal::Large { .. } | Refusal::BadActions { .. } => 3,
             Refusal::LostExpression | Refusal::LostActions => 4,
             Refusal::Memory => 9,
         }
@@ -67,6 +70,16 @@ fn append_fault(line: &mut ArrayVec<u8, 64>, file: &[u8], code: u8, at: usize)
     append(line, Buffer::new().format(code).as_bytes());
     append(line, b" at ");
     append(line, Buffer::new().format(at).as_bytes());
+    append(line, b"\n");
+}
+
+// Writes the line of an initial tree above the limit behind nothing.
+fn append_large(line: &mut ArrayVec<u8, 64>, limit: usize)
+    requires { line.old.items ≡ [] }
+    ensures { line.new.items ≡ large_line limit }
+{
+    append(line, b"refused expression 14 large ");
+    append(line, Buffer::new().format(limit).as_bytes());
     append(line, b"\n");
 }
 

@@ -6,10 +6,11 @@ ghost use Rattle.ix_outside.specs.Sink.{AppendsPart};
 ghost use Rattle.ix_manage.specs.Run.{RefusedAfter, LostWhere};
 ghost use Rattle.ix_manage.specs.Trace.{Ends};
 
-use crate::load::{load_actions, load_expression};
+use crate::load::load_actions;
 use crate::refusal::Refusal;
+use crate::start::start;
 use crate::trace::{TraceFault, trace};
-use crate::words::file_names;
+use crate::words::trace_words;
 use ix_outside::{Files, Sink};
 use std::alloc::Global;
 
@@ -44,18 +45,18 @@ pub fn run<F: Files, K: Sink>(
     ensures count { K.faults out.old ≤ K.faults out.new }
     ensures held { K.held out.new ≡ K.held out.old }
 {
-    let Some(names) = file_names(words) else {
+    let Some(names) = trace_words(words) else {
         return Err(Stop::Refused(Refusal::Words));
     };
-    let expression = match load_expression(alloc, files, names.expression) {
-        Ok(expression) => expression,
+    let mut engine = match start(alloc, files, names.expression, names.limit) {
+        Ok(engine) => engine,
         Err(refusal) => return Err(Stop::Refused(refusal)),
     };
     let actions = match load_actions(alloc, files, names.actions) {
         Ok(actions) => actions,
         Err(refusal) => return Err(Stop::Refused(refusal)),
     };
-    match trace(alloc, expression.expr(), &actions, out) {
+    match trace(alloc, &mut engine, &actions, out) {
         Ok(()) => Ok(()),
         Err(TraceFault::Memory) => Err(Stop::Refused(Refusal::Memory)),
         Err(TraceFault::Output) => Err(Stop::Output),

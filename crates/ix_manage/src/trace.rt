@@ -4,16 +4,13 @@ ghost use Rattle.std.specs.Io.KnownBytes.{append_known};
 ghost use Rattle.ix_words.specs.Each.{Each};
 ghost use Rattle.ix_values.specs.Faults.{IsActionText};
 ghost use Rattle.ix_values.specs.PlainAction.{Word};
-ghost use Rattle.ix_expr.specs.FormOf.{form_of};
 ghost use Rattle.ix_outside.specs.Counts.{Rose};
 ghost use Rattle.ix_outside.specs.Sink.{AppendsPart};
 ghost use Rattle.ix_manage.specs.ActionLines.{line, lines_of};
-ghost use Rattle.ix_manage.specs.Built.{IsBuilt};
 ghost use Rattle.ix_manage.specs.Trace.{Answers, TracesLines, Verdict};
 
 use crate::actions::{first_line, read_action};
-use crate::check::{is_complete, is_partial};
-use ix_expr::Expr;
+use ix_engine::{Engine, PrepareFault};
 use ix_outside::Sink;
 use ix_values::Action;
 use std::alloc::{AllocError, Global};
@@ -30,37 +27,36 @@ pub enum TraceFault {
 /// Puts a line for each action, and then whether the history of the `yes` actions is complete.
 pub fn trace<K: Sink>(
     alloc: Global,
-    expr: &Expr,
+    engine: &mut Engine,
     actions: &[u8],
     out: &mut K,
 ) -> Result<(), TraceFault>
-    requires built { IsBuilt (form_of expr.now) }
+    requires empty { engine.old.history ≡ [] }
     requires lines { Each IsActionText (lines_of actions.now) }
 
-    ensures whole { OnOk result ((text : List ℕ) × TracesLines (form_of expr.now) actions.now 0 text
+    ensures whole { OnOk result ((text : List ℕ) × TracesLines engine.old.form engine.old.limit actions.now 0 text
         × (K.written out.new ≡ append_known (K.written out.old) text)) }
     ensures memory { IsErrOf result TraceFault.Memory → (text : List ℕ)
-        × TracesLines (form_of expr.now) actions.now 9 (text ++ line (codes "refused memory"))
+        × TracesLines engine.old.form engine.old.limit actions.now 9 (text ++ line (codes "refused memory"))
         × (K.written out.new ≡ append_known (K.written out.old) text) }
     ensures output { IsErrOf result TraceFault.Output → (status : ℕ) × (text : List ℕ)
-        × TracesLines (form_of expr.now) actions.now status text
+        × TracesLines engine.old.form engine.old.limit actions.now status text
         × AppendsPart (K.written out.old) text (K.written out.new) }
     ensures failed { IsErrOf result TraceFault.Output → Rose (K.faults out.old) (K.faults out.new) }
     ensures count { K.faults out.old ≤ K.faults out.new }
     ensures held { K.held out.new ≡ K.held out.old }
 {
-    let mut history = Vec::new(alloc);
     let mut rest = actions;
     while !rest.is_empty() {
         let first = first_line(rest);
         let action = read_action(first.line);
-        match answer(expr, &mut history, action, out) {
+        match answer(alloc, engine, &action, out) {
             Ok(()) => {}
             Err(fault) => return Err(fault),
         }
         rest = first.rest;
     }
-    match out.put(last_line(expr, &history)) {
+    match out.put(last_line(engine)) {
         Ok(()) => Ok(()),
         Err(_) => Err(TraceFault::Output),
     }
@@ -68,24 +64,25 @@ pub fn trace<K: Sink>(
 
 // Puts the line for one action, which joins the history where it is a `yes`.
 fn answer<K: Sink>(
-    expr: &Expr,
-    history: &mut Vec<Action>,
-    action: Action,
+    alloc: Global,
+    engine: &mut Engine,
+    action: &Action,
     out: &mut K,
 ) -> Result<(), TraceFault>
-    requires { IsBuilt (form_of expr.now) }
-
-    ensures whole { OnOk result ((text : List ℕ) × Answers (form_of expr.now) history.old.items (action ∷ []) text history.new.items
+    ensures whole { OnOk result ((text : List ℕ)
+        × Answers engine.old.form engine.old.limit engine.old.history (action.now ∷ []) text engine.new.history
         × (K.written out.new ≡ append_known (K.written out.old) text)) }
     ensures memory { IsErrOf result TraceFault.Memory → K.written out.new ≡ K.written out.old }
     ensures output { IsErrOf result TraceFault.Output → (text : List ℕ) × (after : Word)
-        × Answers (form_of expr.now) history.old.items (action ∷ []) text after
+        × Answers engine.old.form engine.old.limit engine.old.history (action.now ∷ []) text after
         × AppendsPart (K.written out.old) text (K.written out.new) }
     ensures failed { IsErrOf result TraceFault.Output → Rose (K.faults out.old) (K.faults out.new) }
+    ensures form { engine.new.form ≡ engine.old.form }
+    ensures limit { engine.new.limit ≡ engine.old.limit }
     ensures count { K.faults out.old ≤ K.faults out.new }
     ensures held { K.held out.new ≡ K.held out.old }
 {
-    match answer_line(expr, history, action) {
+    match answer_line(alloc, engine, action) {
         Ok(text) => match out.put(text) {
             Ok(()) => Ok(()),
             Err(_) => Err(TraceFault::Output),
@@ -96,27 +93,33 @@ fn answer<K: Sink>(
 
 // The line for one action, which joins the history where it is a `yes`.
 fn answer_line(
-    expr: &Expr,
-    history: &mut Vec<Action>,
-    action: Action,
+    alloc: Global,
+    engine: &mut Engine,
+    action: &Action,
 ) -> Result<&'static [u8], AllocError>
-    requires { IsBuilt (form_of expr.now) }
-    ensures { IfOk result (λ text. Answers (form_of expr.now) history.old.items (action ∷ []) text.now history.new.items) }
+    ensures answers { IfOk result (λ text.
+        Answers engine.old.form engine.old.limit engine.old.history (action.now ∷ []) text.now engine.new.history) }
+    ensures form { engine.new.form ≡ engine.old.form }
+    ensures limit { engine.new.limit ≡ engine.old.limit }
 {
-    history.push(action)?;
-    if is_partial(expr, history) {
-        return Ok(b"yes\n");
+    match engine.prepare(alloc, action) {
+        Ok(next) => {
+            engine.reserve_one()?;
+            engine.commit(next);
+            Ok(b"yes\n")
+        }
+        Err(PrepareFault::NotPartial) => Ok(b"no\n"),
+        Err(PrepareFault::Full) => Ok(b"full\n"),
+        Err(PrepareFault::Over { .. }) => Ok(b"large\n"),
+        Err(PrepareFault::Memory) => Err(AllocError),
     }
-    history.pop();
-    Ok(b"no\n")
 }
 
 // Whether the history is complete, as a line.
-fn last_line(expr: &Expr, history: &[Action]) -> &'static [u8]
-    requires { IsBuilt (form_of expr.now) }
-    ensures { Verdict (form_of expr.now) history.now result.now }
+fn last_line(engine: &Engine) -> &'static [u8]
+    ensures { Verdict engine.now.form engine.now.history result.now }
 {
-    if is_complete(expr, history) {
+    if engine.is_complete() {
         b"complete\n"
     } else {
         b"partial\n"

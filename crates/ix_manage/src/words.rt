@@ -1,25 +1,74 @@
 // The words of the command line.
-ghost use Rattle.std.specs.Prelude.{◌≡◌, ℕ, List, map, MatchOption, string_bytes};
-ghost use Rattle.ix_manage.specs.Command.{NamesTrace};
+ghost use Rattle.std.specs.Prelude.{◌≡◌, ◌≤◌, ℕ, List, map, MatchOption, decimal, string_bytes};
+ghost use Rattle.ix_manage.specs.Command.{NamesTrace, IsLimitText};
 
-/// The two files that `trace EXPR ACTIONS` names.
+use itoa::Buffer;
+
+/// The limit of Size where the words don't say one.
+const USUAL_LIMIT: usize = 100_000;
+
+/// The greatest limit of Size that the words may say.
+const GREATEST_LIMIT: usize = 1_000_000;
+
+/// The limit of Size and the two files that the words of a trace name.
 #[derive(Clone, Copy)]
-pub struct FileNames<'a> {
+pub struct TraceWords<'a> {
+    pub limit: usize,
     pub expression: &'a str,
     pub actions: &'a str,
 }
 
-/// The files, where the words are `trace EXPR ACTIONS`.
-pub fn file_names(words: &[String]) -> Option<FileNames<'_>>
+/// The limit and the files, where the words are `trace EXPR ACTIONS` or `trace --nodes N EXPR ACTIONS`.
+pub fn trace_words(words: &[String]) -> Option<TraceWords<'_>>
     ensures { MatchOption result
-        ((expression actions : List ℕ) → NamesTrace (map string_bytes words.now) expression actions → ⊥)
-        (λ names. NamesTrace (map string_bytes words.now) names.expression.now names.actions.now) }
+        ((limit : ℕ) (expression actions : List ℕ) → NamesTrace (map string_bytes words.now) limit expression actions → ⊥)
+        (λ names. NamesTrace (map string_bytes words.now) names.limit names.expression.now names.actions.now) }
 {
     match words {
-        [command, expression, actions] if command.as_str() == "trace" => Some(FileNames {
-            expression: expression.as_str(),
-            actions: actions.as_str(),
-        }),
+        [command, expression, actions] => {
+            if command.as_str() != "trace" || expression.as_str() == "--nodes" {
+                return None;
+            }
+            Some(TraceWords {
+                limit: USUAL_LIMIT,
+                expression: expression.as_str(),
+                actions: actions.as_str(),
+            })
+        }
+        [command, option, limit, expression, actions] => {
+            if command.as_str() != "trace" || option.as_str() != "--nodes" {
+                return None;
+            }
+            match read_limit(limit.as_str()) {
+                Some(limit) => Some(TraceWords {
+                    limit,
+                    expression: expression.as_str(),
+                    actions: actions.as_str(),
+                }),
+                None => None,
+            }
+        }
         _ => None,
+    }
+}
+
+// The limit whose text this is, from 1 to 1,000,000 in decimal without leading zeros.
+fn read_limit(text: &str) -> Option<usize>
+    ensures { MatchOption result
+        ((limit : ℕ) → IsLimitText text.now limit → ⊥)
+        (λ limit. IsLimitText text.now limit) }
+{
+    let Ok(limit) = text.parse::<usize>() else {
+        return None;
+    };
+    if limit < 1 || limit > GREATEST_LIMIT {
+        return None;
+    }
+    let mut buffer = Buffer::new();
+    // Other texts of the number, as those with a leading zero or a sign, print back differently.
+    if buffer.format(limit) == text {
+        Some(limit)
+    } else {
+        None
     }
 }

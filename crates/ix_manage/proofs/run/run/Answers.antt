@@ -1,11 +1,9 @@
-use Rattle.std.proofs.Common.{[], ◌++◌, Err, map, string_bytes, ap, subst, sym}
+use Rattle.std.proofs.Common.{[], ◌++◌, Err, map, string_bytes, ap, subst}
 use Rattle.std.specs.Prelude.{codes}
-use Rattle.ix_expr.specs.FormOf.{form_of}
 use Rattle.ix_manage.specs.Refusal.{RefusesActions}
 use Rattle.ix_manage.specs.ActionLines.{line}
-use Rattle.ix_manage.specs.Built.{IsBuilt}
 use Rattle.ix_manage.specs.Trace.{other_words}
-use Rattle.ix_manage.proofs.Ending.{refused_expression, refused_actions, trace_ends_run}
+use Rattle.ix_manage.proofs.Ending.{refused_start, refused_actions, trace_ends_run}
 use Rattle.ix_manage.proofs.Tracing.{append_nothing}
 use Rattle.ix_manage.proofs.run.run.Goals as goal
 
@@ -15,7 +13,7 @@ returns-in_default-clause-refused g c = ([], other_words c.in_default.ensures, a
 pub returns-in-Err-clause-refused : goal.returns-in-Err-clause-refused
 returns-in-Err-clause-refused g c = (
   [],
-  refused_expression (map string_bytes c.args.words.now) (g.F.Files.contents c.args.files.now) c.in-Some.names.expression.now c.in-Some.names.actions.now
+  refused_start (map string_bytes c.args.words.now) (g.F.Files.contents c.args.files.now) c.in-Some.names.limit c.in-Some.names.expression.now c.in-Some.names.actions.now
       c.in-Some.ensures c.in-Err.refusal c.in-Err.ensures.err,
   append_nothing _,
 )
@@ -23,22 +21,19 @@ returns-in-Err-clause-refused g c = (
 pub returns-in-Err-load_actions-clause-refused : goal.returns-in-Err-load_actions-clause-refused
 returns-in-Err-load_actions-clause-refused g c = (
   [],
-  refused_actions (map string_bytes c.args.words.now) (g.F.Files.contents c.args.files.now) c.in-Some.names.expression.now c.in-Some.names.actions.now
-      c.in-Some.ensures c.in-Ok.expression c.in-Ok.ensures.ok c.in-Err-load_actions.refusal
+  refused_actions (map string_bytes c.args.words.now) (g.F.Files.contents c.args.files.now) c.in-Some.names.limit c.in-Some.names.expression.now c.in-Some.names.actions.now
+      c.in-Some.ensures c.in-Ok.engine.form c.in-Ok.ensures.starts c.in-Err-load_actions.refusal
       (subst (λ files. RefusesActions files c.in-Some.names.actions.now c.in-Err-load_actions.refusal) c.in-Ok.ensures.files c.in-Err-load_actions.ensures.err),
   append_nothing _,
 )
-
-pub trace-requires-clause-built : goal.trace-requires-clause-built
-trace-requires-clause-built g c = subst IsBuilt (sym c.expr.ensures.value) c.in-Ok.ensures.ok.reads.built
 
 pub returns-in-Ok-trace-clause-done : goal.returns-in-Ok-trace-clause-done
 returns-in-Ok-trace-clause-done g c =
     let put = c.in-Ok-trace.ensures.whole in (
       put.0,
-      trace_ends_run (map string_bytes c.args.words.now) (g.F.Files.contents c.args.files.now) c.in-Some.names.expression.now c.in-Some.names.actions.now
-          c.in-Some.ensures c.in-Ok.expression (form_of c.expr.result.now) (g.F.Files.contents c.load_expression.new.files) c.in-Ok-load_actions.actions.items c.deref.result.now 0 put.0
-          c.in-Ok.ensures.ok c.expr.ensures.value c.in-Ok.ensures.files c.in-Ok-load_actions.ensures.file c.in-Ok-load_actions.ensures.short c.deref.ensures.value put.1,
+      trace_ends_run (map string_bytes c.args.words.now) (g.F.Files.contents c.args.files.now) c.in-Some.names.limit c.in-Some.names.expression.now c.in-Some.names.actions.now
+          c.in-Some.ensures c.in-Ok.engine.form c.in-Ok.engine.limit (g.F.Files.contents c.start.new.files) c.in-Ok-load_actions.actions.items c.deref.result.now 0 put.0
+          c.in-Ok.ensures.starts c.in-Ok.ensures.limit c.in-Ok.ensures.files c.in-Ok-load_actions.ensures.file c.in-Ok-load_actions.ensures.short c.deref.ensures.value put.1,
       put.2,
     )
 
@@ -46,9 +41,9 @@ pub returns-in-Err-Memory-clause-refused : goal.returns-in-Err-Memory-clause-ref
 returns-in-Err-Memory-clause-refused g c =
     let put = c.in-Err-Memory.ensures.memory (ap Err c.in-Err-Memory.field-0-is) in (
       put.0,
-      trace_ends_run (map string_bytes c.args.words.now) (g.F.Files.contents c.args.files.now) c.in-Some.names.expression.now c.in-Some.names.actions.now
-          c.in-Some.ensures c.in-Ok.expression (form_of c.expr.result.now) (g.F.Files.contents c.load_expression.new.files) c.in-Ok-load_actions.actions.items c.deref.result.now 9 (put.0 ++ line (codes "refused memory"))
-          c.in-Ok.ensures.ok c.expr.ensures.value c.in-Ok.ensures.files c.in-Ok-load_actions.ensures.file c.in-Ok-load_actions.ensures.short c.deref.ensures.value put.1,
+      trace_ends_run (map string_bytes c.args.words.now) (g.F.Files.contents c.args.files.now) c.in-Some.names.limit c.in-Some.names.expression.now c.in-Some.names.actions.now
+          c.in-Some.ensures c.in-Ok.engine.form c.in-Ok.engine.limit (g.F.Files.contents c.start.new.files) c.in-Ok-load_actions.actions.items c.deref.result.now 9 (put.0 ++ line (codes "refused memory"))
+          c.in-Ok.ensures.starts c.in-Ok.ensures.limit c.in-Ok.ensures.files c.in-Ok-load_actions.ensures.file c.in-Ok-load_actions.ensures.short c.deref.ensures.value put.1,
       put.2,
     )
 
@@ -57,8 +52,8 @@ returns-clause-output g c is =
     let put = c.in-Err-Output.ensures.output (ap Err c.in-Err-Output.field-0-is) in (
       put.0,
       put.1,
-      trace_ends_run (map string_bytes c.args.words.now) (g.F.Files.contents c.args.files.now) c.in-Some.names.expression.now c.in-Some.names.actions.now
-          c.in-Some.ensures c.in-Ok.expression (form_of c.expr.result.now) (g.F.Files.contents c.load_expression.new.files) c.in-Ok-load_actions.actions.items c.deref.result.now put.0 put.1
-          c.in-Ok.ensures.ok c.expr.ensures.value c.in-Ok.ensures.files c.in-Ok-load_actions.ensures.file c.in-Ok-load_actions.ensures.short c.deref.ensures.value put.2,
+      trace_ends_run (map string_bytes c.args.words.now) (g.F.Files.contents c.args.files.now) c.in-Some.names.limit c.in-Some.names.expression.now c.in-Some.names.actions.now
+          c.in-Some.ensures c.in-Ok.engine.form c.in-Ok.engine.limit (g.F.Files.contents c.start.new.files) c.in-Ok-load_actions.actions.items c.deref.result.now put.0 put.1
+          c.in-Ok.ensures.starts c.in-Ok.ensures.limit c.in-Ok.ensures.files c.in-Ok-load_actions.ensures.file c.in-Ok-load_actions.ensures.short c.deref.ensures.value put.2,
       put.3,
     )

@@ -1,17 +1,20 @@
-use Rattle.std.proofs.Common.{sym, ◌∙◌, arith}
-use Rattle.std.proofs.lemmas.Bool.{false≢true}
-use Rattle.ix_expr.specs.FormOf.{form_of}
-use Rattle.ix_manage.proofs.Answering.{answers_yes, answers_no}
-use Rattle.ix_manage.proofs.LineLists.{popped}
+use Rattle.std.proofs.Common.{[], ◌∷◌, ◌++◌, ◌∙◌, Err, ap}
+use Rattle.ix_manage.specs.Trace.{done, no, full, large}
+use Rattle.ix_manage.proofs.Answering.{answers_yes}
 use Rattle.ix_manage.proofs.trace.answer_line.Goals as goal
 
-pub returns-then-is_partial : goal.returns-then-is_partial
-returns-then-is_partial c =
-    answers_yes (form_of c.args.expr.now) c.args.history.now.items c.deref.result.now c.push.new.self.items c.args.action
-    c.in_ok-push.ensures.items c.deref.ensures.value (c.is_partial.ensures.0 c.if-is_partial.true)
+pub returns-in_ok-reserve_one-in-Ok-clause-answers : goal.returns-in_ok-reserve_one-in-Ok-clause-answers
+returns-in_ok-reserve_one-in-Ok-clause-answers c =
+    let action = c.in-Ok.next.action in
+    answers_yes c.args.engine.now c.args.action.now action c.commit.new.self.history c.in-Ok.ensures.permitted c.in-Ok.ensures.action
+    (c.commit.ensures.history ∙ ap (λ history. history ++ action ∷ []) c.in_ok-reserve_one-in-Ok.ensures.history)
 
-pub returns : goal.returns
-returns c =
-    answers_no (form_of c.args.expr.now) c.args.history.now.items c.deref.result.now c.push.new.self.items c.pop.new.self.items c.args.action
-    c.in_ok-push.ensures.items c.deref.ensures.value (λ partial. false≢true (sym c.if-is_partial.false ∙ c.is_partial.ensures.1 partial))
-    (popped c.args.history.now.items c.pop.new.self.items c.push.new.self.items c.args.action c.pop.result c.in_ok-push.ensures.items c.pop.ensures.items (c.pop.ensures.variant.1 (omega (arith, c.in_ok-push.ensures.len))))
+pub returns-in-Err-NotPartial-clause-answers : goal.returns-in-Err-NotPartial-clause-answers
+returns-in-Err-NotPartial-clause-answers c = no (c.in-Err-NotPartial.ensures.not_partial.0 (ap Err c.in-Err-NotPartial.field-0-is)) done
+
+pub returns-in-Err-Full-clause-answers : goal.returns-in-Err-Full-clause-answers
+returns-in-Err-Full-clause-answers c = let why = c.in-Err-Full.ensures.full.0 (ap Err c.in-Err-Full.field-0-is) in full why.0 why.1 done
+
+pub returns-in-Err-Over-clause-answers : goal.returns-in-Err-Over-clause-answers
+returns-in-Err-Over-clause-answers c =
+    let why = c.in-Err-Over.ensures.over c.in-Err-Over.field-0-0 (ap Err c.in-Err-Over.field-0-is) in large why.1 why.2 why.3 done

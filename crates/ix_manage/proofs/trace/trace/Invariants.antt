@@ -3,7 +3,6 @@ use Rattle.std.specs.Io.KnownBytes.{append_known}
 use Rattle.ix_words.specs.Each.{Each}
 use Rattle.ix_values.specs.Faults.{IsActionText}
 use Rattle.ix_values.specs.PlainAction.{Word}
-use Rattle.ix_expr.specs.FormOf.{form_of}
 use Rattle.ix_manage.specs.ActionLines.{lines_of}
 use Rattle.ix_manage.specs.Trace.{Answers}
 use Rattle.ix_manage.proofs.Tracing.{StandBefore}
@@ -15,8 +14,10 @@ invariant-loop-rest g l =
     Each IsActionText (lines_of l.rest)
     × (g.K.Sink.faults l.fn.out ≤ g.K.Sink.faults l.out)
     × (g.K.Sink.held l.out ≡ g.K.Sink.held l.fn.out)
+    × (l.engine.form ≡ l.fn.engine.form)
+    × (l.engine.limit ≡ l.fn.engine.limit)
     × ((front : Word) × StandBefore l.actions l.rest front
-    × ((text : List ℕ) × Answers (form_of l.expr) [] front text l.history.items
+    × ((text : List ℕ) × Answers l.fn.engine.form l.fn.engine.limit [] front text l.engine.history
     × (g.K.Sink.written l.out ≡ append_known (g.K.Sink.written l.fn.out) text)))
 
 abbrev pub decreases-loop-rest : goal.decreases-loop-rest
