@@ -1,5 +1,6 @@
 // The wire and the disk of a running manager.
 ghost use Rattle.std.specs.Prelude.{◌≡◌, ◌≤◌, ◌<◌, Bool, true, false, length, IfOk, OnOk, OnErr};
+ghost use Rattle.ix_outside.specs.Contents.{Contents, nothing_told, Listens, Gives, SendsBytes};
 ghost use Rattle.ix_outside.specs.Counts.{Counts, Rose, OnlyDisk, OnlyWire, OnlySend};
 ghost use Rattle.ix_outside.specs.Event.{FitsBuffer};
 ghost use Rattle.ix_outside.specs.Held.{Held};
@@ -18,11 +19,16 @@ pub trait Site {
     /// The other objects that this one was lent. Every call keeps it.
     ghost held: { Self → Held };
 
+    /// What the site tells of its connections. It ceases to tell a part only in a send that answers Gone, and never begins
+    /// to.
+    ghost contents: { Self → Contents } = { λ _. nothing_told };
+
     /// Begins to take connections under this name.
     fn listen(&mut self, name: &str) -> Result<(), WireFailed>
         ensures failed { OnErr result (Rose (counts self.old).wire (counts self.new).wire) }
         ensures counts { OnlyWire (counts self.old) (counts self.new) }
         ensures attached { attached self.new ≡ attached self.old }
+        ensures contents { Listens name.now result (contents self.old) (contents self.new) }
         ensures held { held self.new ≡ held self.old };
 
     /// The next event. Of one of so many bytes these stand at the front of `buf`.
@@ -32,6 +38,7 @@ pub trait Site {
         ensures failed { OnErr result (Rose (counts self.old).wire (counts self.new).wire) }
         ensures counts { OnlyWire (counts self.old) (counts self.new) }
         ensures attached { attached self.new ≡ attached self.old }
+        ensures contents { Gives buf.new result (contents self.old) (contents self.new) }
         ensures held { held self.new ≡ held self.old };
 
     /// Sends the bytes on a connection.
@@ -39,6 +46,7 @@ pub trait Site {
         ensures failed { OnErr result (Rose (counts self.old).send (counts self.new).send) }
         ensures counts { OnlySend (counts self.old) (counts self.new) }
         ensures attached { attached self.new ≡ attached self.old }
+        ensures contents { SendsBytes conn bytes.now result (contents self.old) (contents self.new) }
         ensures held { held self.new ≡ held self.old };
 
     /// Attaches the file of this name; an absent one is made with no bytes. After a fault none is attached.
@@ -48,6 +56,7 @@ pub trait Site {
         ensures counts { OnlyDisk (counts self.old) (counts self.new) }
         ensures attached { OnOk result (attached self.new ≡ true) }
         ensures not_attached { OnErr result (attached self.new ≡ false) }
+        ensures contents { contents self.new ≡ contents self.old }
         ensures held { held self.new ≡ held self.old };
 
     /// How many bytes the file has.
@@ -56,6 +65,7 @@ pub trait Site {
         ensures failed { OnErr result (Rose (counts self.old).disk (counts self.new).disk) }
         ensures counts { OnlyDisk (counts self.old) (counts self.new) }
         ensures attached { attached self.new ≡ attached self.old }
+        ensures contents { contents self.new ≡ contents self.old }
         ensures held { held self.new ≡ held self.old };
 
     /// Reads the bytes from `at` into the front of `buf`, and says how many there were; 0 is the file's end.
@@ -65,6 +75,7 @@ pub trait Site {
         ensures failed { OnErr result (Rose (counts self.old).disk (counts self.new).disk) }
         ensures counts { OnlyDisk (counts self.old) (counts self.new) }
         ensures attached { attached self.new ≡ attached self.old }
+        ensures contents { contents self.new ≡ contents self.old }
         ensures held { held self.new ≡ held self.old };
 
     /// Writes the bytes at `at`, over what is there and past the end.
@@ -73,6 +84,7 @@ pub trait Site {
         ensures failed { OnErr result (Rose (counts self.old).disk (counts self.new).disk) }
         ensures counts { OnlyDisk (counts self.old) (counts self.new) }
         ensures attached { attached self.new ≡ attached self.old }
+        ensures contents { contents self.new ≡ contents self.old }
         ensures held { held self.new ≡ held self.old };
 
     /// Cuts the file to a length.
@@ -81,6 +93,7 @@ pub trait Site {
         ensures failed { OnErr result (Rose (counts self.old).disk (counts self.new).disk) }
         ensures counts { OnlyDisk (counts self.old) (counts self.new) }
         ensures attached { attached self.new ≡ attached self.old }
+        ensures contents { contents self.new ≡ contents self.old }
         ensures held { held self.new ≡ held self.old };
 
     /// Brings to the disk what was written before.
@@ -89,5 +102,6 @@ pub trait Site {
         ensures failed { OnErr result (Rose (counts self.old).disk (counts self.new).disk) }
         ensures counts { OnlyDisk (counts self.old) (counts self.new) }
         ensures attached { attached self.new ≡ attached self.old }
+        ensures contents { contents self.new ≡ contents self.old }
         ensures held { held self.new ≡ held self.old };
 }
