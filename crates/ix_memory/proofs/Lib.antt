@@ -1,0 +1,6 @@
+pub mod Looking
+pub mod Spanning
+pub mod GivingNext
+pub mod TakingAll
+pub mod SendingPart
+pub mod Calling

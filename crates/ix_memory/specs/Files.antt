@@ -1,0 +1,24 @@
+-- Files in memory.
+use Rattle.std.specs.Prelude.{◌≢◌, ◌⊎◌, ◌≡◌, ℕ, List, [], ◌∷◌, map, string_bytes, true, ⊤, String, Vec}
+use Rattle.std.specs.declared.alloc.Global.{Global}
+use Rattle.ix_outside.specs.Files.{Listing}
+use Rattle.ix_memory.specs.Calls.{CallList, is_told}
+
+-- the files, which calls fail, and how many failed
+pub record FilesState : Type 0 where
+  pub files : Listing
+  pub calls : CallList
+  pub faults : ℕ
+
+-- the names with the bytes of their files
+abbrev pub listing_of : List (String Global × Vec ℕ Global) → Listing
+listing_of files = map (λ file. (string_bytes file.0, file.1.items)) files
+
+-- no file has this name
+abbrev pub IsAbsent : Listing → List ℕ → Type 0
+IsAbsent [] name = ⊤
+IsAbsent (file ∷ files) name = (file.0 ≢ name) × IsAbsent files name
+
+-- a load fails: it is told to, or no file has the name
+abbrev pub FailsToLoad : FilesState → List ℕ → Type 0
+FailsToLoad state name = (is_told state.calls ≡ true) ⊎ IsAbsent state.files name
