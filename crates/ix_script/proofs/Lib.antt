@@ -1,0 +1,11 @@
+pub mod Walks
+pub mod LineLists
+pub mod NumberCuts
+pub mod BadLines
+pub mod EventLists
+pub mod LineParts
+pub mod LeftEvents
+pub mod CursorSteps
+pub mod Puts
+pub mod GivenEvents
+pub mod Callers

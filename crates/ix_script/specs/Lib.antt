@@ -1,0 +1,9 @@
+pub mod Lines
+pub mod Grammar
+pub mod Numbers
+pub mod Events
+pub mod Pieces
+pub mod Progress
+pub mod Cursor
+pub mod Site
+pub mod Sets

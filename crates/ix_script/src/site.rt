@@ -1,0 +1,135 @@
+// A script's events as a site, whose sends go to a sink and whose disk is that of another site.
+ghost use Rattle.std.specs.Prelude.{◌≡◌};
+ghost use Rattle.ix_script.specs.Cursor.{left_of};
+ghost use Rattle.ix_script.specs.Progress.{events_of, left_by};
+ghost use Rattle.ix_script.specs.Sets.{events_equal};
+
+use crate::cursor::Cursor;
+use crate::history::History;
+use crate::put::put_send;
+use crate::script::Script;
+use ix_outside::{DiskFailed, Event, Failed, Gone, Sink, Site, WireFailed};
+
+/// A site that gives the events of a script. What it sends goes to the sink that it was lent, each send as a line's worth of text: the
+/// connection's number, a space and the bytes. Its disk is that of the site that it was lent.
+#[derive(Drop)]
+pub struct ScriptSite<'a, S, K> {
+    pub(crate) cursor: Cursor<'a>,
+    /// The lengths of the buffers that `next` was lent.
+    pub(crate) rooms: History<usize>,
+    pub(crate) site: &'a mut S,
+    pub(crate) sink: &'a mut K,
+    pub(crate) sink_failed: bool,
+    ghost place: { left_by rooms.items (events_of cursor.bytes.now) ≡ left_of cursor } by { events_equal (left_by rooms.items (events_of cursor.bytes.now)) (left_of cursor) },
+}
+
+impl<'a, S: Site, K: Sink> ScriptSite<'a, S, K> {
+    ghost use Rattle.std.specs.Prelude.{◌<◌, ◌++◌, ◌∷◌, [], false, length};
+    ghost use Rattle.ix_outside.specs.Contents.{piece_of};
+    ghost use Rattle.ix_outside.specs.Event.{FitsBuffer};
+    ghost use Rattle.ix_script.specs.Pieces.{IsNextPiece};
+    ghost use Rattle.ix_script.specs.Site.{given_of};
+
+    /// A site at the script's front.
+    pub fn new(script: Script<'a>, site: &'a mut S, sink: &'a mut K) -> ScriptSite<'a, S, K>
+        ensures script { result.cursor.bytes.now ≡ script.entry.bytes.now }
+        ensures given { given_of result ≡ [] }
+        ensures site { result.site.now ≡ site.old }
+        ensures same_site { result.site.ghost_name ≡ site.entry.ghost_name }
+        ensures sink { result.sink.now ≡ sink.old }
+        ensures same_sink { result.sink.ghost_name ≡ sink.entry.ghost_name }
+        ensures sink_failed { result.sink_failed ≡ false }
+    {
+        ScriptSite {
+            cursor: Cursor::new(script),
+            rooms: History::new(),
+            site,
+            sink,
+            sink_failed: false,
+        }
+    }
+
+    /// Whether a send answered Gone.
+    pub fn sink_failed(&self) -> bool
+        ensures { result ≡ self.now.sink_failed }
+    {
+        self.sink_failed
+    }
+
+    /// The script's next event, whose bytes stand at the front of `buf`. A piece that is longer than the buffer comes as several events.
+    /// Behind the last line the end comes, again and again.
+    pub fn next_event(&mut self, buf: &mut [u8]) -> Event
+        requires { 0 < length buf.old }
+        ensures fits { FitsBuffer (length buf.old) result }
+        ensures given { given_of self.new ≡ given_of self.old ++ record { event = result; bytes = piece_of result.kind buf.new } ∷ [] }
+        ensures next { IsNextPiece (length buf.old) self.old.cursor.bytes.now (given_of self.old) (record { event = result; bytes = piece_of result.kind buf.new }) }
+        ensures script { self.new.cursor.bytes ≡ self.old.cursor.bytes }
+        ensures site { self.new.site ≡ self.old.site }
+        ensures sink { self.new.sink ≡ self.old.sink }
+        ensures sink_failed { self.new.sink_failed ≡ self.old.sink_failed }
+    {
+        let room = buf.len();
+        let event = self.cursor.next(buf);
+        self.rooms = self.rooms.and(&room);
+        event
+    }
+}
+
+impl<'a, S: Site, K: Sink> Site for ScriptSite<'a, S, K> {
+    ghost use Rattle.std.specs.Prelude.{Some, None};
+    ghost use Rattle.ix_outside.specs.Contents.{Contents};
+    ghost use Rattle.ix_outside.specs.Counts.{Counts};
+    ghost use Rattle.ix_outside.specs.Held.{free, lent, reads, unused_wire};
+    ghost use Rattle.ix_script.specs.Site.{given_of};
+
+    ghost counts = { λ it. record { disk = (S.counts it.site.now).disk; wire = 0; send = K.faults it.sink.now } };
+
+    ghost attached = { λ it. S.attached it.site.now };
+
+    ghost held = { λ it. reads it.cursor.bytes.now (unused_wire (S.counts it.site.now).wire (S.counts it.site.now).send (S.contents it.site.now)
+        (lent it.site.ghost_name (S.held it.site.now) (lent it.sink.ghost_name (K.held it.sink.now) free))) };
+
+    ghost contents = { λ it. record { given = Some (given_of it); sends = None; text = K.written it.sink.now; lost = Some it.sink_failed } };
+
+    fn listen(&mut self, _name: &str) -> Result<(), WireFailed> {
+        Ok(())
+    }
+
+    fn next(&mut self, buf: &mut [u8]) -> Result<Event, WireFailed> {
+        Ok(self.next_event(buf))
+    }
+
+    fn send(&mut self, conn: u8, bytes: &[u8]) -> Result<(), Gone> {
+        match put_send(self.sink, conn, bytes) {
+            Ok(()) => Ok(()),
+            Err(Failed) => {
+                self.sink_failed = true;
+                Err(Gone)
+            }
+        }
+    }
+
+    fn attach(&mut self, name: &str) -> Result<(), DiskFailed> {
+        self.site.attach(name)
+    }
+
+    fn length(&mut self) -> Result<u64, DiskFailed> {
+        self.site.length()
+    }
+
+    fn read_at(&mut self, at: u64, buf: &mut [u8]) -> Result<usize, DiskFailed> {
+        self.site.read_at(at, buf)
+    }
+
+    fn write_at(&mut self, at: u64, bytes: &[u8]) -> Result<(), DiskFailed> {
+        self.site.write_at(at, bytes)
+    }
+
+    fn cut(&mut self, length: u64) -> Result<(), DiskFailed> {
+        self.site.cut(length)
+    }
+
+    fn sync(&mut self) -> Result<(), DiskFailed> {
+        self.site.sync()
+    }
+}
