@@ -1,0 +1,97 @@
+-- Events, handled.
+use Rattle.std.proofs.Common.{◌≡◌, ℕ, false, List, [], get_or, set, sym, ◌∙◌, ap, subst}
+use Rattle.std.proofs.lemmas.List.{set-get_or}
+use Rattle.ix_lines.specs.Feeding.{unfinished}
+use Rattle.ix_outside.specs.Contents.{Contents}
+use Rattle.ix_outside.specs.declared.event.Event.{Event}
+use Rattle.ix_outside.specs.declared.event.EventKind.TheVariants.{Bytes, Closed, End}
+use Rattle.ix_manager.specs.Runs.{Ending, going, Steps, none, raised}
+use Rattle.ix_manager.specs.Wire.{done, marks_after}
+use Rattle.ix_manager.specs.Managing.{ManagerState, Handles, held_at, completed_by, held_after}
+use Rattle.ix_manager.specs.Sending.{WireState}
+use Rattle.ix_manager.specs.Taking.{TakesBytes}
+
+-- a manager whose moment was raised
+abbrev pub at_moment : ℕ → ManagerState → ManagerState
+at_moment moment old = record old { machine = raised moment old.machine }
+
+-- bytes came
+pub bytes_handled : (old between new : ManagerState) (event : Event) (n : ℕ) (bytes : List ℕ) (ending : Ending) (before after : WireState)
+    → event.kind ≡ Bytes n → between ≡ at_moment event.moment old → before.gone ≡ get_or between.marks event.conn false
+    → TakesBytes event.conn bytes ending between new before after
+    → Handles old event bytes ending new before.contents after.contents
+bytes_handled old between new event n bytes ending before after is same gone_between takes =
+    let taken : TakesBytes event.conn bytes ending (at_moment event.moment old) new before after =
+    subst (λ m. TakesBytes event.conn bytes ending m new before after) same takes in
+    let gone : before.gone ≡ get_or old.marks event.conn false = gone_between ∙ ap (λ (m : ManagerState). get_or m.marks event.conn false) same in
+    let held = held_at event.conn old.lines in
+    record {
+      answers = taken.answers;
+      takes = record {
+        steps = subst (λ kind. Steps old.form old.limit (raised event.moment old.machine) (completed_by kind held bytes) taken.answers new.machine ending) (sym is) taken.steps;
+        lines = λ goes. taken.lines goes ∙ ap (λ kind. set old.lines event.conn (held_after kind held bytes)) (sym is);
+        ended = taken.ended;
+        form = taken.form;
+        limit = taken.limit;
+      };
+      sends = record {
+        marked = taken.marked;
+        sends = rw (← gone) taken.sends.order;
+        marks = taken.marks ∙ ap (λ kind. marks_after kind event.conn taken.marked old.marks) (sym is);
+      };
+    }
+
+-- a manager without a connection's line and mark
+abbrev pub without_line : ℕ → ManagerState → ManagerState
+without_line conn old = record old { lines = set old.lines conn (unfinished []); marks = set old.marks conn false }
+
+-- the connection was closed
+pub closed_handled : (old between new : ManagerState) (event : Event) (bytes : List ℕ) (contents : Contents)
+    → event.kind ≡ Closed → old.ended ≡ false → between ≡ at_moment event.moment old → new ≡ without_line event.conn between
+    → Handles old event bytes going new contents contents
+closed_handled old between new event bytes contents is open_before begun closes =
+    let same : new ≡ without_line event.conn (at_moment event.moment old) = closes ∙ ap (without_line event.conn) begun in
+    let held = held_at event.conn old.lines in
+    let marked = get_or old.marks event.conn false in
+    record {
+      answers = [];
+      takes = record {
+        steps = subst (λ kind. Steps old.form old.limit (raised event.moment old.machine) (completed_by kind held bytes) [] new.machine going) (sym is)
+            (subst (λ s. Steps old.form old.limit (raised event.moment old.machine) [] [] s going) (sym (ap (λ (m : ManagerState). m.machine) same)) none);
+        lines = λ goes. ap (λ (m : ManagerState). m.lines) same ∙ ap (λ kind. set old.lines event.conn (held_after kind held bytes)) (sym is);
+        ended = ap (λ (m : ManagerState). m.ended) same ∙ open_before;
+        form = ap (λ (m : ManagerState). m.form) same;
+        limit = ap (λ (m : ManagerState). m.limit) same;
+      };
+      sends = record {
+        marked = marked;
+        sends = done;
+        marks = ap (λ (m : ManagerState). m.marks) same ∙ ap (λ kind. marks_after kind event.conn marked old.marks) (sym is);
+      };
+    }
+
+-- the end came
+pub end_handled : (old new : ManagerState) (event : Event) (bytes : List ℕ) (contents : Contents)
+    → event.kind ≡ End → old.ended ≡ false → new ≡ at_moment event.moment old
+    → Handles old event bytes going new contents contents
+end_handled old new event bytes contents is open_before same =
+    let held = held_at event.conn old.lines in
+    let marked = get_or old.marks event.conn false in
+    record {
+      answers = [];
+      takes = record {
+        steps = subst (λ kind. Steps old.form old.limit (raised event.moment old.machine) (completed_by kind held bytes) [] new.machine going) (sym is)
+            (subst (λ s. Steps old.form old.limit (raised event.moment old.machine) [] [] s going) (sym (ap (λ (m : ManagerState). m.machine) same)) none);
+        lines = λ goes. ap (λ (m : ManagerState). m.lines) same ∙ sym (set-get_or old.lines event.conn (unfinished []))
+            ∙ ap (λ kind. set old.lines event.conn (held_after kind held bytes)) (sym is);
+        ended = ap (λ (m : ManagerState). m.ended) same ∙ open_before;
+        form = ap (λ (m : ManagerState). m.form) same;
+        limit = ap (λ (m : ManagerState). m.limit) same;
+      };
+      sends = record {
+        marked = marked;
+        sends = done;
+        marks = ap (λ (m : ManagerState). m.marks) same ∙ sym (set-get_or old.marks event.conn false)
+            ∙ ap (λ kind. marks_after kind event.conn marked old.marks) (sym is);
+      };
+    }

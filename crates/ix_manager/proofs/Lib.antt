@@ -1,0 +1,12 @@
+pub mod RunLemmas
+pub mod SendLemmas
+pub mod CuttingLemmas
+pub mod WatchLists
+pub mod Polling
+pub mod Refreshing
+pub mod Stepping
+pub mod Requesting
+pub mod TakeLemmas
+pub mod AnswerLemmas
+pub mod HandleLemmas
+pub mod SendSteps

@@ -1,0 +1,55 @@
+use Rattle.std.proofs.Common.{[], ◌∷◌, sym, subst}
+use Rattle.ix_proto.specs.Requests.{PlainRequest}
+use Rattle.ix_proto.specs.declared.request.Request.{Request}
+use Rattle.ix_proto.specs.declared.reply.Reply.{Reply}
+use Rattle.ix_proto.specs.declared.reply.Reply.TheVariants.{Stopping}
+use Rattle.ix_manager.specs.Machine.{Step, stopping}
+use Rattle.ix_manager.specs.Core.{Core}
+use Rattle.ix_manager.proofs.Requesting.{OfEach, ask_is, may_is, watch_is, drop_is, stop_is}
+use Rattle.ix_manager.proofs.machine.Machine.answer.Goals as goal
+
+-- the step of a request that was answered by one reply
+abbrev StepsTo : Core → Reply → Core → PlainRequest → Type 0
+StepsTo old one new plain = Step old.form old.limit old.state plain (one ∷ []) new.state
+
+pub returns-in-Ask-clause-answers : goal.returns-in-Ask-clause-answers
+returns-in-Ask-clause-answers c =
+    let P = StepsTo c.args.self.now c.ask.result c.ask.new.self in (
+      subst (λ (r : Request). OfEach r P) (sym c.in-Ask.is)
+          (ask_is P c.in-Ask.action c.in-Ask.lease c.read_action.result c.read_action.ensures.valid c.read_action.ensures.same c.ask.ensures.step),
+      c.ask.ensures.told,
+    )
+
+pub returns-in-May-clause-answers : goal.returns-in-May-clause-answers
+returns-in-May-clause-answers c =
+    let P = StepsTo c.args.self.now c.may.result c.args.self.now in
+    let read = c.read_action-in-May in (
+      subst (λ (r : Request). OfEach r P) (sym c.in-May.is)
+          (may_is P c.in-May.action read.result read.ensures.valid read.ensures.same c.may.ensures.step),
+      c.may.ensures.told,
+    )
+
+pub returns-in-Watch-clause-answers : goal.returns-in-Watch-clause-answers
+returns-in-Watch-clause-answers c =
+    let P = StepsTo c.args.self.now c.watch.result c.watch.new.self in
+    let read = c.read_action-in-Watch in (
+      subst (λ (r : Request). OfEach r P) (sym c.in-Watch.is)
+          (watch_is P c.in-Watch.name c.in-Watch.action c.read_name.result read.result c.read_name.ensures read.ensures.valid read.ensures.same c.watch.ensures.step),
+      c.watch.ensures.told,
+    )
+
+pub returns-in-Drop-clause-answers : goal.returns-in-Drop-clause-answers
+returns-in-Drop-clause-answers c =
+    let P = StepsTo c.args.self.now c.drop_watch.result c.drop_watch.new.self in
+    let read = c.read_action-in-Drop in (
+      subst (λ (r : Request). OfEach r P) (sym c.in-Drop.is)
+          (drop_is P c.in-Drop.name c.in-Drop.action c.read_name-in-Drop.result read.result c.read_name-in-Drop.ensures read.ensures.valid read.ensures.same c.drop_watch.ensures.step),
+      c.drop_watch.ensures.told,
+    )
+
+pub returns-in-Stop-clause-answers : goal.returns-in-Stop-clause-answers
+returns-in-Stop-clause-answers c =
+    let P = StepsTo c.args.self.now Stopping c.args.self.now in (
+      subst (λ (r : Request). OfEach r P) (sym c.in-Stop.is) (stop_is P stopping),
+      tt,
+    )

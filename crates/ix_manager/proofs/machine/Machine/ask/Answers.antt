@@ -1,0 +1,26 @@
+use Rattle.std.proofs.Common.{subst, refl}
+use Rattle.ix_manager.specs.Ready.{IsOpenUpTo}
+use Rattle.ix_manager.specs.Core.{Core}
+use Rattle.ix_manager.proofs.Stepping.{seen, busy_does, granted_does, refused_does}
+use Rattle.ix_manager.proofs.machine.Machine.ask.Goals as goal
+
+pub returns-in-Some : goal.returns-in-Some
+returns-in-Some c =
+    busy_does c.args.self.now c.args.action c.args.lease c.in-Some.deadline
+    (subst (λ (core : Core). IsOpenUpTo core.state.slot core.state.moment c.in-Some.deadline) c.self.view_is c.in-Some.ensures.up_to)
+
+pub returns-in-Ok : goal.returns-in-Ok
+returns-in-Ok c =
+    let i = c.self.inside in
+    seen _ _ _ _ _ _ c.self.view_is refl
+    (granted_does i.engine i.slot i.watches i.moment i.ticket c.prepare.new.engine c.args.action c.args.lease c.deadline_of-deadline.result
+    c.prepare.ensures.form c.prepare.ensures.history c.prepare.ensures.limit
+    c.in_default.ensures.none c.in-Ok.ensures.permitted c.deadline_of-deadline.ensures)
+
+pub returns-in-Err : goal.returns-in-Err
+returns-in-Err c =
+    let i = c.self.inside in
+    seen _ _ _ _ _ _ c.self.view_is refl
+    (refused_does i.engine i.slot i.watches i.moment i.ticket c.prepare.new.engine c.args.action c.args.lease c.in-Err.refusal
+    c.prepare.ensures.form c.prepare.ensures.history c.prepare.ensures.limit
+    c.in_default.ensures.none c.in-Err.ensures.refused)

@@ -1,0 +1,12 @@
+use Rattle.std.proofs.Common.{sym, subst}
+use Rattle.ix_manager.specs.Core.{Core, IsRefreshed, TellsPoll}
+use Rattle.ix_manager.proofs.Stepping.{core_of, tells_poll}
+use Rattle.ix_manager.proofs.machine.Machine.tell.Goals as goal
+
+pub returns : goal.returns
+returns c =
+    let i = c.self.inside in
+    let name = c.args.name.now in
+    subst (λ (core : Core). TellsPoll core name (core_of i.engine i.slot c.tell.new.self i.moment i.ticket)) c.self.view_is
+    (tells_poll i.engine i.slot i.watches i.moment i.ticket c.tell.new.self name c.tell.ensures
+    (subst (λ (core : Core). IsRefreshed core name) (sym c.self.view_is) c.requires))

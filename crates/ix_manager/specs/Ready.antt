@@ -1,0 +1,39 @@
+-- What stands ready for a reservation, and why an action isn't prepared for one.
+use Rattle.std.specs.Prelude.{◌≡◌, ℕ, ◌<◌, ◌≤◌, Option, Some, None, length, []}
+use Rattle.ix_values.specs.PlainAction.{PlainAction}
+use Rattle.ix_expr.specs.Meaning.{IsPartial}
+use Rattle.ix_tree.specs.PlainOf.{plain}
+use Rattle.ix_engine.specs.Engine.{EngineState, Follows, extended, size_after}
+use Rattle.ix_engine.specs.declared.next.Next.{Next}
+use Rattle.ix_lease.specs.declared.Slot.{Slot}
+use Rattle.ix_lease.specs.declared.Slot.TheVariants.{Free, Held}
+use Rattle.ix_proto.specs.declared.reply.Reply.{Reply}
+use Rattle.ix_proto.specs.declared.reply.Reply.TheVariants.{Refused}
+
+-- the prepared action is this one and follows the engine, which has the memory for it
+pub record IsPrepared (engine : EngineState) (action : PlainAction) (next : Next) : Type 0 where
+  pub same : next.action ≡ action
+  pub follows : Follows engine next.action (plain next.tree)
+  pub spare : 1 ≤ engine.spare
+
+-- where the slot is held, its action is prepared
+abbrev pub IsReady : EngineState → Slot → Option Next → Type 0
+IsReady engine Free pending = Unit {0}
+IsReady engine (Held ticket action deadline) None = ⊥
+IsReady engine (Held ticket action deadline) (Some next) = IsPrepared engine action next
+
+-- the refusals of an action that isn't prepared
+pub data Refuses (engine : EngineState) (action : PlainAction) : Reply → Type 0 where
+  not_permitted : ¬ IsPartial engine.form [] (extended engine action) → Refuses engine action (Refused 21 0)
+  full : IsPartial engine.form [] (extended engine action) → length engine.history ≡ 1000000
+      → Refuses engine action (Refused 23 0)
+  large : IsPartial engine.form [] (extended engine action) → length engine.history < 1000000
+      → engine.limit < size_after engine (extended engine action)
+      → Refuses engine action (Refused 22 engine.limit)
+  memory : IsPartial engine.form [] (extended engine action) → length engine.history < 1000000
+      → Refuses engine action (Refused 90 0)
+
+-- open at the moment, up to this deadline
+abbrev pub IsOpenUpTo : Slot → ℕ → ℕ → Type 0
+IsOpenUpTo Free moment deadline = ⊥
+IsOpenUpTo (Held ticket action end) moment deadline = (end ≡ deadline) × (moment < end)

@@ -1,0 +1,23 @@
+//! The manager: the protocol machine over the connections of a site.
+//!
+//! Clients ask before an action and confirm it afterwards. The manager takes the events of a site one by one, cuts each
+//! connection's bytes into lines, handles each line whole, and sends its replies on the same connection.
+#![tactic(auto)]
+
+mod answering;
+mod asking;
+mod faults;
+pub mod laws;
+mod machine;
+mod manager;
+mod reading;
+mod refusals;
+mod reserving;
+mod sending;
+mod watching;
+
+pub use faults::{Go, StartFault};
+pub use manager::Manager;
+
+#[cfg(test)]
+mod tests;

@@ -1,0 +1,161 @@
+//! The protocol machine: the engine, the reservation, the watches, the moment and the next ticket.
+
+ghost use Rattle.std.specs.Prelude.{◌≡◌, ◌+◌, ◌-◌, ◌^◌, ◌<◌, ◌≤◌, ℕ, [], length, IfOk, OnOk};
+ghost use Rattle.ix_watch.specs.Watches.{changes_of};
+ghost use Rattle.ix_manager.specs.Machine.{start_of, word_size};
+ghost use Rattle.ix_manager.specs.Runs.{raised};
+ghost use Rattle.ix_manager.specs.Core.{Answers, IsRefreshed, TellsPoll};
+ghost use Rattle.ix_proto.specs.Requests.{PlainRequest, IsRequest, Lends};
+
+use crate::reading::{read_action, read_name};
+use ix_engine::{Engine, Next};
+use ix_expr::Expression;
+use ix_lease::Slot;
+use ix_proto::{Reply, Request};
+use ix_step::BuildFault;
+use ix_values::{Action, Name};
+use ix_watch::{Changes, WATCH_LIMIT, Watches};
+use std::alloc::Global;
+use std::marker::Model;
+
+/// What the machine answers to a request.
+#[derive(Clone, Copy)]
+pub enum Answer {
+    /// One reply.
+    One(Reply),
+    /// The changes of this name are to be told, and then noted as told.
+    Poll(Name),
+}
+
+/// The protocol machine.
+#[derive(Drop)]
+pub struct Machine {
+    pub(crate) engine: Engine,
+    /// The action that is reserved, prepared, where the slot is held.
+    pub(crate) pending: Option<Next>,
+    pub(crate) slot: Slot,
+    pub(crate) watches: Watches,
+    /// The greatest moment of all events so far, in milliseconds.
+    pub(crate) moment: u64,
+    /// The next ticket.
+    pub(crate) ticket: u64,
+}
+
+impl Model for Machine {
+    ghost use Rattle.ix_manager.specs.Core.{Core, watch_of};
+    ghost use Rattle.ix_expr.specs.FormCode.{form_code};
+    ghost use Rattle.std.specs.Coded.{codes};
+    ghost use Rattle.std.specs.Prelude.{map};
+
+    ghost Value = { Core };
+
+    ghost coded = { Prim.hlevel (codes, form_code) };
+
+    ghost view = { λ m. record {
+      form = m.engine.form;
+      limit = m.engine.limit;
+      state = record {
+        history = m.engine.history;
+        slot = m.slot;
+        watches = map watch_of m.watches;
+        moment = m.moment;
+        ticket = m.ticket;
+      };
+      noted = m.watches;
+    } };
+
+    ghost use Rattle.ix_manager.specs.Ready.{IsReady};
+
+    // The action of a reservation is prepared, and its memory is there.
+    ghost invariant = { λ m. IsReady m.engine m.slot m.pending };
+}
+
+impl Machine {
+    /// The machine of an expression with an empty history, under a limit of Size.
+    pub fn new(alloc: Global, expression: Expression, limit: usize) -> Result<Machine, BuildFault>
+        requires least { 1 ≤ limit }
+        requires most { limit ≤ 1000000 }
+        ensures starts { IfOk result (λ m. m ≡ record { form = expression; limit = limit; state = start_of []; noted = [] }) }
+        ensures within { OnOk result (word_size expression [] ≤ limit) }
+        ensures over { (l : ℕ) → result ≡ Err (BuildFault.Over l) → (l ≡ limit) × (limit < word_size expression []) }
+    {
+        match Engine::new(alloc, expression, limit) {
+            Ok(engine) => Ok(Machine {
+                engine,
+                pending: None,
+                slot: Slot::Free,
+                watches: Watches::new(alloc),
+                moment: 0,
+                ticket: 1,
+            }),
+            Err(fault) => Err(fault),
+        }
+    }
+
+    /// The moment is this one where it is greater.
+    pub fn raise(&mut self, moment: u64)
+        ensures { self.new ≡ record self.old { state = raised moment self.old.state } }
+    {
+        self.moment = self.moment.max(moment);
+    }
+
+    /// Answers a request that was read.
+    pub fn answer(&mut self, alloc: Global, request: &Request<'_>) -> Answer
+        requires read { (plain : PlainRequest) × IsRequest plain × Lends request.now plain }
+        requires tickets { self.old.state.ticket < 2 ^ 64 - 1 }
+        ensures answers { Answers self.old request.now result self.new }
+        ensures tickets { self.new.state.ticket ≤ self.old.state.ticket + 1 }
+        ensures form { self.new.form ≡ self.old.form }
+        ensures limit { self.new.limit ≡ self.old.limit }
+    {
+        match *request {
+            Request::Ask { action, lease } => {
+                Answer::One(self.ask(alloc, read_action(action), lease))
+            }
+            Request::Confirm(ticket) => Answer::One(self.confirm(ticket)),
+            Request::Cancel(ticket) => Answer::One(self.cancel(ticket)),
+            Request::May(action) => Answer::One(self.may(&read_action(action))),
+            Request::Watch { name, action } => {
+                Answer::One(self.watch(alloc, read_name(name), read_action(action)))
+            }
+            Request::Drop { name, action } => {
+                Answer::One(self.drop_watch(&read_name(name), &read_action(action)))
+            }
+            Request::Poll(name) => self.poll(alloc, read_name(name)),
+            Request::Status => Answer::One(self.status()),
+            Request::Log(number) => Answer::One(self.log(number)),
+            Request::Stop => Answer::One(Reply::Stopping),
+        }
+    }
+
+    /// The actions of the name whose allowance isn't what was told, in order, with their allowance.
+    pub fn changes<'a>(&'a self, name: &'a Name) -> Changes<'a>
+        ensures changes { result ≡ changes_of name.now self.now.noted }
+        ensures few { length self.now.noted ≤ 4096 }
+    {
+        prove!(self.watches.len() <= WATCH_LIMIT);
+        self.watches.changes(name)
+    }
+
+    /// Notes that the changes of the name were told.
+    pub fn tell(&mut self, name: &Name)
+        requires { IsRefreshed self.old name.now }
+        ensures { TellsPoll self.old name.now self.new }
+    {
+        self.watches.tell(name);
+    }
+
+    /// The confirmed actions, the oldest first.
+    pub fn history(&self) -> &[Action]
+        ensures { result.now ≡ self.now.state.history }
+    {
+        self.engine.history()
+    }
+
+    /// The next ticket.
+    pub fn ticket(&self) -> u64
+        ensures { result ≡ self.now.state.ticket }
+    {
+        self.ticket
+    }
+}

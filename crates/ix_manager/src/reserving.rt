@@ -1,0 +1,129 @@
+//! Asks, and what becomes of a reservation.
+
+ghost use Rattle.std.specs.Prelude.{◌≡◌, ◌-◌, ◌^◌, ◌<◌, IfOk, IfErr, OnOk, IfSome, IfNone};
+ghost use Rattle.ix_engine.specs.Engine.{IsPermitted};
+ghost use Rattle.ix_lease.specs.Slots.{IsOpenAt};
+ghost use Rattle.ix_proto.specs.Requests as request;
+ghost use Rattle.ix_manager.specs.Ready.{IsPrepared, Refuses, IsOpenUpTo};
+ghost use Rattle.ix_manager.specs.Doing.{Does};
+
+use crate::machine::Machine;
+use crate::refusals::{BUSY, EXPIRED, FULL, LARGE, MEMORY, NO_SUCH_TICKET, NOT_PERMITTED, refused};
+use ix_engine::{Engine, Next, PrepareFault};
+use ix_lease::{Slot, Take, deadline_of};
+use ix_proto::Reply;
+use ix_values::Action;
+use std::alloc::Global;
+
+impl Machine {
+    /// Answers whether the action may be done. If so it is reserved for `lease` milliseconds.
+    pub(crate) fn ask(&mut self, alloc: Global, action: Action, lease: u32) -> Reply
+        requires { self.old.state.ticket < 2 ^ 64 - 1 }
+        ensures { Does self.old (request.ask action lease) result self.new }
+    {
+        if let Some(deadline) = open_deadline(&self.slot, self.moment) {
+            return Reply::Refused {
+                code: BUSY,
+                number: deadline,
+            };
+        }
+        self.slot = Slot::Free;
+        self.pending = None;
+        match prepare(&mut self.engine, alloc, &action) {
+            Ok(next) => {
+                let ticket = self.ticket;
+                let deadline = deadline_of(self.moment, lease);
+                self.slot = Slot::Held {
+                    ticket,
+                    action,
+                    deadline,
+                };
+                self.pending = Some(next);
+                self.ticket = ticket + 1;
+                Reply::Granted(ticket)
+            }
+            Err(refusal) => refusal,
+        }
+    }
+
+    /// Answers that the action of the ticket was done: it is appended to the history where its reservation is open.
+    /// Takes no memory.
+    pub(crate) fn confirm(&mut self, ticket: u64) -> Reply
+        ensures { Does self.old (request.confirm ticket) result self.new }
+    {
+        match self.slot.take(ticket, self.moment) {
+            Take::Taken(_) => match self.pending.take() {
+                Some(next) => {
+                    self.engine.commit(next);
+                    Reply::Confirmed(self.engine.history().len() as u64)
+                }
+                None => unreachable!(),
+            },
+            Take::Expired => refused(EXPIRED),
+            Take::NoSuch => refused(NO_SUCH_TICKET),
+        }
+    }
+
+    /// Answers that the action of the ticket won't be done: its reservation ends where it is open.
+    pub(crate) fn cancel(&mut self, ticket: u64) -> Reply
+        ensures { Does self.old (request.cancel ticket) result self.new }
+    {
+        match self.slot.take(ticket, self.moment) {
+            Take::Taken(_) => {
+                self.pending = None;
+                Reply::Cancelled(ticket)
+            }
+            Take::Expired => refused(EXPIRED),
+            Take::NoSuch => refused(NO_SUCH_TICKET),
+        }
+    }
+}
+
+/// The deadline of a reservation that is open at this moment.
+fn open_deadline(slot: &Slot, moment: u64) -> Option<u64>
+    ensures up_to { IfSome result (λ deadline. IsOpenUpTo slot.now moment deadline) }
+    ensures none { IfNone result (¬ IsOpenAt slot.now moment) }
+{
+    match slot {
+        Slot::Free => None,
+        Slot::Held { deadline, .. } => {
+            if moment < *deadline {
+                Some(*deadline)
+            } else {
+                None
+            }
+        }
+    }
+}
+
+/// Prepares an action, with the memory to commit it, or tells why not.
+fn prepare(engine: &mut Engine, alloc: Global, action: &Action) -> Result<Next, Reply>
+    ensures prepared { IfOk result (λ next. IsPrepared engine.new action.now next) }
+    ensures permitted { OnOk result (IsPermitted engine.old action.now) }
+    ensures refused { IfErr result (λ reply. Refuses engine.old action.now reply) }
+    ensures form { engine.new.form ≡ engine.old.form }
+    ensures history { engine.new.history ≡ engine.old.history }
+    ensures limit { engine.new.limit ≡ engine.old.limit }
+{
+    let next = match engine.prepare(alloc, action) {
+        Ok(next) => next,
+        Err(PrepareFault::NotPartial) => return Err(refused(NOT_PERMITTED)),
+        Err(PrepareFault::Full) => return Err(refused(FULL)),
+        Err(PrepareFault::Over { limit }) => {
+            return Err(Reply::Refused {
+                code: LARGE,
+                number: limit as u64,
+            });
+        }
+        Err(PrepareFault::Memory) => {
+            // Memory runs out only for what may come next, in a history with room.
+            prove!(engine.may(action));
+            prove!(engine.history().len() <= 1_000_000);
+            return Err(refused(MEMORY));
+        }
+    };
+    match engine.reserve_one() {
+        Ok(()) => Ok(next),
+        Err(_) => Err(refused(MEMORY)),
+    }
+}
