@@ -7,8 +7,9 @@ use Rattle.ix_words.proofs.Each.{Each-append}
 use Rattle.ix_values.specs.Faults.{IsActionText, IsFault}
 use Rattle.ix_values.specs.PlainAction.{PlainAction, text_of}
 use Rattle.ix_values.specs.Texts.{IsAction}
-use Rattle.ix_manage.specs.ActionLines.{IsFirstBadLine, bytes_of, line, lines_of}
-use Rattle.ix_manage.proofs.LineLists.{lines_of-none}
+use Rattle.ix_manage.specs.ActionLines.{IsFirstBadLine, line}
+use Rattle.ix_script.specs.Lines.{bytes_of, lines_of}
+use Rattle.ix_script.proofs.LineLists.{lines_of-none}
 
 -- the lines before what is left are texts of actions, and, where anything is left, they take the bytes before it
 pub record GoodBefore (all rest : List ℕ) : Type 0 where

@@ -2,12 +2,18 @@
 use Rattle.std.proofs.Common.{◌≡◌, ℕ, ◌≤◌, List, Option, Result, Ok, Err, IfOk, IfErr, IsErrOf, length, sym, subst}
 use Rattle.ix_expr.specs.Form.{Form}
 use Rattle.ix_parse.specs.Faults.{StandsFor, IsFirstFault}
+use Rattle.ix_outside.specs.Contents.{GivenEvent}
 use Rattle.ix_outside.specs.Files.{Listing, HasFile}
-use Rattle.ix_manage.specs.Command.{NamesTrace}
-use Rattle.ix_manage.specs.Refusal.{refusal_line, refusal_status, RefusesExpression, RefusesActions, RefusesStart, RefusesText}
-use Rattle.ix_manage.specs.Trace.{within, large_line, ReadsForm, Starts, Traces, TracesLines, Ends, bad_text, bad_actions, large_start, lost_expression, lost_actions, no_memory, traced}
+use Rattle.ix_script.specs.Events.{HasEvents}
+use Rattle.ix_script.specs.Grammar.{IsFirstBadLine}
+use Rattle.ix_manage.specs.Command.{NamesTrace, NamesReplay, in_trace, in_replay}
+use Rattle.ix_manage.specs.Ends.{Ends, bad_text, bad_actions, large_start, lost_expression, lost_actions, no_memory, traced, bad_script, lost_script, large_replay, replayed}
+use Rattle.ix_manage.specs.Refusal.{refusal_line, refusal_status, RefusesExpression, RefusesActions, RefusesScript, RefusesStart, RefusesText, IsBadScript}
+use Rattle.ix_manage.specs.Replay.{bad_line}
+use Rattle.ix_manage.specs.Replaying.{ScriptEnds, large, memory, played}
+use Rattle.ix_manage.specs.Trace.{within, large_line, ReadsForm, Starts, StartsAbove, Traces, TracesLines}
 use Rattle.ix_manage.specs.declared.refusal.Refusal.{Refusal}
-use Rattle.ix_manage.specs.declared.refusal.Refusal.TheVariants.{Words, BadText, Large, LostExpression, BadActions, LostActions, Memory}
+use Rattle.ix_manage.specs.declared.refusal.Refusal.TheVariants.{Words, BadText, Large, LostExpression, BadActions, LostActions, BadScript, LostScript, Turns, Memory}
 
 module _ (files : Option Listing) (name text passed : List ℕ) (same : passed ≡ text) (file : HasFile files name text) where
   -- a text that is read is that of the file
@@ -25,6 +31,9 @@ module _ (files : Option Listing) (name text passed : List ℕ) (same : passed �
   read_err (Err LostExpression) why = absurd why
   read_err (Err (BadActions code at)) why = absurd why
   read_err (Err LostActions) why = absurd why
+  read_err (Err (BadScript code at)) why = absurd why
+  read_err (Err LostScript) why = absurd why
+  read_err (Err Turns) why = absurd why
 
 -- a text is never lost
 pub never_lost : (text : List ℕ) (r : Result Form Refusal) → IfErr r (RefusesText text) → IsErrOf r LostExpression → ⊥
@@ -41,25 +50,34 @@ start_refused files name limit (Large most) why = absurd why
 start_refused files name limit Words why = absurd why
 start_refused files name limit (BadActions code at) why = absurd why
 start_refused files name limit LostActions why = absurd why
+start_refused files name limit (BadScript code at) why = absurd why
+start_refused files name limit LostScript why = absurd why
+start_refused files name limit Turns why = absurd why
 
 module _ (words : List (List ℕ)) (files : Option Listing) (limit : ℕ) (expression actions : List ℕ) (names : NamesTrace words limit expression actions) where
   pub refused_start : (refusal : Refusal) → RefusesStart files expression limit refusal → Ends words files (refusal_status refusal) (refusal_line refusal)
-  refused_start (BadText code at) why = bad_text names why
+  refused_start (BadText code at) why = bad_text (in_trace names) why
   refused_start (Large most) why = subst (λ l. Ends words files 3 (large_line l)) (sym why.0) (large_start names why.1)
-  refused_start LostExpression why = lost_expression names
-  refused_start Memory why = no_memory names
+  refused_start LostExpression why = lost_expression (in_trace names)
+  refused_start Memory why = no_memory (in_trace names)
   refused_start Words why = absurd why
   refused_start (BadActions code at) why = absurd why
   refused_start LostActions why = absurd why
+  refused_start (BadScript code at) why = absurd why
+  refused_start LostScript why = absurd why
+  refused_start Turns why = absurd why
 
   pub refused_actions : (x : Form) → Starts files expression limit x → (refusal : Refusal) → RefusesActions files actions refusal → Ends words files (refusal_status refusal) (refusal_line refusal)
   refused_actions x starts (BadActions code at) why = bad_actions names starts why
   refused_actions x starts LostActions why = lost_actions names starts
-  refused_actions x starts Memory why = no_memory names
+  refused_actions x starts Memory why = no_memory (in_trace names)
   refused_actions x starts Words why = absurd why
   refused_actions x starts (BadText code at) why = absurd why
   refused_actions x starts (Large most) why = absurd why
   refused_actions x starts LostExpression why = absurd why
+  refused_actions x starts (BadScript code at) why = absurd why
+  refused_actions x starts LostScript why = absurd why
+  refused_actions x starts Turns why = absurd why
 
   pub trace_ends_run : (x : Form) (most : ℕ) (then : Option Listing) (bytes passed : List ℕ) (status : ℕ) (text : List ℕ) → Starts files expression limit x
       → most ≡ limit → then ≡ files → HasFile then actions bytes → length bytes ≤ 67108864 → passed ≡ bytes → TracesLines x most passed status text → Ends words files status text
@@ -67,3 +85,64 @@ module _ (words : List (List ℕ)) (files : Option Listing) (limit : ℕ) (expre
       let read = subst (λ b. TracesLines x most b status text) is trace in
       traced names starts (record { bytes = bytes; file = subst (λ f. HasFile f actions bytes) same file; short = short; has = read.has })
       (subst (λ l. Traces x l read.actions status text) same_limit read.traces)
+
+-- how a replay ends, by what its parts say
+module _ (words : List (List ℕ)) (files : Option Listing) (limit turns : ℕ) (expression script : List ℕ) (names : NamesReplay words limit turns expression script) where
+  pub replay_expression : (refusal : Refusal) → RefusesExpression files expression refusal → Ends words files (refusal_status refusal) (refusal_line refusal)
+  replay_expression (BadText code at) why = bad_text (in_replay names) why
+  replay_expression LostExpression why = lost_expression (in_replay names)
+  replay_expression Memory why = no_memory (in_replay names)
+  replay_expression Words why = absurd why
+  replay_expression (Large most) why = absurd why
+  replay_expression (BadActions code at) why = absurd why
+  replay_expression LostActions why = absurd why
+  replay_expression (BadScript code at) why = absurd why
+  replay_expression LostScript why = absurd why
+  replay_expression Turns why = absurd why
+
+  pub replay_refused : (x : Form) → ReadsForm files expression x → (refusal : Refusal) → RefusesScript files script refusal → Ends words files (refusal_status refusal) (refusal_line refusal)
+  replay_refused x reads (BadScript code at) why = bad_script names reads why
+  replay_refused x reads LostScript why = lost_script names reads
+  replay_refused x reads Memory why = no_memory (in_replay names)
+  replay_refused x reads Words why = absurd why
+  replay_refused x reads (BadText code at) why = absurd why
+  replay_refused x reads (Large most) why = absurd why
+  replay_refused x reads LostExpression why = absurd why
+  replay_refused x reads (BadActions code at) why = absurd why
+  replay_refused x reads LostActions why = absurd why
+  replay_refused x reads Turns why = absurd why
+
+  pub replay_ends : (x : Form) → ReadsForm files expression x → (bytes passed : List ℕ) → HasFile files script bytes → length bytes ≤ 67108864 → passed ≡ bytes
+      → (events : List GivenEvent) × HasEvents passed events → {status : ℕ} {text : List ℕ} → ScriptEnds x limit turns passed status text → Ends words files status text
+  replay_ends x reads bytes passed file short same has (large above) =
+      large_replay names (record { bytes = bytes; file = file; short = short; has = subst (λ b. HasEvents b has.0) same has.1 }) (record { form = x; reads = reads; above = above })
+  replay_ends x reads bytes passed file short same has memory = no_memory (in_replay names)
+  replay_ends x reads bytes passed file short same has (played small replays) =
+      replayed names (record { reads = reads; small = small }) (record { bytes = bytes; file = file; short = short; has = subst (λ b. HasEvents b has.0) same has.1 }) (replays has.0 has.1)
+
+-- a script's fault is one of its file
+pub script_refused : (files : Option Listing) (name bytes passed : List ℕ) → HasFile files name bytes → length bytes ≤ 67108864 → passed ≡ bytes
+    → (refusal : Refusal) → IsBadScript passed refusal → RefusesScript files name refusal
+script_refused files name bytes passed file short same (BadScript code at) why = bad_line file short (subst (λ b. IsFirstBadLine b code at) same why)
+script_refused files name bytes passed file short same Words why = absurd why
+script_refused files name bytes passed file short same (BadText code at) why = absurd why
+script_refused files name bytes passed file short same (Large most) why = absurd why
+script_refused files name bytes passed file short same LostExpression why = absurd why
+script_refused files name bytes passed file short same (BadActions code at) why = absurd why
+script_refused files name bytes passed file short same LostActions why = absurd why
+script_refused files name bytes passed file short same LostScript why = absurd why
+script_refused files name bytes passed file short same Turns why = absurd why
+script_refused files name bytes passed file short same Memory why = absurd why
+
+-- a bad script isn't lost
+pub bad_not_lost : (bytes : List ℕ) (refusal : Refusal) → IsBadScript bytes refusal → refusal_status refusal ≡ 4 → ⊥
+bad_not_lost bytes (BadScript code at) why is = cc
+bad_not_lost bytes Words why is = absurd why
+bad_not_lost bytes (BadText code at) why is = absurd why
+bad_not_lost bytes (Large most) why is = absurd why
+bad_not_lost bytes LostExpression why is = absurd why
+bad_not_lost bytes (BadActions code at) why is = absurd why
+bad_not_lost bytes LostActions why is = absurd why
+bad_not_lost bytes LostScript why is = absurd why
+bad_not_lost bytes Turns why is = absurd why
+bad_not_lost bytes Memory why is = absurd why

@@ -1,7 +1,10 @@
-pub mod FirstParts
-pub mod LineLists
+pub mod KnownLengths
 pub mod NamedWords
 pub mod Answering
 pub mod Tracing
 pub mod Ending
 pub mod BadLines
+pub mod ReplayNames
+pub mod ScriptFronts
+pub mod Replaying
+pub mod Stops

@@ -10,9 +10,10 @@ use Rattle.ix_values.specs.PlainAction.{PlainAction, Word, text_of}
 use Rattle.ix_values.specs.Texts.{IsAction}
 use Rattle.ix_expr.specs.Form.{Form}
 use Rattle.ix_outside.specs.Sink.{AppendsPart}
-use Rattle.ix_manage.specs.ActionLines.{HasActions, line, lines_of}
+use Rattle.ix_manage.specs.ActionLines.{HasActions, line}
+use Rattle.ix_script.specs.Lines.{lines_of}
 use Rattle.ix_manage.specs.Trace.{Answers, TracesLines, Verdict, whole, short}
-use Rattle.ix_manage.proofs.LineLists.{lines_of-none}
+use Rattle.ix_script.proofs.LineLists.{lines_of-none}
 
 pub append_nothing : (known : Option (List ℕ)) → known ≡ append_known known []
 append_nothing None = refl

@@ -1,10 +1,12 @@
 -- Why a run ends before it has its answer, and what it puts then.
 use Rattle.std.specs.Prelude.{◌≡◌, ℕ, List, Option, codes, ⊤}
 use Rattle.ix_manage.specs.declared.refusal.Refusal.{Refusal}
-use Rattle.ix_manage.specs.declared.refusal.Refusal.TheVariants.{Words, BadText, Large, LostExpression, BadActions, LostActions, Memory}
+use Rattle.ix_manage.specs.declared.refusal.Refusal.TheVariants.{Words, BadText, Large, LostExpression, BadActions, LostActions, BadScript, LostScript, Turns, Memory}
 use Rattle.ix_outside.specs.Files.{Listing}
 use Rattle.ix_parse.specs.Faults.{IsFirstFault}
+use Rattle.ix_script.specs.Grammar.{IsFirstBadLine}
 use Rattle.ix_manage.specs.ActionLines.{line}
+use Rattle.ix_manage.specs.Replay.{HasBadScript}
 use Rattle.ix_manage.specs.Trace.{fault_line, large_line, HasBadText, HasBadActions, StartsAbove}
 
 -- the line that says why
@@ -15,6 +17,9 @@ refusal_line (Large limit) = large_line limit
 refusal_line LostExpression = line (codes "refused file expression")
 refusal_line (BadActions code at) = fault_line (codes "actions") code at
 refusal_line LostActions = line (codes "refused file actions")
+refusal_line (BadScript code at) = fault_line (codes "script") code at
+refusal_line LostScript = line (codes "refused file script")
+refusal_line Turns = line (codes "refused turns")
 refusal_line Memory = line (codes "refused memory")
 
 -- the status of the run
@@ -25,27 +30,23 @@ refusal_status (Large limit) = 3
 refusal_status LostExpression = 4
 refusal_status (BadActions code at) = 3
 refusal_status LostActions = 4
+refusal_status (BadScript code at) = 3
+refusal_status LostScript = 4
+refusal_status Turns = 7
 refusal_status Memory = 9
 
 -- why a text of an expression is refused
 abbrev pub RefusesText : List ℕ → Refusal → Type 0
 RefusesText text (BadText code at) = IsFirstFault text code at
 RefusesText text Memory = ⊤
-RefusesText text Words = ⊥
-RefusesText text (Large limit) = ⊥
-RefusesText text LostExpression = ⊥
-RefusesText text (BadActions code at) = ⊥
-RefusesText text LostActions = ⊥
+RefusesText text _ = ⊥
 
 -- why an expression file of this name is refused
 abbrev pub RefusesExpression : Option Listing → List ℕ → Refusal → Type 0
 RefusesExpression files name (BadText code at) = HasBadText files name code at
 RefusesExpression files name LostExpression = ⊤
 RefusesExpression files name Memory = ⊤
-RefusesExpression files name (Large limit) = ⊥
-RefusesExpression files name Words = ⊥
-RefusesExpression files name (BadActions code at) = ⊥
-RefusesExpression files name LostActions = ⊥
+RefusesExpression files name _ = ⊥
 
 -- why no engine is made of an expression file of this name under a limit
 abbrev pub RefusesStart : Option Listing → List ℕ → ℕ → Refusal → Type 0
@@ -53,16 +54,23 @@ RefusesStart files name limit (BadText code at) = HasBadText files name code at
 RefusesStart files name limit (Large most) = (most ≡ limit) × StartsAbove files name limit
 RefusesStart files name limit LostExpression = ⊤
 RefusesStart files name limit Memory = ⊤
-RefusesStart files name limit Words = ⊥
-RefusesStart files name limit (BadActions code at) = ⊥
-RefusesStart files name limit LostActions = ⊥
+RefusesStart files name limit _ = ⊥
 
 -- why an actions file of this name is refused
 abbrev pub RefusesActions : Option Listing → List ℕ → Refusal → Type 0
 RefusesActions files name (BadActions code at) = HasBadActions files name code at
 RefusesActions files name LostActions = ⊤
 RefusesActions files name Memory = ⊤
-RefusesActions files name Words = ⊥
-RefusesActions files name (BadText code at) = ⊥
-RefusesActions files name (Large limit) = ⊥
-RefusesActions files name LostExpression = ⊥
+RefusesActions files name _ = ⊥
+
+-- why a script of this name is refused
+abbrev pub RefusesScript : Option Listing → List ℕ → Refusal → Type 0
+RefusesScript files name (BadScript code at) = HasBadScript files name code at
+RefusesScript files name LostScript = ⊤
+RefusesScript files name Memory = ⊤
+RefusesScript files name _ = ⊥
+
+-- why bytes are refused as a script
+abbrev pub IsBadScript : List ℕ → Refusal → Type 0
+IsBadScript bytes (BadScript code at) = IsFirstBadLine bytes code at
+IsBadScript bytes _ = ⊥

@@ -1,4 +1,4 @@
--- What `trace` puts, and how it ends.
+-- What `trace` puts.
 use Rattle.std.specs.Prelude.{◌≡◌, ℕ, ◌<◌, ◌≤◌, List, [], ◌∷◌, ◌++◌, length, Option, codes, decimal}
 use Rattle.ix_values.specs.PlainAction.{PlainAction, Word}
 use Rattle.ix_expr.specs.Form.{Form}
@@ -8,7 +8,6 @@ use Rattle.ix_outside.specs.Files.{Listing, HasFile, HasLonger}
 use Rattle.ix_tree.specs.Size.{size_of}
 use Rattle.ix_can.specs.TreeOf.{tree_of}
 use Rattle.ix_manage.specs.ActionLines.{HasActions, IsFirstBadLine, line}
-use Rattle.ix_manage.specs.Command.{NamesTrace}
 
 -- the Size of the tree of a word of the expression
 abbrev pub tree_size : Form → Word → ℕ
@@ -101,30 +100,3 @@ pub record TracesLines (x : Form) (limit : ℕ) (bytes : List ℕ) (status : ℕ
   pub actions : Word
   pub has : HasActions bytes actions
   pub traces : Traces x limit actions status text
-
--- How a run may end, by the words and the files: its status, and all that it puts.
-pub data Ends (words : List (List ℕ)) (files : Option Listing) : ℕ → List ℕ → Type 0 where
-  other_words : ((limit : ℕ) (expression actions : List ℕ) → NamesTrace words limit expression actions → ⊥)
-      → Ends words files 2 (line (codes "refused words"))
-  bad_text : {limit : ℕ} {expression actions : List ℕ} {code at : ℕ}
-      → NamesTrace words limit expression actions → HasBadText files expression code at
-      → Ends words files 3 (fault_line (codes "expression") code at)
-  large_start : {limit : ℕ} {expression actions : List ℕ}
-      → NamesTrace words limit expression actions → StartsAbove files expression limit
-      → Ends words files 3 (large_line limit)
-  bad_actions : {limit : ℕ} {expression actions : List ℕ} {x : Form} {code at : ℕ}
-      → NamesTrace words limit expression actions → Starts files expression limit x → HasBadActions files actions code at
-      → Ends words files 3 (fault_line (codes "actions") code at)
-  lost_expression : {limit : ℕ} {expression actions : List ℕ}
-      → NamesTrace words limit expression actions
-      → Ends words files 4 (line (codes "refused file expression"))
-  lost_actions : {limit : ℕ} {expression actions : List ℕ} {x : Form}
-      → NamesTrace words limit expression actions → Starts files expression limit x
-      → Ends words files 4 (line (codes "refused file actions"))
-  no_memory : {limit : ℕ} {expression actions : List ℕ}
-      → NamesTrace words limit expression actions
-      → Ends words files 9 (line (codes "refused memory"))
-  traced : {limit : ℕ} {expression actions : List ℕ} {x : Form} {word : Word} {status : ℕ} {text : List ℕ}
-      → NamesTrace words limit expression actions → Starts files expression limit x → ReadsActions files actions word
-      → Traces x limit word status text
-      → Ends words files status text

@@ -4,41 +4,14 @@ ghost use Rattle.ix_words.specs.Each.{Each};
 ghost use Rattle.ix_values.specs.Faults.{IsActionText};
 ghost use Rattle.ix_values.specs.PlainAction.{text_of};
 ghost use Rattle.ix_values.specs.Texts.{IsAction};
-ghost use Rattle.ix_manage.specs.ActionLines.{IsFirstBadLine, lines_of};
+ghost use Rattle.ix_manage.specs.ActionLines.{IsFirstBadLine};
+ghost use Rattle.ix_script.specs.Lines.{lines_of};
 
-use crate::parts::first_part;
+use ix_script::first_line;
 use ix_values::{Action, ActionFault};
 
 /// The most bytes of an actions file.
 pub const MOST_BYTES: usize = 67_108_864;
-
-/// The first line without its byte 10, and what stands behind it.
-#[derive(Clone, Copy)]
-pub struct FirstLine<'a> {
-    pub line: &'a [u8],
-    pub rest: &'a [u8],
-}
-
-/// The first line of bytes that have one.
-pub fn first_line(bytes: &[u8]) -> FirstLine<'_>
-    requires { 0 < length bytes.now }
-    ensures lines { lines_of bytes.now ≡ result.line.now ∷ lines_of result.rest.now }
-    ensures shorter { length result.rest.now < length bytes.now }
-    ensures within { length result.line.now ≤ length bytes.now }
-    ensures place { 0 < length result.rest.now → length result.line.now + 1 + length result.rest.now ≡ length bytes.now }
-{
-    let first = first_part(b'\n', bytes);
-    match first.rest {
-        None => FirstLine {
-            line: first.part,
-            rest: &[],
-        },
-        Some(rest) => FirstLine {
-            line: first.part,
-            rest,
-        },
-    }
-}
 
 /// The action whose text the line is.
 pub fn read_action(line: &[u8]) -> Action

@@ -5,15 +5,17 @@ ghost use Rattle.std.specs.Prelude.{◌≡◌, ◌≢◌, ◌≤◌, ℕ, List, 
 ghost use Rattle.std.specs.Io.KnownBytes.{append_known};
 ghost use Rattle.ix_outside.specs.Counts.{Rose};
 ghost use Rattle.ix_outside.specs.Sink.{AppendsPart};
-ghost use Rattle.ix_manage.specs.Trace.{Ends};
+ghost use Rattle.ix_manage.specs.Ends.{Ends};
 
 mod actions;
 mod load;
-mod parts;
 mod refusal;
+mod replay;
+mod replay_words;
 mod run;
 mod start;
 mod trace;
+mod turns;
 mod words;
 
 use ix_outside::{Files, Sink, Site};
@@ -22,13 +24,21 @@ use std::alloc::Global;
 
 /// Runs the program on the words after its name, and gives its status.
 ///
-/// The words are `trace EXPR ACTIONS`, or `trace --nodes N EXPR ACTIONS` with a limit N of Size from 1 to 1,000,000,
-/// which is 100,000 where the words don't say it. What is put, and with which status a run ends, says `Ends`: one line
-/// for each action of the file ACTIONS by the expression of the file EXPR, which is `no`, `full`, `large` or `yes`, and
-/// `complete` or `partial`, with status 0; or else a refusal, as its last line. A text that stands for no expression is
-/// refused with its first fault, one whose initial tree is above the limit with 14, and an actions file with the first
-/// line that is no action's text. A put that fails ends the run with status 10, and what went out by then is a front of
-/// such a text. A text that `files` doesn't tell may be any.
+/// What is put, and with which status a run ends, says `Ends`. The words are those of a trace or of a replay:
+///
+/// - `trace EXPR ACTIONS` puts one line for each action of the file ACTIONS by the expression of the file EXPR, which is `no`,
+///   `full`, `large` or `yes`, and then `complete` or `partial`, with status 0.
+/// - `replay EXPR - SCRIPT` puts `history 0`, and then the replies of a run of the protocol machine over the events of the file
+///   SCRIPT, each behind its connection's number: to the script's end or `stop` with status 0, or to the number of turns with
+///   status 7 and a line that says so.
+///
+/// Directly behind the command `--nodes N`, a limit of Size from 1 to 1,000,000 which is 100,000 otherwise, may stand, and in a
+/// replay then `--turns N`, the most events that are taken, from 1 to 1,000,000,000.
+///
+/// Else a run ends with a refusal as its last line. A text that stands for no expression is refused with its first fault, one
+/// whose initial tree is above the limit with 14, an actions file or a script with the first line that isn't in its grammar. A
+/// put that fails ends the run with status 10, a replay after the event in which it failed, and what went out by then is a front
+/// of such a text. A text that `files` doesn't tell may be any. The site isn't called.
 pub fn manage<F: Files, S: Site, K: Sink>(
     alloc: Global,
     words: &[String],
@@ -57,11 +67,12 @@ pub fn manage<F: Files, S: Site, K: Sink>(
     ensures files_held { F.held files.new ≡ F.held files.old }
     ensures site_counts { S.counts site.new ≡ S.counts site.old }
     ensures site_attached { S.attached site.new ≡ S.attached site.old }
+    ensures site_contents { S.contents site.new ≡ S.contents site.old }
     ensures site_held { S.held site.new ≡ S.held site.old }
     ensures output_count { K.faults out.old ≤ K.faults out.new }
     ensures output_held { K.held out.new ≡ K.held out.old }
 {
-    match run(alloc, words, files, out) {
+    match run(alloc, words, files, site, out) {
         Ok(()) => 0,
         Err(Stop::Output) => 10,
         Err(Stop::Refused(refusal)) => match out.put(&refusal.line()) {

@@ -1,12 +1,12 @@
-// Loads the two files of a trace.
+// Loads the files that the words name.
 ghost use Rattle.std.specs.Prelude.{◌≡◌, ◌≤◌, IfOk, IfErr, IsErrOf, length};
 ghost use Rattle.ix_words.specs.Each.{Each};
 ghost use Rattle.ix_values.specs.Faults.{IsActionText};
 ghost use Rattle.ix_parse.specs.Faults.{StandsFor};
 ghost use Rattle.ix_outside.specs.Counts.{Rose};
 ghost use Rattle.ix_outside.specs.Files.{HasFile};
-ghost use Rattle.ix_manage.specs.ActionLines.{lines_of};
-ghost use Rattle.ix_manage.specs.Refusal.{RefusesActions, RefusesExpression, RefusesText};
+ghost use Rattle.ix_script.specs.Lines.{lines_of};
+ghost use Rattle.ix_manage.specs.Refusal.{RefusesActions, RefusesExpression, RefusesScript, RefusesText};
 ghost use Rattle.ix_manage.specs.Trace.{ReadsForm};
 
 use crate::actions::{self, first_fault};
@@ -18,6 +18,9 @@ use std::alloc::Global;
 
 /// The most bytes of an expression's text.
 const MOST_BYTES: usize = 16384;
+
+/// The most bytes of a script.
+const MOST_SCRIPT_BYTES: usize = 67_108_864;
 
 /// The expression that the file of this name stands for.
 pub fn load_expression<F: Files>(
@@ -76,6 +79,28 @@ pub fn load_actions<F: Files>(alloc: Global, files: &mut F, name: &str) -> Resul
         Err(LoadFault::Failed) => Err(Refusal::LostActions),
         Err(LoadFault::TooLong) => Err(Refusal::BadActions {
             code: 6,
+            at: 67_108_864,
+        }),
+        Err(LoadFault::Memory) => Err(Refusal::Memory),
+    }
+}
+
+/// The bytes of the script of this name, which aren't checked yet.
+pub fn load_script<F: Files>(alloc: Global, files: &mut F, name: &str) -> Result<Vec<u8>, Refusal>
+    ensures file { IfOk result (λ bytes. HasFile (F.contents files.old) name.now bytes.items) }
+    ensures short { IfOk result (λ bytes. length bytes.items ≤ 67108864) }
+    ensures err { IfErr result (RefusesScript (F.contents files.old) name.now) }
+    ensures lost { IsErrOf result Refusal.LostScript → Rose (F.faults files.old) (F.faults files.new) }
+
+    ensures count { F.faults files.old ≤ F.faults files.new }
+    ensures files { F.contents files.new ≡ F.contents files.old }
+    ensures held { F.held files.new ≡ F.held files.old }
+{
+    match files.load(alloc, name, MOST_SCRIPT_BYTES) {
+        Ok(bytes) => Ok(bytes),
+        Err(LoadFault::Failed) => Err(Refusal::LostScript),
+        Err(LoadFault::TooLong) => Err(Refusal::BadScript {
+            code: 34,
             at: 67_108_864,
         }),
         Err(LoadFault::Memory) => Err(Refusal::Memory),

@@ -9,7 +9,7 @@ use itoa::Buffer;
 /// Why a run ends before it has its answer.
 #[derive(Clone, Copy)]
 pub enum Refusal {
-    /// The words name no trace.
+    /// The words name no command.
     Words,
     /// The expression file has this fault.
     BadText { code: u8, at: usize },
@@ -21,6 +21,12 @@ pub enum Refusal {
     BadActions { code: u8, at: usize },
     /// The actions file couldn't be read.
     LostActions,
+    /// The script has this fault.
+    BadScript { code: u8, at: usize },
+    /// The script couldn't be read.
+    LostScript,
+    /// As many events were taken as the words allow, and the run hadn't ended.
+    Turns,
     /// There was no memory.
     Memory,
 }
@@ -40,6 +46,9 @@ impl Refusal {
             Refusal::LostExpression => append(&mut line, b"refused file expression\n"),
             Refusal::BadActions { code, at } => append_fault(&mut line, b"actions", code, at),
             Refusal::LostActions => append(&mut line, b"refused file actions\n"),
+            Refusal::BadScript { code, at } => append_fault(&mut line, b"script", code, at),
+            Refusal::LostScript => append(&mut line, b"refused file script\n"),
+            Refusal::Turns => append(&mut line, b"refused turns\n"),
             Refusal::Memory => append(&mut line, b"refused memory\n"),
         }
         line
@@ -51,14 +60,16 @@ impl Refusal {
     {
         match self {
             Refusal::Words => 2,
-            Refusal::BadText { .. } | Refusal::Large { .. } | Refusal::BadActions { .. } => 3,
-            Refusal::LostExpression | Refusal::LostActions => 4,
+            Refusal::BadText { .. } | Refusal::Large { .. } => 3,
+            Refusal::BadActions { .. } | Refusal::BadScript { .. } => 3,
+            Refusal::LostExpression | Refusal::LostActions | Refusal::LostScript => 4,
+            Refusal::Turns => 7,
             Refusal::Memory => 9,
         }
     }
 }
 
-// Writes the line of a fault of one of the two files behind nothing.
+// Writes the line of a fault of one of the files behind nothing.
 fn append_fault(line: &mut ArrayVec<u8, 64>, file: &[u8], code: u8, at: usize)
     requires empty { line.old.items ≡ [] }
     requires short { length file.now ≤ 10 }

@@ -4,14 +4,16 @@ ghost use Rattle.std.specs.Io.KnownBytes.{append_known};
 ghost use Rattle.ix_outside.specs.Counts.{Rose};
 ghost use Rattle.ix_outside.specs.Sink.{AppendsPart};
 ghost use Rattle.ix_manage.specs.Run.{RefusedAfter, LostWhere};
-ghost use Rattle.ix_manage.specs.Trace.{Ends};
+ghost use Rattle.ix_manage.specs.Ends.{Ends, TraceEnds};
 
 use crate::load::load_actions;
 use crate::refusal::Refusal;
+use crate::replay::replay;
+use crate::replay_words::replay_words;
 use crate::start::start;
 use crate::trace::{TraceFault, trace};
-use crate::words::trace_words;
-use ix_outside::{Files, Sink};
+use crate::words::{TraceWords, trace_words};
+use ix_outside::{Files, Sink, Site};
 use std::alloc::Global;
 
 /// Why a run ends before it has its answer.
@@ -24,17 +26,60 @@ pub enum Stop {
 }
 
 /// Runs the command of the words. A refusal's line isn't put yet.
-pub fn run<F: Files, K: Sink>(
+pub fn run<F: Files, S: Site, K: Sink>(
     alloc: Global,
     words: &[String],
     files: &mut F,
+    site: &mut S,
     out: &mut K,
 ) -> Result<(), Stop>
     ensures done { OnOk result ((text : List ℕ) × Ends (map string_bytes words.now) (F.contents files.old) 0 text
         × (K.written out.new ≡ append_known (K.written out.old) text)) }
-    ensures refused { IfErr result (RefusedAfter (map string_bytes words.now) (F.contents files.old) (K.written out.old) (K.written out.new)) }
+    ensures refused { IfErr result (RefusedAfter (Ends (map string_bytes words.now) (F.contents files.old))
+        (K.written out.old) (K.written out.new)) }
     ensures output { IsErrOf result Stop.Output → (status : ℕ) × (text : List ℕ)
         × Ends (map string_bytes words.now) (F.contents files.old) status text
+        × AppendsPart (K.written out.old) text (K.written out.new) }
+    ensures lost { IfErr result (LostWhere (F.faults files.old) (F.faults files.new)) }
+    ensures failed { IsErrOf result Stop.Output → Rose (K.faults out.old) (K.faults out.new) }
+
+    ensures file_count { F.faults files.old ≤ F.faults files.new }
+    ensures files { F.contents files.new ≡ F.contents files.old }
+    ensures files_held { F.held files.new ≡ F.held files.old }
+    ensures site_counts { S.counts site.new ≡ S.counts site.old }
+    ensures site_attached { S.attached site.new ≡ S.attached site.old }
+    ensures site_contents { S.contents site.new ≡ S.contents site.old }
+    ensures site_held { S.held site.new ≡ S.held site.old }
+    ensures count { K.faults out.old ≤ K.faults out.new }
+    ensures held { K.held out.new ≡ K.held out.old }
+{
+    if let Some(names) = trace_words(words) {
+        return run_trace(alloc, names, files, out);
+    }
+    match replay_words(words) {
+        Some(names) => replay(alloc, names, files, site, out),
+        None => Err(Stop::Refused(Refusal::Words)),
+    }
+}
+
+// Runs a trace of the files that the words name.
+fn run_trace<F: Files, K: Sink>(
+    alloc: Global,
+    names: TraceWords<'_>,
+    files: &mut F,
+    out: &mut K,
+) -> Result<(), Stop>
+    requires least { 1 ≤ names.limit }
+    requires most { names.limit ≤ 1000000 }
+
+    ensures done { OnOk result ((text : List ℕ)
+        × TraceEnds (F.contents files.old) names.entry.limit names.entry.expression.now names.entry.actions.now 0 text
+        × (K.written out.new ≡ append_known (K.written out.old) text)) }
+    ensures refused { IfErr result (RefusedAfter
+        (TraceEnds (F.contents files.old) names.entry.limit names.entry.expression.now names.entry.actions.now)
+        (K.written out.old) (K.written out.new)) }
+    ensures output { IsErrOf result Stop.Output → (status : ℕ) × (text : List ℕ)
+        × TraceEnds (F.contents files.old) names.entry.limit names.entry.expression.now names.entry.actions.now status text
         × AppendsPart (K.written out.old) text (K.written out.new) }
     ensures lost { IfErr result (LostWhere (F.faults files.old) (F.faults files.new)) }
     ensures failed { IsErrOf result Stop.Output → Rose (K.faults out.old) (K.faults out.new) }
@@ -45,9 +90,6 @@ pub fn run<F: Files, K: Sink>(
     ensures count { K.faults out.old ≤ K.faults out.new }
     ensures held { K.held out.new ≡ K.held out.old }
 {
-    let Some(names) = trace_words(words) else {
-        return Err(Stop::Refused(Refusal::Words));
-    };
     let mut engine = match start(alloc, files, names.expression, names.limit) {
         Ok(engine) => engine,
         Err(refusal) => return Err(Stop::Refused(refusal)),

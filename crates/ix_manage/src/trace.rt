@@ -6,12 +6,14 @@ ghost use Rattle.ix_values.specs.Faults.{IsActionText};
 ghost use Rattle.ix_values.specs.PlainAction.{Word};
 ghost use Rattle.ix_outside.specs.Counts.{Rose};
 ghost use Rattle.ix_outside.specs.Sink.{AppendsPart};
-ghost use Rattle.ix_manage.specs.ActionLines.{line, lines_of};
+ghost use Rattle.ix_manage.specs.ActionLines.{line};
+ghost use Rattle.ix_script.specs.Lines.{lines_of};
 ghost use Rattle.ix_manage.specs.Trace.{Answers, TracesLines, Verdict};
 
-use crate::actions::{first_line, read_action};
+use crate::actions::read_action;
 use ix_engine::{Engine, PrepareFault};
 use ix_outside::Sink;
+use ix_script::first_line;
 use ix_values::Action;
 use std::alloc::{AllocError, Global};
 

@@ -1,14 +1,14 @@
 // The words of the command line.
 ghost use Rattle.std.specs.Prelude.{◌≡◌, ◌≤◌, ℕ, List, map, MatchOption, decimal, string_bytes};
-ghost use Rattle.ix_manage.specs.Command.{NamesTrace, IsLimitText};
+ghost use Rattle.ix_manage.specs.Command.{NamesTrace, IsNumberText};
 
 use itoa::Buffer;
 
 /// The limit of Size where the words don't say one.
-const USUAL_LIMIT: usize = 100_000;
+pub const USUAL_LIMIT: usize = 100_000;
 
 /// The greatest limit of Size that the words may say.
-const GREATEST_LIMIT: usize = 1_000_000;
+pub const GREATEST_LIMIT: usize = 1_000_000;
 
 /// The limit of Size and the two files that the words of a trace name.
 #[derive(Clone, Copy)]
@@ -39,7 +39,7 @@ pub fn trace_words(words: &[String]) -> Option<TraceWords<'_>>
             if command.as_str() != "trace" || option.as_str() != "--nodes" {
                 return None;
             }
-            match read_limit(limit.as_str()) {
+            match read_number(limit.as_str(), GREATEST_LIMIT) {
                 Some(limit) => Some(TraceWords {
                     limit,
                     expression: expression.as_str(),
@@ -52,22 +52,22 @@ pub fn trace_words(words: &[String]) -> Option<TraceWords<'_>>
     }
 }
 
-// The limit whose text this is, from 1 to 1,000,000 in decimal without leading zeros.
-fn read_limit(text: &str) -> Option<usize>
+/// The number whose text this is, from 1 to a greatest one, in decimal without leading zeros.
+pub fn read_number(text: &str, greatest: usize) -> Option<usize>
     ensures { MatchOption result
-        ((limit : ℕ) → IsLimitText text.now limit → ⊥)
-        (λ limit. IsLimitText text.now limit) }
+        ((number : ℕ) → IsNumberText greatest text.now number → ⊥)
+        (λ number. IsNumberText greatest text.now number) }
 {
-    let Ok(limit) = text.parse::<usize>() else {
+    let Ok(number) = text.parse::<usize>() else {
         return None;
     };
-    if limit < 1 || limit > GREATEST_LIMIT {
+    if number < 1 || number > greatest {
         return None;
     }
     let mut buffer = Buffer::new();
     // Other texts of the number, as those with a leading zero or a sign, print back differently.
-    if buffer.format(limit) == text {
-        Some(limit)
+    if buffer.format(number) == text {
+        Some(number)
     } else {
         None
     }

@@ -13,6 +13,7 @@ mod put;
 mod script;
 mod site;
 
+pub use lines::{FirstLine, first_line};
 pub use script::{Script, ScriptFault};
 pub use site::ScriptSite;
 

@@ -1,59 +1,46 @@
-use Rattle.std.proofs.Common.{[], ◌++◌, Err, map, string_bytes, ap, subst}
-use Rattle.std.specs.Prelude.{codes}
-use Rattle.ix_manage.specs.Refusal.{RefusesActions}
-use Rattle.ix_manage.specs.ActionLines.{line}
-use Rattle.ix_manage.specs.Trace.{other_words}
-use Rattle.ix_manage.proofs.Ending.{refused_start, refused_actions, trace_ends_run}
+use Rattle.std.proofs.Common.{ℕ, List, [], map, string_bytes}
+use Rattle.ix_manage.specs.Ends.{Ends, TraceEnds, ReplayEnds, other_words}
+use Rattle.ix_manage.proofs.Stops.{done_on, refused_on}
 use Rattle.ix_manage.proofs.Tracing.{append_nothing}
 use Rattle.ix_manage.proofs.run.run.Goals as goal
 
-pub returns-in_default-clause-refused : goal.returns-in_default-clause-refused
-returns-in_default-clause-refused g c = ([], other_words c.in_default.ensures, append_nothing _)
+pub returns-in-Some-clause-done : goal.returns-in-Some-clause-done
+returns-in-Some-clause-done g c =
+    let ends : (status : ℕ) (text : List ℕ) → TraceEnds (g.F.Files.contents c.args.files.now) c.in-Some.names.limit c.in-Some.names.expression.now c.in-Some.names.actions.now status text
+    → Ends (map string_bytes c.args.words.now) (g.F.Files.contents c.args.files.now) status text =
+    λ status text part. part (map string_bytes c.args.words.now) c.in-Some.ensures in
+    done_on ends (g.K.Sink.written c.args.out.now) (g.K.Sink.written c.run_trace.new.out) c.run_trace.result c.run_trace.ensures.done
 
-pub returns-in-Err-clause-refused : goal.returns-in-Err-clause-refused
-returns-in-Err-clause-refused g c = (
-  [],
-  refused_start (map string_bytes c.args.words.now) (g.F.Files.contents c.args.files.now) c.in-Some.names.limit c.in-Some.names.expression.now c.in-Some.names.actions.now
-      c.in-Some.ensures c.in-Err.refusal c.in-Err.ensures.err,
-  append_nothing _,
-)
+pub returns-in-Some-clause-refused : goal.returns-in-Some-clause-refused
+returns-in-Some-clause-refused g c =
+    let ends : (status : ℕ) (text : List ℕ) → TraceEnds (g.F.Files.contents c.args.files.now) c.in-Some.names.limit c.in-Some.names.expression.now c.in-Some.names.actions.now status text
+    → Ends (map string_bytes c.args.words.now) (g.F.Files.contents c.args.files.now) status text =
+    λ status text part. part (map string_bytes c.args.words.now) c.in-Some.ensures in
+    refused_on ends (g.K.Sink.written c.args.out.now) (g.K.Sink.written c.run_trace.new.out) c.run_trace.result c.run_trace.ensures.refused
 
-pub returns-in-Err-load_actions-clause-refused : goal.returns-in-Err-load_actions-clause-refused
-returns-in-Err-load_actions-clause-refused g c = (
-  [],
-  refused_actions (map string_bytes c.args.words.now) (g.F.Files.contents c.args.files.now) c.in-Some.names.limit c.in-Some.names.expression.now c.in-Some.names.actions.now
-      c.in-Some.ensures c.in-Ok.engine.form c.in-Ok.ensures.starts c.in-Err-load_actions.refusal
-      (subst (λ files. RefusesActions files c.in-Some.names.actions.now c.in-Err-load_actions.refusal) c.in-Ok.ensures.files c.in-Err-load_actions.ensures.err),
-  append_nothing _,
-)
+pub returns-in-Some-clause-output : goal.returns-in-Some-clause-output
+returns-in-Some-clause-output g c is =
+    let put = c.run_trace.ensures.output is in (put.0, put.1, put.2 (map string_bytes c.args.words.now) c.in-Some.ensures, put.3)
 
-pub returns-in-Ok-trace-clause-done : goal.returns-in-Ok-trace-clause-done
-returns-in-Ok-trace-clause-done g c =
-    let put = c.in-Ok-trace.ensures.whole in (
-      put.0,
-      trace_ends_run (map string_bytes c.args.words.now) (g.F.Files.contents c.args.files.now) c.in-Some.names.limit c.in-Some.names.expression.now c.in-Some.names.actions.now
-          c.in-Some.ensures c.in-Ok.engine.form c.in-Ok.engine.limit (g.F.Files.contents c.start.new.files) c.in-Ok-load_actions.actions.items c.deref.result.now 0 put.0
-          c.in-Ok.ensures.starts c.in-Ok.ensures.limit c.in-Ok.ensures.files c.in-Ok-load_actions.ensures.file c.in-Ok-load_actions.ensures.short c.deref.ensures.value put.1,
-      put.2,
-    )
+pub returns-in-Some-replay_words-clause-done : goal.returns-in-Some-replay_words-clause-done
+returns-in-Some-replay_words-clause-done g c =
+    let names = c.in-Some-replay_words.names in
+    let ends : (status : ℕ) (text : List ℕ) → ReplayEnds (g.F.Files.contents c.args.files.now) names.limit names.turns names.expression.now names.script.now status text
+    → Ends (map string_bytes c.args.words.now) (g.F.Files.contents c.args.files.now) status text =
+    λ status text part. part (map string_bytes c.args.words.now) c.in-Some-replay_words.ensures in
+    done_on ends (g.K.Sink.written c.args.out.now) (g.K.Sink.written c.replay.new.out) c.replay.result c.replay.ensures.done
 
-pub returns-in-Err-Memory-clause-refused : goal.returns-in-Err-Memory-clause-refused
-returns-in-Err-Memory-clause-refused g c =
-    let put = c.in-Err-Memory.ensures.memory (ap Err c.in-Err-Memory.field-0-is) in (
-      put.0,
-      trace_ends_run (map string_bytes c.args.words.now) (g.F.Files.contents c.args.files.now) c.in-Some.names.limit c.in-Some.names.expression.now c.in-Some.names.actions.now
-          c.in-Some.ensures c.in-Ok.engine.form c.in-Ok.engine.limit (g.F.Files.contents c.start.new.files) c.in-Ok-load_actions.actions.items c.deref.result.now 9 (put.0 ++ line (codes "refused memory"))
-          c.in-Ok.ensures.starts c.in-Ok.ensures.limit c.in-Ok.ensures.files c.in-Ok-load_actions.ensures.file c.in-Ok-load_actions.ensures.short c.deref.ensures.value put.1,
-      put.2,
-    )
+pub returns-in-Some-replay_words-clause-refused : goal.returns-in-Some-replay_words-clause-refused
+returns-in-Some-replay_words-clause-refused g c =
+    let names = c.in-Some-replay_words.names in
+    let ends : (status : ℕ) (text : List ℕ) → ReplayEnds (g.F.Files.contents c.args.files.now) names.limit names.turns names.expression.now names.script.now status text
+    → Ends (map string_bytes c.args.words.now) (g.F.Files.contents c.args.files.now) status text =
+    λ status text part. part (map string_bytes c.args.words.now) c.in-Some-replay_words.ensures in
+    refused_on ends (g.K.Sink.written c.args.out.now) (g.K.Sink.written c.replay.new.out) c.replay.result c.replay.ensures.refused
 
-pub returns-clause-output : goal.returns-clause-output
-returns-clause-output g c is =
-    let put = c.in-Err-Output.ensures.output (ap Err c.in-Err-Output.field-0-is) in (
-      put.0,
-      put.1,
-      trace_ends_run (map string_bytes c.args.words.now) (g.F.Files.contents c.args.files.now) c.in-Some.names.limit c.in-Some.names.expression.now c.in-Some.names.actions.now
-          c.in-Some.ensures c.in-Ok.engine.form c.in-Ok.engine.limit (g.F.Files.contents c.start.new.files) c.in-Ok-load_actions.actions.items c.deref.result.now put.0 put.1
-          c.in-Ok.ensures.starts c.in-Ok.ensures.limit c.in-Ok.ensures.files c.in-Ok-load_actions.ensures.file c.in-Ok-load_actions.ensures.short c.deref.ensures.value put.2,
-      put.3,
-    )
+pub returns-in-Some-replay_words-clause-output : goal.returns-in-Some-replay_words-clause-output
+returns-in-Some-replay_words-clause-output g c is =
+    let put = c.replay.ensures.output is in (put.0, put.1, put.2 (map string_bytes c.args.words.now) c.in-Some-replay_words.ensures, put.3)
+
+pub returns-in-None-clause-refused : goal.returns-in-None-clause-refused
+returns-in-None-clause-refused g c = ([], other_words c.in_default.ensures c.in-None.ensures, append_nothing _)

@@ -1,7 +1,7 @@
 use Rattle.std.proofs.Common.{ap, sym, subst, ◌∙◌, map, string_bytes}
 use Rattle.std.specs.Prelude.{codes}
 use Rattle.ix_manage.specs.Command.{IsLimitText}
-use Rattle.ix_manage.proofs.LineLists.{three_items, five_items}
+use Rattle.ix_manage.proofs.KnownLengths.{three_items, five_items}
 use Rattle.ix_manage.proofs.NamedWords.{equal, unequal, differing, not_differing, command_of_three, no_option_of_three, three_name, command_of_five, option_of_five, limit_of_five, five_name}
 use Rattle.ix_manage.proofs.words.trace_words.Goals as goal
 use Rattle.ix_manage.proofs.words.trace_words.Goals.{then-ne-via-then-ne, then-ne-via-else-ne+then-eq, then-ne-2-via-then-ne-2, then-ne-2-via-else-ne-2+then-ne-3}

@@ -1,0 +1,69 @@
+use Rattle.std.proofs.Common.{ℕ, List, [], sym, subst, ◌∙◌}
+use Rattle.ix_outside.specs.Files.{HasFile}
+use Rattle.ix_script.specs.Events.{HasEvents}
+use Rattle.ix_manage.specs.Ends.{ReplayEnds}
+use Rattle.ix_manage.specs.Refusal.{RefusesScript}
+use Rattle.ix_manage.specs.Replaying.{ScriptEnds}
+use Rattle.ix_manage.proofs.Ending.{replay_expression, replay_refused, replay_ends, script_refused}
+use Rattle.ix_manage.proofs.Stops.{done_on, refused_on}
+use Rattle.ix_manage.proofs.Tracing.{append_nothing}
+use Rattle.ix_manage.proofs.replay.replay.Goals as goal
+
+pub returns-in-Err-clause-refused : goal.returns-in-Err-clause-refused
+returns-in-Err-clause-refused g c = (
+  [],
+  λ words named. replay_expression words (g.F.Files.contents c.args.files.now) c.args.names.limit c.args.names.turns c.args.names.expression.now c.args.names.script.now named c.in-Err.refusal c.in-Err.ensures.err,
+  append_nothing _,
+)
+
+pub returns-in-Err-load_script-clause-refused : goal.returns-in-Err-load_script-clause-refused
+returns-in-Err-load_script-clause-refused g c = (
+  [],
+  λ words named. replay_refused words (g.F.Files.contents c.args.files.now) c.args.names.limit c.args.names.turns c.args.names.expression.now c.args.names.script.now named c.in-Ok.expression c.in-Ok.ensures.ok c.in-Err-load_script.refusal
+      (subst (λ files. RefusesScript files c.args.names.script.now c.in-Err-load_script.refusal) c.in-Ok.ensures.files c.in-Err-load_script.ensures.err),
+  append_nothing _,
+)
+
+pub returns-in-Ok-read_script-clause-done : goal.returns-in-Ok-read_script-clause-done
+returns-in-Ok-read_script-clause-done g c =
+    let ends : (status : ℕ) (text : List ℕ) → ScriptEnds c.in-Ok.expression c.args.names.limit c.args.names.turns c.in-Ok-read_script.script.bytes.now status text
+    → ReplayEnds (g.F.Files.contents c.args.files.now) c.args.names.limit c.args.names.turns c.args.names.expression.now c.args.names.script.now status text =
+    λ status text part words named.
+    replay_ends words (g.F.Files.contents c.args.files.now) c.args.names.limit c.args.names.turns c.args.names.expression.now c.args.names.script.now named c.in-Ok.expression c.in-Ok.ensures.ok c.in-Ok-load_script.bytes.items c.in-Ok-read_script.script.bytes.now
+    (subst (λ files. HasFile files c.args.names.script.now c.in-Ok-load_script.bytes.items) c.in-Ok.ensures.files c.in-Ok-load_script.ensures.file)
+    c.in-Ok-load_script.ensures.short (c.in-Ok-read_script.ensures.same ∙ c.deref.ensures.value)
+    (c.in-Ok-read_script.ensures.events.0, subst (λ bytes. HasEvents bytes c.in-Ok-read_script.ensures.events.0) (sym c.in-Ok-read_script.ensures.same) c.in-Ok-read_script.ensures.events.1) part in
+    done_on ends (g.K.Sink.written c.args.out.now) (g.K.Sink.written c.run_script.new.out) c.run_script.result c.run_script.ensures.done
+
+pub returns-in-Ok-read_script-clause-refused : goal.returns-in-Ok-read_script-clause-refused
+returns-in-Ok-read_script-clause-refused g c =
+    let ends : (status : ℕ) (text : List ℕ) → ScriptEnds c.in-Ok.expression c.args.names.limit c.args.names.turns c.in-Ok-read_script.script.bytes.now status text
+    → ReplayEnds (g.F.Files.contents c.args.files.now) c.args.names.limit c.args.names.turns c.args.names.expression.now c.args.names.script.now status text =
+    λ status text part words named.
+    replay_ends words (g.F.Files.contents c.args.files.now) c.args.names.limit c.args.names.turns c.args.names.expression.now c.args.names.script.now named c.in-Ok.expression c.in-Ok.ensures.ok c.in-Ok-load_script.bytes.items c.in-Ok-read_script.script.bytes.now
+    (subst (λ files. HasFile files c.args.names.script.now c.in-Ok-load_script.bytes.items) c.in-Ok.ensures.files c.in-Ok-load_script.ensures.file)
+    c.in-Ok-load_script.ensures.short (c.in-Ok-read_script.ensures.same ∙ c.deref.ensures.value)
+    (c.in-Ok-read_script.ensures.events.0, subst (λ bytes. HasEvents bytes c.in-Ok-read_script.ensures.events.0) (sym c.in-Ok-read_script.ensures.same) c.in-Ok-read_script.ensures.events.1) part in
+    refused_on ends (g.K.Sink.written c.args.out.now) (g.K.Sink.written c.run_script.new.out) c.run_script.result c.run_script.ensures.refused
+
+pub returns-in-Ok-read_script-clause-output : goal.returns-in-Ok-read_script-clause-output
+returns-in-Ok-read_script-clause-output g c is =
+    let ends : (status : ℕ) (text : List ℕ) → ScriptEnds c.in-Ok.expression c.args.names.limit c.args.names.turns c.in-Ok-read_script.script.bytes.now status text
+    → ReplayEnds (g.F.Files.contents c.args.files.now) c.args.names.limit c.args.names.turns c.args.names.expression.now c.args.names.script.now status text =
+    λ status text part words named.
+    replay_ends words (g.F.Files.contents c.args.files.now) c.args.names.limit c.args.names.turns c.args.names.expression.now c.args.names.script.now named c.in-Ok.expression c.in-Ok.ensures.ok c.in-Ok-load_script.bytes.items c.in-Ok-read_script.script.bytes.now
+    (subst (λ files. HasFile files c.args.names.script.now c.in-Ok-load_script.bytes.items) c.in-Ok.ensures.files c.in-Ok-load_script.ensures.file)
+    c.in-Ok-load_script.ensures.short (c.in-Ok-read_script.ensures.same ∙ c.deref.ensures.value)
+    (c.in-Ok-read_script.ensures.events.0, subst (λ bytes. HasEvents bytes c.in-Ok-read_script.ensures.events.0) (sym c.in-Ok-read_script.ensures.same) c.in-Ok-read_script.ensures.events.1) part in
+    let put = c.run_script.ensures.output is in
+    (put.0, put.1, ends put.0 put.1 put.2, put.3)
+
+pub returns-in-Err-read_script-clause-refused : goal.returns-in-Err-read_script-clause-refused
+returns-in-Err-read_script-clause-refused g c = (
+  [],
+  λ words named. replay_refused words (g.F.Files.contents c.args.files.now) c.args.names.limit c.args.names.turns c.args.names.expression.now c.args.names.script.now named c.in-Ok.expression c.in-Ok.ensures.ok c.in-Err-read_script.refusal
+      (script_refused (g.F.Files.contents c.args.files.now) c.args.names.script.now c.in-Ok-load_script.bytes.items c.deref.result.now
+      (subst (λ files. HasFile files c.args.names.script.now c.in-Ok-load_script.bytes.items) c.in-Ok.ensures.files c.in-Ok-load_script.ensures.file)
+      c.in-Ok-load_script.ensures.short c.deref.ensures.value c.in-Err-read_script.refusal c.in-Err-read_script.ensures.err),
+  append_nothing _,
+)
