@@ -11,7 +11,7 @@ use Rattle.ix_manage.specs.Ends.{Ends, bad_text, bad_actions, large_start, lost_
 use Rattle.ix_manage.specs.Refusal.{refusal_line, refusal_status, RefusesExpression, RefusesActions, RefusesScript, RefusesStart, RefusesText, IsBadScript}
 use Rattle.ix_manage.specs.Replay.{bad_line}
 use Rattle.ix_manage.specs.Replaying.{ScriptEnds, large, memory, played}
-use Rattle.ix_manage.specs.Trace.{within, large_line, ReadsForm, Starts, StartsAbove, Traces, TracesLines}
+use Rattle.ix_manage.specs.Trace.{within, large_line, ReadsForm, Starts, Traces, TracesLines}
 use Rattle.ix_manage.specs.declared.refusal.Refusal.{Refusal}
 use Rattle.ix_manage.specs.declared.refusal.Refusal.TheVariants.{Words, BadText, Large, LostExpression, BadActions, LostActions, BadScript, LostScript, Turns, Memory}
 

@@ -1,7 +1,6 @@
 -- What words that name a replay are, part by part.
 use Rattle.std.proofs.Common.{◌≡◌, ◌≢◌, ℕ, ◌<◌, ◌^◌, List, [], ◌∷◌, length, map, get_or, drop, refl, sym, ap, subst, ◌∙◌, arith}
 use Rattle.std.specs.Prelude.{codes}
-use Rattle.std.proofs.lemmas.Fmt.{decimal_injective}
 use Rattle.ix_manage.specs.Command.{IsNumberText, TakesOption, absent, present, NamesFiles, NamesReplay}
 
 -- the words `EXPR - SCRIPT`

@@ -1,9 +1,9 @@
 -- What one more event makes of a replay.
-use Rattle.std.proofs.Common.{◌≡◌, ◌≢◌, ◌⊎◌, inl, inr, ℕ, zero, suc, ◌+◌, ◌*◌, ◌<◌, ◌≤◌, Bool, true, false, List, [], ◌∷◌, ◌++◌, length, get_or, set, replicate, Option, None, Some, refl, sym, ◌∙◌, ap, subst, arith, append_assoc, true≢false}
+use Rattle.std.proofs.Common.{◌≡◌, ◌≢◌, ◌⊎◌, inl, inr, ℕ, zero, suc, ◌+◌, ◌<◌, ◌≤◌, Bool, true, false, List, [], ◌∷◌, ◌++◌, length, get_or, set, replicate, Option, None, Some, refl, sym, ◌∙◌, ap, subst, arith, append_assoc}
 use Rattle.std.specs.Io.KnownBytes.{append_known}
 use Rattle.std.specs.Option.{option_map}
 use Rattle.std.proofs.lemmas.List.{length-take-le, length_push, length-replicate, get_or-set_same, get_or-replicate}
-use Rattle.ix_words.specs.Each.{Each, no_item, item}
+use Rattle.ix_words.specs.Each.{no_item, item}
 use Rattle.ix_words.proofs.Each.{Each-append}
 use Rattle.ix_expr.specs.Form.{Form}
 use Rattle.ix_lines.specs.Feeding.{Held}
@@ -15,15 +15,15 @@ use Rattle.ix_outside.specs.declared.event.EventKind.{EventKind}
 use Rattle.ix_outside.specs.declared.event.EventKind.TheVariants.{Bytes, Closed, End}
 use Rattle.ix_proto.specs.declared.reply.Reply.{Reply}
 use Rattle.ix_manager.specs.Machine.{MachineState}
-use Rattle.ix_manager.specs.Runs.{Ending, going, stopped, Run, Steps, none, begin}
+use Rattle.ix_manager.specs.Runs.{Ending, going, stopped, Run, Steps, none}
 use Rattle.ix_manager.specs.Wire.{SendsInOrder, done, silent, sent, lost, reply_line, all_replies, marks_after, run_text, unmarked}
 use Rattle.ix_manager.specs.Managing.{ManagerState, Handles, FitsEvent, KindHas, completed_by, held_at, started}
-use Rattle.ix_manager.specs.RunLaws.{Follows, given_event}
+use Rattle.ix_manager.specs.RunLaws.{given_event}
 use Rattle.ix_manager.proofs.RunLemmas.{run_lengths, started_follows, taken_goes_on, taken_follows}
 use Rattle.ix_manager.proofs.SendLemmas.{silent_keeps, run_text_told}
 use Rattle.ix_script.specs.Events.{HasEvents}
 use Rattle.ix_script.specs.Pieces.{IsNextPiece}
-use Rattle.ix_manage.specs.Replay.{AreFirst, IsNoEnd, Replays, whole, out_of_turns, cut, history_line, replay_text}
+use Rattle.ix_manage.specs.Replay.{AreFirst, whole, out_of_turns, cut, history_line, replay_text}
 use Rattle.ix_manage.specs.Replaying.{Stands, IsTurn, TakesTurn, TakesTurns}
 use Rattle.ix_manage.specs.declared.turns.Turn.{Turn}
 use Rattle.ix_manage.specs.declared.turns.Turn.TheVariants.{More, Done, Cut}

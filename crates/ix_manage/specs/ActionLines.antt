@@ -1,5 +1,5 @@
 -- The lines of an actions file.
-use Rattle.std.specs.Prelude.{◌≡◌, ℕ, ◌+◌, Bool, ◌==◌, List, [], ◌∷◌, ◌++◌, length, map}
+use Rattle.std.specs.Prelude.{◌≡◌, ℕ, ◌+◌, List, [], ◌∷◌, ◌++◌, map}
 use Rattle.ix_words.specs.Each.{Each}
 use Rattle.ix_script.specs.Lines.{lines_of, bytes_of}
 use Rattle.ix_values.specs.Faults.{IsActionText, IsFault}

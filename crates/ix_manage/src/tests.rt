@@ -1,138 +1,79 @@
-// The top call over small objects in memory.
-ghost use Rattle.std.specs.Prelude.{◌≡◌, ◌<◌, [], ◌∷◌, Some, codes};
-ghost use Rattle.ix_outside.specs.Held.{free};
+// The top call over devices in memory.
+ghost use Rattle.std.specs.Prelude.{◌≡◌, ◌<◌, false, IfOk};
 
 use super::*;
-use ix_outside::{DiskFailed, Event, Failed, Gone, LoadFault, WireFailed};
+use ix_memory::{MemoryFiles, MemorySink, MemorySite};
 use std::alloc::AllocError;
 use std::test::Fail;
-
-// An expression file of some name, and the file `actions`, which is the script of a replay.
-#[derive(Drop)]
-struct Folder<'a> {
-    name: &'a str,
-    expression: &'a [u8],
-    actions: &'a [u8],
-    faults: u64,
-}
-
-impl Files for Folder<'_> {
-    ghost contents = { λ f. Some ((f.name.now, f.expression.now) ∷ (codes "actions", f.actions.now) ∷ []) };
-
-    ghost faults = { λ f. f.faults };
-
-    ghost held = { λ _. free };
-
-    fn load(&mut self, alloc: Global, name: &str, limit: usize) -> Result<Vec<u8>, LoadFault> {
-        let bytes = if name == self.name {
-            self.expression
-        } else if name == "actions" {
-            self.actions
-        } else {
-            self.faults = self.faults.saturating_add(1);
-            return Err(LoadFault::Failed);
-        };
-        if bytes.len() > limit {
-            return Err(LoadFault::TooLong);
-        }
-        Ok(bytes.to_vec(alloc)?)
-    }
-}
-
-// Takes bytes in memory. One put, by its number, may fail.
-#[derive(Drop)]
-struct Page {
-    bytes: Vec<u8>,
-    puts: u64,
-    failing: Option<u64>,
-    faults: u64,
-}
-
-impl Sink for Page {
-    ghost written = { λ page. Some page.bytes.items };
-
-    ghost faults = { λ page. page.faults };
-
-    ghost held = { λ _. free };
-
-    fn put(&mut self, bytes: &[u8]) -> Result<(), Failed> {
-        let fails = self.failing == Some(self.puts);
-        self.puts = self.puts.saturating_add(1);
-        if fails || self.bytes.extend_from_slice(bytes).is_err() {
-            self.faults = self.faults.saturating_add(1);
-            return Err(Failed);
-        }
-        Ok(())
-    }
-}
-
-// Each call fails. No file is attached, since `attach` fails too.
-#[derive(Drop)]
-struct Nowhere {
-    attached: bool,
-    disk: u64,
-    wire: u64,
-    send: u64,
-}
-
-impl Site for Nowhere {
-    ghost counts = { λ site. record { disk = site.disk; wire = site.wire; send = site.send } };
-
-    ghost attached = { λ site. site.attached };
-
-    ghost held = { λ _. free };
-
-    fn listen(&mut self, _name: &str) -> Result<(), WireFailed> {
-        self.wire = self.wire.saturating_add(1);
-        Err(WireFailed)
-    }
-
-    fn next(&mut self, _buf: &mut [u8]) -> Result<Event, WireFailed> {
-        self.wire = self.wire.saturating_add(1);
-        Err(WireFailed)
-    }
-
-    fn send(&mut self, _conn: u8, _bytes: &[u8]) -> Result<(), Gone> {
-        self.send = self.send.saturating_add(1);
-        Err(Gone)
-    }
-
-    fn attach(&mut self, _name: &str) -> Result<(), DiskFailed> {
-        self.disk = self.disk.saturating_add(1);
-        Err(DiskFailed)
-    }
-
-    fn length(&mut self) -> Result<u64, DiskFailed> {
-        self.disk = self.disk.saturating_add(1);
-        Err(DiskFailed)
-    }
-
-    fn read_at(&mut self, _at: u64, _buf: &mut [u8]) -> Result<usize, DiskFailed> {
-        self.disk = self.disk.saturating_add(1);
-        Err(DiskFailed)
-    }
-
-    fn write_at(&mut self, _at: u64, _bytes: &[u8]) -> Result<(), DiskFailed> {
-        self.disk = self.disk.saturating_add(1);
-        Err(DiskFailed)
-    }
-
-    fn cut(&mut self, _length: u64) -> Result<(), DiskFailed> {
-        self.disk = self.disk.saturating_add(1);
-        Err(DiskFailed)
-    }
-
-    fn sync(&mut self) -> Result<(), DiskFailed> {
-        self.disk = self.disk.saturating_add(1);
-        Err(DiskFailed)
-    }
-}
 
 // The status of a run, and what it put.
 #[derive(Drop)]
 struct Ended {
     status: u8,
     bytes: Vec<u8>,
+}
+
+// The most bytes that a run puts in a test.
+const ROOM: usize = 1 << 20;
+
+// The words of a command line.
+fn words_of(alloc: Global, words: &[&str]) -> Result<Vec<String>, Fail> {
+    let mut texts = Vec::new(alloc);
+    for word in words {
+        texts.push(String::from_str(alloc, word)?)?;
+    }
+    Ok(texts)
+}
+
+// The files `expression` and `actions`; the second is the script of a replay.
+fn files_of(alloc: Global, expression: &[u8], actions: &[u8]) -> Result<MemoryFiles, Fail> {
+    let mut files = Vec::new(alloc);
+    for (name, bytes) in [("expression", expression), ("actions", actions)] {
+        let file = (String::from_str(alloc, name)?, bytes.to_vec(alloc)?);
+        files.push(file).map_err(|_| AllocError)?;
+    }
+    Ok(MemoryFiles::new(files, Vec::new(alloc)))
+}
+
+// A sink whose put of this number fails.
+fn sink_of(alloc: Global, failing: Option<u64>) -> Result<MemorySink, Fail> {
+    let mut fail = Vec::new(alloc);
+    if let Some(number) = failing {
+        fail.push(number)?;
+    }
+    Ok(MemorySink::new(alloc, ROOM, fail)?)
+}
+
+// A site without events, each of whose calls fails, as there is no room for one.
+fn site(alloc: Global) -> Result<MemorySite, Fail>
+    ensures { IfOk result (λ s. s.attached ≡ false) }
+{
+    let site = MemorySite::new(
+        alloc,
+        Vec::new(alloc),
+        Vec::new(alloc),
+        0,
+        Vec::new(alloc),
+        None,
+    );
+    Ok(site?)
+}
+
+// Runs `words` over these devices.
+fn run_over(
+    alloc: Global,
+    words: &[String],
+    files: &mut MemoryFiles,
+    site: &mut MemorySite,
+    out: &mut MemorySink,
+) -> Result<Ended, Fail>
+    requires { site.old.attached ≡ false }
+{
+    let status = manage(alloc, words, files, site, out);
+    Ok(Ended {
+        status,
+        bytes: out.bytes().to_vec(alloc)?,
+    })
 }
 
 // Runs `words` where the expression file is `expression` and the actions file is `actions`.
@@ -143,33 +84,11 @@ fn run_on(
     actions: &[u8],
     failing: Option<u64>,
 ) -> Result<Ended, Fail> {
-    let mut texts = Vec::new(alloc);
-    for word in words {
-        texts.push(String::from_str(alloc, word)?)?;
-    }
-    let mut files = Folder {
-        name: "expression",
-        expression,
-        actions,
-        faults: 0,
-    };
-    let mut site = Nowhere {
-        attached: false,
-        disk: 0,
-        wire: 0,
-        send: 0,
-    };
-    let mut out = Page {
-        bytes: Vec::new(alloc),
-        puts: 0,
-        failing,
-        faults: 0,
-    };
-    let status = manage(alloc, &texts, &mut files, &mut site, &mut out);
-    Ok(Ended {
-        status,
-        bytes: out.bytes,
-    })
+    let words = words_of(alloc, words)?;
+    let mut files = files_of(alloc, expression, actions)?;
+    let mut site = site(alloc)?;
+    let mut out = sink_of(alloc, failing)?;
+    run_over(alloc, &words, &mut files, &mut site, &mut out)
 }
 
 const TRACE: [&str; 3] = ["trace", "expression", "actions"];
