@@ -12,7 +12,7 @@ use Rattle.std.proofs.lemmas.Cmp.{alike_right}
 use Rattle.std.proofs.lemmas.List.{get_or_default}
 use Rattle.std.proofs.lemmas.List.Sorted.{searchable_from_sorted}
 use Rattle.std.proofs.lemmas.Map.Keys.{Less-from_sorted}
-use Rattle.ix_alts.specs.Alternatives.{HasItem}
+use Rattle.ix_alts.specs.inside.Alternatives.{HasItem}
 
 module _ {T : Type 0} {cmp : T → T → Ordering} (o : IsTotalOrder cmp) where
   -- an answer of the order, the other way round

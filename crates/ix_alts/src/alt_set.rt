@@ -4,7 +4,7 @@ ghost use Rattle.std.specs.BTreeSet.{insert_key};
 ghost use Rattle.std.specs.List.{sum_by};
 ghost use Rattle.std.specs.List.Sorted.{IsStrictlySortedBy};
 ghost use Rattle.std.specs.Slice.Iter.{iter_rest};
-ghost use Rattle.ix_alts.specs.Alternatives.{HasItem, ExceedsBudget};
+ghost use Rattle.ix_alts.specs.inside.Alternatives.{HasItem, ExceedsBudget};
 
 use crate::Weight;
 use std::alloc::Global;
@@ -29,7 +29,7 @@ pub struct AltSet<T: Ord + Weight + Drop> {
 }
 
 impl<T: Ord + Weight + Drop> Model for AltSet<T> {
-    ghost use Rattle.ix_alts.specs.Alternatives.{Alternatives, IsAltSet};
+    ghost use Rattle.ix_alts.specs.inside.Alternatives.{Alternatives, IsAltSet};
 
     ghost Value = { Alternatives T };
 

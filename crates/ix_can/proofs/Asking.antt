@@ -7,14 +7,15 @@ use Rattle.ix_expr.specs.Form.{Form, opt, seq, star, par, par_star, or, and, cou
 use Rattle.ix_expr.proofs.Parts.{fits-operands}
 use Rattle.ix_tree.specs.Order.{first_part, second_part}
 use Rattle.ix_tree.specs.Plain.{Plain, listed, items_of, opt as opt_of, seq as seq_of, star as star_of, par as par_of, par_star as par_star_of, or as or_of, and as and_of, couple as couple_of, any as any_of, every as every_of, sync as sync_of, all as all_of}
-use Rattle.ix_tree.specs.PlainOf.{plain, plain_pair, plain_bag, plain_map, plain_entry, plain_trees, plain_pairs, plain_bags, plain_maps, plain_entries}
-use Rattle.ix_tree.specs.PlainParts.{plain-Pair, plain-Bag, plain-Map}
+use Rattle.ix_tree.specs.PlainOf.{plain, plain_pair, plain_bag, plain_map}
+use Rattle.ix_tree.specs.inside.PlainLists.{plain_entry, plain_trees, plain_pairs, plain_bags, plain_maps, plain_entries}
+use Rattle.ix_tree.specs.lemmas.PlainParts.{plain-Pair, plain-Bag, plain-Map}
 use Rattle.ix_tree.specs.declared.tree.Tree.{Tree}
 use Rattle.ix_tree.specs.declared.tree.Pair.{Pair}
 use Rattle.ix_tree.specs.declared.tree.Bag.{Bag}
 use Rattle.ix_tree.specs.declared.tree.Map.{Map}
 use Rattle.ix_tree.proofs.PlainLists.{items_of-listed}
-use Rattle.ix_can.specs.Asked.{CanAsk, CanAskEach, CanAskPairs, CanAskBags, CanAskAt, AreProper, CanAskEntries, CanAskMaps}
+use Rattle.ix_can.specs.inside.CanAsk.{CanAsk, CanAskEach, CanAskPairs, CanAskBags, CanAskAt, AreProper, CanAskEntries, CanAskMaps}
 use Rattle.ix_can.specs.Laws.{IsProper, ProperEntries}
 use Rattle.ix_can.specs.TreeOf.{tree_of}
 use Rattle.ix_can.proofs.Keys.{keys_ascend}

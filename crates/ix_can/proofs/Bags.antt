@@ -7,10 +7,10 @@ use Rattle.ix_words.proofs.Each.{Each-head, Each-tail}
 use Rattle.ix_words.proofs.Canon.{Member-cases, Member-map, map-Member}
 use Rattle.ix_tree.specs.Plain.{Plain}
 use Rattle.ix_tree.specs.Order.{tree_cmp}
-use Rattle.ix_tree.specs.TreeOrder.{tree_order, tree_cmp-same}
+use Rattle.ix_tree.specs.lemmas.TreeOrder.{tree_order, tree_cmp-same}
 use Rattle.ix_can.specs.Nodes.{put_in, sorted}
 use Rattle.ix_can.specs.Laws.{IsRising}
-use Rattle.ix_can.specs.Moved.{picks}
+use Rattle.ix_can.specs.inside.Moved.{picks}
 
 -- Another order
 

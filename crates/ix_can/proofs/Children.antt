@@ -3,8 +3,9 @@ use Rattle.std.proofs.Common.{◌≡◌, ℕ, Bool, true, false, ◌&&◌, ◌||
 use Rattle.std.specs.List.{list_any, list_all}
 use Rattle.ix_tree.specs.Plain.{Plain, listed, items_of}
 use Rattle.ix_tree.specs.Order.{key, first_part, second_part}
-use Rattle.ix_tree.specs.PlainOf.{plain, plain_pair, plain_bag, plain_map, plain_entry, plain_trees, plain_pairs, plain_bags, plain_maps, plain_entries}
-use Rattle.ix_tree.specs.PlainParts.{plain-Pair, plain-Bag, plain-Map}
+use Rattle.ix_tree.specs.PlainOf.{plain, plain_pair, plain_bag, plain_map}
+use Rattle.ix_tree.specs.inside.PlainLists.{plain_entry, plain_trees, plain_pairs, plain_bags, plain_maps, plain_entries}
+use Rattle.ix_tree.specs.lemmas.PlainParts.{plain-Pair, plain-Bag, plain-Map}
 use Rattle.ix_tree.specs.declared.tree.Tree.{Tree}
 use Rattle.ix_tree.specs.declared.tree.Pair.{Pair}
 use Rattle.ix_tree.specs.declared.tree.Bag.{Bag}

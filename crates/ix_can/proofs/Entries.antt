@@ -5,15 +5,16 @@ use Rattle.ix_words.specs.Each.{Each, Member}
 use Rattle.ix_words.specs.Canon.{SameMembers, canon}
 use Rattle.ix_words.proofs.Each.{Each-head, Each-tail, Each-member, Each-members, Member-left, Member-right, Member-either}
 use Rattle.ix_words.proofs.Canon.{Member-cases, Member-when, Member-flat_map, flat_map-Member, canon-members, canon-same}
-use Rattle.ix_values.specs.Order.{text_eq, text_eq-decides}
+use Rattle.ix_values.specs.Order.{text_eq}
+use Rattle.ix_values.specs.lemmas.Order.{text_eq-decides}
 use Rattle.ix_expr.proofs.Agreement.{member-or-not}
 use Rattle.ix_tree.specs.Plain.{Plain, entry}
 use Rattle.ix_tree.specs.Order.{key, tree_cmp, first_part}
-use Rattle.ix_tree.specs.TreeOrder.{tree_order}
+use Rattle.ix_tree.specs.lemmas.TreeOrder.{tree_order}
 use Rattle.ix_can.specs.Nodes.{same_tree, listed, items_of, set_of}
 use Rattle.ix_can.specs.TreeOf.{entries_of}
-use Rattle.ix_can.specs.May.{tree_at}
-use Rattle.ix_can.specs.Moved.{entry_with}
+use Rattle.ix_can.specs.inside.May.{tree_at}
+use Rattle.ix_can.specs.inside.Moved.{entry_with}
 use Rattle.ix_can.proofs.Lists.{itself, iff_trans, when_either, when_both, when_not, any_says, all_to, all_from, SomeWay}
 use Rattle.ix_can.proofs.Nodes.{items_listed, same_from, differs_or_not, entry_is, entry_among}
 

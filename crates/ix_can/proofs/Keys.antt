@@ -12,13 +12,15 @@ use Rattle.std.specs.Cmp.Lexicographic.{lists_total}
 use Rattle.ix_words.specs.Canon.{Ascending, below}
 use Rattle.ix_words.specs.Each.{Each}
 use Rattle.ix_words.proofs.Each.{Each-head, Each-tail}
-use Rattle.ix_values.specs.Order.{text_eq, text_cmp, text_cmp-same, text_eq-decides}
-use Rattle.ix_entries.specs.Entries.{KeysAscend, item_at}
+use Rattle.ix_values.specs.Order.{text_eq, text_cmp}
+use Rattle.ix_values.specs.lemmas.Order.{text_cmp-same, text_eq-decides}
+use Rattle.ix_entries.specs.inside.Entries.{KeysAscend, item_at}
 use Rattle.ix_tree.specs.Order.{key, first_part}
 use Rattle.ix_tree.specs.Plain.{Plain}
-use Rattle.ix_tree.specs.PlainOf.{plain, plain_entry}
+use Rattle.ix_tree.specs.PlainOf.{plain}
+use Rattle.ix_tree.specs.inside.PlainLists.{plain_entry}
 use Rattle.ix_tree.specs.declared.tree.Tree.{Tree}
-use Rattle.ix_can.specs.May.{tree_at}
+use Rattle.ix_can.specs.inside.May.{tree_at}
 use Rattle.ix_can.proofs.Lists.{one_test}
 
 -- where plain entries ascend by their values, so do the entries in memory

@@ -29,3 +29,4 @@ pub mod Children
 pub mod Keys
 pub mod Asking
 pub mod Quantified
+mod Examples

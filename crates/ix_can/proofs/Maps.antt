@@ -9,7 +9,8 @@ use Rattle.ix_words.proofs.Each.{Each-head, Each-tail, Each-member, Each-members
 use Rattle.ix_words.proofs.Canon.{Member-cases, Member-same, Member-when, when-Member, Member-map, map-Member, Member-flat_map, flat_map-Member}
 use Rattle.ix_words.proofs.Laws.{parts_grow}
 use Rattle.ix_words.proofs.Owners.{EachPair-long}
-use Rattle.ix_values.specs.Order.{text_eq, text_eq-decides}
+use Rattle.ix_values.specs.Order.{text_eq}
+use Rattle.ix_values.specs.lemmas.Order.{text_eq-decides}
 use Rattle.ix_values.specs.PlainAction.{PlainAction, Word}
 use Rattle.ix_expr.proofs.Agreement.{member-or-not}
 use Rattle.ix_tree.specs.Plain.{Plain, dead, map as map_of, entry}
@@ -17,8 +18,8 @@ use Rattle.ix_tree.specs.Order.{key, first_part}
 use Rattle.ix_can.specs.Ways.{ownings}
 use Rattle.ix_can.specs.Nodes.{is_dead, is_live, same_tree, items_of, set_of}
 use Rattle.ix_can.specs.TreeOf.{entries_of, live_map}
-use Rattle.ix_can.specs.May.{tree_at}
-use Rattle.ix_can.specs.Moved.{entry_with, map_with, or_initial}
+use Rattle.ix_can.specs.inside.May.{tree_at}
+use Rattle.ix_can.specs.inside.Moved.{entry_with, map_with, or_initial}
 use Rattle.ix_can.proofs.Lists.{itself, one_test, when_not, all_to, all_from, Member-filter, filter-Member}
 use Rattle.ix_can.proofs.Ways.{ownings_to, ownings_from}
 use Rattle.ix_can.proofs.Nodes.{same_is, same_from, entry_is, entry_among}

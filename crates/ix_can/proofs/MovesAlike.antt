@@ -12,8 +12,8 @@ use Rattle.ix_tree.specs.Order.{key, first_part, second_part}
 use Rattle.ix_can.specs.Tests.{values_and_outside, accepts_empty}
 use Rattle.ix_can.specs.Nodes.{is_dead, is_live, items_of, set_of, live, dead_if}
 use Rattle.ix_can.specs.TreeOf.{is_final, tree_of}
-use Rattle.ix_can.specs.May.{both_move, moves_within, tree_at, may_first, may}
-use Rattle.ix_can.specs.Moved.{picks, bag_with, entry_with, map_with, or_initial, moved_within, moved}
+use Rattle.ix_can.specs.inside.May.{both_move, moves_within, tree_at, may_first, may}
+use Rattle.ix_can.specs.inside.Moved.{picks, bag_with, entry_with, map_with, or_initial, moved_within, moved}
 use Rattle.ix_can.proofs.Agreeing.{alphabet_alike}
 
 module _ (a : PlainAction) where

@@ -16,7 +16,7 @@ use Rattle.ix_can.specs.Tests.{is_match, in_alphabet}
 use Rattle.ix_can.specs.Ways.{is_empty}
 use Rattle.ix_can.specs.Nodes.{is_dead, items_of, set_of, live}
 use Rattle.ix_can.specs.TreeOf.{is_final, tree_of}
-use Rattle.ix_can.specs.Moved.{moved, moved_within, Moves}
+use Rattle.ix_can.specs.inside.Moved.{moved, moved_within, Moves}
 use Rattle.ix_can.proofs.Lists.{iff_trans, iff_sym, both_iff, one_test, when_both, when_not, when_passes, made_says, any_same, filled_says}
 use Rattle.ix_can.proofs.Ways.{joined_says}
 use Rattle.ix_can.proofs.Ends.{filter_end, repeated_end}

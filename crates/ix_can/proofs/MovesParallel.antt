@@ -15,7 +15,7 @@ use Rattle.ix_tree.specs.Order.{first_part, second_part}
 use Rattle.ix_can.specs.Ways.{is_empty, numberings, nonempty_parts}
 use Rattle.ix_can.specs.Nodes.{is_live, listed, items_of, set_of, put_in, sorted}
 use Rattle.ix_can.specs.TreeOf.{tree_of}
-use Rattle.ix_can.specs.Moved.{moved, picks, bag_with, Moves}
+use Rattle.ix_can.specs.inside.Moved.{moved, picks, bag_with, Moves}
 use Rattle.ix_can.proofs.Lists.{all_to, all_from}
 use Rattle.ix_can.proofs.Nodes.{tree_live, items_listed}
 use Rattle.ix_can.proofs.OperatorsTell.{Tells, par_told, par_star_told, par_pair, par_star_bag}

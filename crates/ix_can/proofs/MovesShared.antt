@@ -11,13 +11,13 @@ use Rattle.ix_expr.specs.Environment.{Environment}
 use Rattle.ix_expr.proofs.LawsOfMeaning.{empty-partial}
 use Rattle.ix_tree.specs.Plain.{Plain, dead, start, done, opt as opt_of, seq as seq_of, star as star_of, par as par_of, par_star as par_star_of, or as or_of, and as and_of, couple as couple_of, any as any_of, every as every_of, sync as sync_of, all as all_of}
 use Rattle.ix_tree.specs.Order.{tree_cmp}
-use Rattle.ix_tree.specs.TreeOrder.{tree_order}
+use Rattle.ix_tree.specs.lemmas.TreeOrder.{tree_order}
 use Rattle.ix_can.specs.Tests.{is_match}
 use Rattle.ix_can.specs.Ways.{is_empty}
 use Rattle.ix_can.specs.Nodes.{is_dead, is_live, listed, items_of, set_of, live, dead_if}
 use Rattle.ix_can.specs.TreeOf.{tree_of}
-use Rattle.ix_can.specs.May.{may_first, may}
-use Rattle.ix_can.specs.Moved.{moved}
+use Rattle.ix_can.specs.inside.May.{may_first, may}
+use Rattle.ix_can.specs.inside.Moved.{moved}
 use Rattle.ix_can.proofs.Lists.{one_test, iff_trans, iff_sym}
 use Rattle.ix_can.proofs.Nodes.{dead_is, live_says, items_listed}
 use Rattle.ix_can.proofs.OperatorsTell.{Tells}

@@ -14,7 +14,7 @@ use Rattle.ix_expr.specs.Form.{Form, atom}
 use Rattle.ix_expr.proofs.Agreement.{member-or-not}
 use Rattle.ix_tree.specs.Plain.{Plain, dead, entry}
 use Rattle.ix_tree.specs.Order.{tree_cmp, first_part}
-use Rattle.ix_tree.specs.TreeOrder.{tree_order, tree_cmp-same}
+use Rattle.ix_tree.specs.lemmas.TreeOrder.{tree_order, tree_cmp-same}
 use Rattle.ix_can.specs.Ways.{is_empty}
 use Rattle.ix_can.specs.Nodes.{is_dead, is_live, same_tree, listed, items_of, set_of, put_in, sorted, live, dead_if, has_dead_entry}
 use Rattle.ix_can.specs.TreeOf.{is_final, entries_of}

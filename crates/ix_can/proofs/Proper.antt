@@ -8,13 +8,14 @@ use Rattle.ix_words.specs.Parts.{part}
 use Rattle.ix_words.specs.Canon.{Ascending, ascending_end, below, canon, when, cuts, splits}
 use Rattle.ix_words.proofs.Each.{Each-head, Each-tail, Each-weaker, Each-member, Each-members, Each-both}
 use Rattle.ix_words.proofs.Canon.{Member-cases, Member-when, Member-flat_map, canon-ascending, canon-members}
-use Rattle.ix_values.specs.Order.{text_eq, text_cmp, text_cmp-same}
+use Rattle.ix_values.specs.Order.{text_eq, text_cmp}
+use Rattle.ix_values.specs.lemmas.Order.{text_cmp-same}
 use Rattle.ix_values.specs.PlainAction.{Word, values_of}
 use Rattle.ix_expr.specs.Form.{Form, atom, opt, seq, star, par, par_star, or, and, couple, any, every, sync, all}
 use Rattle.ix_expr.specs.Environment.{Environment, bind}
 use Rattle.ix_tree.specs.Plain.{Plain, dead, none, opt as opt_tree, seq as seq_tree, star as star_tree, par as par_tree, par_star as par_star_tree, or as or_tree, and as and_tree, couple as couple_tree, any as any_tree, every as every_tree, sync as sync_tree, all as all_tree, pair as pair_of, bag as bag_of, map as map_of, entry}
 use Rattle.ix_tree.specs.Order.{key, tree_cmp, first_part, second_part}
-use Rattle.ix_tree.specs.TreeOrder.{tree_order}
+use Rattle.ix_tree.specs.lemmas.TreeOrder.{tree_order}
 use Rattle.ix_can.specs.Tests.{in_alphabet}
 use Rattle.ix_can.specs.Ways.{is_empty, is_concatenation, numberings, nonempty_parts, ownings}
 use Rattle.ix_can.specs.Nodes.{is_dead, is_live, same_tree, listed, items_of, set_of, put_in, sorted, live, dead_if}

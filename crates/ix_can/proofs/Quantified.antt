@@ -6,12 +6,13 @@ use Rattle.ix_expr.specs.Form.{Form}
 use Rattle.ix_expr.specs.Environment.{Environment, bind}
 use Rattle.ix_tree.specs.Order.{key, first_part}
 use Rattle.ix_tree.specs.Plain.{Plain, items_of}
-use Rattle.ix_tree.specs.PlainOf.{plain, plain_entry, plain_entries, plain_maps}
+use Rattle.ix_tree.specs.PlainOf.{plain}
+use Rattle.ix_tree.specs.inside.PlainLists.{plain_entry, plain_entries, plain_maps}
 use Rattle.ix_tree.specs.declared.tree.Tree.{Tree}
 use Rattle.ix_tree.specs.declared.tree.Map.{Map}
 use Rattle.ix_tree.proofs.PlainLists.{items_of-listed}
-use Rattle.ix_can.specs.Asked.{may_or_stays, may_own}
-use Rattle.ix_can.specs.May.{may, tree_at}
+use Rattle.ix_can.specs.inside.CanAsk.{may_or_stays, may_own}
+use Rattle.ix_can.specs.inside.May.{may, tree_at}
 use Rattle.ix_can.proofs.Children.{any_entry, all_entries, any_in_maps}
 
 -- a test that is asked where the other one holds

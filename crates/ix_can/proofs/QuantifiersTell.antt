@@ -8,7 +8,8 @@ use Rattle.ix_words.proofs.Each.{Each-weaker, Each-member, Each-members}
 use Rattle.ix_words.proofs.Canon.{flat_map-Member}
 use Rattle.ix_words.proofs.Owners.{part-unused}
 use Rattle.ix_words.proofs.Words.{Projected-leads}
-use Rattle.ix_values.specs.Order.{text_eq, text_eq-decides}
+use Rattle.ix_values.specs.Order.{text_eq}
+use Rattle.ix_values.specs.lemmas.Order.{text_eq-decides}
 use Rattle.ix_values.specs.PlainAction.{PlainAction, Word, values_of}
 use Rattle.ix_expr.specs.Form.{Form, any, every, sync, all}
 use Rattle.ix_expr.specs.Environment.{Environment, bind}

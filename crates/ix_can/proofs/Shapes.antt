@@ -5,14 +5,15 @@ use Rattle.ix_values.specs.PlainAction.{PlainAction}
 use Rattle.ix_expr.specs.Environment.{Environment}
 use Rattle.ix_expr.specs.Form.{PlainAtom, Form, atom, opt, seq, star, par, par_star, or, and, couple, any, every, sync, all}
 use Rattle.ix_tree.specs.Plain.{Plain, dead, start, done, opt as opt_of, seq as seq_of, star as star_of, par as par_of, par_star as par_star_of, or as or_of, and as and_of, couple as couple_of, any as any_of, every as every_of, sync as sync_of, all as all_of}
-use Rattle.ix_tree.specs.PlainOf.{plain, plain_trees, plain_pairs, plain_bags, plain_maps, plain_entries}
-use Rattle.ix_tree.specs.PlainParts.{plain-Dead, plain-Start, plain-Done, plain-Opt, plain-Seq, plain-Star, plain-Par, plain-ParStar, plain-Or, plain-And, plain-Couple, plain-Any, plain-Every, plain-Sync, plain-All}
+use Rattle.ix_tree.specs.PlainOf.{plain}
+use Rattle.ix_tree.specs.inside.PlainLists.{plain_trees, plain_pairs, plain_bags, plain_maps, plain_entries}
+use Rattle.ix_tree.specs.lemmas.PlainParts.{plain-Dead, plain-Start, plain-Done, plain-Opt, plain-Seq, plain-Star, plain-Par, plain-ParStar, plain-Or, plain-And, plain-Couple, plain-Any, plain-Every, plain-Sync, plain-All}
 use Rattle.ix_tree.specs.declared.tree.Tree.{Tree, Dead, Start, Done, Opt, Seq, Star, Par, ParStar, Or, And, Couple, Any, Every, Sync, All}
 use Rattle.ix_tree.specs.declared.tree.Pair.{Pair}
 use Rattle.ix_tree.specs.declared.tree.Bag.{Bag}
 use Rattle.ix_tree.specs.declared.tree.Map.{Map}
 use Rattle.ix_tree.proofs.TreeCases.{tree_cases}
-use Rattle.ix_can.specs.May.{may}
+use Rattle.ix_can.specs.inside.May.{may}
 use Rattle.ix_can.specs.TreeOf.{is_final}
 
 -- the tree has one of the forms, and its plain tree the same

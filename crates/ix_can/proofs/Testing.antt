@@ -7,7 +7,8 @@ use Rattle.ix_words.specs.Parts.{ended}
 use Rattle.ix_words.proofs.Canon.{map-Member}
 use Rattle.ix_words.proofs.Parts.{part-nil, Projection-once}
 use Rattle.ix_words.proofs.Words.{Joined-empty, Repeated-empty, Split-empty, Numbered-empty, Owned-empty, Projected-empty}
-use Rattle.ix_values.specs.Order.{text_eq, text_eq-decides}
+use Rattle.ix_values.specs.Order.{text_eq}
+use Rattle.ix_values.specs.lemmas.Order.{text_eq-decides}
 use Rattle.ix_values.specs.PlainAction.{PlainAction, Word}
 use Rattle.ix_expr.specs.declared.arg.Arg.{Arg}
 use Rattle.ix_expr.specs.declared.arg.Arg.TheVariants.{Fixed, Param}

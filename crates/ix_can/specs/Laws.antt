@@ -1,5 +1,5 @@
 -- The laws of the tests and of trees, as statements.
-use Rattle.std.specs.Prelude.{◌≡◌, ◌≢◌, ◌↔◌, true, false, List, [], ◌∷◌, ◌++◌}
+use Rattle.std.specs.Prelude.{◌≡◌, ◌≢◌, ◌↔◌, true, false, List, [], ◌∷◌}
 use Rattle.std.specs.Ordering.{is_gt}
 use Rattle.ix_words.specs.Each.{Each}
 use Rattle.ix_words.specs.Canon.{Ascending}
@@ -15,8 +15,6 @@ use Rattle.ix_tree.specs.Order.{key, first_part, second_part, tree_cmp}
 use Rattle.ix_can.specs.Tests.{is_match, in_alphabet, accepts_empty}
 use Rattle.ix_can.specs.Nodes.{is_dead, items_of}
 use Rattle.ix_can.specs.TreeOf.{is_final, tree_of}
-use Rattle.ix_can.specs.May.{may_first, may}
-use Rattle.ix_can.specs.Moved.{moved}
 
 -- the test of matching is true exactly where the atom matches the action
 abbrev pub MatchTestsDecide : Type 0
@@ -104,15 +102,3 @@ IsProper (all p y) t = EachOnce (λ m. ProperEntries (IsProper y) (tree_of y [] 
 -- the tree of every word is proper
 abbrev pub TreesAreProper : Type 0
 TreesAreProper = (x : Form) (e : Environment) (w : Word) → IsProper x (tree_of x e w)
-
--- the test of a first action is true exactly where the word of this action is partial
-abbrev pub FirstTestsTell : Type 0
-FirstTestsTell = (x : Form) (e : Environment) (a : PlainAction) → Fits x e → (may_first x e a ≡ true) ↔ IsPartial x e (a ∷ [])
-
--- the test of one more action, on the tree of a word, is true exactly where the word with the action is partial
-abbrev pub MayTestsTell : Type 0
-MayTestsTell = (x : Form) (e : Environment) (w : Word) (a : PlainAction) → Fits x e → (may x e (tree_of x e w) a ≡ true) ↔ IsPartial x e (w ++ a ∷ [])
-
--- the tree of a word moves to the tree of the word with one more action
-abbrev pub MovedTreesTell : Type 0
-MovedTreesTell = (x : Form) (e : Environment) (w : Word) (a : PlainAction) → Fits x e → moved x e (tree_of x e w) a ≡ tree_of x e (w ++ a ∷ [])

@@ -2,8 +2,5 @@ pub mod Tests
 pub mod Ways
 pub mod Nodes
 pub mod TreeOf
-pub mod May
-pub mod Asked
-pub mod Moved
 pub mod Laws
-pub mod Examples
+pub mod inside

@@ -6,7 +6,7 @@ ghost use Rattle.ix_values.specs.PlainAction.{Word};
 ghost use Rattle.ix_expr.specs.Environment.{Environment};
 ghost use Rattle.ix_expr.specs.Form.{Form, PlainAtom, atom, opt, seq, star, par, par_star, or, and, couple, any, every, sync, all};
 ghost use Rattle.ix_expr.specs.FormFaults.{Fits};
-ghost use Rattle.ix_expr.specs.FormOf.{form_of};
+ghost use Rattle.ix_expr.specs.inside.FormOf.{form_of};
 ghost use Rattle.ix_expr.specs.Meaning.{IsComplete};
 ghost use Rattle.ix_tree.specs.PlainOf.{plain};
 ghost use Rattle.ix_can.specs.TreeOf.{is_final, tree_of};

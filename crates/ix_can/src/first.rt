@@ -6,10 +6,10 @@ ghost use Rattle.ix_expr.specs.Environment.{bind};
 ghost use Rattle.ix_expr.specs.Fitting.{FitsInside};
 ghost use Rattle.ix_expr.specs.Form.{seq, par, or, and, couple};
 ghost use Rattle.ix_expr.specs.FormFaults.{Fits};
-ghost use Rattle.ix_expr.specs.FormOf.{form_of};
+ghost use Rattle.ix_expr.specs.inside.FormOf.{form_of};
 ghost use Rattle.ix_expr.specs.Meaning.{IsPartial};
-ghost use Rattle.ix_can.specs.Asked.{first_or_stays};
-ghost use Rattle.ix_can.specs.May.{may_first};
+ghost use Rattle.ix_can.specs.inside.CanAsk.{first_or_stays};
+ghost use Rattle.ix_can.specs.inside.May.{may_first};
 ghost use Rattle.ix_can.specs.Tests.{in_alphabet, values_and_outside};
 
 use crate::plain_tests::{accepts_empty, in_alphabet, is_match};

@@ -1,6 +1,6 @@
 //! Laws of the tests and of trees, each the contract of a function with an empty body.
 
-ghost use Rattle.ix_can.specs.Laws.{MatchTestsDecide, AlphabetTestsDecide, EmptyTestsDecide, FittingExpressionsName, TreesTell, AgreeingEnvironmentsGiveOneTree, EmptyWordsHaveOneTree, TreesAreProper, FirstTestsTell, MayTestsTell, MovedTreesTell};
+ghost use Rattle.ix_can.specs.Laws.{MatchTestsDecide, AlphabetTestsDecide, EmptyTestsDecide, FittingExpressionsName, TreesTell, AgreeingEnvironmentsGiveOneTree, EmptyWordsHaveOneTree, TreesAreProper};
 
 /// The test of matching is true exactly where the atom matches the action.
 pub fn match_tests_decide()
@@ -43,19 +43,4 @@ pub fn empty_words_have_one_tree()
 /// and no entry has the common tree or, in a map, the tree of the empty word.
 pub fn trees_are_proper()
     ensures { TreesAreProper }
-{}
-
-/// The test of a first action is true exactly where the word of this one action is partial.
-pub fn first_tests_tell()
-    ensures { FirstTestsTell }
-{}
-
-/// The test of one more action, on the tree of a word, is true exactly where the word with the action is partial.
-pub fn may_tests_tell()
-    ensures { MayTestsTell }
-{}
-
-/// The tree of a word, moved by an action, is the tree of the word with the action.
-pub fn moved_trees_tell()
-    ensures { MovedTreesTell }
 {}

@@ -7,12 +7,13 @@ ghost use Rattle.ix_expr.specs.Environment.{bind};
 ghost use Rattle.ix_expr.specs.Form.{opt, seq, star, par, par_star, or, and, couple, any, every, sync, all};
 ghost use Rattle.ix_expr.specs.Form as forms;
 ghost use Rattle.ix_expr.specs.FormFaults.{Fits};
-ghost use Rattle.ix_expr.specs.FormOf.{form_of};
+ghost use Rattle.ix_expr.specs.inside.FormOf.{form_of};
 ghost use Rattle.ix_expr.specs.Meaning.{IsPartial};
-ghost use Rattle.ix_tree.specs.PlainOf.{plain, plain_entry};
-ghost use Rattle.ix_can.specs.Asked.{may_or_stays, may_own, CanAsk, CanAskEach, CanAskPairs, CanAskBags, CanAskAt, CanAskEntries, CanAskMaps};
+ghost use Rattle.ix_tree.specs.PlainOf.{plain};
+ghost use Rattle.ix_tree.specs.inside.PlainLists.{plain_entry};
+ghost use Rattle.ix_can.specs.inside.CanAsk.{may_or_stays, may_own, CanAsk, CanAskEach, CanAskPairs, CanAskBags, CanAskAt, CanAskEntries, CanAskMaps};
 ghost use Rattle.ix_can.specs.Laws.{IsProper};
-ghost use Rattle.ix_can.specs.May.{may, may_first, tree_at};
+ghost use Rattle.ix_can.specs.inside.May.{may, may_first, tree_at};
 ghost use Rattle.ix_can.specs.Tests.{in_alphabet};
 ghost use Rattle.ix_can.specs.TreeOf.{tree_of};
 

@@ -30,7 +30,7 @@ pub struct Engine {
 
 impl Model for Engine {
     ghost use Rattle.ix_engine.specs.Engine.{EngineState};
-    ghost use Rattle.ix_expr.specs.FormCode.{form_code};
+    ghost use Rattle.ix_expr.specs.lemmas.FormCode.{form_code};
     ghost use Rattle.std.specs.Coded.{codes};
 
     ghost Value = { EngineState };

@@ -13,7 +13,7 @@ use Rattle.std.proofs.lemmas.Cmp.{eq_by_cmp_equiv}
 use Rattle.std.proofs.lemmas.Map.{lookup-remove_entry}
 use Rattle.std.proofs.lemmas.Map.Keys.{IsDistinct-from_sorted}
 use Rattle.std.proofs.lemmas.Map.Views.{All-map-remove_entry, All-values-insert_entry}
-use Rattle.ix_entries.specs.Entries.{KeysAscend, IsProper, item_at, with_entry}
+use Rattle.ix_entries.specs.inside.Entries.{KeysAscend, IsProper, item_at, with_entry}
 use Rattle.ix_entries.proofs.Places.{turned}
 
 all_above : {K : Type 0} {cmp : K → K → Ordering} → IsTotalOrder cmp → (key x : K) (ks : List K) → cmp key x ≡ Less → AllByRecursion (λ y. cmp x y ≡ Less) ks → AllByRecursion (λ y. cmp key y ≡ Less) ks

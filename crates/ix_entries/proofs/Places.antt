@@ -13,7 +13,7 @@ use Rattle.std.proofs.lemmas.List.{get_or-map}
 use Rattle.std.proofs.lemmas.List.Sorted.{searchable_from_sorted}
 use Rattle.std.proofs.lemmas.Map.Entries.{length-keys_of}
 use Rattle.std.proofs.lemmas.Map.Keys.{Less-from_sorted}
-use Rattle.ix_entries.specs.Entries.{KeysAscend}
+use Rattle.ix_entries.specs.inside.Entries.{KeysAscend}
 
 -- what a look-up, a removal and an insert do where the key's entry stands at this place
 pub record Found {K T : Type 0} (cmp : K → K → Ordering) (entries : List (K × T)) (key : K) (place : ℕ) : Type 0 where

@@ -4,7 +4,7 @@
 ghost use Rattle.std.specs.Prelude.{◌≡◌, length, false, OnOk, OnErr, if◌then◌else◌};
 ghost use Rattle.std.specs.List.Sorted.{IsBinarySearchResult, IsSearchInRange};
 ghost use Rattle.std.specs.Ordering.{is_eq};
-ghost use Rattle.ix_entries.specs.Entries.{KeysAscend, IsProper, item_at, with_entry};
+ghost use Rattle.ix_entries.specs.inside.Entries.{KeysAscend, IsProper, item_at, with_entry};
 
 use std::alloc::AllocError;
 

@@ -1,7 +1,8 @@
 -- Environments that give a parameter a value of the action alike have the same alphabets at that action.
 use Rattle.std.proofs.Common.{◌≡◌, ℕ, suc, ◌<◌, length, get_or, arith, Bool, true, false, cond, Option, Some, None, List, [], ◌∷◌, ◌⊎◌, ◌≢◌, inl, inr, refl, sym, subst}
 use Rattle.ix_words.specs.Each.{Member, here, there}
-use Rattle.ix_values.specs.Order.{text_eq, text_eq-decides}
+use Rattle.ix_values.specs.Order.{text_eq}
+use Rattle.ix_values.specs.lemmas.Order.{text_eq-decides}
 use Rattle.ix_values.specs.PlainAction.{PlainAction}
 use Rattle.ix_expr.specs.declared.arg.Arg.{Arg}
 use Rattle.ix_expr.specs.declared.arg.Arg.TheVariants.{Fixed, Param}

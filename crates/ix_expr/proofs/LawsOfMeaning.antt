@@ -6,7 +6,8 @@ use Rattle.ix_words.proofs.Each.{Each-left, Each-same, Each-weaker, Each-both, E
 use Rattle.ix_words.proofs.Canon.{Member-same}
 use Rattle.ix_words.proofs.Words.{Joined-leads, Repeated-leads, Split-leads, Numbered-leads, Owned-leads, Projected-leads, Joined-front, Repeated-front, Split-closed, Numbered-closed, Owned-closed, Projected-closed, Joined-gives, Repeated-gives, Split-gives, Numbered-gives, Owned-gives, Joined-empty, Repeated-empty, Split-empty, Numbered-empty, Owned-empty, Projected-empty}
 use Rattle.ix_words.proofs.Owners.{EachPair-long, Owned-pairs}
-use Rattle.ix_values.specs.Order.{text_eq, text_eq-decides}
+use Rattle.ix_values.specs.Order.{text_eq}
+use Rattle.ix_values.specs.lemmas.Order.{text_eq-decides}
 use Rattle.ix_values.specs.PlainAction.{PlainAction, Word}
 use Rattle.ix_expr.specs.declared.arg.Arg.{Arg}
 use Rattle.ix_expr.specs.declared.arg.Arg.TheVariants.{Param}

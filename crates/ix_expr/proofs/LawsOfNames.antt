@@ -4,7 +4,8 @@ use Rattle.std.specs.List.{list_any}
 use Rattle.ix_words.specs.Each.{Each, no_item, item, Member, here, there}
 use Rattle.ix_words.proofs.Canon.{Member-same}
 use Rattle.ix_words.proofs.Each.{Each-left, Each-right, Each-head, Each-tail}
-use Rattle.ix_values.specs.Order.{text_eq, text_eq-decides}
+use Rattle.ix_values.specs.Order.{text_eq}
+use Rattle.ix_values.specs.lemmas.Order.{text_eq-decides}
 use Rattle.ix_expr.specs.declared.arg.Arg.{Arg}
 use Rattle.ix_expr.specs.declared.arg.Arg.TheVariants.{Fixed, Param}
 use Rattle.ix_expr.specs.Form.{Form, atom, opt, seq, star, par, par_star, or, and, couple, any, every, sync, all}

@@ -11,7 +11,7 @@ use Rattle.ix_expr.specs.Form.{PlainAtom, Form, atom, opt, seq, star, par, par_s
 use Rattle.ix_expr.specs.Environment.{Environment}
 use Rattle.ix_expr.specs.FormFaults.{IsWellFormed, nodes_of, Binder, Node, Head, atom_head, quantifier_head, operator_head, nodes_below, is_bound, is_bound_argument, names_parameter, is_ninth_quantifier, binds_twice, is_unbound, misses_a_parameter, first_code, fault_at, HaveNoFault, binders_of, Fits}
 use Rattle.ix_expr.specs.Fitting.{FitsInside, OperandsFit}
-use Rattle.ix_expr.specs.Walk.{FreeFrom, free_end, free_node, operator_node, quantifier_node}
+use Rattle.ix_expr.specs.inside.Walk.{FreeFrom, free_end, free_node, operator_node, quantifier_node}
 use Rattle.ix_expr.proofs.Walks.{passed-HaveNoFault, HaveNoFault-free, free-parts, free-append}
 
 -- the same parameters, with an `all` in the first only where the second has one

@@ -2,7 +2,7 @@
 use Rattle.std.proofs.Common.{◌≡◌, ℕ, suc, ◌+◌, ◌-◌, ◌<◌, List, [], ◌∷◌, ◌++◌, length, take, set, sym, ◌∙◌, ap, arith, length-append, append_assoc}
 use Rattle.std.specs.Prelude.{replicate}
 use Rattle.std.proofs.lemmas.List.{set_at, take_more_set}
-use Rattle.ix_values.specs.Padding.{padded, IsPadded}
+use Rattle.ix_values.specs.inside.Padding.{padded, IsPadded}
 
 padded-push : {A : Type 0} (size : ℕ) (fill : A) (xs : List A) (x : A) (n room : ℕ) → length xs ≡ n → size - length xs ≡ suc room → size - length (xs ++ x ∷ []) ≡ room → set (padded size fill xs) n x ≡ padded size fill (xs ++ x ∷ [])
 padded-push size fill xs x n room counted before after =

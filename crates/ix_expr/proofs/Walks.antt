@@ -4,7 +4,7 @@ use Rattle.std.specs.Prelude.{slice_get, IsSomeAnd}
 use Rattle.std.proofs.lemmas.Option.{same_Some}
 use Rattle.ix_expr.specs.declared.expression.FormFault.{FormFault}
 use Rattle.ix_expr.specs.FormFaults.{Node, fault_at, HaveNoFault, IsFirstFault}
-use Rattle.ix_expr.specs.Walk.{FreeFrom, free_end, free_node, FaultFrom, fault_here, fault_later, Passed, Walked}
+use Rattle.ix_expr.specs.inside.Walk.{FreeFrom, free_end, free_node, FaultFrom, fault_here, fault_later, Passed, Walked}
 
 -- the nodes behind a first node that has no fault
 pub walked-node : (n m : ℕ) (node : Node) (nodes : List Node) (r : Result ℕ FormFault) → m ≡ suc n → fault_at n node ≡ None → Walked m nodes r → Walked n (node ∷ nodes) r

@@ -1,13 +1,11 @@
 pub mod Form
-pub mod FormOf
-pub mod FormCode
 pub mod Reserved
 pub mod Spelling
 pub mod Environment
 pub mod Meaning
 pub mod FormFaults
 pub mod CanonicalText
-pub mod Scope
-pub mod Walk
 pub mod Fitting
 pub mod Laws
+pub mod inside
+pub mod lemmas

@@ -1,7 +1,7 @@
 //! Atoms.
 
 ghost use Rattle.std.specs.Prelude.{◌≡◌, ◌<◌, ◌≤◌, ◌↔◌, ◌⊎◌, IsTrue, IsNone, IfSome, [], ◌∷◌, length, All};
-ghost use Rattle.ix_values.specs.Padding.{padded};
+ghost use Rattle.ix_values.specs.inside.Padding.{padded};
 ghost use Rattle.ix_values.specs.Texts.{IsName};
 ghost use Rattle.ix_expr.specs.Form.{atom_of};
 ghost use Rattle.ix_expr.specs.Reserved as reserved;
@@ -22,7 +22,7 @@ pub struct Atom {
 impl Model for Atom {
     ghost use Rattle.std.specs.Prelude.{[], ◌∷◌, length, take};
     ghost use Rattle.std.proofs.Common.{sym};
-    ghost use Rattle.ix_values.specs.Padding.{IsPadded, padded};
+    ghost use Rattle.ix_values.specs.inside.Padding.{IsPadded, padded};
     ghost use Rattle.ix_expr.specs.declared.arg.Arg.TheVariants.{Fixed};
     ghost use Rattle.ix_expr.specs.Form.{PlainAtom, atom_of};
     ghost use Rattle.ix_expr.specs.Spelling.{IsAtom};

@@ -18,7 +18,7 @@ impl Model for Env {
     ghost use Rattle.std.specs.Prelude.{◌∷◌, [], ◌≤◌, length, take, reverse, None};
     ghost use Rattle.std.proofs.Common.{sym, ap, ◌∙◌};
     ghost use Rattle.std.proofs.lemmas.List.{reverse-reverse};
-    ghost use Rattle.ix_values.specs.Padding.{IsPadded, padded};
+    ghost use Rattle.ix_values.specs.inside.Padding.{IsPadded, padded};
     ghost use Rattle.ix_expr.specs.Environment.{Environment};
 
     ghost Value = { Environment };

@@ -2,7 +2,7 @@
 
 ghost use Rattle.std.specs.Prelude.{◌≡◌, ◌<◌, ◌≤◌, ◌↔◌, IsOk, IfOk, IfErr, length};
 ghost use Rattle.ix_expr.specs.FormFaults.{IsWellFormed, IsFirstFormFault, nodes_of};
-ghost use Rattle.ix_expr.specs.FormOf.{form_of};
+ghost use Rattle.ix_expr.specs.inside.FormOf.{form_of};
 ghost use Rattle.ix_expr.specs.Spelling.{IsSpelled};
 
 use crate::expr::Expr;
@@ -30,14 +30,14 @@ pub struct Expression {
 
 impl Model for Expression {
     ghost use Rattle.ix_expr.specs.Form.{Form};
-    ghost use Rattle.ix_expr.specs.FormCode.{form_code};
+    ghost use Rattle.ix_expr.specs.lemmas.FormCode.{form_code};
 
     ghost Value = { Form };
 
     ghost coded = { form_code };
 
     ghost use Rattle.std.specs.Prelude.{◌≡◌, length};
-    ghost use Rattle.ix_expr.specs.FormOf.{form_of};
+    ghost use Rattle.ix_expr.specs.inside.FormOf.{form_of};
     ghost use Rattle.ix_expr.specs.FormFaults.{IsWellFormed, nodes_of};
     ghost use Rattle.ix_expr.specs.Spelling.{IsSpelled};
 

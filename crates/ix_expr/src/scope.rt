@@ -3,7 +3,7 @@
 ghost use Rattle.std.specs.Prelude.{◌≡◌, ◌&&◌, not, nat_le, length};
 ghost use Rattle.std.specs.List.{list_all, list_any};
 ghost use Rattle.ix_expr.specs.FormFaults as faults;
-ghost use Rattle.ix_expr.specs.Scope.{binders};
+ghost use Rattle.ix_expr.specs.inside.Scope.{binders};
 
 use crate::arg::Arg;
 use crate::atom::Atom;

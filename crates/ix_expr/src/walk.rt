@@ -3,10 +3,10 @@
 ghost use Rattle.std.specs.Prelude.{◌≡◌, suc, ◌<◌, ◌≤◌, ◌==◌, ◌∷◌, [], IfNone, IfOk, OnOk};
 ghost use Rattle.ix_values.specs.Texts.{IsName};
 ghost use Rattle.ix_expr.specs.FormFaults.{fault_at, first_code, nodes_below};
-ghost use Rattle.ix_expr.specs.FormOf.{form_of};
-ghost use Rattle.ix_expr.specs.Scope.{binders};
+ghost use Rattle.ix_expr.specs.inside.FormOf.{form_of};
+ghost use Rattle.ix_expr.specs.inside.Scope.{binders};
 ghost use Rattle.ix_expr.specs.Spelling.{IsAtom, IsSpelled};
-ghost use Rattle.ix_expr.specs.Walk.{Walked, atom_node, quantifier_node, operator_node};
+ghost use Rattle.ix_expr.specs.inside.Walk.{Walked, atom_node, quantifier_node, operator_node};
 
 use crate::atom::Atom;
 use crate::expr::Expr;

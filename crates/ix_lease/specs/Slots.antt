@@ -2,8 +2,6 @@
 use Rattle.std.specs.Prelude.{◌≡◌, ◌<◌, ℕ}
 use Rattle.ix_lease.specs.declared.Slot.{Slot}
 use Rattle.ix_lease.specs.declared.Slot.TheVariants.{Free, Held}
-use Rattle.ix_lease.specs.declared.Take.{Take}
-use Rattle.ix_lease.specs.declared.Take.TheVariants.{Taken, Expired, NoSuch}
 
 -- held, and the moment is below the deadline
 abbrev pub IsOpenAt : Slot → ℕ → Type 0
@@ -14,9 +12,3 @@ IsOpenAt (Held ticket action deadline) moment = moment < deadline
 abbrev pub HasTicket : Slot → ℕ → Type 0
 HasTicket Free ticket = ⊥
 HasTicket (Held held action deadline) ticket = held ≡ ticket
-
--- what a slot that was old and is new answers to this ticket at this moment
-abbrev pub Takes : Slot → ℕ → ℕ → Take → Slot → Type 0
-Takes old ticket moment (Taken action) new = (deadline : ℕ) × (old ≡ Held ticket action deadline) × (moment < deadline) × (new ≡ Free)
-Takes old ticket moment Expired new = HasTicket old ticket × (¬ IsOpenAt old moment) × (new ≡ old)
-Takes old ticket moment NoSuch new = (¬ HasTicket old ticket) × (new ≡ old)

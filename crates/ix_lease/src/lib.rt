@@ -36,7 +36,8 @@ pub fn deadline_of(moment: u64, lease: u32) -> u64
 }
 
 impl Slot {
-    ghost use Rattle.ix_lease.specs.Slots.{IsOpenAt, Takes};
+    ghost use Rattle.ix_lease.specs.Slots.{IsOpenAt};
+    ghost use Rattle.ix_lease.specs.inside.Takes.{Takes};
 
     /// Whether the slot is held, and the moment is below its deadline.
     pub fn is_open_at(&self, moment: u64) -> bool

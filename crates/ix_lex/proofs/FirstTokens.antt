@@ -4,7 +4,8 @@ use Rattle.std.specs.List.{prefix_len, take_while}
 use Rattle.std.proofs.lemmas.List.Sums.{prefix_len-le-length}
 use Rattle.ix_lex.specs.declared.TokenKind.TheVariants.{Word, Param}
 use Rattle.ix_lex.specs.WordBytes.{is_letter, is_word_byte, begins}
-use Rattle.ix_lex.specs.Lexing.{BeginsWith, FirstToken}
+use Rattle.ix_lex.specs.Lexing.{BeginsWith}
+use Rattle.ix_lex.specs.inside.FirstToken.{FirstToken}
 use Rattle.ix_lex.proofs.ByteClasses.{letter-word}
 use Rattle.ix_lex.proofs.LongestRuns.{one-add, run_passes, run_ends, length-take_while}
 

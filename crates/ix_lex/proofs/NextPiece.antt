@@ -7,8 +7,9 @@ use Rattle.std.proofs.lemmas.List.{drop-drop, take-append-drop, length-take-le}
 use Rattle.std.proofs.lemmas.List.Folds.{length-prefix_len}
 use Rattle.ix_lex.specs.declared.TokenKind.{TokenKind}
 use Rattle.ix_lex.specs.WordBytes.{is_blank, begins}
-use Rattle.ix_lex.specs.Lexing.{Piece, token, bad_byte, BeginsNothing, FirstToken}
-use Rattle.ix_lex.specs.Items.{pieces_of}
+use Rattle.ix_lex.specs.Lexing.{Piece, token, bad_byte, BeginsNothing}
+use Rattle.ix_lex.specs.inside.FirstToken.{FirstToken}
+use Rattle.ix_lex.specs.inside.Items.{pieces_of}
 use Rattle.ix_lex.proofs.LongestRuns.{run_passes, run_ends, length-take_while}
 use Rattle.ix_lex.proofs.PiecesOf.{pieces_of-blanks, pieces_of-token, pieces_of-bad, pieces_of-end}
 

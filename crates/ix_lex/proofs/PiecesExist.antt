@@ -4,7 +4,7 @@ use Rattle.ix_lex.specs.declared.TokenKind.{TokenKind}
 use Rattle.ix_lex.specs.declared.TokenKind.TheVariants.{Word, Param}
 use Rattle.ix_lex.specs.WordBytes.{is_blank, is_letter, is_word_byte, sign_of, begins}
 use Rattle.ix_lex.specs.Lexing.{Piece, token, Pieces, BeginsWith, BeginsNothing}
-use Rattle.ix_lex.specs.Items.{grown, alone, with_byte, pieces_of}
+use Rattle.ix_lex.specs.inside.Items.{grown, alone, with_byte, pieces_of}
 use Rattle.ix_lex.proofs.ByteClasses.{blank-no_word, letter-word, sign-no_other}
 use Rattle.ix_lex.proofs.PiecesOf.{with_byte-grow, with_byte-word, with_byte-blank, with_byte-sign, with_byte-bad, with_byte-param, pieces_of-token, pieces_of-bad}
 

@@ -1,5 +1,5 @@
 -- What a text is cut into: tokens by longest runs, up to its end or to the first byte that begins no token.
-use Rattle.std.specs.Prelude.{◌≡◌, ℕ, suc, ◌+◌, true, false, List, [], ◌∷◌, ◌++◌, length, take, drop, Some, None, ◌≤◌}
+use Rattle.std.specs.Prelude.{◌≡◌, ℕ, suc, ◌+◌, true, false, List, [], ◌∷◌, ◌++◌, length, Some, None}
 use Rattle.std.specs.List.{list_all}
 use Rattle.ix_lex.specs.declared.TokenKind.{TokenKind}
 use Rattle.ix_lex.specs.declared.TokenKind.TheVariants.{Word, Param}
@@ -25,10 +25,6 @@ pub data BeginsWith : TokenKind → List ℕ → List ℕ → Type 0 where
   param : (b : ℕ) (bs rest : List ℕ) → is_letter b ≡ true → list_all is_word_byte (b ∷ bs) ≡ true → begins is_word_byte rest ≡ false → BeginsWith Param (36 ∷ b ∷ bs) rest
   -- a sign of one byte
   sign : (kind : TokenKind) (b : ℕ) (rest : List ℕ) → sign_of b ≡ Some kind → BeginsWith kind (b ∷ []) rest
-
--- a text begins with a token of this kind and length
-abbrev pub FirstToken : TokenKind → ℕ → List ℕ → Type 0
-FirstToken kind n bytes = (n ≤ length bytes) × BeginsWith kind (take n bytes) (drop n bytes)
 
 -- a byte, with what follows it, is neither a blank nor the begin of a token
 pub record BeginsNothing (b : ℕ) (rest : List ℕ) : Type 0 where

@@ -1,3 +1,3 @@
 pub mod Lexing
 pub mod WordBytes
-pub mod Items
+pub mod inside

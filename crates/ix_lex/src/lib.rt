@@ -3,7 +3,8 @@
 
 ghost use Rattle.std.specs.Prelude.{◌≡◌, false, ◌≤◌, ◌∷◌, length, take_while, MatchOption};
 ghost use Rattle.ix_lex.specs.WordBytes.{begins, is_blank, is_letter, is_word_byte, sign_of};
-ghost use Rattle.ix_lex.specs.Lexing.{BeginsNothing, FirstToken};
+ghost use Rattle.ix_lex.specs.Lexing.{BeginsNothing};
+ghost use Rattle.ix_lex.specs.inside.FirstToken.{FirstToken};
 
 /// What a token is: a word, a parameter, or one of eleven signs.
 #[derive(Clone, Copy, Debug, PartialEq, Eq, Hash)]
@@ -135,7 +136,7 @@ fn first_token(first: u8, after: &[u8]) -> Option<(TokenKind, usize)>
 }
 
 impl<'a> Tokens<'a> {
-    ghost use Rattle.ix_lex.specs.Items.{pieces_left};
+    ghost use Rattle.ix_lex.specs.inside.Items.{pieces_left};
     ghost use Rattle.ix_lex.specs.Lexing.{Pieces};
 
     /// The tokens of a text.
@@ -148,7 +149,7 @@ impl<'a> Tokens<'a> {
 
 impl<'a> Iterator for Tokens<'a> {
     ghost use Rattle.std.specs.Iterator.{YieldsFirstBy, item_count};
-    ghost use Rattle.ix_lex.specs.Items.{pieces_left, piece_of};
+    ghost use Rattle.ix_lex.specs.inside.Items.{pieces_left, piece_of};
 
     type Item = Result<Token<'a>, LexFault>;
 

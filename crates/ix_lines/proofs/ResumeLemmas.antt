@@ -10,8 +10,8 @@ use Rattle.std.proofs.Math.Seq.{take-length, take-suc, take-add}
 use Rattle.memchr.specs.Find.{NoneBefore, Passes, is_byte}
 use Rattle.ix_lines.specs.Items.{Item, items}
 use Rattle.ix_lines.specs.Feeding.{Held, unfinished, skipping, held, completes, holds_after, Feeds}
-use Rattle.ix_lines.specs.Buffer.{HasNoEnd}
-use Rattle.ix_lines.specs.Answers.{ResumesAt}
+use Rattle.ix_lines.specs.Ends.{HasNoEnd}
+use Rattle.ix_lines.specs.inside.FeedAnswers.{ResumesAt}
 use Rattle.ix_lines.proofs.CutLemmas.{is_end, drop_through-none}
 use Rattle.ix_lines.proofs.FeedLemmas.{any_cutting}
 use Rattle.ix_lines.proofs.WindowLemmas.{no_end_before, no_end-take, quiet}

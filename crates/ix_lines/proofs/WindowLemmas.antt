@@ -8,8 +8,9 @@ use Rattle.std.proofs.Math.Seq.{take-length, take-suc}
 use Rattle.memchr.specs.Find.{NoneBefore, Nowhere, Passes, is_byte}
 use Rattle.ix_lines.specs.Items.{Cut, line, too_long, item_of, item_of_last, items}
 use Rattle.ix_lines.specs.Feeding.{Held, unfinished, skipping, held, holds_after, Feeds}
-use Rattle.ix_lines.specs.Buffer.{shown, HasNoEnd, IsBuffer}
-use Rattle.ix_lines.specs.Answers.{IsOpen}
+use Rattle.ix_lines.specs.inside.Buffer.{shown, IsBuffer}
+use Rattle.ix_lines.specs.Ends.{HasNoEnd}
+use Rattle.ix_lines.specs.inside.FeedAnswers.{IsOpen}
 use Rattle.ix_lines.proofs.CutLemmas.{is_end, or_false, cut_plain, cut_line}
 
 not_true : (b : Bool) → (b ≡ true → ⊥) → b ≡ false

@@ -2,7 +2,7 @@
 use Rattle.std.specs.Prelude.{◌≡◌, ℕ, List, [], ◌∷◌, ◌++◌}
 use Rattle.std.specs.List.{flat_map, AllByRecursion}
 use Rattle.ix_lines.specs.Items.{cut}
-use Rattle.ix_lines.specs.Buffer.{HasNoEnd}
+use Rattle.ix_lines.specs.Ends.{HasNoEnd}
 
 -- each part, with a byte 10 behind it
 abbrev pub ended_by_ten : List (List ℕ) → List ℕ

@@ -1,5 +1,5 @@
 pub mod Items
 pub mod Feeding
-pub mod Buffer
-pub mod Answers
 pub mod Cutting
+pub mod Ends
+pub mod inside

@@ -35,7 +35,7 @@ impl Model for Lines {
 
     ghost Value = { Held };
 
-    ghost use Rattle.ix_lines.specs.Buffer.{shown, IsBuffer};
+    ghost use Rattle.ix_lines.specs.inside.Buffer.{shown, IsBuffer};
 
     ghost view = { λ lines. shown lines.skipping (take lines.open_len lines.buffer.items) };
 
@@ -61,8 +61,8 @@ pub struct Fed<'a> {
 }
 
 impl Lines {
-    ghost use Rattle.ix_lines.specs.Answers.{told_item, HoldsAfter, IsOpen, ResumesAt};
-    ghost use Rattle.ix_lines.specs.Buffer.{HasNoEnd};
+    ghost use Rattle.ix_lines.specs.inside.FeedAnswers.{told_item, HoldsAfter, IsOpen, ResumesAt};
+    ghost use Rattle.ix_lines.specs.Ends.{HasNoEnd};
 
     /// No text so far.
     pub fn new() -> Lines

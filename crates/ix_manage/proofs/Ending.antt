@@ -8,10 +8,11 @@ use Rattle.ix_script.specs.Events.{HasEvents}
 use Rattle.ix_script.specs.Grammar.{IsFirstBadLine}
 use Rattle.ix_manage.specs.Command.{NamesTrace, NamesReplay, in_trace, in_replay}
 use Rattle.ix_manage.specs.Ends.{Ends, bad_text, bad_actions, large_start, lost_expression, lost_actions, no_memory, traced, bad_script, lost_script, large_replay, replayed}
-use Rattle.ix_manage.specs.Refusal.{refusal_line, refusal_status, RefusesExpression, RefusesActions, RefusesScript, RefusesStart, RefusesText, IsBadScript}
+use Rattle.ix_manage.specs.inside.Refusal.{refusal_line, refusal_status, RefusesExpression, RefusesActions, RefusesScript, RefusesStart, RefusesText, IsBadScript}
 use Rattle.ix_manage.specs.Replay.{bad_line}
-use Rattle.ix_manage.specs.Replaying.{ScriptEnds, large, memory, played}
-use Rattle.ix_manage.specs.Trace.{within, large_line, ReadsForm, Starts, Traces, TracesLines}
+use Rattle.ix_manage.specs.inside.ReplayProgress.{ScriptEnds, large, memory, played}
+use Rattle.ix_manage.specs.Trace.{within, large_line, ReadsForm, Starts, Traces}
+use Rattle.ix_manage.specs.inside.TracesLines.{TracesLines}
 use Rattle.ix_manage.specs.declared.refusal.Refusal.{Refusal}
 use Rattle.ix_manage.specs.declared.refusal.Refusal.TheVariants.{Words, BadText, Large, LostExpression, BadActions, LostActions, BadScript, LostScript, Turns, Memory}
 

@@ -2,7 +2,8 @@
 use Rattle.std.proofs.Common.{◌≡◌, ◌≢◌, ℕ, Bool, true, false, not, List, [], ◌∷◌, length, get_or, refl, sym, ap, ◌∙◌, arith}
 use Rattle.std.specs.Prelude.{codes}
 use Rattle.std.proofs.lemmas.Bool.{false≢true}
-use Rattle.ix_values.specs.Order.{text_eq, text_eq-decides}
+use Rattle.ix_values.specs.Order.{text_eq}
+use Rattle.ix_values.specs.lemmas.Order.{text_eq-decides}
 use Rattle.ix_manage.specs.Command.{IsLimitText, NamesTrace, usual, limited}
 
 not_false : (b : Bool) → not b ≡ false → b ≡ true

@@ -17,14 +17,14 @@ use Rattle.ix_proto.specs.declared.reply.Reply.{Reply}
 use Rattle.ix_manager.specs.Machine.{MachineState}
 use Rattle.ix_manager.specs.Runs.{Ending, going, stopped, Run, Steps, none}
 use Rattle.ix_manager.specs.Wire.{SendsInOrder, done, silent, sent, lost, reply_line, all_replies, marks_after, run_text, unmarked}
-use Rattle.ix_manager.specs.Managing.{ManagerState, Handles, FitsEvent, KindHas, completed_by, held_at, started}
+use Rattle.ix_manager.specs.Handled.{ManagerState, Handles, FitsEvent, KindHas, completed_by, held_at, started}
 use Rattle.ix_manager.specs.RunLaws.{given_event}
 use Rattle.ix_manager.proofs.RunLemmas.{run_lengths, started_follows, taken_goes_on, taken_follows}
 use Rattle.ix_manager.proofs.SendLemmas.{silent_keeps, run_text_told}
 use Rattle.ix_script.specs.Events.{HasEvents}
-use Rattle.ix_script.specs.Pieces.{IsNextPiece}
+use Rattle.ix_script.specs.inside.NextPiece.{IsNextPiece}
 use Rattle.ix_manage.specs.Replay.{AreFirst, whole, out_of_turns, cut, history_line, replay_text}
-use Rattle.ix_manage.specs.Replaying.{Stands, IsTurn, TakesTurn, TakesTurns}
+use Rattle.ix_manage.specs.inside.ReplayProgress.{Stands, IsTurn, TakesTurn, TakesTurns}
 use Rattle.ix_manage.specs.declared.turns.Turn.{Turn}
 use Rattle.ix_manage.specs.declared.turns.Turn.TheVariants.{More, Done, Cut}
 use Rattle.ix_manage.proofs.ScriptFronts.{first_push}

@@ -4,7 +4,8 @@ use Rattle.std.proofs.lemmas.Bool.{le-leb, leb-false}
 use Rattle.std.proofs.lemmas.List.{length-take-le, length_push}
 use Rattle.ix_outside.specs.Contents.{GivenEvent}
 use Rattle.ix_script.specs.Events.{bytes_event}
-use Rattle.ix_script.specs.Pieces.{fitting, rest_behind, left_after, next_piece, left_behind, pieces_of}
+use Rattle.ix_script.specs.Pieces.{fitting, rest_behind, left_after, pieces_of}
+use Rattle.ix_script.specs.inside.NextPiece.{next_piece, left_behind}
 
 -- what is left behind an event by a test whether it fits
 left_by_test : Bool → ℕ → GivenEvent → GivenEvent → List GivenEvent → List GivenEvent

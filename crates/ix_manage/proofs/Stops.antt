@@ -3,7 +3,7 @@ use Rattle.std.proofs.Common.{◌≡◌, ℕ, List, Option, Result, Ok, Err, IfE
 use Rattle.std.specs.Io.KnownBytes.{append_known}
 use Rattle.ix_manage.specs.declared.run.Stop.{Stop}
 use Rattle.ix_manage.specs.declared.run.Stop.TheVariants.{Refused, Output}
-use Rattle.ix_manage.specs.Run.{IsNoLoss, LostWhere, RefusedAfter}
+use Rattle.ix_manage.specs.inside.RefusedAfter.{IsNoLoss, LostWhere, RefusedAfter}
 
 module _ {Part Whole : ℕ → List ℕ → Type 0} (ends : (status : ℕ) (text : List ℕ) → Part status text → Whole status text) (old new : Option (List ℕ)) where
   pub done_on : {T : Type 0} (r : Result T Stop) → OnOk r ((text : List ℕ) × Part 0 text × (new ≡ append_known old text))

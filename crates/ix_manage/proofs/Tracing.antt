@@ -12,7 +12,8 @@ use Rattle.ix_expr.specs.Form.{Form}
 use Rattle.ix_outside.specs.Sink.{AppendsPart}
 use Rattle.ix_manage.specs.ActionLines.{HasActions, line}
 use Rattle.ix_script.specs.Lines.{lines_of}
-use Rattle.ix_manage.specs.Trace.{Answers, TracesLines, Verdict, whole, short}
+use Rattle.ix_manage.specs.Trace.{Answers, Verdict, whole, short}
+use Rattle.ix_manage.specs.inside.TracesLines.{TracesLines}
 use Rattle.ix_script.proofs.LineLists.{lines_of-none}
 
 pub append_nothing : (known : Option (List ℕ)) → known ≡ append_known known []

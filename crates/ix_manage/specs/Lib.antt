@@ -2,7 +2,5 @@ pub mod Command
 pub mod ActionLines
 pub mod Trace
 pub mod Replay
-pub mod Replaying
 pub mod Ends
-pub mod Refusal
-pub mod Run
+pub mod inside

@@ -94,9 +94,3 @@ pub data Traces (x : Form) (limit : ℕ) (actions : Word) : ℕ → List ℕ →
   short : {front history : Word} {text : List ℕ} (rest : Word)
       → front ++ rest ≡ actions → Answers x limit [] front text history
       → Traces x limit actions 9 (text ++ line (codes "refused memory"))
-
--- what `trace` may put for a form, a limit and the bytes of an actions file, by the status
-pub record TracesLines (x : Form) (limit : ℕ) (bytes : List ℕ) (status : ℕ) (text : List ℕ) : Type 0 where
-  pub actions : Word
-  pub has : HasActions bytes actions
-  pub traces : Traces x limit actions status text

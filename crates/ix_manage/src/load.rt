@@ -6,7 +6,7 @@ ghost use Rattle.ix_parse.specs.Faults.{StandsFor};
 ghost use Rattle.ix_outside.specs.Counts.{Rose};
 ghost use Rattle.ix_outside.specs.Files.{HasFile};
 ghost use Rattle.ix_script.specs.Lines.{lines_of};
-ghost use Rattle.ix_manage.specs.Refusal.{RefusesActions, RefusesExpression, RefusesScript, RefusesText};
+ghost use Rattle.ix_manage.specs.inside.Refusal.{RefusesActions, RefusesExpression, RefusesScript, RefusesText};
 ghost use Rattle.ix_manage.specs.Trace.{ReadsForm};
 
 use crate::actions::{self, first_fault};

@@ -32,7 +32,7 @@ pub enum Refusal {
 }
 
 impl Refusal {
-    ghost use Rattle.ix_manage.specs.Refusal.{refusal_line, refusal_status};
+    ghost use Rattle.ix_manage.specs.inside.Refusal.{refusal_line, refusal_status};
 
     /// The line that says why.
     pub fn line(self) -> ArrayVec<u8, 64>

@@ -3,14 +3,14 @@ ghost use Rattle.std.specs.Prelude.{◌≡◌, ◌≤◌, ◌++◌, ℕ, List, [
 ghost use Rattle.std.specs.Io.KnownBytes.{append_known};
 ghost use Rattle.ix_outside.specs.Counts.{Rose};
 ghost use Rattle.ix_outside.specs.Sink.{AppendsPart};
-ghost use Rattle.ix_manager.specs.Managing.{started};
+ghost use Rattle.ix_manager.specs.Handled.{started};
 ghost use Rattle.ix_script.specs.Events.{HasEvents};
 ghost use Rattle.ix_outside.specs.Contents.{GivenEvent};
-ghost use Rattle.ix_manage.specs.Ends.{ReplayEnds};
-ghost use Rattle.ix_manage.specs.Refusal.{IsBadScript};
-ghost use Rattle.ix_manage.specs.Replaying.{ScriptEnds, TakesTurns};
+ghost use Rattle.ix_manage.specs.inside.CommandEnds.{ReplayEnds};
+ghost use Rattle.ix_manage.specs.inside.Refusal.{IsBadScript};
+ghost use Rattle.ix_manage.specs.inside.ReplayProgress.{ScriptEnds, TakesTurns};
 ghost use Rattle.ix_manage.specs.Trace.{tree_size};
-ghost use Rattle.ix_manage.specs.Run.{IsNoLoss, RefusedAfter, LostWhere};
+ghost use Rattle.ix_manage.specs.inside.RefusedAfter.{IsNoLoss, RefusedAfter, LostWhere};
 
 use crate::load::{load_expression, load_script};
 use crate::refusal::Refusal;

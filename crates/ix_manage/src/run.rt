@@ -3,8 +3,9 @@ ghost use Rattle.std.specs.Prelude.{◌≡◌, ◌≤◌, ◌++◌, ℕ, List, O
 ghost use Rattle.std.specs.Io.KnownBytes.{append_known};
 ghost use Rattle.ix_outside.specs.Counts.{Rose};
 ghost use Rattle.ix_outside.specs.Sink.{AppendsPart};
-ghost use Rattle.ix_manage.specs.Run.{RefusedAfter, LostWhere};
-ghost use Rattle.ix_manage.specs.Ends.{Ends, TraceEnds};
+ghost use Rattle.ix_manage.specs.inside.RefusedAfter.{RefusedAfter, LostWhere};
+ghost use Rattle.ix_manage.specs.Ends.{Ends};
+ghost use Rattle.ix_manage.specs.inside.CommandEnds.{TraceEnds};
 
 use crate::load::load_actions;
 use crate::refusal::Refusal;

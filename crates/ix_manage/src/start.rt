@@ -1,7 +1,7 @@
 // The engine that a trace begins with.
 ghost use Rattle.std.specs.Prelude.{◌≡◌, ◌≤◌, [], IfOk, IfErr, IsErrOf};
 ghost use Rattle.ix_outside.specs.Counts.{Rose};
-ghost use Rattle.ix_manage.specs.Refusal.{RefusesStart};
+ghost use Rattle.ix_manage.specs.inside.Refusal.{RefusesStart};
 ghost use Rattle.ix_manage.specs.Trace.{Starts};
 
 use crate::load::load_expression;

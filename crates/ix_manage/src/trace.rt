@@ -8,7 +8,8 @@ ghost use Rattle.ix_outside.specs.Counts.{Rose};
 ghost use Rattle.ix_outside.specs.Sink.{AppendsPart};
 ghost use Rattle.ix_manage.specs.ActionLines.{line};
 ghost use Rattle.ix_script.specs.Lines.{lines_of};
-ghost use Rattle.ix_manage.specs.Trace.{Answers, TracesLines, Verdict};
+ghost use Rattle.ix_manage.specs.Trace.{Answers, Verdict};
+ghost use Rattle.ix_manage.specs.inside.TracesLines.{TracesLines};
 
 use crate::actions::read_action;
 use ix_engine::{Engine, PrepareFault};

@@ -4,10 +4,11 @@ ghost use Rattle.ix_outside.specs.Contents.{piece_of};
 ghost use Rattle.ix_outside.specs.Counts.{Rose};
 ghost use Rattle.ix_outside.specs.Event.{KindFits};
 ghost use Rattle.ix_outside.specs.declared.event.EventKind.TheVariants.{End};
-ghost use Rattle.ix_manager.specs.Managing.{ending_after, started};
+ghost use Rattle.ix_manager.specs.inside.EndingAfter.{ending_after};
+ghost use Rattle.ix_manager.specs.Handled.{started};
 ghost use Rattle.ix_manager.specs.Wire.{unmarked};
-ghost use Rattle.ix_script.specs.Site.{given_of};
-ghost use Rattle.ix_manage.specs.Replaying.{IsTurn, TakesTurn, TakesTurns};
+ghost use Rattle.ix_script.specs.inside.Site.{given_of};
+ghost use Rattle.ix_manage.specs.inside.ReplayProgress.{IsTurn, TakesTurn, TakesTurns};
 
 use ix_manager::{Go, Manager};
 use ix_outside::{EventKind, Sink, Site};

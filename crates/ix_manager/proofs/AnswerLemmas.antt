@@ -1,8 +1,9 @@
 -- What the machine's answers make of lines.
 use Rattle.std.proofs.Common.{◌≡◌, ℕ, List, [], ◌∷◌, refl, sym, ◌∙◌, ap, subst, arith}
 use Rattle.ix_lines.specs.Items.{line, too_long}
-use Rattle.ix_watch.specs.Watches.{changes_of}
-use Rattle.ix_proto.specs.Requests.{PlainRequest, ask, confirm, cancel, may, watch, drop_watch, poll, status, log, stop, Lends, Reads}
+use Rattle.ix_watch.specs.inside.Watches.{changes_of}
+use Rattle.ix_proto.specs.Requests.{PlainRequest, ask, confirm, cancel, may, watch, drop_watch, poll, status, log, stop}
+use Rattle.ix_proto.specs.inside.Lends.{Lends, Reads}
 use Rattle.ix_proto.specs.RequestFaults.{IsRequestFault}
 use Rattle.ix_proto.specs.Words.{words_of}
 use Rattle.ix_proto.specs.declared.reply.Reply.{Reply}
@@ -12,9 +13,9 @@ use Rattle.ix_proto.specs.declared.request.Request.TheVariants.{Ask, Confirm, Ca
 use Rattle.ix_manager.specs.declared.faults.Go.{Go}
 use Rattle.ix_manager.specs.Machine.{MachineState, Step, polled}
 use Rattle.ix_manager.specs.Runs.{going, ending_of, ItemStep, requested, refused, over_long}
-use Rattle.ix_manager.specs.Managing.{ending_after}
-use Rattle.ix_manager.specs.Core.{Core, TellsPoll}
-use Rattle.ix_manager.specs.Sending.{WireState, SendsAll, AnswersItem, AnswersRequest, request_ending, poll_replies}
+use Rattle.ix_manager.specs.inside.EndingAfter.{ending_after}
+use Rattle.ix_manager.specs.inside.Core.{Core, TellsPoll}
+use Rattle.ix_manager.specs.inside.WireState.{WireState, SendsAll, AnswersItem, AnswersRequest, request_ending, poll_replies}
 
 -- a request that lends a poll's name lends no other request's texts
 pub lends_poll : (request : Request) (name : List ℕ) (plain : PlainRequest) → Lends request (poll name) → Lends request plain → plain ≡ poll name

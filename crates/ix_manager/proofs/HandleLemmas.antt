@@ -7,9 +7,9 @@ use Rattle.ix_outside.specs.declared.event.Event.{Event}
 use Rattle.ix_outside.specs.declared.event.EventKind.TheVariants.{Bytes, Closed, End}
 use Rattle.ix_manager.specs.Runs.{Ending, going, Steps, none, raised}
 use Rattle.ix_manager.specs.Wire.{done, marks_after}
-use Rattle.ix_manager.specs.Managing.{ManagerState, Handles, held_at, completed_by, held_after}
-use Rattle.ix_manager.specs.Sending.{WireState}
-use Rattle.ix_manager.specs.Taking.{TakesBytes}
+use Rattle.ix_manager.specs.Handled.{ManagerState, Handles, held_at, completed_by, held_after}
+use Rattle.ix_manager.specs.inside.WireState.{WireState}
+use Rattle.ix_manager.specs.inside.TakenItems.{TakesBytes}
 
 -- a manager whose moment was raised
 abbrev pub at_moment : ℕ → ManagerState → ManagerState

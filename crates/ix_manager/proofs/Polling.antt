@@ -2,10 +2,11 @@
 use Rattle.std.proofs.Common.{◌≡◌, ℕ, Bool, true, false, ◌&&◌, cond, List, [], ◌∷◌, map, filter, refl, sym, ◌∙◌, true≢false}
 use Rattle.ix_words.specs.Each.{Each, item}
 use Rattle.ix_values.specs.PlainAction.{PlainAction}
-use Rattle.ix_values.specs.Order.{text_eq, text_eq-decides}
-use Rattle.ix_watch.specs.Watches.{PlainWatch, told_to, has_changed, changes_of, differ}
+use Rattle.ix_values.specs.Order.{text_eq}
+use Rattle.ix_values.specs.lemmas.Order.{text_eq-decides}
+use Rattle.ix_watch.specs.inside.Watches.{PlainWatch, told_to, has_changed, changes_of, differ}
 use Rattle.ix_manager.specs.Machine.{Tells, Polls, done, other, same, changed}
-use Rattle.ix_manager.specs.Core.{watch_of, change_replies}
+use Rattle.ix_manager.specs.inside.Core.{watch_of, change_replies}
 
 module _ (G : PlainAction → Type 0) (name : List ℕ) where
   -- the first watch, by whether it is of the name

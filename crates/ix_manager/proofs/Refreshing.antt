@@ -4,10 +4,10 @@ use Rattle.std.specs.List.{slice_get}
 use Rattle.std.specs.Prelude.{Result}
 use Rattle.ix_words.specs.Each.{Each, no_item, item}
 use Rattle.ix_engine.specs.Engine.{EngineState, IsPermitted}
-use Rattle.ix_watch.specs.Watches.{PlainWatch, noted}
+use Rattle.ix_watch.specs.inside.Watches.{PlainWatch, noted}
 use Rattle.ix_manager.specs.Machine.{Tells, HasNoWatch}
-use Rattle.ix_manager.specs.Core.{watch_of}
-use Rattle.ix_manager.specs.Doing.{IsNoted}
+use Rattle.ix_manager.specs.inside.Core.{watch_of}
+use Rattle.ix_manager.specs.inside.Does.{IsNoted}
 
 -- an answer that is true exactly where P holds tells it
 pub tells_of : {P : Type 0} (answer : Bool) → IsTrue answer ↔ P → Tells P answer

@@ -3,7 +3,8 @@ use Rattle.std.proofs.Common.{◌≡◌, ℕ, List, Bor, ◌∙◌, subst}
 use Rattle.ix_values.specs.PlainAction.{PlainAction, text_of}
 use Rattle.ix_values.specs.Texts.{IsAction}
 use Rattle.ix_values.proofs.TextsApart.{texts_apart}
-use Rattle.ix_proto.specs.Requests.{PlainRequest, ask, may, watch, drop_watch, stop, IsRequest, Lends}
+use Rattle.ix_proto.specs.Requests.{PlainRequest, ask, may, watch, drop_watch, stop, IsRequest}
+use Rattle.ix_proto.specs.inside.Lends.{Lends}
 use Rattle.ix_proto.specs.declared.request.Request.{Request}
 use Rattle.ix_proto.specs.declared.request.Request.TheVariants as lent
 

@@ -14,7 +14,7 @@ use Rattle.ix_outside.specs.declared.event.EventKind.TheVariants.{Bytes, Closed,
 use Rattle.ix_proto.specs.declared.reply.Reply.{Reply}
 use Rattle.ix_manager.specs.Machine.{MachineState}
 use Rattle.ix_manager.specs.Runs.{Ending, going, Steps, Run, begin, takes, raised, with_piece, text_behind}
-use Rattle.ix_manager.specs.Managing.{ManagerState, completed_by, held_after, held_at, has_ended, TakesEvent, KindHas, FitsEvent, started}
+use Rattle.ix_manager.specs.Handled.{ManagerState, completed_by, held_after, held_at, has_ended, TakesEvent, KindHas, FitsEvent, started}
 use Rattle.ix_manager.specs.RunLaws.{given_event, Follows, CallsMakeARun}
 
 -- a run has replies to each of its events

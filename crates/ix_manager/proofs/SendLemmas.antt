@@ -13,7 +13,7 @@ use Rattle.ix_outside.specs.declared.event.EventKind.TheVariants.{Bytes, Closed,
 use Rattle.ix_proto.specs.declared.reply.Reply.{Reply}
 use Rattle.ix_manager.specs.Machine.{MachineState}
 use Rattle.ix_manager.specs.Runs.{Ending, Steps, none}
-use Rattle.ix_manager.specs.Managing.{ManagerState, SendsReplies, Handles, completed_by, held_at}
+use Rattle.ix_manager.specs.Handled.{ManagerState, SendsReplies, Handles, completed_by, held_at}
 use Rattle.ix_manager.specs.Wire.{SendsInOrder, done, silent, sent, lost, reply_line, all_replies, replies_text, run_text, marks_after, PairsWhole, PairsFront, Wire, takes}
 use Rattle.ix_manager.specs.RunLaws.{given_event, SentRepliesAreTheWire, TellsReplies, UnmarkedRepliesAreTheText}
 

@@ -7,12 +7,12 @@ use Rattle.ix_outside.specs.Counts.{Counts, Rose, OnlySend}
 use Rattle.ix_outside.proofs.Counting.{Rose-later, Rose-earlier}
 use Rattle.ix_outside.specs.Contents.{Contents, SendsWhole, SendsPart, SendsBytes}
 use Rattle.ix_values.specs.PlainAction.{PlainAction}
-use Rattle.ix_watch.specs.Watches.{PlainWatch, has_changed, changes_of}
+use Rattle.ix_watch.specs.inside.Watches.{PlainWatch, has_changed, changes_of}
 use Rattle.ix_proto.specs.declared.reply.Reply.{Reply}
 use Rattle.ix_proto.specs.declared.reply.Reply.TheVariants as reply
-use Rattle.ix_manager.specs.Core.{change_replies}
+use Rattle.ix_manager.specs.inside.Core.{change_replies}
 use Rattle.ix_manager.specs.Wire.{SendsInOrder, done, silent, sent, lost, reply_line}
-use Rattle.ix_manager.specs.Sending.{WireState, SendsAll, poll_replies}
+use Rattle.ix_manager.specs.inside.WireState.{WireState, SendsAll, poll_replies}
 
 module _ {S : Type 0} (whole front : Reply → S → S → Type 0) where
   -- a marked connection stays marked

@@ -8,20 +8,20 @@ use Rattle.ix_engine.specs.declared.next.Next.{Next}
 use Rattle.ix_lease.specs.Slots.{IsOpenAt, HasTicket}
 use Rattle.ix_lease.specs.declared.Slot.{Slot}
 use Rattle.ix_lease.specs.declared.Slot.TheVariants.{Free, Held}
-use Rattle.ix_watch.specs.Watches.{PlainWatch, is_watched, AreDistinct, told_to, new_watch, without}
-use Rattle.ix_watch.specs.Added.{Adds}
+use Rattle.ix_watch.specs.inside.Watches.{PlainWatch, is_watched, AreDistinct, told_to, new_watch, without}
+use Rattle.ix_watch.specs.inside.Added.{Adds}
 use Rattle.ix_watch.specs.declared.Added.{Added}
 use Rattle.ix_watch.specs.declared.Added.TheVariants.{New, Again}
 use Rattle.ix_proto.specs.Requests as request
 use Rattle.ix_proto.specs.Requests.{PlainRequest}
-use Rattle.ix_proto.specs.Replies.{CanBeTold}
+use Rattle.ix_proto.specs.inside.ReplyTexts.{CanBeTold}
 use Rattle.ix_proto.specs.declared.reply.Reply.{Reply}
 use Rattle.ix_proto.specs.declared.reply.Reply.TheVariants as reply
 use Rattle.ix_manager.specs.Machine as machine
 use Rattle.ix_manager.specs.Machine.{Step, MachineWatch, MachineState, Tells, IsAllowed, IsUnwatched, HasNoWatch}
-use Rattle.ix_manager.specs.Core.{Core, watch_of, IsRefreshed, TellsPoll}
-use Rattle.ix_manager.specs.Ready.{IsReady, Refuses, not_permitted, full, large, memory, IsOpenUpTo}
-use Rattle.ix_manager.specs.Doing.{Does, Refreshes, IsNoted, AddsTold}
+use Rattle.ix_manager.specs.inside.Core.{Core, watch_of, IsRefreshed, TellsPoll}
+use Rattle.ix_manager.specs.inside.Ready.{IsReady, Refuses, not_permitted, full, large, memory, IsOpenUpTo}
+use Rattle.ix_manager.specs.inside.Does.{Does, Refreshes, IsNoted, AddsTold}
 use Rattle.ix_manager.proofs.WatchLists.{found, unwatched, unwatched-told, without_none, map_between, map_both, length-watches}
 use Rattle.ix_manager.proofs.Polling.{polls_refreshed}
 use Rattle.ix_manager.proofs.Refreshing.{tells_of, tells_along}

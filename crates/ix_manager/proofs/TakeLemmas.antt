@@ -11,11 +11,12 @@ use Rattle.ix_manager.specs.Runs.{Ending, going, stopped, ItemStep, Steps, none,
 use Rattle.ix_manager.specs.Wire.{all_replies}
 use Rattle.ix_manager.specs.declared.answering.Taken.{Taken}
 use Rattle.ix_manager.specs.declared.faults.Go.TheVariants.{More, Stopped}
-use Rattle.ix_manager.specs.Managing.{held_at, ending_after}
-use Rattle.ix_manager.specs.Taking.{TakesOne, TakesNone}
-use Rattle.ix_manager.specs.Core.{Core}
-use Rattle.ix_manager.specs.Clean.{IsClean, AreClean}
-use Rattle.ix_manager.specs.Sending.{WireState, SendsAll, AnswersItem, AnswersItems}
+use Rattle.ix_manager.specs.Handled.{held_at}
+use Rattle.ix_manager.specs.inside.EndingAfter.{ending_after}
+use Rattle.ix_manager.specs.inside.TakenItems.{TakesOne, TakesNone}
+use Rattle.ix_manager.specs.inside.Core.{Core}
+use Rattle.ix_manager.specs.inside.Clean.{IsClean, AreClean}
+use Rattle.ix_manager.specs.inside.WireState.{WireState, SendsAll, AnswersItem, AnswersItems}
 use Rattle.ix_manager.proofs.SendSteps.{nothing_sent, sends-append}
 
 -- what is held behind a piece completes nothing by itself

@@ -3,10 +3,12 @@ use Rattle.std.proofs.Common.{◌≡◌, ℕ, Bool, true, false, not, cond, ◌|
 use Rattle.std.specs.List.{AllByRecursion}
 use Rattle.ix_words.specs.Each.{no_item, item}
 use Rattle.ix_values.specs.PlainAction.{PlainAction}
-use Rattle.ix_values.specs.Order.{text_eq, action_eq, text_eq-decides, action_eq-decides}
-use Rattle.ix_watch.specs.Watches.{PlainWatch, is_of, is_watched, AreDistinct, told_again, without}
+use Rattle.ix_values.specs.Order.{text_eq}
+use Rattle.ix_values.specs.inside.ActionOrder.{action_eq}
+use Rattle.ix_values.specs.lemmas.Order.{text_eq-decides, action_eq-decides}
+use Rattle.ix_watch.specs.inside.Watches.{PlainWatch, is_of, is_watched, AreDistinct, told_again, without}
 use Rattle.ix_manager.specs.Machine.{IsOf, IsUnwatched}
-use Rattle.ix_manager.specs.Core.{watch_of}
+use Rattle.ix_manager.specs.inside.Core.{watch_of}
 
 both_true : (a b : Bool) → (a && b) ≡ true → (a ≡ true) × (b ≡ true)
 both_true true b h = (refl, h)

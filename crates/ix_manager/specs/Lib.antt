@@ -1,12 +1,6 @@
 pub mod Machine
 pub mod Runs
 pub mod Wire
-pub mod Managing
-pub mod Core
 pub mod RunLaws
-pub mod Ready
-pub mod Doing
-pub mod Sending
-pub mod Clean
-pub mod Taking
-pub mod Starting
+pub mod Handled
+pub mod inside

@@ -11,7 +11,7 @@ use Rattle.ix_outside.specs.declared.event.EventKind.TheVariants.{Bytes}
 use Rattle.ix_proto.specs.declared.reply.Reply.{Reply}
 use Rattle.ix_manager.specs.Machine.{MachineState}
 use Rattle.ix_manager.specs.Runs.{Ending, going, stopped, Run, text_behind}
-use Rattle.ix_manager.specs.Managing.{ManagerState, held_at, TakesEvent, SendsReplies, Handles, FitsEvent, started}
+use Rattle.ix_manager.specs.Handled.{ManagerState, held_at, TakesEvent, SendsReplies, Handles, FitsEvent, started}
 use Rattle.ix_manager.specs.Wire.{Wire, all_replies, replies_text, run_text}
 
 -- an event with its bytes, as a run has it

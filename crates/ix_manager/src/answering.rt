@@ -3,11 +3,11 @@
 ghost use Rattle.std.specs.Prelude.{◌≡◌, ◌+◌, ◌-◌, ◌^◌, ◌<◌, ◌≤◌, length};
 ghost use Rattle.ix_lines.specs.Items.{line as line_item};
 ghost use Rattle.ix_lines.specs.Feeding.{completes, holds_after};
-ghost use Rattle.ix_lines.specs.Answers.{told_item};
-ghost use Rattle.ix_manager.specs.Managing.{ending_after};
-ghost use Rattle.ix_manager.specs.Clean.{IsClean};
-ghost use Rattle.ix_manager.specs.Sending.{wired, AnswersItem, AnswersFed, AnswersItems, AnswersRequest, IsPlain, request_ending};
-ghost use Rattle.ix_manager.specs.Taking.{TakesItem};
+ghost use Rattle.ix_lines.specs.inside.FeedAnswers.{told_item};
+ghost use Rattle.ix_manager.specs.inside.EndingAfter.{ending_after};
+ghost use Rattle.ix_manager.specs.inside.Clean.{IsClean};
+ghost use Rattle.ix_manager.specs.inside.WireState.{wired, AnswersItem, AnswersFed, AnswersItems, AnswersRequest, IsPlain, request_ending};
+ghost use Rattle.ix_manager.specs.inside.TakenItems.{TakesItem};
 
 use crate::Go;
 use crate::machine::{Answer, Machine};

@@ -1,7 +1,7 @@
 //! Answers that change nothing.
 
 ghost use Rattle.ix_proto.specs.Requests as request;
-ghost use Rattle.ix_manager.specs.Doing.{Does};
+ghost use Rattle.ix_manager.specs.inside.Does.{Does};
 
 use crate::machine::Machine;
 use crate::refusals::{NO_SUCH_ENTRY, refused};

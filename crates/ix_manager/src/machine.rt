@@ -1,11 +1,12 @@
 //! The protocol machine: the engine, the reservation, the watches, the moment and the next ticket.
 
 ghost use Rattle.std.specs.Prelude.{◌≡◌, ◌+◌, ◌-◌, ◌^◌, ◌<◌, ◌≤◌, ℕ, [], length, IfOk, OnOk};
-ghost use Rattle.ix_watch.specs.Watches.{changes_of};
+ghost use Rattle.ix_watch.specs.inside.Watches.{changes_of};
 ghost use Rattle.ix_manager.specs.Machine.{start_of, word_size};
 ghost use Rattle.ix_manager.specs.Runs.{raised};
-ghost use Rattle.ix_manager.specs.Core.{Answers, IsRefreshed, TellsPoll};
-ghost use Rattle.ix_proto.specs.Requests.{PlainRequest, IsRequest, Lends};
+ghost use Rattle.ix_manager.specs.inside.Core.{Answers, IsRefreshed, TellsPoll};
+ghost use Rattle.ix_proto.specs.Requests.{PlainRequest, IsRequest};
+ghost use Rattle.ix_proto.specs.inside.Lends.{Lends};
 
 use crate::reading::{read_action, read_name};
 use ix_engine::{Engine, Next};
@@ -42,8 +43,8 @@ pub struct Machine {
 }
 
 impl Model for Machine {
-    ghost use Rattle.ix_manager.specs.Core.{Core, watch_of};
-    ghost use Rattle.ix_expr.specs.FormCode.{form_code};
+    ghost use Rattle.ix_manager.specs.inside.Core.{Core, watch_of};
+    ghost use Rattle.ix_expr.specs.lemmas.FormCode.{form_code};
     ghost use Rattle.std.specs.Coded.{codes};
     ghost use Rattle.std.specs.Prelude.{map};
 
@@ -64,7 +65,7 @@ impl Model for Machine {
       noted = m.watches;
     } };
 
-    ghost use Rattle.ix_manager.specs.Ready.{IsReady};
+    ghost use Rattle.ix_manager.specs.inside.Ready.{IsReady};
 
     // The action of a reservation is prepared, and its memory is there.
     ghost invariant = { λ m. IsReady m.engine m.slot m.pending };

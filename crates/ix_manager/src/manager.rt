@@ -4,11 +4,12 @@ ghost use Rattle.std.specs.Prelude.{◌≡◌, ◌+◌, ◌-◌, ◌^◌, ◌<�
 ghost use Rattle.ix_outside.specs.Counts.{Rose, OnlySend};
 ghost use Rattle.ix_manager.specs.Machine.{word_size};
 ghost use Rattle.ix_lines.specs.Feeding.{unfinished};
-ghost use Rattle.ix_manager.specs.Managing as spec;
-ghost use Rattle.ix_manager.specs.Sending.{wired};
-ghost use Rattle.ix_manager.specs.Starting.{start_fault_of};
-ghost use Rattle.ix_manager.specs.Taking.{TakesBytes};
-ghost use Rattle.ix_manager.specs.Managing.{Handles, FitsEvent, started, ending_after};
+ghost use Rattle.ix_manager.specs.Handled as spec;
+ghost use Rattle.ix_manager.specs.inside.WireState.{wired};
+ghost use Rattle.ix_manager.specs.inside.StartFaults.{start_fault_of};
+ghost use Rattle.ix_manager.specs.inside.TakenItems.{TakesBytes};
+ghost use Rattle.ix_manager.specs.Handled.{Handles, FitsEvent, started};
+ghost use Rattle.ix_manager.specs.inside.EndingAfter.{ending_after};
 
 use crate::answering::take_piece;
 use crate::machine::Machine;
@@ -34,8 +35,8 @@ pub struct Manager {
 }
 
 impl Model for Manager {
-    ghost use Rattle.ix_manager.specs.Managing.{ManagerState};
-    ghost use Rattle.ix_expr.specs.FormCode.{form_code};
+    ghost use Rattle.ix_manager.specs.Handled.{ManagerState};
+    ghost use Rattle.ix_expr.specs.lemmas.FormCode.{form_code};
     ghost use Rattle.std.specs.Coded.{codes};
 
     ghost Value = { ManagerState };
@@ -51,7 +52,7 @@ impl Model for Manager {
       ended = m.ended;
     } };
 
-    ghost use Rattle.ix_manager.specs.Clean.{AreClean};
+    ghost use Rattle.ix_manager.specs.inside.Clean.{AreClean};
 
     ghost invariant = { λ m. AreClean m.lines.items };
 }

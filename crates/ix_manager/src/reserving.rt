@@ -4,8 +4,8 @@ ghost use Rattle.std.specs.Prelude.{◌≡◌, ◌-◌, ◌^◌, ◌<◌, IfOk, 
 ghost use Rattle.ix_engine.specs.Engine.{IsPermitted};
 ghost use Rattle.ix_lease.specs.Slots.{IsOpenAt};
 ghost use Rattle.ix_proto.specs.Requests as request;
-ghost use Rattle.ix_manager.specs.Ready.{IsPrepared, Refuses, IsOpenUpTo};
-ghost use Rattle.ix_manager.specs.Doing.{Does};
+ghost use Rattle.ix_manager.specs.inside.Ready.{IsPrepared, Refuses, IsOpenUpTo};
+ghost use Rattle.ix_manager.specs.inside.Does.{Does};
 
 use crate::machine::Machine;
 use crate::refusals::{BUSY, EXPIRED, FULL, LARGE, MEMORY, NO_SUCH_TICKET, NOT_PERMITTED, refused};

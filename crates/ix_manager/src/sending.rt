@@ -1,10 +1,10 @@
 //! Sends replies.
 
 ghost use Rattle.std.specs.Prelude.{◌≡◌, ◌≤◌, [], ◌∷◌, length};
-ghost use Rattle.ix_watch.specs.Watches.{changes_of};
-ghost use Rattle.ix_proto.specs.Replies.{CanBeTold};
-ghost use Rattle.ix_manager.specs.Core.{change_replies};
-ghost use Rattle.ix_manager.specs.Sending.{wired, SendsAll, poll_replies};
+ghost use Rattle.ix_watch.specs.inside.Watches.{changes_of};
+ghost use Rattle.ix_proto.specs.inside.ReplyTexts.{CanBeTold};
+ghost use Rattle.ix_manager.specs.inside.Core.{change_replies};
+ghost use Rattle.ix_manager.specs.inside.WireState.{wired, SendsAll, poll_replies};
 
 use crate::machine::Machine;
 use arrayvec::ArrayVec;

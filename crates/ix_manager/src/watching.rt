@@ -2,8 +2,8 @@
 
 ghost use Rattle.std.specs.Prelude.{◌≡◌, OnOk, OnErr, map};
 ghost use Rattle.ix_proto.specs.Requests as request;
-ghost use Rattle.ix_manager.specs.Core.{watch_of};
-ghost use Rattle.ix_manager.specs.Doing.{Does, PollAnswers, IsNoted, WatchAnswers};
+ghost use Rattle.ix_manager.specs.inside.Core.{watch_of};
+ghost use Rattle.ix_manager.specs.inside.Does.{Does, PollAnswers, IsNoted, WatchAnswers};
 ghost use Rattle.ix_manager.specs.Machine.{HasNoWatch};
 
 use crate::machine::{Answer, Machine};

@@ -6,9 +6,9 @@ use Rattle.ix_outside.specs.Contents.{GivenEvent, piece_of}
 use Rattle.ix_outside.specs.Event.{FitsBuffer, KindFits}
 use Rattle.ix_outside.specs.declared.event.EventKind.{EventKind}
 use Rattle.ix_outside.specs.declared.event.EventKind.TheVariants.{Bytes, Closed, End}
-use Rattle.ix_memory.specs.EventsState.{event_of, events_of, IsKept, KindIsKept, AreEventsKept}
-use Rattle.ix_memory.specs.Giving.{front_kind, rest_of, next_event, then_coming}
-use Rattle.ix_memory.specs.Pieces.{rest_piece, next_piece, then_pieces}
+use Rattle.ix_memory.specs.inside.EventsState.{event_of, events_of, IsKept, KindIsKept, AreEventsKept}
+use Rattle.ix_memory.specs.inside.NextEvent.{front_kind, rest_of, next_event, then_coming}
+use Rattle.ix_memory.specs.inside.NextPiece.{rest_piece, next_piece, then_pieces}
 use Rattle.ix_memory.specs.declared.events.Piece.{Piece}
 
 -- a take of a take is the smaller one

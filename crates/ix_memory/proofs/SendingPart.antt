@@ -2,7 +2,7 @@
 use Rattle.std.proofs.Common.{◌≡◌, ℕ, ◌/◌, Bool, true, false, List, [], length, drop, Some, inl, inr, refl, ap}
 use Rattle.std.proofs.lemmas.List.{take-append-drop}
 use Rattle.ix_outside.specs.Contents.{GivenEvent, Sends, SendsPart, with_gone, nothing_told}
-use Rattle.ix_memory.specs.SiteState.{told_contents, half_of}
+use Rattle.ix_memory.specs.inside.SiteState.{told_contents, half_of}
 
 -- the first half was sent
 pub half_is_part : (told : Bool) (given : List GivenEvent) (sends sends' : Sends) (conn : ℕ) (bytes : List ℕ)

@@ -5,8 +5,8 @@ use Rattle.ix_outside.specs.Contents.{GivenEvent, piece_of}
 use Rattle.ix_outside.specs.declared.event.Event.{Event}
 use Rattle.ix_outside.specs.declared.event.EventKind.{EventKind}
 use Rattle.ix_outside.specs.declared.event.EventKind.TheVariants.{Bytes, Closed, End}
-use Rattle.ix_memory.specs.EventsState.{event_of, events_of, IsKept, KindIsKept, AreEventsKept}
-use Rattle.ix_memory.specs.Taking.{StandsBeside, CanCome, CanAllCome, last_moment}
+use Rattle.ix_memory.specs.inside.EventsState.{event_of, events_of, IsKept, KindIsKept, AreEventsKept}
+use Rattle.ix_memory.specs.inside.CanCome.{StandsBeside, CanCome, CanAllCome, last_moment}
 use Rattle.ix_memory.specs.declared.events.Piece.{Piece}
 use Rattle.ix_memory.proofs.GivingNext.{AreEventsKept-more}
 

@@ -1,14 +1,5 @@
 pub mod Calls
-pub mod Files
-pub mod Sink
 pub mod Plan
 pub mod PlanState
-pub mod Spans
-pub mod SentState
-pub mod EventsState
-pub mod Giving
-pub mod Pieces
-pub mod Taking
-pub mod SiteState
-pub mod Room
 pub mod CallRuns
+pub mod inside

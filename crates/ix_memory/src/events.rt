@@ -2,10 +2,10 @@
 ghost use Rattle.std.specs.Prelude.{◌≡◌, ◌≤◌, ◌<◌, ◌+◌, ◌-◌, ◌^◌, ◌++◌, [], ◌∷◌, ℕ, length, take, drop, IfOk, OnOk};
 ghost use Rattle.ix_outside.specs.Contents.{piece_of};
 ghost use Rattle.ix_outside.specs.Event.{FitsBuffer};
-ghost use Rattle.ix_memory.specs.EventsState.{IsKept, AreEventsKept, events_of};
-ghost use Rattle.ix_memory.specs.Giving.{next_event, then_coming};
-ghost use Rattle.ix_memory.specs.Taking.{CanCome, CanAllCome, events_beside, last_moment};
-ghost use Rattle.ix_memory.specs.Pieces.{next_piece, then_pieces};
+ghost use Rattle.ix_memory.specs.inside.EventsState.{IsKept, AreEventsKept, events_of};
+ghost use Rattle.ix_memory.specs.inside.NextEvent.{next_event, then_coming};
+ghost use Rattle.ix_memory.specs.inside.CanCome.{CanCome, CanAllCome, events_beside, last_moment};
+ghost use Rattle.ix_memory.specs.inside.NextPiece.{next_piece, then_pieces};
 
 use crate::room::{copy_text, put};
 use ix_outside::{Event, EventKind};
@@ -31,7 +31,7 @@ pub struct Events {
 
 impl Model for Events {
     ghost use Rattle.std.specs.Prelude.{◌-◌, ◌≤◌, drop, length, vec_capacity, vec_len};
-    ghost use Rattle.ix_memory.specs.EventsState.{EventsState, events_of, AreEventsKept};
+    ghost use Rattle.ix_memory.specs.inside.EventsState.{EventsState, events_of, AreEventsKept};
 
     ghost Value = { EventsState };
 

@@ -4,7 +4,7 @@ ghost use Rattle.ix_outside.specs.Counts.{Rose};
 ghost use Rattle.ix_outside.specs.Files.{HasFile, HasLonger, Lists};
 ghost use Rattle.ix_outside.specs.Held.{free};
 ghost use Rattle.ix_memory.specs.Calls.{next_call, one_more};
-ghost use Rattle.ix_memory.specs.Files.{FailsToLoad, IsAbsent, listing_of};
+ghost use Rattle.ix_memory.specs.inside.FilesState.{FailsToLoad, IsAbsent, listing_of};
 
 use crate::calls::Calls;
 use ix_outside::{Files, LoadFault};
@@ -20,7 +20,7 @@ pub struct MemoryFiles {
 }
 
 impl Model for MemoryFiles {
-    ghost use Rattle.ix_memory.specs.Files.{FilesState, listing_of};
+    ghost use Rattle.ix_memory.specs.inside.FilesState.{FilesState, listing_of};
 
     ghost Value = { FilesState };
 

@@ -1,7 +1,8 @@
 // Which calls of a site fail.
 ghost use Rattle.std.specs.Prelude.{◌≡◌};
 ghost use Rattle.ix_memory.specs.PlanState.{fresh_plan};
-ghost use Rattle.ix_memory.specs.Plan.{fate_of, plan_after, is_spent_by, room_left_behind, TakesRoom, Tells};
+ghost use Rattle.ix_memory.specs.inside.Fate.{fate_of, TakesRoom, Tells};
+ghost use Rattle.ix_memory.specs.Plan.{plan_after, is_spent_by, room_left_behind};
 
 use crate::calls::Calls;
 use std::marker::Model;

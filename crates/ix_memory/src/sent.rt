@@ -1,8 +1,8 @@
 // What a site sent, and the names that it heard.
 ghost use Rattle.std.specs.Prelude.{◌≡◌, ◌≤◌, ◌<◌, ◌+◌, ◌++◌, length, slice_get, vec_len, vec_capacity, IfOk, Some};
 ghost use Rattle.ix_outside.specs.Contents.{with_pair, with_gone};
-ghost use Rattle.ix_memory.specs.SentState.{no_sends, with_heard};
-ghost use Rattle.ix_memory.specs.Spans.{text_at};
+ghost use Rattle.ix_memory.specs.inside.SentState.{no_sends, with_heard};
+ghost use Rattle.ix_memory.specs.inside.Spans.{text_at};
 
 use crate::room::put;
 use std::alloc::{AllocError, Global};
@@ -33,7 +33,7 @@ pub struct Sent {
 
 impl Model for Sent {
     ghost use Rattle.std.specs.Prelude.{◌-◌, min, length, vec_capacity, vec_len};
-    ghost use Rattle.ix_memory.specs.SentState.{SentState, sends_of, AreKept};
+    ghost use Rattle.ix_memory.specs.inside.SentState.{SentState, sends_of, AreKept};
 
     ghost Value = { SentState };
 

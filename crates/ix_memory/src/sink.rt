@@ -5,7 +5,7 @@ ghost use Rattle.ix_outside.specs.Counts.{Rose};
 ghost use Rattle.ix_outside.specs.Held.{free};
 ghost use Rattle.ix_outside.specs.Sink.{AppendsPart};
 ghost use Rattle.ix_memory.specs.Calls.{next_call, one_more};
-ghost use Rattle.ix_memory.specs.Sink.{fails_to_put};
+ghost use Rattle.ix_memory.specs.inside.SinkState.{fails_to_put};
 
 use crate::calls::Calls;
 use ix_outside::{Failed, Sink};
@@ -23,7 +23,7 @@ pub struct MemorySink {
 
 impl Model for MemorySink {
     ghost use Rattle.std.specs.Prelude.{◌≤◌, vec_capacity, vec_len};
-    ghost use Rattle.ix_memory.specs.Sink.{SinkState};
+    ghost use Rattle.ix_memory.specs.inside.SinkState.{SinkState};
 
     ghost Value = { SinkState };
 

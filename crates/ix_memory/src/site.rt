@@ -4,11 +4,11 @@ ghost use Rattle.ix_outside.specs.Contents.{piece_of, with_pair, Listens, Gives,
 ghost use Rattle.ix_outside.specs.Counts.{Rose, OnlyDisk, OnlyWire, OnlySend};
 ghost use Rattle.ix_outside.specs.Event.{FitsBuffer};
 ghost use Rattle.ix_outside.specs.Held.{free};
-ghost use Rattle.ix_memory.specs.Giving.{next_event, then_coming};
+ghost use Rattle.ix_memory.specs.inside.NextEvent.{next_event, then_coming};
 ghost use Rattle.ix_memory.specs.Plan.{fails_at, is_full};
-ghost use Rattle.ix_memory.specs.SentState.{with_heard};
-ghost use Rattle.ix_memory.specs.SiteState.{fresh_site, contents_of, called, wire_failed, disk_failed, send_failed, half_sent, half_written, written};
-ghost use Rattle.ix_memory.specs.Taking.{CanAllCome, events_beside};
+ghost use Rattle.ix_memory.specs.inside.SentState.{with_heard};
+ghost use Rattle.ix_memory.specs.inside.SiteState.{fresh_site, contents_of, called, wire_failed, disk_failed, send_failed, half_sent, half_written, written};
+ghost use Rattle.ix_memory.specs.inside.CanCome.{CanAllCome, events_beside};
 
 use crate::events::Events;
 use crate::image;
@@ -43,9 +43,9 @@ pub struct MemorySite {
 
 impl Model for MemorySite {
     ghost use Rattle.std.specs.Prelude.{◌-◌, vec_capacity, vec_len};
-    ghost use Rattle.ix_memory.specs.Plan.{room_of};
-    ghost use Rattle.ix_memory.specs.Room.{HasRoom};
-    ghost use Rattle.ix_memory.specs.SiteState.{SiteState};
+    ghost use Rattle.ix_memory.specs.inside.Fate.{room_of};
+    ghost use Rattle.ix_memory.specs.inside.Room.{HasRoom};
+    ghost use Rattle.ix_memory.specs.inside.SiteState.{SiteState};
 
     ghost Value = { SiteState };
 

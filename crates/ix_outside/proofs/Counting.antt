@@ -1,6 +1,7 @@
 -- How counts go on from one call to the next.
 use Rattle.std.proofs.Common.{ℕ, ◌≤◌, arith}
-use Rattle.ix_outside.specs.Counts.{Rose, Counts, NoFewer, OnlyDisk, OnlyWire, OnlySend}
+use Rattle.ix_outside.specs.Counts.{Rose, Counts, OnlyDisk, OnlyWire, OnlySend}
+use Rattle.ix_outside.specs.inside.NoFewer.{NoFewer}
 
 -- what rose before has risen by now
 pub Rose-later : (before then now : ℕ) → Rose before then → then ≤ now → Rose before now

@@ -11,12 +11,6 @@ pub record Counts : Type 0 where
   pub wire : ℕ
   pub send : ℕ
 
--- no count fell
-pub record NoFewer (before now : Counts) : Type 0 where
-  pub disk : before.disk ≤ now.disk
-  pub wire : before.wire ≤ now.wire
-  pub send : before.send ≤ now.send
-
 -- the disk's count didn't fall, and the others stayed
 pub record OnlyDisk (before now : Counts) : Type 0 where
   pub disk : before.disk ≤ now.disk

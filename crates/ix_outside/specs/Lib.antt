@@ -4,3 +4,4 @@ pub mod Event
 pub mod Files
 pub mod Held
 pub mod Sink
+pub mod inside

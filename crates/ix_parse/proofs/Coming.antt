@@ -6,8 +6,8 @@ use Rattle.ix_parse.specs.declared.signs.WordClass.{WordClass}
 use Rattle.ix_parse.specs.declared.signs.WordClass.TheVariants.{Quantifies, Withheld, Names, Other}
 use Rattle.ix_parse.specs.Symbols.{Symbol, word, param, opening, closing, comma, before, between, class_of, level, Meaning, joined, named, argument_of}
 use Rattle.ix_parse.specs.Grammar.{Stands}
-use Rattle.ix_parse.specs.Machine.{Entry, group, sign, binder, left, Config, Held, held, closed, reduced, left_group, step_operand, step_word, step_wanted, step_name, step_argument, step_quantifier, with_argument, step, groups}
-use Rattle.ix_parse.specs.Judging.{begins_operand, may_begin, may_follow, may_follow_name, may_follow_argument, is_argument, is_param, may_come}
+use Rattle.ix_parse.specs.inside.StackMachine.{Entry, group, sign, binder, left, Config, Held, held, closed, reduced, left_group, step_operand, step_word, step_wanted, step_name, step_argument, step_quantifier, with_argument, step, groups}
+use Rattle.ix_parse.specs.inside.Judged.{begins_operand, may_begin, may_follow, may_follow_name, may_follow_argument, is_argument, is_param, may_come}
 use Rattle.ix_parse.proofs.Runs.{hole, level-some}
 use Rattle.ix_parse.proofs.Holding.{Holds, hole-low, Reads, Ended, Ended-closed, Reads-reduced}
 

@@ -7,7 +7,7 @@ use Rattle.ix_parse.specs.declared.TextFault.{TextFault}
 use Rattle.ix_parse.specs.declared.TextFault.TheVariants.{Bad, Memory}
 use Rattle.ix_parse.specs.Symbols.{Meaning}
 use Rattle.ix_parse.specs.Faults.{HasMeaning, StandsFor, IsFirstFault}
-use Rattle.ix_parse.specs.Outcomes.{IsFaultOf, HasPlaces, IsWellFormedOr}
+use Rattle.ix_parse.specs.inside.Outcomes.{IsFaultOf, HasPlaces, IsWellFormedOr}
 use Rattle.ix_parse.proofs.Places.{Stands-places}
 
 pub HasMeaning-places : (text : List ℕ) (x : Meaning) → HasMeaning text x → HasPlaces x

@@ -4,7 +4,7 @@ use Rattle.std.proofs.str.Laws.{order}
 use Rattle.ix_parse.specs.declared.faults.Fault.{Fault}
 use Rattle.ix_parse.specs.declared.faults.Fault.TheVariants as faults
 use Rattle.ix_parse.specs.Faults.{order_of}
-use Rattle.ix_parse.specs.Judging.{first_met}
+use Rattle.ix_parse.specs.inside.Judged.{first_met}
 use Rattle.ix_parse.proofs.Steps.{some_is}
 
 -- the fault with an order

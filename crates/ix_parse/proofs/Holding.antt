@@ -7,7 +7,7 @@ use Rattle.ix_parse.specs.declared.signs.Quantifier.{Quantifier}
 use Rattle.ix_parse.specs.declared.signs.WordClass.TheVariants.{Quantifies, Names}
 use Rattle.ix_parse.specs.Symbols.{Symbol, word, param, opening, closing, comma, before, between, class_of, level, Meaning, joined, prefixed, quantified, argument_of}
 use Rattle.ix_parse.specs.Grammar.{Arguments, Stands, Cut, CanGoOn}
-use Rattle.ix_parse.specs.Machine.{Entry, group, sign, binder, left, wanted, name_read, argument_wanted, argument_read, quantifier_read, operand_read, Config, Held, held, config, closed, reduced, with_operand, left_group, with_left, step_operand, levels}
+use Rattle.ix_parse.specs.inside.StackMachine.{Entry, group, sign, binder, left, wanted, name_read, argument_wanted, argument_read, quantifier_read, operand_read, Config, Held, held, config, closed, reduced, with_operand, left_group, with_left, step_operand, levels}
 use Rattle.ix_parse.proofs.Runs.{hole, level-low, level-some}
 use Rattle.ix_parse.proofs.Cuts.{Stands-loosen, Cut-loosen, Cut-then, fill}
 

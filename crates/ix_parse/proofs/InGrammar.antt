@@ -9,7 +9,7 @@ use Rattle.ix_parse.specs.declared.signs.WordClass.TheVariants.{Quantifies, With
 use Rattle.ix_parse.specs.Symbols.{Symbol, word, param, opening, closing, comma, before, between, symbol_of, class_of, Meaning}
 use Rattle.ix_parse.specs.Grammar.{Stands, Wanted, AfterArgument}
 use Rattle.ix_parse.specs.Faults.{ParamNext, BeginsNoOperand, OpensLevel, IsNode, Nodes, IsLong, Met, symbols_of, HasMeaning}
-use Rattle.ix_parse.specs.Machine.{Entry, Config, config, wanted, quantifier_read, argument_read, argument_wanted, step_word, run, start, whole}
+use Rattle.ix_parse.specs.inside.StackMachine.{Entry, Config, config, wanted, quantifier_read, argument_read, argument_wanted, step_word, run, start, whole}
 use Rattle.ix_parse.proofs.Runs.{run-append, run-none, run-wanted, run-after_argument, run-stands, whole-stands}
 use Rattle.ix_parse.proofs.Steps.{some_is}
 

@@ -11,8 +11,8 @@ use Rattle.ix_parse.specs.declared.signs.WordClass.TheVariants.{Quantifies, With
 use Rattle.ix_parse.specs.Symbols.{Symbol, word, param, opening, closing, comma, before, between, symbol_of, class_of}
 use Rattle.ix_parse.specs.Grammar.{CanGoOn, Wanted, AfterArgument}
 use Rattle.ix_parse.specs.Faults.{ParamNext, BeginsNoOperand, OpensLevel, IsNode, Nodes, IsLong, Met}
-use Rattle.ix_parse.specs.Machine.{Mode, Config, config, step, step_some, run, start, levels}
-use Rattle.ix_parse.specs.Judging.{is_wanted, begins_nothing, is_reserved_word, is_comma, has_four, may_come, is_long, is_quantifier, opens_level, is_node, meets, is_param, param_next}
+use Rattle.ix_parse.specs.inside.StackMachine.{Mode, Config, config, step, step_some, run, start, levels}
+use Rattle.ix_parse.specs.inside.Judged.{is_wanted, begins_nothing, is_reserved_word, is_comma, has_four, may_come, is_long, is_quantifier, opens_level, is_node, meets, is_param, param_next}
 use Rattle.ix_parse.proofs.Runs.{run-append, run-wanted, run-after_argument, run-can}
 use Rattle.ix_parse.proofs.Holding.{Reads, Holds-cut}
 use Rattle.ix_parse.proofs.Steps.{Reads-step, Reads-start, Reads-can, some_is}

@@ -6,7 +6,7 @@ use Rattle.ix_parse.specs.declared.signs.WordClass.{WordClass}
 use Rattle.ix_parse.specs.Symbols.{Symbol, word, param, opening, closing, comma, before, between, level, Meaning, argument_of}
 use Rattle.ix_parse.specs.Grammar.{Arguments, Stands}
 use Rattle.ix_parse.specs.Faults.{IsNode, Nodes}
-use Rattle.ix_parse.specs.Machine.{Entry, group, sign, binder, left, Config, config, wanted, argument_wanted, step_some, step_word, with_argument, run, start, levels}
+use Rattle.ix_parse.specs.inside.StackMachine.{Entry, group, sign, binder, left, Config, config, wanted, argument_wanted, step_some, step_word, with_argument, run, start, levels}
 use Rattle.ix_parse.proofs.Runs.{hole, level-low, run-append, run-left, run-stands, some_arguments}
 use Rattle.ix_parse.proofs.Meeting.{wanted-when, wanted-is}
 

@@ -10,7 +10,7 @@ use Rattle.ix_parse.specs.declared.signs.Quantifier.{Quantifier}
 use Rattle.ix_parse.specs.declared.signs.Quantifier.TheVariants as quantifiers
 use Rattle.ix_parse.specs.Symbols.{Symbol, Meaning, joined_form, prefixed_form, quantified_form}
 use Rattle.ix_parse.specs.Grammar.{Stands}
-use Rattle.ix_parse.specs.Outcomes.{HasPlaces}
+use Rattle.ix_parse.specs.inside.Outcomes.{HasPlaces}
 
 joined-count : (o : Operator) (d : ℕ) (around : List Binder) (x y : Form) → length (nodes_below d around (joined_form o x y)) ≡ suc (length (nodes_below (suc d) around x) + length (nodes_below (suc d) around y))
 joined-count operators.Or d around x y = ap suc (length-append (nodes_below (suc d) around x) (nodes_below (suc d) around y))

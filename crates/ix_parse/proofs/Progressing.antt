@@ -9,9 +9,9 @@ use Rattle.ix_parse.specs.declared.faults.Fault.TheVariants as faults
 use Rattle.ix_parse.specs.Symbols.{Symbol, symbol_of, Meaning}
 use Rattle.ix_parse.specs.Grammar.{Stands}
 use Rattle.ix_parse.specs.Faults.{order_of, code_of, IsNode, Nodes, Met, NothingMet, symbols_of, IsFirstSyntaxFault, HasMeaning}
-use Rattle.ix_parse.specs.Machine.{Config, step, step_some, run, start, whole}
-use Rattle.ix_parse.specs.Judging.{is_wanted, may_come, is_node, meets, judged, param_next}
-use Rattle.ix_parse.specs.Reading.{Progress, nodes_after}
+use Rattle.ix_parse.specs.inside.StackMachine.{Config, step, step_some, run, start, whole}
+use Rattle.ix_parse.specs.inside.Judged.{is_wanted, may_come, is_node, meets, judged, param_next}
+use Rattle.ix_parse.specs.inside.Progress.{Progress, nodes_after}
 use Rattle.ix_parse.proofs.Runs.{run-append, whole-stands}
 use Rattle.ix_parse.proofs.Steps.{Reads-start, Reads-whole}
 use Rattle.ix_parse.proofs.Coming.{may_come-step}

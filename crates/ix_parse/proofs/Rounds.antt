@@ -6,7 +6,7 @@ use Rattle.ix_lex.specs.declared.Token.{Token}
 use Rattle.ix_lex.specs.declared.LexFault.{LexFault}
 use Rattle.ix_lex.specs.declared.Tokens.{Tokens}
 use Rattle.ix_lex.specs.Lexing.{PlainToken, Piece, token, bad_byte, Pieces}
-use Rattle.ix_lex.specs.Items.{plain_token, piece_of, pieces_left, pieces_of}
+use Rattle.ix_lex.specs.inside.Items.{plain_token, piece_of, pieces_left, pieces_of}
 use Rattle.ix_lex.proofs.PiecesExist.{Pieces-pieces_of, Pieces-are}
 use Rattle.ix_parse.specs.declared.faults.Fault.{Fault}
 use Rattle.ix_parse.specs.declared.faults.Fault.TheVariants as faults
@@ -15,12 +15,12 @@ use Rattle.ix_parse.specs.declared.TextFault.{TextFault}
 use Rattle.ix_parse.specs.declared.TextFault.TheVariants.{Bad, Memory}
 use Rattle.ix_parse.specs.Symbols.{Symbol, symbol_of}
 use Rattle.ix_parse.specs.Faults.{code_of, symbols_of, IsFirstFault}
-use Rattle.ix_parse.specs.Machine.{Config, step, start, whole}
-use Rattle.ix_parse.specs.Judging.{judged, meets, param_next}
-use Rattle.ix_parse.specs.Reading.{Progress, nodes_after}
-use Rattle.ix_parse.specs.Operands.{meaning_of}
-use Rattle.ix_parse.specs.Configs.{IsSound, IsReadable}
-use Rattle.ix_parse.specs.Outcomes.{is_param_piece, pending, IsTaken, IsFaultOf, IsMeaning, IsEnded}
+use Rattle.ix_parse.specs.inside.StackMachine.{Config, step, start, whole}
+use Rattle.ix_parse.specs.inside.Judged.{judged, meets, param_next}
+use Rattle.ix_parse.specs.inside.Progress.{Progress, nodes_after}
+use Rattle.ix_parse.specs.inside.Operands.{meaning_of}
+use Rattle.ix_parse.specs.inside.Configs.{IsSound, IsReadable}
+use Rattle.ix_parse.specs.inside.Outcomes.{is_param_piece, pending, IsTaken, IsFaultOf, IsMeaning, IsEnded}
 use Rattle.ix_parse.proofs.Holding.{Reads}
 use Rattle.ix_parse.proofs.Steps.{Reads-start}
 use Rattle.ix_parse.proofs.FirstFaults.{first_met-none}

@@ -7,7 +7,7 @@ use Rattle.ix_parse.specs.declared.signs.Operator.TheVariants as operators
 use Rattle.ix_parse.specs.declared.signs.WordClass.{WordClass}
 use Rattle.ix_parse.specs.Symbols.{Symbol, word, param, opening, closing, comma, between, level, Meaning, joined, quantified, named}
 use Rattle.ix_parse.specs.Grammar.{Arguments, Stands, Cut, CanGoOn, Wanted, AfterArgument}
-use Rattle.ix_parse.specs.Machine.{Entry, group, sign, binder, left, Mode, wanted, name_read, argument_wanted, argument_read, quantifier_read, operand_read, Config, Held, held, config, closed, reduced, with_operand, left_group, with_left, step_operand, step_word, with_argument, step_by, step, settled_by, settled, alone, joined_all, whole, start, step_some, run, levels}
+use Rattle.ix_parse.specs.inside.StackMachine.{Entry, group, sign, binder, left, Mode, wanted, name_read, argument_wanted, argument_read, quantifier_read, operand_read, Config, Held, held, config, closed, reduced, with_operand, left_group, with_left, step_operand, step_word, with_argument, step_by, step, settled_by, settled, alone, joined_all, whole, start, step_some, run, levels}
 
 -- a run over an appended list is a run over its parts
 pub run-append : (c : Option Config) (ts us : List Symbol) → run c (ts ++ us) ≡ run (run c ts) us

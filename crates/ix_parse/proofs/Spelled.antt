@@ -7,8 +7,8 @@ use Rattle.ix_lex.specs.declared.TokenKind.TheVariants as kinds
 use Rattle.ix_lex.specs.WordBytes.{is_word_byte, sign_of}
 use Rattle.ix_lex.specs.Lexing.{PlainToken, Piece, token, bad_byte, BeginsWith, Pieces}
 use Rattle.ix_parse.specs.Symbols.{Symbol, word, param, opening, closing, comma, before, between, symbol_by, symbol_of}
-use Rattle.ix_parse.specs.Configs.{IsReadable}
-use Rattle.ix_parse.specs.Judging.{is_long}
+use Rattle.ix_parse.specs.inside.Configs.{IsReadable}
+use Rattle.ix_parse.specs.inside.Judged.{is_long}
 
 -- a word has word bytes, and a parameter's name begins with a letter
 abbrev pub IsSpelled : Symbol → Type 0

@@ -6,11 +6,11 @@ use Rattle.ix_parse.specs.declared.stack.Entry.{Entry}
 use Rattle.ix_parse.specs.declared.stack.Entry.TheVariants as entries
 use Rattle.ix_parse.specs.declared.stack.Taking.TheVariants.{Sign, Binder}
 use Rattle.ix_parse.specs.Symbols.{Meaning, level, joined}
-use Rattle.ix_parse.specs.Operands.{meaning_of}
-use Rattle.ix_parse.specs.Machine as machine
-use Rattle.ix_parse.specs.Machine.{group, sign, binder, left, closed, reduced, held, left_group, alone, levels, groups}
+use Rattle.ix_parse.specs.inside.Operands.{meaning_of}
+use Rattle.ix_parse.specs.inside.StackMachine as machine
+use Rattle.ix_parse.specs.inside.StackMachine.{group, sign, binder, left, closed, reduced, held, left_group, alone, levels, groups}
 use Rattle.std.specs.Prelude.{is_some}
-use Rattle.ix_parse.specs.Stack.{taking_of, is_counted, entry_of, stack_onto, stack_of, is_prefix_inmost, is_left_inmost}
+use Rattle.ix_parse.specs.inside.Stack.{taking_of, is_counted, entry_of, stack_onto, stack_of, is_prefix_inmost, is_left_inmost}
 
 -- the last entry is the inmost
 pub stack_of-push : (s : List machine.Entry) (es : List Entry) (e : Entry) → stack_onto s (es ++ e ∷ []) ≡ entry_of e ∷ stack_onto s es

@@ -8,7 +8,7 @@ use Rattle.ix_parse.specs.declared.signs.WordClass.{WordClass}
 use Rattle.ix_parse.specs.declared.signs.WordClass.TheVariants.{Quantifies, Withheld, Names, Other}
 use Rattle.ix_parse.specs.Symbols.{Symbol, word, param, opening, closing, comma, before, between, class_of, Meaning, named, argument_of}
 use Rattle.ix_parse.specs.Grammar.{Arguments, Stands, CanGoOn}
-use Rattle.ix_parse.specs.Machine.{Entry, group, sign, binder, argument_wanted, Config, Held, held, config, closed, reduced, step_operand, step_word, step_wanted, step_name, step_argument, step_quantifier, with_argument, step, alone, joined_all, whole, start, run}
+use Rattle.ix_parse.specs.inside.StackMachine.{Entry, group, sign, binder, argument_wanted, Config, Held, held, config, closed, reduced, step_operand, step_word, step_wanted, step_name, step_argument, step_quantifier, with_argument, step, alone, joined_all, whole, start, run}
 use Rattle.ix_parse.proofs.Runs.{run-none}
 use Rattle.ix_parse.proofs.Cuts.{CanGoOn-front}
 use Rattle.ix_parse.proofs.Holding.{Holds, hole-low, Holds-fill, Listed, Listed-argument, Arguments-comma, Reads, Ended, Ended-closed, Reads-closed, ReadTo, Reads-reduced, Reads-operand}

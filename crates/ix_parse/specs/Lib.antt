@@ -1,12 +1,5 @@
 pub mod Symbols
 pub mod Grammar
 pub mod Faults
-pub mod Machine
-pub mod Judging
-pub mod Reading
-pub mod Operands
-pub mod Views
-pub mod Stack
-pub mod Configs
-pub mod Outcomes
 pub mod Canonical
+pub mod inside

@@ -4,8 +4,8 @@
 ghost use Rattle.std.specs.Prelude.{◌≡◌, IfOk, IfErr};
 ghost use Rattle.ix_parse.specs.Canonical.{CanonicalTextReadsBack};
 ghost use Rattle.ix_parse.specs.Faults as spec;
-ghost use Rattle.ix_parse.specs.Outcomes.{IsFaultOf, HasPlaces, IsWellFormedOr};
-ghost use Rattle.ix_parse.specs.Operands.{meaning_of};
+ghost use Rattle.ix_parse.specs.inside.Outcomes.{IsFaultOf, HasPlaces, IsWellFormedOr};
+ghost use Rattle.ix_parse.specs.inside.Operands.{meaning_of};
 
 mod faults;
 mod operand;

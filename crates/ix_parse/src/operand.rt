@@ -17,7 +17,7 @@ pub struct Operand {
 
 impl Operand {
     ghost use Rattle.ix_parse.specs.declared.signs.WordClass.TheVariants.{Names};
-    ghost use Rattle.ix_parse.specs.Operands.{meaning_of};
+    ghost use Rattle.ix_parse.specs.inside.Operands.{meaning_of};
 
     /// An atom.
     pub fn atom(alloc: Global, at: usize, name: Name, args: &[Arg]) -> Result<Operand, AllocError>

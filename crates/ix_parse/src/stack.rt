@@ -2,9 +2,9 @@
 
 ghost use Rattle.std.specs.Prelude.{◌≡◌, ◌≤◌, List, ◌++◌, ◌∷◌, [], false, IfOk, MatchOption, count_by, length, ◌-◌, slice_get};
 ghost use Rattle.ix_parse.specs.Symbols as spec;
-ghost use Rattle.ix_parse.specs.Machine as machine;
-ghost use Rattle.ix_parse.specs.Stack.{stack_of, is_prefix_inmost, is_left_inmost, entry_of, is_counted};
-ghost use Rattle.ix_parse.specs.Operands.{meaning_of};
+ghost use Rattle.ix_parse.specs.inside.StackMachine as machine;
+ghost use Rattle.ix_parse.specs.inside.Stack.{stack_of, is_prefix_inmost, is_left_inmost, entry_of, is_counted};
+ghost use Rattle.ix_parse.specs.inside.Operands.{meaning_of};
 
 use crate::operand::Operand;
 use crate::signs::{Operator, Prefix, Quantifier};

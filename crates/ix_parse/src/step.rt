@@ -3,12 +3,12 @@
 ghost use Rattle.std.specs.Prelude.{◌≡◌, ℕ, ◌≤◌, true, [], length, List, Some, IfOk, IsSome, option_map};
 ghost use Rattle.ix_values.specs.Texts.{IsValue};
 ghost use Rattle.ix_parse.specs.Symbols as spec;
-ghost use Rattle.ix_parse.specs.Machine as machine;
-ghost use Rattle.ix_parse.specs.Judging as judging;
-ghost use Rattle.ix_parse.specs.Operands.{meaning_of};
-ghost use Rattle.ix_parse.specs.Stack.{stack_of};
-ghost use Rattle.ix_parse.specs.Views.{symbol_at};
-ghost use Rattle.ix_parse.specs.Configs.{config_of, mode_of, IsSound, IsReadable};
+ghost use Rattle.ix_parse.specs.inside.StackMachine as machine;
+ghost use Rattle.ix_parse.specs.inside.Judged as judging;
+ghost use Rattle.ix_parse.specs.inside.Operands.{meaning_of};
+ghost use Rattle.ix_parse.specs.inside.Stack.{stack_of};
+ghost use Rattle.ix_parse.specs.inside.Views.{symbol_at};
+ghost use Rattle.ix_parse.specs.inside.Configs.{config_of, mode_of, IsSound, IsReadable};
 ghost use Rattle.ix_parse.specs.declared.signs.WordClass.TheVariants.{Names};
 
 use crate::operand::Operand;

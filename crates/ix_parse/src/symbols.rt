@@ -17,9 +17,9 @@ pub enum Sign<'a> {
     Between(Operator),
 }
 
-ghost use Rattle.ix_lex.specs.Items.{plain_token};
+ghost use Rattle.ix_lex.specs.inside.Items.{plain_token};
 ghost use Rattle.ix_parse.specs.Symbols.{symbol_of};
-ghost use Rattle.ix_parse.specs.Views.{symbol_at};
+ghost use Rattle.ix_parse.specs.inside.Views.{symbol_at};
 
 /// What the token is.
 pub fn sign_of<'a>(token: &Token<'a>) -> Sign<'a>

@@ -1,13 +1,13 @@
 //! The reader's loop over the tokens of a text.
 
 ghost use Rattle.std.specs.Prelude.{◌≡◌, ℕ, ◌≤◌, length, IsSome, MatchResult, None, Some, ◌+◌, if◌then◌else◌};
-ghost use Rattle.ix_lex.specs.Items.{plain_token};
+ghost use Rattle.ix_lex.specs.inside.Items.{plain_token};
 ghost use Rattle.ix_parse.specs.Symbols.{symbol_of};
-ghost use Rattle.ix_parse.specs.Machine as machine;
-ghost use Rattle.ix_parse.specs.Judging as judging;
-ghost use Rattle.ix_parse.specs.Operands.{meaning_of};
-ghost use Rattle.ix_parse.specs.Configs.{config_of, mode_of, IsSound, IsReadable};
-ghost use Rattle.ix_parse.specs.Outcomes.{IsTaken, IsMeaning, IsEnded, is_param_piece};
+ghost use Rattle.ix_parse.specs.inside.StackMachine as machine;
+ghost use Rattle.ix_parse.specs.inside.Judged as judging;
+ghost use Rattle.ix_parse.specs.inside.Operands.{meaning_of};
+ghost use Rattle.ix_parse.specs.inside.Configs.{config_of, mode_of, IsSound, IsReadable};
+ghost use Rattle.ix_parse.specs.inside.Outcomes.{IsTaken, IsMeaning, IsEnded, is_param_piece};
 
 use crate::faults::Fault;
 use crate::operand::Operand;

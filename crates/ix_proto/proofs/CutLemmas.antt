@@ -6,10 +6,11 @@ use Rattle.std.proofs.lemmas.Bool.Decides.{nat_tests}
 use Rattle.std.proofs.lemmas.Fmt.{decimal_injective, decimal_by_steps}
 use Rattle.std.proofs.lemmas.Grind.{common_steps}
 use Rattle.std.proofs.lemmas.List.Folds.{list_any-append}
-use Rattle.ix_values.specs.Order.{text_eq, text_eq-decides}
+use Rattle.ix_values.specs.Order.{text_eq}
+use Rattle.ix_values.specs.lemmas.Order.{text_eq-decides}
 use Rattle.ix_proto.proofs.WordLemmas.{is_space}
-use Rattle.ix_proto.specs.ReplyParts.{IsNumberAnd}
-use Rattle.ix_proto.specs.Words.{behind_word, HasNoSpace}
+use Rattle.ix_proto.specs.inside.ReplyParts.{IsNumberAnd}
+use Rattle.ix_proto.specs.inside.WordsBehind.{behind_word, HasNoSpace}
 
 or_false : (p q : Bool) → (p || q) ≡ false → (p ≡ false) × (q ≡ false)
 or_false true q e = cc

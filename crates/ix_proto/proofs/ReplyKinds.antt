@@ -1,7 +1,7 @@
 -- Which replies begin with a word.
 use Rattle.std.proofs.Common.{◌≡◌, ℕ, Bool, subst}
 use Rattle.ix_values.specs.PlainAction.{PlainAction}
-use Rattle.ix_proto.specs.ReplyParts.{kind_of}
+use Rattle.ix_proto.specs.inside.ReplyParts.{kind_of}
 use Rattle.ix_proto.specs.declared.reply.Reply.{Reply}
 use Rattle.ix_proto.specs.declared.reply.Reply.TheVariants.{Granted, Confirmed, Cancelled, May, Watching, Dropped, Changes, Change, Status, Entry, Stopping, Refused}
 use Rattle.ix_proto.specs.declared.reply_read.Kind.TheVariants as kind

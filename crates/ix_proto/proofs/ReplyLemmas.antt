@@ -4,9 +4,10 @@ use Rattle.std.specs.Fmt.{decimal}
 use Rattle.std.proofs.lemmas.Fmt.{decimal_injective}
 use Rattle.ix_values.specs.Faults.{IsActionText}
 use Rattle.ix_values.specs.PlainAction.{text_of}
-use Rattle.ix_proto.specs.Words.{behind_word, HasNoSpace}
-use Rattle.ix_proto.specs.Replies.{IsReply, IsReplyText, reply_text, complete_or_partial, with_number, has_number, refusal_text}
-use Rattle.ix_proto.specs.ReplyParts.{kind_word, kind_of, behind, nodes_text, StandsBehind, IsNumberAnd, IsRefusalBehind}
+use Rattle.ix_proto.specs.inside.WordsBehind.{behind_word, HasNoSpace}
+use Rattle.ix_proto.specs.Replies.{IsReply, reply_text, complete_or_partial, with_number, has_number, refusal_text}
+use Rattle.ix_proto.specs.inside.ReplyTexts.{IsReplyText}
+use Rattle.ix_proto.specs.inside.ReplyParts.{kind_word, kind_of, behind, nodes_text, StandsBehind, IsNumberAnd, IsRefusalBehind}
 use Rattle.ix_proto.proofs.CutLemmas.{cut_same, number_same, some_same}
 use Rattle.ix_proto.proofs.ReplyKinds.{only_changes, only_refused, only_status, only_entry}
 use Rattle.ix_proto.specs.declared.reply.Reply.{Reply}

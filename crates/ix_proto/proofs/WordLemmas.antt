@@ -8,7 +8,8 @@ use Rattle.std.proofs.lemmas.List.Elements.{All-from_get_or}
 use Rattle.std.proofs.lemmas.List.Quantifiers.{position-Some}
 use Rattle.std.proofs.lemmas.Grind.{common_steps}
 use Rattle.std.proofs.lemmas.Bool.Decides.{nat_tests}
-use Rattle.ix_proto.specs.Words.{words_of, HasNoSpace}
+use Rattle.ix_proto.specs.Words.{words_of}
+use Rattle.ix_proto.specs.inside.WordsBehind.{HasNoSpace}
 
 -- whether a byte is a space
 abbrev pub is_space : ℕ → Bool

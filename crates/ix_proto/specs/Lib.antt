@@ -3,5 +3,5 @@ pub mod Numbers
 pub mod Requests
 pub mod RequestFaults
 pub mod Replies
-pub mod ReplyParts
 pub mod RequestLaws
+pub mod inside

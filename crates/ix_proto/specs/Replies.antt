@@ -67,11 +67,6 @@ pub record IsRefusal (code number : ℕ) : Type 0 where
   pub listed : IsSome (refusal_text code)
   pub zero_else : has_number code ≡ false → number ≡ 0
 
--- the refusal, where the reply is one, can be told
-abbrev pub CanBeTold : Reply → Type 0
-CanBeTold (Refused code number) = IsRefusal code number
-CanBeTold _ = Unit {0}
-
 -- the numbers are at most 18446744073709551615, or 4294967295 for the count of changes, the actions are some, and a
 -- refusal can be told
 abbrev pub IsReply : Reply → Type 0
@@ -87,12 +82,6 @@ IsReply (Status complete count nodes) = (count < 2 ^ 64) × (nodes < 2 ^ 64)
 IsReply (Entry place action) = (place < 2 ^ 64) × IsAction action
 IsReply Stopping = Unit {0}
 IsReply (Refused code number) = (code < 2 ^ 8) × (number < 2 ^ 64) × IsRefusal code number
-
--- the text is some reply's
-pub record IsReplyText (text : List ℕ) : Type 0 where
-  pub reply : Reply
-  pub valid : IsReply reply
-  pub same : reply_text reply ≡ text
 
 -- two replies with one text are the same reply
 abbrev pub TextsTellRepliesApart : Type 0

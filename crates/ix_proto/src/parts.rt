@@ -7,7 +7,7 @@ ghost use Rattle.ix_values.specs.Texts.{IsName};
 ghost use Rattle.ix_proto.specs.Numbers.{IsNumber};
 ghost use Rattle.ix_proto.specs.Requests.{IsLease};
 ghost use Rattle.ix_proto.specs.RequestFaults.{an_action, a_name, a_number, a_lease, IsPartFault};
-ghost use Rattle.ix_proto.specs.Words.{words_behind};
+ghost use Rattle.ix_proto.specs.inside.WordsBehind.{words_behind};
 
 use crate::number::read_number;
 use crate::request_fault::RequestFault;

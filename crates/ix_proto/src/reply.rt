@@ -7,6 +7,7 @@ ghost use Rattle.arrayvec.specs.ArrayVec.{array_vec_len};
 ghost use Rattle.ix_values.specs.PlainAction.{text_of};
 ghost use Rattle.ix_values.specs.Texts.{IsAction};
 ghost use Rattle.ix_proto.specs.Replies as spec;
+ghost use Rattle.ix_proto.specs.inside.ReplyTexts.{CanBeTold};
 
 use arrayvec::ArrayVec;
 use itoa::Buffer;
@@ -53,7 +54,7 @@ impl Reply {
     /// refusal is one of the table, and its number is 0 where the code is neither 20 nor 22. Takes no memory.
     pub fn write(&self, out: &mut ArrayVec<u8, 256>)
         requires empty { out.old.items ≡ [] }
-        requires told { spec.CanBeTold self.now }
+        requires told { CanBeTold self.now }
         ensures text { out.new.items ≡ spec.reply_text self.now ++ 10 ∷ [] }
         ensures short { array_vec_len out.new ≤ 256 }
         ensures valid { spec.IsReply self.now }
@@ -65,7 +66,7 @@ impl Reply {
     /// Writes the text of the reply.
     fn write_text(&self, out: &mut ArrayVec<u8, 256>)
         requires empty { out.old.items ≡ [] }
-        requires told { spec.CanBeTold self.now }
+        requires told { CanBeTold self.now }
         ensures text { out.new.items ≡ spec.reply_text self.now }
         ensures short { array_vec_len out.new ≤ 255 }
         ensures valid { spec.IsReply self.now }

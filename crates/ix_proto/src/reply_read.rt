@@ -3,8 +3,9 @@
 ghost use Rattle.std.specs.Prelude.{◌≡◌, ◌≢◌, ℕ, ◌<◌, ◌^◌, Some, List, ◌∷◌, ◌++◌, MatchOption, Bool};
 ghost use Rattle.std.specs.Fmt.{decimal};
 ghost use Rattle.std.specs.Option.{option_copied};
-ghost use Rattle.ix_proto.specs.Replies.{IsReply, IsReplyText, reply_text, yes_or_no, complete_or_partial};
-ghost use Rattle.ix_proto.specs.ReplyParts.{kind_word, StandsBehind, IsNumberAnd, IsRefusalBehind, nodes_text};
+ghost use Rattle.ix_proto.specs.Replies.{IsReply, reply_text, yes_or_no, complete_or_partial};
+ghost use Rattle.ix_proto.specs.inside.ReplyTexts.{IsReplyText};
+ghost use Rattle.ix_proto.specs.inside.ReplyParts.{kind_word, StandsBehind, IsNumberAnd, IsRefusalBehind, nodes_text};
 
 use crate::number::read_number;
 use crate::reply::{Reply, has_number, refusal_text};

@@ -6,9 +6,11 @@ ghost use Rattle.std.specs.Option.{option_copied};
 ghost use Rattle.ix_values.specs.Faults.{IsActionText};
 ghost use Rattle.ix_values.specs.Texts.{IsName};
 ghost use Rattle.ix_proto.specs.Numbers.{IsNumber};
-ghost use Rattle.ix_proto.specs.Requests.{Reads, IsLease};
+ghost use Rattle.ix_proto.specs.inside.Lends.{Reads};
+ghost use Rattle.ix_proto.specs.Requests.{IsLease};
 ghost use Rattle.ix_proto.specs.RequestFaults.{an_action, a_name, a_number, a_lease, verb_word, parts_of, IsPartFault, IsFaultBehind, IsRequestFault};
-ghost use Rattle.ix_proto.specs.Words.{words_of, words_behind};
+ghost use Rattle.ix_proto.specs.Words.{words_of};
+ghost use Rattle.ix_proto.specs.inside.WordsBehind.{words_behind};
 
 use crate::parts::{
     action_word, lease_word, name_word, no_words, number_word, one_word, two_words,

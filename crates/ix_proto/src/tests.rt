@@ -1,6 +1,6 @@
 //! Each request and each reply with its line, and lines that are neither.
 
-ghost use Rattle.ix_proto.specs.Replies.{CanBeTold};
+ghost use Rattle.ix_proto.specs.inside.ReplyTexts.{CanBeTold};
 
 use super::*;
 use arrayvec::ArrayVec;

@@ -2,7 +2,8 @@
 
 ghost use Rattle.std.specs.Prelude.{◌≡◌, ◌==◌, ◌∷◌, ◌++◌, position};
 ghost use Rattle.std.specs.Option.{option_copied};
-ghost use Rattle.ix_proto.specs.Words.{words_of, words_behind, behind_word, HasNoSpace};
+ghost use Rattle.ix_proto.specs.Words.{words_of};
+ghost use Rattle.ix_proto.specs.inside.WordsBehind.{words_behind, behind_word, HasNoSpace};
 
 /// The first word of a text, and what stands behind the space that ends it, or None where no space does.
 pub(crate) fn split_word(text: &[u8]) -> (&[u8], Option<&[u8]>)

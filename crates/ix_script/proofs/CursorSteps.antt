@@ -2,13 +2,13 @@
 use Rattle.std.proofs.Common.{◌≡◌, ℕ, ◌<◌, min, drop, true, false, cond, List, [], ◌∷◌, length, refl, sym, ◌∙◌, ap, subst}
 use Rattle.ix_outside.specs.declared.event.Event.{Event}
 use Rattle.ix_outside.specs.declared.event.EventKind.TheVariants.{Closed}
-use Rattle.ix_script.specs.Cursor.{IsBare, IsBegun, left_of, open_bytes, later_events}
+use Rattle.ix_script.specs.inside.Cursor.{IsBare, IsBegun, left_of, open_bytes, later_events}
 use Rattle.ix_script.specs.declared.cursor.Cursor.{Cursor}
 use Rattle.ix_script.specs.Events.{bytes_event, closed_event, end_event, is_close, text_bytes, line_event}
 use Rattle.ix_script.specs.Grammar.{IsScriptLine}
 use Rattle.ix_script.specs.Lines.{lines_of}
 use Rattle.ix_script.specs.Pieces.{left_after}
-use Rattle.ix_script.specs.Progress.{events_at, with_bytes}
+use Rattle.ix_script.specs.inside.Progress.{events_at, with_bytes}
 use Rattle.ix_script.proofs.LineLists.{lines_of-none}
 use Rattle.ix_script.proofs.LineParts.{events_step, some_bytes}
 use Rattle.ix_script.proofs.LeftEvents.{with_bytes-some, with_bytes-none, with_bytes-more, events_some, bare_next, bare_left, left_open}

@@ -5,8 +5,9 @@ use Rattle.std.proofs.lemmas.List.{length-take-le}
 use Rattle.ix_outside.specs.Contents.{GivenEvent}
 use Rattle.ix_script.specs.Events.{HasEvents}
 use Rattle.ix_script.specs.Lines.{lines_of}
-use Rattle.ix_script.specs.Pieces.{fitting, left_after, next_piece, left_behind, pieces_of, IsNextPiece}
-use Rattle.ix_script.specs.Progress.{events_of, given_by, left_by}
+use Rattle.ix_script.specs.Pieces.{fitting, left_after, pieces_of}
+use Rattle.ix_script.specs.inside.NextPiece.{next_piece, left_behind, IsNextPiece}
+use Rattle.ix_script.specs.inside.Progress.{events_of, given_by, left_by}
 use Rattle.ix_script.proofs.LeftEvents.{fitting-whole, fitting-front, left_after-whole}
 use Rattle.ix_script.proofs.LineParts.{events_computed}
 

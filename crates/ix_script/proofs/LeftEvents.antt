@@ -4,8 +4,9 @@ use Rattle.std.proofs.lemmas.Bool.{le-leb, lt-leb, leb-true, leb-false}
 use Rattle.std.proofs.lemmas.List.{take_all, drop_all}
 use Rattle.ix_outside.specs.Contents.{GivenEvent}
 use Rattle.ix_script.specs.Events.{bytes_event}
-use Rattle.ix_script.specs.Pieces.{fitting, rest_behind, left_after, next_piece}
-use Rattle.ix_script.specs.Progress.{with_bytes, events_at}
+use Rattle.ix_script.specs.Pieces.{fitting, rest_behind, left_after}
+use Rattle.ix_script.specs.inside.NextPiece.{next_piece}
+use Rattle.ix_script.specs.inside.Progress.{with_bytes, events_at}
 
 -- an event that fits is given whole
 pub fitting-whole : (room : ℕ) (given : GivenEvent) → length given.bytes ≤ room → fitting room given ≡ given

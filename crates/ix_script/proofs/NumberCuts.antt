@@ -9,7 +9,7 @@ use Rattle.std.proofs.lemmas.List.Folds.{list_any-append, list_any_none}
 use Rattle.std.proofs.lemmas.List.Quantifiers.{position-Some}
 use Rattle.std.proofs.lemmas.List.Sums.{fails_before_first}
 use Rattle.ix_script.specs.Grammar.{Begins, BeginsWith}
-use Rattle.ix_script.specs.Numbers.{IsNumber}
+use Rattle.ix_script.specs.inside.Numbers.{IsNumber}
 
 -- whether a byte is a space
 abbrev pub is_space : ℕ → Bool

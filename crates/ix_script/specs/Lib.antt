@@ -1,9 +1,6 @@
 pub mod Lines
 pub mod Grammar
-pub mod Numbers
 pub mod Events
 pub mod Pieces
-pub mod Progress
-pub mod Cursor
-pub mod Site
-pub mod Sets
+pub mod inside
+pub mod lemmas

@@ -1,7 +1,7 @@
 -- Events in pieces that fit a buffer.
-use Rattle.std.specs.Prelude.{◌≡◌, ℕ, suc, zero, nat_le, if◌then◌else◌, List, [], ◌∷◌, length, take, drop, Option, Some, None}
+use Rattle.std.specs.Prelude.{ℕ, suc, zero, nat_le, if◌then◌else◌, List, [], ◌∷◌, length, take, drop}
 use Rattle.ix_outside.specs.Contents.{GivenEvent}
-use Rattle.ix_script.specs.Events.{bytes_event, HasEvents}
+use Rattle.ix_script.specs.Events.{bytes_event}
 
 -- what fits a buffer of this length: the event, or the front of a piece that is longer
 abbrev pub fitting : ℕ → GivenEvent → GivenEvent
@@ -19,23 +19,8 @@ left_after count (given ∷ []) = given ∷ []
 left_after count (given ∷ next ∷ later) =
     if nat_le (length given.bytes) count then next ∷ later else rest_behind count given ∷ next ∷ later
 
--- the next of these events, as it fits a buffer of this length
-abbrev pub next_piece : ℕ → List GivenEvent → Option GivenEvent
-next_piece room [] = None
-next_piece room (given ∷ later) = Some (fitting room given)
-
--- what is left of events behind these pieces
-abbrev pub left_behind : List GivenEvent → List GivenEvent → List GivenEvent
-left_behind [] events = events
-left_behind (piece ∷ pieces) events = left_behind pieces (left_after (length piece.bytes) events)
-
 -- the first so many pieces of these events for a buffer of this length, the end again and again behind the last
 abbrev pub pieces_of : ℕ → ℕ → List GivenEvent → List GivenEvent
 pieces_of room zero events = []
 pieces_of room (suc count) [] = []
 pieces_of room (suc count) (given ∷ later) = fitting room given ∷ pieces_of room count (left_after room (given ∷ later))
-
--- the piece comes next in a script, for a buffer of this length, behind those given
-abbrev pub IsNextPiece : ℕ → List ℕ → List GivenEvent → GivenEvent → Type 0
-IsNextPiece room bytes given piece =
-    (events : List GivenEvent) → HasEvents bytes events → next_piece room (left_behind given events) ≡ Some piece

@@ -30,10 +30,11 @@ impl<'a> Cursor<'a> {
     ghost use Rattle.std.specs.Prelude.{◌≤◌, ◌++◌, ◌∷◌, [], ℕ, min, Some, true, false, Bool, length, take, drop, MatchBool, MatchOption};
     ghost use Rattle.ix_outside.specs.Contents.{piece_of};
     ghost use Rattle.ix_outside.specs.Event.{FitsBuffer};
-    ghost use Rattle.ix_script.specs.Cursor.{open_bytes, later_events, left_of, IsBegun, IsBare};
+    ghost use Rattle.ix_script.specs.inside.Cursor.{open_bytes, later_events, left_of, IsBegun, IsBare};
     ghost use Rattle.ix_script.specs.Events.{closed_event};
-    ghost use Rattle.ix_script.specs.Pieces.{left_after, next_piece};
-    ghost use Rattle.ix_script.specs.Progress.{events_of};
+    ghost use Rattle.ix_script.specs.Pieces.{left_after};
+    ghost use Rattle.ix_script.specs.inside.NextPiece.{next_piece};
+    ghost use Rattle.ix_script.specs.inside.Progress.{events_of};
 
     /// The front of the script.
     pub fn new(script: Script<'a>) -> Cursor<'a>

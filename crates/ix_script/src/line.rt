@@ -2,7 +2,7 @@
 ghost use Rattle.std.specs.Prelude.{◌≡◌, ◌++◌, MatchResult};
 ghost use Rattle.ix_script.specs.Events.{is_close as tells_close, text_bytes};
 ghost use Rattle.ix_script.specs.Grammar.{InGrammar, IsScriptLine, IsLineFault};
-ghost use Rattle.ix_script.specs.Progress.{end_bytes};
+ghost use Rattle.ix_script.specs.inside.Progress.{end_bytes};
 
 use crate::number::number_and;
 

@@ -1,7 +1,7 @@
 // A decimal number and a space at the front of a text.
 ghost use Rattle.std.specs.Prelude.{◌≡◌, ◌==◌, ◌+◌, ◌<◌, ◌^◌, ℕ, Some, decimal, position, MatchOption};
 ghost use Rattle.ix_script.specs.Grammar.{Begins, BeginsWith};
-ghost use Rattle.ix_script.specs.Numbers.{IsNumber};
+ghost use Rattle.ix_script.specs.inside.Numbers.{IsNumber};
 
 use itoa::Buffer;
 use std::str;

@@ -1,8 +1,8 @@
 // A script's events as a site, whose sends go to a sink and whose disk is that of another site.
 ghost use Rattle.std.specs.Prelude.{◌≡◌};
-ghost use Rattle.ix_script.specs.Cursor.{left_of};
-ghost use Rattle.ix_script.specs.Progress.{events_of, left_by};
-ghost use Rattle.ix_script.specs.Sets.{events_equal};
+ghost use Rattle.ix_script.specs.inside.Cursor.{left_of};
+ghost use Rattle.ix_script.specs.inside.Progress.{events_of, left_by};
+ghost use Rattle.ix_script.specs.lemmas.Sets.{events_equal};
 
 use crate::cursor::Cursor;
 use crate::history::History;
@@ -27,8 +27,8 @@ impl<'a, S: Site, K: Sink> ScriptSite<'a, S, K> {
     ghost use Rattle.std.specs.Prelude.{◌<◌, ◌++◌, ◌∷◌, [], false, length};
     ghost use Rattle.ix_outside.specs.Contents.{piece_of};
     ghost use Rattle.ix_outside.specs.Event.{FitsBuffer};
-    ghost use Rattle.ix_script.specs.Pieces.{IsNextPiece};
-    ghost use Rattle.ix_script.specs.Site.{given_of};
+    ghost use Rattle.ix_script.specs.inside.NextPiece.{IsNextPiece};
+    ghost use Rattle.ix_script.specs.inside.Site.{given_of};
 
     /// A site at the script's front.
     pub fn new(script: Script<'a>, site: &'a mut S, sink: &'a mut K) -> ScriptSite<'a, S, K>
@@ -80,7 +80,7 @@ impl<'a, S: Site, K: Sink> Site for ScriptSite<'a, S, K> {
     ghost use Rattle.ix_outside.specs.Contents.{Contents};
     ghost use Rattle.ix_outside.specs.Counts.{Counts};
     ghost use Rattle.ix_outside.specs.Held.{free, lent, reads, unused_wire};
-    ghost use Rattle.ix_script.specs.Site.{given_of};
+    ghost use Rattle.ix_script.specs.inside.Site.{given_of};
 
     ghost counts = { λ it. record { disk = (S.counts it.site.now).disk; wire = 0; send = K.faults it.sink.now } };
 

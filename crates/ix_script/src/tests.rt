@@ -4,7 +4,7 @@ ghost use Rattle.ix_outside.specs.Contents.{GivenEvent};
 ghost use Rattle.ix_outside.specs.Held.{free};
 ghost use Rattle.ix_script.specs.Events.{HasEvents};
 ghost use Rattle.ix_script.specs.Pieces.{pieces_of};
-ghost use Rattle.ix_script.specs.Site.{given_of};
+ghost use Rattle.ix_script.specs.inside.Site.{given_of};
 
 use super::*;
 use ix_outside::{DiskFailed, Event, EventKind, Failed, Gone, Sink, Site, WireFailed};

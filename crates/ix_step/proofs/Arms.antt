@@ -12,18 +12,18 @@ use Rattle.ix_tree.proofs.PlainLists.{items_of-listed}
 use Rattle.ix_tree.specs.Size.{size_of}
 use Rattle.ix_words.specs.Each.{Each, no_item, item}
 use Rattle.ix_words.proofs.Each.{Each-head, Each-tail}
-use Rattle.ix_step.specs.Initial.{initial_tree}
+use Rattle.ix_step.specs.inside.Initial.{initial_tree}
 use Rattle.ix_step.proofs.Beginnings.{initial_is, initial_proper, initial_small}
 use Rattle.std.specs.List.{list_any}
 use Rattle.ix_words.specs.Canon.{when}
 use Rattle.ix_values.specs.PlainAction.{PlainAction}
 use Rattle.ix_can.specs.Nodes.{live, set_of, dead_if}
 use Rattle.ix_can.specs.TreeOf.{is_final, tree_of}
-use Rattle.ix_can.specs.May.{may}
-use Rattle.ix_can.specs.Moved.{moved}
-use Rattle.ix_step.specs.Moves.{live_moves, begun, begun_again}
+use Rattle.ix_can.specs.inside.May.{may}
+use Rattle.ix_can.specs.inside.Moved.{moved}
+use Rattle.ix_step.specs.inside.Moves.{live_moves, begun, begun_again}
 use Rattle.ix_can.specs.Laws.{IsProper}
-use Rattle.ix_step.specs.Ready.{Ready}
+use Rattle.ix_step.specs.inside.Ready.{Ready}
 
 -- a part that fits, is proper and is no larger is ready
 part_ready : (limit : ℕ) (x y : Form) (e : Environment) (t u : Plain) → Ready limit x e t → Fits y e → IsProper y u → size_of u ≤ size_of t → Ready limit y e u

@@ -7,7 +7,7 @@ use Rattle.ix_tree.specs.Plain.{Plain, listed}
 use Rattle.ix_tree.specs.Order.{tree_cmp}
 use Rattle.ix_tree.specs.Size.{size_of}
 use Rattle.ix_can.specs.Nodes.{put_in}
-use Rattle.ix_can.specs.Moved.{picks}
+use Rattle.ix_can.specs.inside.Moved.{picks}
 
 -- Each item with the others
 

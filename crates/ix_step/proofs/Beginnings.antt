@@ -14,7 +14,7 @@ use Rattle.ix_can.specs.Tests.{accepts_empty}
 use Rattle.ix_can.specs.Nodes.{is_dead, is_live, opt_node, seq_node, par_node, or_node, and_node, couple_node, any_node, every_node, sync_node, live, set_of, dead_if}
 use Rattle.ix_can.specs.Ways.{is_empty}
 use Rattle.ix_can.specs.TreeOf.{is_final, tree_of, live_pair}
-use Rattle.ix_step.specs.Initial.{initial_tree}
+use Rattle.ix_step.specs.inside.Initial.{initial_tree}
 
 pub initial_live : (x : Form) → is_dead (initial_tree x) ≡ false
 initial_live (atom x) = refl

@@ -13,21 +13,23 @@ use Rattle.ix_words.specs.Each.{Each, Member, here}
 use Rattle.ix_words.specs.Canon.{Ascending, below, by_order, put_once, canon, when}
 use Rattle.ix_words.proofs.Each.{Each-head, Each-tail, Each-members}
 use Rattle.ix_words.proofs.Canon.{by_order-has, canon-members, flat_map-append, flat_map-Member, when-Member}
-use Rattle.ix_values.specs.Order.{text_eq, text_cmp, text_cmp-same, text_eq-decides}
-use Rattle.ix_entries.specs.Entries.{KeysAscend, IsProper, item_at, with_entry}
+use Rattle.ix_values.specs.Order.{text_eq, text_cmp}
+use Rattle.ix_values.specs.lemmas.Order.{text_cmp-same, text_eq-decides}
+use Rattle.ix_entries.specs.inside.Entries.{KeysAscend, IsProper, item_at, with_entry}
 use Rattle.ix_tree.specs.Plain.{Plain, entry, listed, pair}
-use Rattle.ix_tree.specs.PlainOf.{plain, plain_entry, plain_entries}
+use Rattle.ix_tree.specs.PlainOf.{plain}
+use Rattle.ix_tree.specs.inside.PlainLists.{plain_entry, plain_entries}
 use Rattle.ix_tree.specs.Order.{key, first_part, tree_cmp}
 use Rattle.ix_tree.specs.Size.{size_of}
 use Rattle.ix_tree.specs.declared.tree.Tree.{Tree}
-use Rattle.ix_tree.specs.TreeOrder.{tree_order}
+use Rattle.ix_tree.specs.lemmas.TreeOrder.{tree_order}
 use Rattle.ix_can.specs.Nodes.{same_tree}
 use Rattle.ix_can.specs.TreeOf.{entries_of}
-use Rattle.ix_can.specs.May.{tree_at}
+use Rattle.ix_can.specs.inside.May.{tree_at}
 use Rattle.ix_can.proofs.Lists.{itself, one_test, when_not}
 use Rattle.ix_can.proofs.Nodes.{same_is, entry_is}
-use Rattle.ix_step.specs.Building.{IsAbove, put_all}
-use Rattle.ix_step.specs.Entering.{entries_put, HoldTrees, EnterTrees, Counts}
+use Rattle.ix_step.specs.inside.Builds.{IsAbove, put_all}
+use Rattle.ix_step.specs.inside.EnterTrees.{entries_put, HoldTrees, EnterTrees, Counts}
 use Rattle.ix_step.specs.declared.fault.BuildFault.{BuildFault}
 use Rattle.ix_step.specs.declared.fault.BuildFault.TheVariants.{Over, Memory}
 use Rattle.ix_step.proofs.Limits.{above_grows}

@@ -11,14 +11,14 @@ use Rattle.ix_can.specs.Nodes.{live, set_of}
 use Rattle.ix_can.proofs.Nodes.{dead_is}
 use Rattle.ix_can.proofs.Lists.{any_same}
 use Rattle.ix_tree.proofs.Alternatives.{insert_key-put_once, Member-HasItem, weight_of-list}
-use Rattle.ix_alts.specs.Alternatives.{Alternatives, HasItem}
+use Rattle.ix_alts.specs.inside.Alternatives.{Alternatives, HasItem}
 use Rattle.ix_tree.specs.Plain.{Plain, listed}
 use Rattle.ix_tree.specs.Order.{tree_cmp}
 use Rattle.ix_tree.specs.Size.{size_of}
 use Rattle.ix_tree.specs.PlainOf.{plain}
 use Rattle.ix_tree.specs.declared.tree.Tree.{Tree}
-use Rattle.ix_tree.specs.TreeOrder.{tree_order, tree_cmp-same}
-use Rattle.ix_step.specs.Building.{IsAbove, put_all, Gathers, Puts}
+use Rattle.ix_tree.specs.lemmas.TreeOrder.{tree_order, tree_cmp-same}
+use Rattle.ix_step.specs.inside.Builds.{IsAbove, put_all, Gathers, Puts}
 use Rattle.ix_step.specs.declared.fault.BuildFault.{BuildFault}
 use Rattle.ix_step.specs.declared.fault.BuildFault.TheVariants.{Over, Memory}
 use Rattle.ix_step.proofs.Limits.{above_grows}

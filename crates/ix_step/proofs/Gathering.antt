@@ -6,7 +6,7 @@ use Rattle.std.proofs.Math.Seq.{take-length}
 use Rattle.ix_words.specs.Each.{Each, item}
 use Rattle.ix_words.proofs.Canon.{flat_map-append}
 use Rattle.ix_tree.specs.Plain.{Plain, listed}
-use Rattle.ix_step.specs.Building.{IsAbove, put_all, Gathers}
+use Rattle.ix_step.specs.inside.Builds.{IsAbove, put_all, Gathers}
 use Rattle.ix_step.specs.declared.fault.BuildFault.{BuildFault}
 use Rattle.ix_step.proofs.Gathered.{put_all-append, fault_before}
 

@@ -6,19 +6,19 @@ use Rattle.ix_expr.specs.Form.{Form}
 use Rattle.ix_expr.specs.Environment.{Environment}
 use Rattle.ix_tree.specs.Plain.{Plain, dead, done}
 use Rattle.ix_tree.specs.PlainOf.{plain}
-use Rattle.ix_tree.specs.PlainParts.{plain-Dead, plain-Done}
+use Rattle.ix_tree.specs.lemmas.PlainParts.{plain-Dead, plain-Done}
 use Rattle.ix_tree.specs.Size.{size_of}
 use Rattle.ix_tree.specs.declared.tree.Tree.{Tree, Dead, Done}
 use Rattle.ix_can.specs.Nodes.{is_dead, dead_if}
-use Rattle.ix_can.specs.May.{may}
-use Rattle.ix_can.specs.Moved.{moved}
+use Rattle.ix_can.specs.inside.May.{may}
+use Rattle.ix_can.specs.inside.Moved.{moved}
 use Rattle.ix_expr.specs.Meaning.{InAlphabet}
 use Rattle.ix_can.specs.Tests.{in_alphabet}
 use Rattle.ix_can.proofs.Lists.{one_test, iff_trans, iff_sym}
 use Rattle.ix_can.proofs.Testing.{alphabet_says}
 use Rattle.ix_can.proofs.Nodes.{dead_is}
 use Rattle.ix_can.proofs.MovesShared.{moved_live}
-use Rattle.ix_step.specs.Building.{Builds, BuildsBox, IsAbove, IsSmall, IsSmallBox}
+use Rattle.ix_step.specs.inside.Builds.{Builds, BuildsBox, IsAbove, IsSmall, IsSmallBox}
 use Rattle.ix_step.specs.declared.fault.BuildFault.{BuildFault}
 use Rattle.ix_step.specs.declared.fault.BuildFault.TheVariants.{Over, Memory}
 

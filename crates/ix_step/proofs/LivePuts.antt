@@ -6,7 +6,7 @@ use Rattle.ix_tree.specs.Plain.{Plain, is_dead, listed}
 use Rattle.ix_tree.specs.Size.{size_of}
 use Rattle.ix_can.specs.Nodes.{is_live}
 use Rattle.ix_can.proofs.Nodes.{dead_is}
-use Rattle.ix_step.specs.Building.{IsAbove, put_all, Gathers}
+use Rattle.ix_step.specs.inside.Builds.{IsAbove, put_all, Gathers}
 use Rattle.ix_step.specs.declared.fault.BuildFault.{BuildFault}
 use Rattle.ix_step.specs.declared.fault.BuildFault.TheVariants.{Over, Memory}
 use Rattle.ix_step.proofs.Limits.{above_grows}

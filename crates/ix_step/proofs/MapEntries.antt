@@ -9,15 +9,17 @@ use Rattle.ix_words.specs.Each.{Each, no_item, item}
 use Rattle.ix_words.specs.Canon.{Ascending, ascending_end, below, by_order, put_once, canon, when}
 use Rattle.ix_words.proofs.Each.{Each-head, Each-tail, Each-weaker}
 use Rattle.ix_words.proofs.Canon.{canon-itself}
-use Rattle.ix_values.specs.Order.{text_eq, text_cmp, text_cmp-same, text_eq-decides}
-use Rattle.ix_entries.specs.Entries.{with_entry}
+use Rattle.ix_values.specs.Order.{text_eq, text_cmp}
+use Rattle.ix_values.specs.lemmas.Order.{text_cmp-same, text_eq-decides}
+use Rattle.ix_entries.specs.inside.Entries.{with_entry}
 use Rattle.ix_tree.specs.Plain.{Plain, entry}
-use Rattle.ix_tree.specs.PlainOf.{plain, plain_entry}
+use Rattle.ix_tree.specs.PlainOf.{plain}
+use Rattle.ix_tree.specs.inside.PlainLists.{plain_entry}
 use Rattle.ix_tree.specs.Order.{key, tree_cmp}
-use Rattle.ix_tree.specs.TreeOrder.{tree_order}
+use Rattle.ix_tree.specs.lemmas.TreeOrder.{tree_order}
 use Rattle.ix_tree.specs.declared.tree.Tree.{Tree}
 use Rattle.ix_can.specs.Nodes.{same_tree}
-use Rattle.ix_can.specs.Moved.{entry_with}
+use Rattle.ix_can.specs.inside.Moved.{entry_with}
 use Rattle.ix_step.proofs.EntriesPut.{key_at}
 
 -- The entries of other values

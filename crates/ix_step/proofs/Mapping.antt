@@ -8,13 +8,14 @@ use Rattle.ix_words.proofs.Each.{Each-head, Each-tail, Each-weaker, Each-member,
 use Rattle.ix_words.proofs.Canon.{by_order-has, Member-cases}
 use Rattle.ix_values.specs.Order.{text_eq, text_cmp}
 use Rattle.ix_values.specs.PlainAction.{PlainAction}
-use Rattle.ix_entries.specs.Entries.{IsProper as IsProperList, KeysAscend, item_at, with_entry}
+use Rattle.ix_entries.specs.inside.Entries.{IsProper as IsProperList, KeysAscend, item_at, with_entry}
 use Rattle.ix_expr.specs.Form.{Form, all}
 use Rattle.ix_expr.specs.Environment.{Environment, bind}
 use Rattle.ix_expr.proofs.Parts.{fits-operands}
 use Rattle.ix_tree.specs.Plain.{Plain, dead, entry, listed, items_of, is_dead, all as all_of, map as map_of}
-use Rattle.ix_tree.specs.PlainOf.{plain, plain_entry, plain_entries, plain_map}
-use Rattle.ix_tree.specs.PlainParts.{plain-Dead, plain-Map}
+use Rattle.ix_tree.specs.PlainOf.{plain, plain_map}
+use Rattle.ix_tree.specs.inside.PlainLists.{plain_entry, plain_entries}
+use Rattle.ix_tree.specs.lemmas.PlainParts.{plain-Dead, plain-Map}
 use Rattle.ix_tree.specs.Order.{key, first_part, tree_cmp}
 use Rattle.ix_tree.specs.Size.{size_of}
 use Rattle.ix_tree.specs.declared.tree.Tree.{Tree, Dead}
@@ -23,14 +24,14 @@ use Rattle.ix_tree.specs.contracts.tree.TreePartialEq.TheImpl.{ghosts as tree_gh
 use Rattle.ix_tree.proofs.PlainLists.{items_of-listed}
 use Rattle.ix_can.specs.Nodes.{same_tree, set_of, dead_if}
 use Rattle.ix_can.specs.Laws.{IsProper, ProperEntries}
-use Rattle.ix_can.specs.May.{may, tree_at}
+use Rattle.ix_can.specs.inside.May.{may, tree_at}
 use Rattle.ix_can.specs.TreeOf.{tree_of}
-use Rattle.ix_can.specs.Moved.{moved, map_with, entry_with, or_initial}
+use Rattle.ix_can.specs.inside.Moved.{moved, map_with, entry_with, or_initial}
 use Rattle.ix_can.proofs.Nodes.{same_is, dead_is}
-use Rattle.ix_step.specs.Building.{Builds, IsAbove, put_all, Gathers}
-use Rattle.ix_step.specs.Ready.{Ready}
-use Rattle.ix_step.specs.Initial.{initial_tree}
-use Rattle.ix_step.specs.Mapped.{HoldsWell, ReadyToBegin, begun_tree, maps_after, with_tree, Retold}
+use Rattle.ix_step.specs.inside.Builds.{Builds, IsAbove, put_all, Gathers}
+use Rattle.ix_step.specs.inside.Ready.{Ready}
+use Rattle.ix_step.specs.inside.Initial.{initial_tree}
+use Rattle.ix_step.specs.inside.MapsAfter.{HoldsWell, ReadyToBegin, begun_tree, maps_after, with_tree, Retold}
 use Rattle.ix_step.specs.declared.fault.BuildFault.{BuildFault}
 use Rattle.ix_step.specs.declared.fault.BuildFault.TheVariants.{Over, Memory}
 use Rattle.ix_step.proofs.Gathered.{put_all-nothing, put_all-append, put_all_holds, fault_before, size_all}

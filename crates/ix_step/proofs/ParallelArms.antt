@@ -14,13 +14,13 @@ use Rattle.ix_tree.specs.Size.{size_of}
 use Rattle.ix_tree.specs.declared.tree.Tree.{Tree}
 use Rattle.ix_tree.proofs.PlainLists.{items_of-listed}
 use Rattle.ix_can.specs.Nodes.{set_of, dead_if}
-use Rattle.ix_can.specs.May.{may}
-use Rattle.ix_can.specs.Moved.{moved, bag_with}
+use Rattle.ix_can.specs.inside.May.{may}
+use Rattle.ix_can.specs.inside.Moved.{moved, bag_with}
 use Rattle.ix_can.specs.Laws.{EachOnce, IsRising, IsProper}
-use Rattle.ix_step.specs.Building.{Builds, IsAbove, Gathers, put_all}
-use Rattle.ix_step.specs.Parallel.{left_live, right_live, pair_moves, pick_moves, bag_moves, IsReadyPair, IsReadyBag, IsLimit}
-use Rattle.ix_step.specs.Moves.{begun}
-use Rattle.ix_step.specs.Ready.{Ready}
+use Rattle.ix_step.specs.inside.Builds.{Builds, IsAbove, Gathers, put_all}
+use Rattle.ix_step.specs.inside.ParallelMoves.{left_live, right_live, pair_moves, pick_moves, bag_moves, IsReadyPair, IsReadyBag, IsLimit}
+use Rattle.ix_step.specs.inside.Moves.{begun}
+use Rattle.ix_step.specs.inside.Ready.{Ready}
 use Rattle.ix_step.specs.declared.fault.BuildFault.{BuildFault}
 use Rattle.ix_step.proofs.Limits.{above_grows, builds_arm}
 use Rattle.ix_step.proofs.Gathered.{put_all-nothing, fault_before}

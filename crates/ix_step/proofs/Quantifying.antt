@@ -7,13 +7,15 @@ use Rattle.ix_words.specs.Each.{Each, no_item, item}
 use Rattle.ix_words.specs.Canon.{Ascending, below}
 use Rattle.ix_words.proofs.Each.{Each-head, Each-tail, Each-weaker, Each-both}
 use Rattle.ix_words.proofs.Canon.{flat_map-append}
-use Rattle.ix_values.specs.Order.{text_eq, text_cmp, text_eq-decides}
+use Rattle.ix_values.specs.Order.{text_eq, text_cmp}
+use Rattle.ix_values.specs.lemmas.Order.{text_eq-decides}
 use Rattle.ix_values.specs.PlainAction.{PlainAction}
 use Rattle.ix_expr.specs.Form.{Form, any, every, sync}
 use Rattle.ix_expr.specs.Environment.{Environment, bind}
 use Rattle.ix_expr.proofs.Parts.{fits-operands}
 use Rattle.ix_tree.specs.Plain.{Plain, pair, listed, items_of, any as any_of, every as every_of, sync as sync_of}
-use Rattle.ix_tree.specs.PlainOf.{plain, plain_entry, plain_entries}
+use Rattle.ix_tree.specs.PlainOf.{plain}
+use Rattle.ix_tree.specs.inside.PlainLists.{plain_entry, plain_entries}
 use Rattle.ix_tree.specs.Order.{key, first_part}
 use Rattle.ix_tree.specs.Size.{size_of}
 use Rattle.ix_tree.specs.declared.tree.Tree.{Tree}
@@ -21,13 +23,13 @@ use Rattle.ix_tree.proofs.PlainLists.{items_of-listed}
 use Rattle.ix_can.specs.Nodes.{set_of, dead_if}
 use Rattle.ix_can.specs.TreeOf.{entries_of}
 use Rattle.ix_can.specs.Laws.{IsProper, ProperEntries}
-use Rattle.ix_can.specs.May.{may, tree_at}
-use Rattle.ix_can.specs.Moved.{moved, entry_with}
-use Rattle.ix_step.specs.Building.{Builds, IsAbove}
+use Rattle.ix_can.specs.inside.May.{may, tree_at}
+use Rattle.ix_can.specs.inside.Moved.{moved, entry_with}
+use Rattle.ix_step.specs.inside.Builds.{Builds, IsAbove}
 use Rattle.ix_step.specs.declared.fault.BuildFault.{BuildFault}
-use Rattle.ix_step.specs.Ready.{Ready}
-use Rattle.ix_step.specs.Entering.{entries_put}
-use Rattle.ix_step.specs.Quantified.{ReadyInside, moved_part, common_after, tree_after, touched, BuildsParts, AreSmallParts}
+use Rattle.ix_step.specs.inside.Ready.{Ready}
+use Rattle.ix_step.specs.inside.EnterTrees.{entries_put}
+use Rattle.ix_step.specs.inside.ValueTrees.{ReadyInside, moved_part, common_after, tree_after, touched, BuildsParts, AreSmallParts}
 use Rattle.ix_step.proofs.Limits.{above_grows, builds_arm}
 use Rattle.ix_step.proofs.Gathered.{put_all-nothing}
 use Rattle.ix_step.proofs.EntriesPut.{key_at}

@@ -2,16 +2,16 @@
 
 ghost use Rattle.std.specs.Prelude.{◌≡◌, ◌≤◌, true, map};
 ghost use Rattle.ix_words.specs.Each.{Each};
-ghost use Rattle.ix_expr.specs.FormOf.{form_of};
+ghost use Rattle.ix_expr.specs.inside.FormOf.{form_of};
 ghost use Rattle.ix_expr.specs.Form.{opt, seq, star, or, and, couple};
 ghost use Rattle.ix_tree.specs.PlainOf.{plain};
-ghost use Rattle.ix_can.specs.May.{may};
+ghost use Rattle.ix_can.specs.inside.May.{may};
 ghost use Rattle.ix_can.specs.Tests.{in_alphabet};
-ghost use Rattle.ix_can.specs.Moved.{moved, moved_within};
-ghost use Rattle.ix_step.specs.Building.{Builds, Gathers};
-ghost use Rattle.ix_step.specs.Initial.{initial_tree};
-ghost use Rattle.ix_step.specs.Moves.{live_moves, begun_again};
-ghost use Rattle.ix_step.specs.Ready.{Ready};
+ghost use Rattle.ix_can.specs.inside.Moved.{moved, moved_within};
+ghost use Rattle.ix_step.specs.inside.Builds.{Builds, Gathers};
+ghost use Rattle.ix_step.specs.inside.Initial.{initial_tree};
+ghost use Rattle.ix_step.specs.inside.Moves.{live_moves, begun_again};
+ghost use Rattle.ix_step.specs.inside.Ready.{Ready};
 
 use crate::alternatives::{put_live, seq_node, star_node};
 use crate::fault::BuildFault;

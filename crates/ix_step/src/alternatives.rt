@@ -3,14 +3,14 @@
 ghost use Rattle.std.specs.Prelude.{◌≡◌, ◌≤◌, ◌^◌, ◌++◌, ◌∷◌, [], List, map};
 ghost use Rattle.std.specs.List.{list_any};
 ghost use Rattle.ix_words.specs.Canon.{when};
-ghost use Rattle.ix_expr.specs.FormOf.{form_of};
+ghost use Rattle.ix_expr.specs.inside.FormOf.{form_of};
 ghost use Rattle.ix_tree.specs.Plain.{Plain, seq, star, listed};
 ghost use Rattle.ix_tree.specs.PlainOf.{plain};
 ghost use Rattle.ix_tree.specs.Size.{size_of};
 ghost use Rattle.ix_can.specs.Nodes.{live, set_of};
 ghost use Rattle.ix_can.specs.TreeOf.{is_final as is_final_by};
-ghost use Rattle.ix_step.specs.Building.{Builds, Gathers, IsSmall, put_all};
-ghost use Rattle.ix_step.specs.Initial.{initial_tree};
+ghost use Rattle.ix_step.specs.inside.Builds.{Builds, Gathers, IsSmall, put_all};
+ghost use Rattle.ix_step.specs.inside.Initial.{initial_tree};
 
 use crate::fault::BuildFault;
 use crate::first::first_tree;

@@ -2,11 +2,12 @@
 
 ghost use Rattle.std.specs.Prelude.{◌≡◌, ◌+◌, ◌<◌, ◌≤◌, List, [], ◌∷◌, length, map, insert, remove, IfOk};
 ghost use Rattle.ix_tree.specs.Plain.{Plain, bag, par_star, listed};
-ghost use Rattle.ix_tree.specs.PlainOf.{plain, plain_trees, plain_bag};
+ghost use Rattle.ix_tree.specs.PlainOf.{plain, plain_bag};
+ghost use Rattle.ix_tree.specs.inside.PlainLists.{plain_trees};
 ghost use Rattle.ix_tree.specs.Size.{size_of};
 ghost use Rattle.ix_can.specs.Nodes.{put_in, set_of};
-ghost use Rattle.ix_can.specs.Moved.{bag_with};
-ghost use Rattle.ix_step.specs.Building.{Builds, Gathers, IsSmall};
+ghost use Rattle.ix_can.specs.inside.Moved.{bag_with};
+ghost use Rattle.ix_step.specs.inside.Builds.{Builds, Gathers, IsSmall};
 
 use crate::fault::BuildFault;
 use crate::sets::put;

@@ -4,14 +4,14 @@ ghost use Rattle.std.specs.Prelude.{◌≡◌, ◌≤◌, ◌++◌, ◌∷◌, [
 ghost use Rattle.ix_values.specs.PlainAction.{Word};
 ghost use Rattle.ix_expr.specs.Environment.{Environment};
 ghost use Rattle.ix_expr.specs.FormFaults.{Fits};
-ghost use Rattle.ix_expr.specs.FormOf.{form_of};
+ghost use Rattle.ix_expr.specs.inside.FormOf.{form_of};
 ghost use Rattle.ix_tree.specs.PlainOf.{plain};
 ghost use Rattle.ix_tree.specs.Size.{size_of};
 ghost use Rattle.ix_can.specs.Laws.{IsProper};
-ghost use Rattle.ix_can.specs.May.{may};
-ghost use Rattle.ix_can.specs.Moved.{moved};
+ghost use Rattle.ix_can.specs.inside.May.{may};
+ghost use Rattle.ix_can.specs.inside.Moved.{moved};
 ghost use Rattle.ix_can.specs.TreeOf.{tree_of};
-ghost use Rattle.ix_step.specs.Building.{Builds};
+ghost use Rattle.ix_step.specs.inside.Builds.{Builds};
 
 use crate::advance::advance;
 use crate::fault::BuildFault;

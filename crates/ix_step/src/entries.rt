@@ -2,11 +2,11 @@
 
 ghost use Rattle.std.specs.Prelude.{◌≡◌, ℕ, ◌≤◌, ◌++◌, ◌∷◌, [], List};
 ghost use Rattle.ix_values.specs.Order.{text_cmp};
-ghost use Rattle.ix_entries.specs.Entries.{IsProper};
+ghost use Rattle.ix_entries.specs.inside.Entries.{IsProper};
 ghost use Rattle.ix_tree.specs.Plain.{Plain};
 ghost use Rattle.ix_tree.specs.PlainOf.{plain};
-ghost use Rattle.ix_step.specs.Building.{Builds, IsSmall};
-ghost use Rattle.ix_step.specs.Entering.{HoldTrees, EnterTrees, Counts};
+ghost use Rattle.ix_step.specs.inside.Builds.{Builds, IsSmall};
+ghost use Rattle.ix_step.specs.inside.EnterTrees.{HoldTrees, EnterTrees, Counts};
 
 use crate::fault::BuildFault;
 use ix_entries::put;

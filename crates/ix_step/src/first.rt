@@ -1,12 +1,12 @@
 //! The tree of the empty word.
 
 ghost use Rattle.std.specs.Prelude.{◌≡◌, ◌∷◌, [], IfOk, map as each};
-ghost use Rattle.ix_expr.specs.FormOf.{form_of};
+ghost use Rattle.ix_expr.specs.inside.FormOf.{form_of};
 ghost use Rattle.ix_tree.specs.Plain.{seq, par, par_star, all, pair, bag, map, none, listed};
 ghost use Rattle.ix_tree.specs.PlainOf.{plain};
 ghost use Rattle.ix_words.specs.Canon.{when};
 ghost use Rattle.ix_can.specs.Tests.{accepts_empty as accepts};
-ghost use Rattle.ix_step.specs.Initial.{initial_tree};
+ghost use Rattle.ix_step.specs.inside.Initial.{initial_tree};
 
 use ix_expr::{Expr, accepts_empty};
 use ix_tree::{Bag, Map, Pair, Tree};
@@ -14,7 +14,7 @@ use std::alloc::{AllocError, Global};
 
 /// The tree of the empty word, whatever its Size.
 #[cycle(first)]
-#[tactic(auto, using(ix_tree::specs::PlainParts::plain_parts))]
+#[tactic(auto, using(ix_tree::specs::lemmas::PlainParts::plain_parts))]
 pub(crate) fn first_tree(expr: &Expr, alloc: Global) -> Result<Tree, AllocError>
     ensures { IfOk result (λ t. plain t ≡ initial_tree (form_of expr.now)) }
 {
@@ -37,7 +37,7 @@ pub(crate) fn first_tree(expr: &Expr, alloc: Global) -> Result<Tree, AllocError>
 
 /// The tree of the empty word, in a box.
 #[cycle(first)]
-#[tactic(auto, using(ix_tree::specs::PlainParts::plain_parts))]
+#[tactic(auto, using(ix_tree::specs::lemmas::PlainParts::plain_parts))]
 fn first_box(expr: &Expr, alloc: Global) -> Result<Box<Tree>, AllocError>
     ensures { IfOk result (λ t. plain t.value ≡ initial_tree (form_of expr.now)) }
 {
@@ -47,7 +47,7 @@ fn first_box(expr: &Expr, alloc: Global) -> Result<Box<Tree>, AllocError>
 
 /// The tree of the empty word of `y - z`: where it is complete in y, z may begin.
 #[cycle(first)]
-#[tactic(auto, using(ix_tree::specs::PlainParts::plain_parts))]
+#[tactic(auto, using(ix_tree::specs::lemmas::PlainParts::plain_parts))]
 fn first_seq(y: &Expr, z: &Expr, alloc: Global) -> Result<Tree, AllocError>
     ensures { IfOk result (λ t. plain t ≡ seq (initial_tree (form_of y.now)) (listed (when (accepts (form_of y.now)) (initial_tree (form_of z.now) ∷ [])))) }
 {
@@ -58,7 +58,7 @@ fn first_seq(y: &Expr, z: &Expr, alloc: Global) -> Result<Tree, AllocError>
 
 /// The tree of the empty word, if it may begin.
 #[cycle(first)]
-#[tactic(auto, using(ix_tree::specs::PlainParts::plain_parts))]
+#[tactic(auto, using(ix_tree::specs::lemmas::PlainParts::plain_parts))]
 fn first_rest(z: &Expr, begins: bool, alloc: Global) -> Result<Vec<Tree>, AllocError>
     ensures { IfOk result (λ v. each plain v.items ≡ when begins (initial_tree (form_of z.now) ∷ [])) }
 {
@@ -79,7 +79,7 @@ fn is_complete(expr: &Expr) -> bool
 }
 
 /// The one split of the empty word.
-#[tactic(auto, using(ix_tree::specs::PlainParts::plain_parts))]
+#[tactic(auto, using(ix_tree::specs::lemmas::PlainParts::plain_parts))]
 fn one_pair(first: Tree, second: Tree, alloc: Global) -> Result<Tree, AllocError>
     ensures { IfOk result (λ t. plain t ≡ par (listed (pair (plain first) (plain second) ∷ []))) }
 {
@@ -89,7 +89,7 @@ fn one_pair(first: Tree, second: Tree, alloc: Global) -> Result<Tree, AllocError
 }
 
 /// The one alternative of the empty word: no run has begun.
-#[tactic(auto, using(ix_tree::specs::PlainParts::plain_parts))]
+#[tactic(auto, using(ix_tree::specs::lemmas::PlainParts::plain_parts))]
 fn empty_bag(alloc: Global) -> Result<Tree, AllocError>
     ensures { IfOk result (λ t. plain t ≡ par_star (listed (bag none ∷ []))) }
 {
@@ -101,7 +101,7 @@ fn empty_bag(alloc: Global) -> Result<Tree, AllocError>
 }
 
 /// The one alternative of the empty word: no value has begun.
-#[tactic(auto, using(ix_tree::specs::PlainParts::plain_parts))]
+#[tactic(auto, using(ix_tree::specs::lemmas::PlainParts::plain_parts))]
 fn empty_map(alloc: Global) -> Result<Tree, AllocError>
     ensures { IfOk result (λ t. plain t ≡ all (listed (map none ∷ []))) }
 {

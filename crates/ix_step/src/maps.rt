@@ -2,18 +2,18 @@
 
 ghost use Rattle.std.specs.Prelude.{◌≡◌, ℕ, ◌≤◌, ◌++◌, [], List, IfOk, MatchResult, true, map, flat_map};
 ghost use Rattle.ix_words.specs.Each.{Each};
-ghost use Rattle.ix_expr.specs.FormOf.{form_of};
+ghost use Rattle.ix_expr.specs.inside.FormOf.{form_of};
 ghost use Rattle.ix_expr.specs.Form.{Form, all};
 ghost use Rattle.ix_tree.specs.Plain.{Plain, listed, items_of, all as all_of, map as map_of};
 ghost use Rattle.ix_tree.specs.PlainOf.{plain, plain_map};
 ghost use Rattle.ix_tree.specs.Order.{first_part};
 ghost use Rattle.ix_tree.specs.Size.{size_of};
-ghost use Rattle.ix_can.specs.May.{may};
+ghost use Rattle.ix_can.specs.inside.May.{may};
 ghost use Rattle.ix_can.specs.Nodes.{set_of, is_live};
-ghost use Rattle.ix_can.specs.Moved.{moved, map_with, entry_with};
-ghost use Rattle.ix_step.specs.Building.{Builds, Gathers, IsSmall};
-ghost use Rattle.ix_step.specs.Ready.{Ready};
-ghost use Rattle.ix_step.specs.Mapped.{HoldsWell, ReadyToBegin, begun_tree, map_after, maps_after, with_tree, Retold};
+ghost use Rattle.ix_can.specs.inside.Moved.{moved, map_with, entry_with};
+ghost use Rattle.ix_step.specs.inside.Builds.{Builds, Gathers, IsSmall};
+ghost use Rattle.ix_step.specs.inside.Ready.{Ready};
+ghost use Rattle.ix_step.specs.inside.MapsAfter.{HoldsWell, ReadyToBegin, begun_tree, map_after, maps_after, with_tree, Retold};
 
 use crate::advance::advance;
 use crate::fault::BuildFault;

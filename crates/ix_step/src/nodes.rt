@@ -4,7 +4,7 @@ ghost use Rattle.std.specs.Prelude.{◌≡◌, ℕ, ◌≤◌, ◌^◌, false, M
 ghost use Rattle.ix_tree.specs.Plain.{Plain, opt, or, and, couple};
 ghost use Rattle.ix_tree.specs.PlainOf.{plain};
 ghost use Rattle.ix_tree.specs.Size.{size_of};
-ghost use Rattle.ix_step.specs.Building.{Builds, BuildsBox, BuildsBoth, IsSmall, IsSmallBox, IsSmallBoth};
+ghost use Rattle.ix_step.specs.inside.Builds.{Builds, BuildsBox, BuildsBoth, IsSmall, IsSmallBox, IsSmallBoth};
 
 use crate::fault::BuildFault;
 use ix_tree::Tree;

@@ -5,8 +5,8 @@ ghost use Rattle.ix_tree.specs.Plain.{Plain, par};
 ghost use Rattle.ix_tree.specs.PlainOf.{plain, plain_pair};
 ghost use Rattle.ix_tree.specs.Size.{size_of};
 ghost use Rattle.ix_can.specs.Nodes.{set_of};
-ghost use Rattle.ix_step.specs.Building.{Builds, Gathers, IsSmall};
-ghost use Rattle.ix_step.specs.Parallel.{left_live, right_live};
+ghost use Rattle.ix_step.specs.inside.Builds.{Builds, Gathers, IsSmall};
+ghost use Rattle.ix_step.specs.inside.ParallelMoves.{left_live, right_live};
 
 use crate::fault::BuildFault;
 use crate::sets::put;

@@ -2,16 +2,17 @@
 
 ghost use Rattle.std.specs.Prelude.{◌≡◌, ◌≤◌, true, List, map, flat_map};
 ghost use Rattle.ix_words.specs.Each.{Each};
-ghost use Rattle.ix_expr.specs.FormOf.{form_of};
+ghost use Rattle.ix_expr.specs.inside.FormOf.{form_of};
 ghost use Rattle.ix_expr.specs.Form.{par, par_star};
-ghost use Rattle.ix_tree.specs.PlainOf.{plain, plain_pair, plain_bag, plain_trees};
+ghost use Rattle.ix_tree.specs.PlainOf.{plain, plain_pair, plain_bag};
+ghost use Rattle.ix_tree.specs.inside.PlainLists.{plain_trees};
 ghost use Rattle.ix_tree.specs.Size.{size_of};
-ghost use Rattle.ix_can.specs.May.{may};
-ghost use Rattle.ix_can.specs.Moved.{moved};
-ghost use Rattle.ix_step.specs.Building.{Builds, Gathers, IsSmall};
-ghost use Rattle.ix_step.specs.Moves.{begun};
-ghost use Rattle.ix_step.specs.Parallel.{pair_moves, pick_moves, bag_moves, IsReadyPair, IsReadyBag, IsLimit};
-ghost use Rattle.ix_step.specs.Ready.{Ready};
+ghost use Rattle.ix_can.specs.inside.May.{may};
+ghost use Rattle.ix_can.specs.inside.Moved.{moved};
+ghost use Rattle.ix_step.specs.inside.Builds.{Builds, Gathers, IsSmall};
+ghost use Rattle.ix_step.specs.inside.Moves.{begun};
+ghost use Rattle.ix_step.specs.inside.ParallelMoves.{pair_moves, pick_moves, bag_moves, IsReadyPair, IsReadyBag, IsLimit};
+ghost use Rattle.ix_step.specs.inside.Ready.{Ready};
 
 use crate::advance::{advance, advance_again};
 use crate::bags::{par_star_node, put_first, put_moved};

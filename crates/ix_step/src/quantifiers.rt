@@ -2,17 +2,18 @@
 
 ghost use Rattle.std.specs.Prelude.{◌≡◌, ℕ, ◌≤◌, ◌++◌, ◌∷◌, [], List, IfOk, MatchResult, false, true, map};
 ghost use Rattle.std.specs.Map.{keys_of};
-ghost use Rattle.ix_expr.specs.FormOf.{form_of};
+ghost use Rattle.ix_expr.specs.inside.FormOf.{form_of};
 ghost use Rattle.ix_expr.specs.Form.{any, every, sync};
 ghost use Rattle.ix_tree.specs.Plain.{Plain, listed, any as any_of, every as every_of, sync as sync_of};
-ghost use Rattle.ix_tree.specs.PlainOf.{plain, plain_entry, plain_entries};
+ghost use Rattle.ix_tree.specs.PlainOf.{plain};
+ghost use Rattle.ix_tree.specs.inside.PlainLists.{plain_entry, plain_entries};
 ghost use Rattle.ix_tree.specs.Size.{size_of};
-ghost use Rattle.ix_can.specs.May.{may};
-ghost use Rattle.ix_can.specs.Moved.{moved};
-ghost use Rattle.ix_step.specs.Building.{Builds};
-ghost use Rattle.ix_step.specs.Ready.{Ready};
-ghost use Rattle.ix_step.specs.Entering.{entries_put};
-ghost use Rattle.ix_step.specs.Quantified.{ReadyInside, moved_part, common_after, tree_after, touched, BuildsEntries, BuildsParts, AreSmallParts};
+ghost use Rattle.ix_can.specs.inside.May.{may};
+ghost use Rattle.ix_can.specs.inside.Moved.{moved};
+ghost use Rattle.ix_step.specs.inside.Builds.{Builds};
+ghost use Rattle.ix_step.specs.inside.Ready.{Ready};
+ghost use Rattle.ix_step.specs.inside.EnterTrees.{entries_put};
+ghost use Rattle.ix_step.specs.inside.ValueTrees.{ReadyInside, moved_part, common_after, tree_after, touched, BuildsEntries, BuildsParts, AreSmallParts};
 
 use crate::advance::{advance, advance_inside};
 use crate::entries::put_tree;
@@ -282,7 +283,7 @@ fn touched_values(
 }
 
 /// The node of `any $p y` after an action.
-#[tactic(auto, using(ix_tree::specs::PlainParts::plain_parts))]
+#[tactic(auto, using(ix_tree::specs::lemmas::PlainParts::plain_parts))]
 fn any_node(
     parts: Result<(Box<Tree>, Vec<(Value, Tree)>), BuildFault>,
     limit: usize,
@@ -299,7 +300,7 @@ fn any_node(
 }
 
 /// The node of `every $p y` after an action.
-#[tactic(auto, using(ix_tree::specs::PlainParts::plain_parts))]
+#[tactic(auto, using(ix_tree::specs::lemmas::PlainParts::plain_parts))]
 fn every_node(
     parts: Result<(Box<Tree>, Vec<(Value, Tree)>), BuildFault>,
     limit: usize,
@@ -316,7 +317,7 @@ fn every_node(
 }
 
 /// The node of `sync $p y` after an action.
-#[tactic(auto, using(ix_tree::specs::PlainParts::plain_parts))]
+#[tactic(auto, using(ix_tree::specs::lemmas::PlainParts::plain_parts))]
 fn sync_node(
     parts: Result<(Box<Tree>, Vec<(Value, Tree)>), BuildFault>,
     limit: usize,

@@ -1,7 +1,7 @@
 //! Items put into sets of alternatives.
 
 ghost use Rattle.std.specs.Prelude.{◌≡◌, ◌≤◌, ◌^◌};
-ghost use Rattle.ix_step.specs.Building.{Puts};
+ghost use Rattle.ix_step.specs.inside.Builds.{Puts};
 
 use crate::fault::BuildFault;
 use ix_alts::{AltFault, AltSet, Weight};

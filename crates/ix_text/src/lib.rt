@@ -3,7 +3,7 @@
 
 ghost use Rattle.std.specs.Prelude.{◌≡◌, ◌∷◌, ◌++◌, [], ◌<◌, nat_lt, nat_le, IfOk, OnOk, length, vec_len};
 ghost use Rattle.ix_expr.specs.CanonicalText as spec;
-ghost use Rattle.ix_expr.specs.FormOf.{form_of};
+ghost use Rattle.ix_expr.specs.inside.FormOf.{form_of};
 
 use ix_expr::{Arg, Atom, Expr, Expression};
 use ix_values::Name;

@@ -6,14 +6,14 @@ use Rattle.std.specs.List.Sorted.{IsStrictlySortedBy}
 use Rattle.std.specs.Ordering.{match_ordering}
 use Rattle.std.specs.Cmp.{tied_itself}
 use Rattle.std.proofs.lemmas.List.Sums.{sum_by-cons}
-use Rattle.ix_alts.specs.Alternatives.{HasItem}
+use Rattle.ix_alts.specs.inside.Alternatives.{HasItem}
 use Rattle.ix_words.specs.Canon.{Ascending, ascending_end, below, put_once, by_order}
 use Rattle.ix_words.proofs.Canon.{Member-cases}
 use Rattle.ix_words.specs.Each.{Each, no_item, item, Member, here, there}
 use Rattle.ix_tree.specs.Plain.{Plain, listed}
 use Rattle.ix_tree.specs.Size.{size_of}
 use Rattle.ix_tree.specs.Order.{tree_cmp}
-use Rattle.ix_tree.specs.TreeOrder.{tree_cmp-same, tree_cmp-total}
+use Rattle.ix_tree.specs.lemmas.TreeOrder.{tree_cmp-same, tree_cmp-total}
 
 -- what such items weigh together is the Size of their plain list
 pub weight_of-list : {A : Type 0} (f : A → Plain) (xs : List A) → sum_by (λ x. size_of (f x)) xs ≡ size_of (listed (each f xs))

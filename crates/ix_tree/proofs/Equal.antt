@@ -5,9 +5,9 @@ use Rattle.std.specs.Ordering.{is_eq}
 use Rattle.std.proofs.lemmas.Cmp.{tied_itself}
 use Rattle.ix_tree.specs.Plain.{Plain}
 use Rattle.ix_tree.specs.Order.{tree_cmp}
-use Rattle.ix_tree.specs.TreeOrder.{tree_cmp-same, tree_cmp-total}
+use Rattle.ix_tree.specs.lemmas.TreeOrder.{tree_cmp-same, tree_cmp-total}
 use Rattle.ix_tree.specs.PlainOf.{plain, plain_pair, plain_bag, plain_map}
-use Rattle.ix_tree.specs.DerivedOrder.{tree_order_is, pair_order_is, bag_order_is, map_order_is}
+use Rattle.ix_tree.specs.lemmas.DerivedOrder.{tree_order_is, pair_order_is, bag_order_is, map_order_is}
 use Rattle.ix_tree.specs.declared.tree.Tree.{Tree}
 use Rattle.ix_tree.specs.declared.tree.Pair.{Pair}
 use Rattle.ix_tree.specs.declared.tree.Bag.{Bag}

@@ -3,7 +3,7 @@ use Rattle.std.proofs.Common.{◌≡◌, ℕ, Bool, true, false, List, Vec, Glob
 use Rattle.std.specs.declared.boxed.Box.{Box}
 use Rattle.ix_tree.specs.Plain.{is_dead}
 use Rattle.ix_tree.specs.PlainOf.{plain}
-use Rattle.ix_tree.specs.PlainParts.{plain-Start, plain-Done, plain-Opt, plain-Seq, plain-Star, plain-Par, plain-ParStar, plain-Or, plain-And, plain-Couple, plain-Any, plain-Every, plain-Sync, plain-All}
+use Rattle.ix_tree.specs.lemmas.PlainParts.{plain-Start, plain-Done, plain-Opt, plain-Seq, plain-Star, plain-Par, plain-ParStar, plain-Or, plain-And, plain-Couple, plain-Any, plain-Every, plain-Sync, plain-All}
 use Rattle.ix_tree.specs.declared.tree.Tree.{Tree, Dead, Start, Done, Opt, Seq, Star, Par, ParStar, Or, And, Couple, Any, Every, Sync, All, Tree-F, out-Tree, roll-Tree, roll-out-Tree}
 use Rattle.ix_tree.specs.declared.tree.Tree.TheVariants.{rolls-Dead, rolls-Start, rolls-Done, rolls-Opt, rolls-Seq, rolls-Star, rolls-Par, rolls-ParStar, rolls-Or, rolls-And, rolls-Couple, rolls-Any, rolls-Every, rolls-Sync, rolls-All}
 use Rattle.ix_tree.specs.declared.tree.Pair.{Pair}

@@ -1,9 +1,7 @@
 pub mod Plain
 pub mod PlainOf
-pub mod PlainParts
 pub mod Size
 pub mod Order
-pub mod TreeOrder
-pub mod DerivedOrder
-pub mod Weights
 pub mod Laws
+pub mod inside
+pub mod lemmas

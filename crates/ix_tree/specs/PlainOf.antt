@@ -55,27 +55,3 @@ plain_bag = fold-Bag Plain Plain Plain Plain tree_step bag_step map_step pair_st
 -- the plain map of a map
 unfoldable pub plain_map : Map → Plain
 plain_map = fold-Map Plain Plain Plain Plain tree_step bag_step map_step pair_step
-
--- the plain entry of a value and its tree
-abbrev pub plain_entry : List ℕ × Tree → Plain
-plain_entry e = entry e.0 (plain e.1)
-
--- the plain list of trees
-abbrev pub plain_trees : List Tree → Plain
-plain_trees xs = listed (each plain xs)
-
--- the plain list of entries
-abbrev pub plain_entries : List (List ℕ × Tree) → Plain
-plain_entries es = listed (each plain_entry es)
-
--- the plain list of pairs
-abbrev pub plain_pairs : List Pair → Plain
-plain_pairs ps = listed (each plain_pair ps)
-
--- the plain list of bags
-abbrev pub plain_bags : List Bag → Plain
-plain_bags bs = listed (each plain_bag bs)
-
--- the plain list of maps
-abbrev pub plain_maps : List Map → Plain
-plain_maps ms = listed (each plain_map ms)

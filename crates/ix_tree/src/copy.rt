@@ -1,7 +1,8 @@
 //! Copies of trees and of their parts.
 
 ghost use Rattle.std.specs.Prelude.{◌≡◌, IfOk, map};
-ghost use Rattle.ix_tree.specs.PlainOf.{plain, plain_pair, plain_bag, plain_map, plain_entry};
+ghost use Rattle.ix_tree.specs.PlainOf.{plain, plain_pair, plain_bag, plain_map};
+ghost use Rattle.ix_tree.specs.inside.PlainLists.{plain_entry};
 
 use crate::tree::{Bag, Map, Pair, Tree};
 use ix_values::Value;
@@ -10,7 +11,7 @@ use std::alloc::{AllocError, Global};
 impl Tree {
     /// An equal tree in memory of its own.
     #[cycle(copy)]
-    #[tactic(auto, using(crate::specs::PlainParts::plain_parts))]
+    #[tactic(auto, using(crate::specs::lemmas::PlainParts::plain_parts))]
     pub fn copy(&self, alloc: Global) -> Result<Tree, AllocError>
         ensures { IfOk result (λ t. plain t ≡ plain self.now) }
     {
@@ -42,7 +43,7 @@ impl Tree {
 impl Pair {
     /// An equal pair in memory of its own.
     #[cycle(copy)]
-    #[tactic(auto, using(crate::specs::PlainParts::plain_parts))]
+    #[tactic(auto, using(crate::specs::lemmas::PlainParts::plain_parts))]
     pub fn copy(&self, alloc: Global) -> Result<Pair, AllocError>
         ensures { IfOk result (λ p. plain_pair p ≡ plain_pair self.now) }
     {
@@ -56,7 +57,7 @@ impl Pair {
 impl Bag {
     /// An equal bag in memory of its own.
     #[cycle(copy)]
-    #[tactic(auto, using(crate::specs::PlainParts::plain_parts))]
+    #[tactic(auto, using(crate::specs::lemmas::PlainParts::plain_parts))]
     pub fn copy(&self, alloc: Global) -> Result<Bag, AllocError>
         ensures { IfOk result (λ b. plain_bag b ≡ plain_bag self.now) }
     {
@@ -69,7 +70,7 @@ impl Bag {
 impl Map {
     /// An equal map in memory of its own.
     #[cycle(copy)]
-    #[tactic(auto, using(crate::specs::PlainParts::plain_parts))]
+    #[tactic(auto, using(crate::specs::lemmas::PlainParts::plain_parts))]
     pub fn copy(&self, alloc: Global) -> Result<Map, AllocError>
         ensures { IfOk result (λ m. plain_map m ≡ plain_map self.now) }
     {

@@ -1,7 +1,8 @@
 //! The Size of trees and of their parts.
 
 ghost use Rattle.std.specs.Prelude.{◌≡◌, ◌≤◌, ◌^◌};
-ghost use Rattle.ix_tree.specs.PlainOf.{plain, plain_pair, plain_bag, plain_map, plain_trees, plain_pairs, plain_bags, plain_maps, plain_entries};
+ghost use Rattle.ix_tree.specs.PlainOf.{plain, plain_pair, plain_bag, plain_map};
+ghost use Rattle.ix_tree.specs.inside.PlainLists.{plain_trees, plain_pairs, plain_bags, plain_maps, plain_entries};
 ghost use Rattle.ix_tree.specs.Size.{size_of};
 
 use crate::tree::{Bag, Map, Pair, Tree};
@@ -10,7 +11,7 @@ use ix_values::Value;
 impl Tree {
     /// The Size of the tree, which is at most 2^32. Takes no memory.
     #[cycle(size)]
-    #[tactic(auto, using(crate::specs::PlainParts::plain_parts))]
+    #[tactic(auto, using(crate::specs::lemmas::PlainParts::plain_parts))]
     pub fn size(&self) -> usize
         requires { size_of (plain self.now) ≤ 2 ^ 32 }
         ensures { result ≡ size_of (plain self.now) }
@@ -34,7 +35,7 @@ impl Tree {
 impl Pair {
     /// The Size of the pair: 1 and the Sizes of its trees.
     #[cycle(size)]
-    #[tactic(auto, using(crate::specs::PlainParts::plain_parts))]
+    #[tactic(auto, using(crate::specs::lemmas::PlainParts::plain_parts))]
     pub fn size(&self) -> usize
         requires { size_of (plain_pair self.now) ≤ 2 ^ 32 }
         ensures { result ≡ size_of (plain_pair self.now) }
@@ -46,7 +47,7 @@ impl Pair {
 impl Bag {
     /// The Size of the bag: 1 and the Sizes of its trees.
     #[cycle(size)]
-    #[tactic(auto, using(crate::specs::PlainParts::plain_parts))]
+    #[tactic(auto, using(crate::specs::lemmas::PlainParts::plain_parts))]
     pub fn size(&self) -> usize
         requires { size_of (plain_bag self.now) ≤ 2 ^ 32 }
         ensures { result ≡ size_of (plain_bag self.now) }
@@ -58,7 +59,7 @@ impl Bag {
 impl Map {
     /// The Size of the map: 1, and 1 and the Size of its tree for each entry.
     #[cycle(size)]
-    #[tactic(auto, using(crate::specs::PlainParts::plain_parts))]
+    #[tactic(auto, using(crate::specs::lemmas::PlainParts::plain_parts))]
     pub fn size(&self) -> usize
         requires { size_of (plain_map self.now) ≤ 2 ^ 32 }
         ensures { result ≡ size_of (plain_map self.now) }
@@ -69,7 +70,7 @@ impl Map {
 
 /// The Sizes of trees together.
 #[cycle(size)]
-#[tactic(auto, using(crate::specs::PlainParts::plain_parts))]
+#[tactic(auto, using(crate::specs::lemmas::PlainParts::plain_parts))]
 pub fn trees_size(trees: &[Tree]) -> usize
     requires { size_of (plain_trees trees.now) ≤ 2 ^ 32 }
     ensures { result ≡ size_of (plain_trees trees.now) }
@@ -83,7 +84,7 @@ pub fn trees_size(trees: &[Tree]) -> usize
 
 /// The Sizes of pairs together.
 #[cycle(size)]
-#[tactic(auto, using(crate::specs::PlainParts::plain_parts))]
+#[tactic(auto, using(crate::specs::lemmas::PlainParts::plain_parts))]
 pub fn pairs_size(pairs: &[Pair]) -> usize
     requires { size_of (plain_pairs pairs.now) ≤ 2 ^ 32 }
     ensures { result ≡ size_of (plain_pairs pairs.now) }
@@ -97,7 +98,7 @@ pub fn pairs_size(pairs: &[Pair]) -> usize
 
 /// The Sizes of bags together.
 #[cycle(size)]
-#[tactic(auto, using(crate::specs::PlainParts::plain_parts))]
+#[tactic(auto, using(crate::specs::lemmas::PlainParts::plain_parts))]
 pub fn bags_size(bags: &[Bag]) -> usize
     requires { size_of (plain_bags bags.now) ≤ 2 ^ 32 }
     ensures { result ≡ size_of (plain_bags bags.now) }
@@ -111,7 +112,7 @@ pub fn bags_size(bags: &[Bag]) -> usize
 
 /// The Sizes of maps together.
 #[cycle(size)]
-#[tactic(auto, using(crate::specs::PlainParts::plain_parts))]
+#[tactic(auto, using(crate::specs::lemmas::PlainParts::plain_parts))]
 pub fn maps_size(maps: &[Map]) -> usize
     requires { size_of (plain_maps maps.now) ≤ 2 ^ 32 }
     ensures { result ≡ size_of (plain_maps maps.now) }
@@ -125,7 +126,7 @@ pub fn maps_size(maps: &[Map]) -> usize
 
 /// The Sizes of entries together: 1 and the Size of its tree for each.
 #[cycle(size)]
-#[tactic(auto, using(crate::specs::PlainParts::plain_parts))]
+#[tactic(auto, using(crate::specs::lemmas::PlainParts::plain_parts))]
 pub fn entries_size(entries: &[(Value, Tree)]) -> usize
     requires { size_of (plain_entries entries.now) ≤ 2 ^ 32 }
     ensures { result ≡ size_of (plain_entries entries.now) }

@@ -10,7 +10,7 @@ use std::alloc::{AllocError, Global};
 use std::test::Fail;
 
 /// `a - b` after `a`.
-#[tactic(auto, using(crate::specs::PlainParts::plain_parts))]
+#[tactic(auto, using(crate::specs::lemmas::PlainParts::plain_parts))]
 fn half(alloc: Global) -> Result<Tree, AllocError>
     ensures { IfOk result (λ t. plain t ≡ seq done (more start none)) }
 {
@@ -20,7 +20,7 @@ fn half(alloc: Global) -> Result<Tree, AllocError>
 }
 
 /// `a - c` before any action.
-#[tactic(auto, using(crate::specs::PlainParts::plain_parts))]
+#[tactic(auto, using(crate::specs::lemmas::PlainParts::plain_parts))]
 fn ready(alloc: Global) -> Result<Tree, AllocError>
     ensures { IfOk result (λ t. plain t ≡ seq start none) }
 {
@@ -28,7 +28,7 @@ fn ready(alloc: Global) -> Result<Tree, AllocError>
 }
 
 /// `#(a - b)` before any action.
-#[tactic(auto, using(crate::specs::PlainParts::plain_parts))]
+#[tactic(auto, using(crate::specs::lemmas::PlainParts::plain_parts))]
 fn none_begun(alloc: Global) -> Result<Tree, AllocError>
     ensures { IfOk result (λ t. plain t ≡ par_star (more (bag none) none)) }
 {
@@ -40,7 +40,7 @@ fn none_begun(alloc: Global) -> Result<Tree, AllocError>
 }
 
 /// `#(a - b)` after `a`.
-#[tactic(auto, using(crate::specs::PlainParts::plain_parts))]
+#[tactic(auto, using(crate::specs::lemmas::PlainParts::plain_parts))]
 fn one_begun(alloc: Global) -> Result<Tree, AllocError>
     ensures { IfOk result (λ t. plain t
         ≡ par_star (more (bag (more (seq done (more start none)) none)) none)) }
@@ -53,7 +53,7 @@ fn one_begun(alloc: Global) -> Result<Tree, AllocError>
 }
 
 /// `#(a - b)` after `a`, `a`.
-#[tactic(auto, using(crate::specs::PlainParts::plain_parts))]
+#[tactic(auto, using(crate::specs::lemmas::PlainParts::plain_parts))]
 fn two_begun(alloc: Global) -> Result<Tree, AllocError>
     ensures { IfOk result (λ t. plain t
         ≡ par_star (more (bag (more (seq done (more start none)) (more (seq done (more start none)) none))) none)) }
@@ -67,7 +67,7 @@ fn two_begun(alloc: Global) -> Result<Tree, AllocError>
 }
 
 /// `(a - b) + (a - c)` after `a`.
-#[tactic(auto, using(crate::specs::PlainParts::plain_parts))]
+#[tactic(auto, using(crate::specs::lemmas::PlainParts::plain_parts))]
 fn two_sides(alloc: Global) -> Result<Tree, AllocError>
     ensures { IfOk result (λ t. plain t
         ≡ par (more (pair (seq start none) (seq done (more start none)))
@@ -86,7 +86,7 @@ fn two_sides(alloc: Global) -> Result<Tree, AllocError>
 }
 
 /// `any $p (a - b($p))` after `a`.
-#[tactic(auto, using(crate::specs::PlainParts::plain_parts))]
+#[tactic(auto, using(crate::specs::lemmas::PlainParts::plain_parts))]
 fn no_value(alloc: Global) -> Result<Tree, AllocError>
     ensures { IfOk result (λ t. plain t ≡ any (seq done (more start none)) none) }
 {
@@ -94,7 +94,7 @@ fn no_value(alloc: Global) -> Result<Tree, AllocError>
 }
 
 /// `any $p (a - b($p))` after `a`, `b(u)`, for the value `u`.
-#[tactic(auto, using(crate::specs::PlainParts::plain_parts))]
+#[tactic(auto, using(crate::specs::lemmas::PlainParts::plain_parts))]
 fn one_value(alloc: Global, value: Value) -> Result<Tree, AllocError>
     ensures { IfOk result (λ t. plain t
         ≡ any dead (more (entry value (seq dead (more done none))) none)) }

@@ -70,7 +70,7 @@ pub struct Map {
 
 impl Tree {
     /// Whether the word is not partial.
-    #[tactic(auto, using(crate::specs::PlainParts::plain_parts))]
+    #[tactic(auto, using(crate::specs::lemmas::PlainParts::plain_parts))]
     pub fn is_dead(&self) -> bool
         ensures { result ≡ is_dead (plain self.now) }
     {

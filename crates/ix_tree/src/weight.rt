@@ -4,7 +4,7 @@ use crate::tree::{Bag, Map, Pair, Tree};
 use ix_alts::Weight;
 
 impl Weight for Tree {
-    ghost use Rattle.ix_tree.specs.Weights.{tree_weight, equal_trees_weigh_alike};
+    ghost use Rattle.ix_tree.specs.lemmas.Weights.{tree_weight, equal_trees_weigh_alike};
 
     ghost weight = { tree_weight };
 
@@ -16,7 +16,7 @@ impl Weight for Tree {
 }
 
 impl Weight for Pair {
-    ghost use Rattle.ix_tree.specs.Weights.{pair_weight, equal_pairs_weigh_alike};
+    ghost use Rattle.ix_tree.specs.lemmas.Weights.{pair_weight, equal_pairs_weigh_alike};
 
     ghost weight = { pair_weight };
 
@@ -28,7 +28,7 @@ impl Weight for Pair {
 }
 
 impl Weight for Bag {
-    ghost use Rattle.ix_tree.specs.Weights.{bag_weight, equal_bags_weigh_alike};
+    ghost use Rattle.ix_tree.specs.lemmas.Weights.{bag_weight, equal_bags_weigh_alike};
 
     ghost weight = { bag_weight };
 
@@ -40,7 +40,7 @@ impl Weight for Bag {
 }
 
 impl Weight for Map {
-    ghost use Rattle.ix_tree.specs.Weights.{map_weight, equal_maps_weigh_alike};
+    ghost use Rattle.ix_tree.specs.lemmas.Weights.{map_weight, equal_maps_weigh_alike};
 
     ghost weight = { map_weight };
 

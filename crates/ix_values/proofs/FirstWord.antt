@@ -3,7 +3,7 @@ use Rattle.std.proofs.Common.{◌≡◌, ℕ, zero, suc, ◌+◌, ◌<◌, ◌�
 use Rattle.std.specs.Prelude.{◌&&◌, Option, Some, None, slice_get, MatchOption}
 use Rattle.std.specs.List.{list_all, prefix_len}
 use Rattle.ix_values.specs.Bytes.{is_word_byte}
-use Rattle.ix_values.specs.Reading.{word_length, first_word}
+use Rattle.ix_values.specs.inside.FirstWord.{word_length, first_word}
 use Rattle.ix_values.specs.Texts.{IsName, IsValue, begins_with_letter}
 use Rattle.ix_values.proofs.Machine.{letters_are_words}
 use Rattle.ix_values.proofs.Stuck.{word_next, slice_get-drop, head}

@@ -5,8 +5,9 @@ use Rattle.std.proofs.lemmas.List.{take_rest, take_all, append-nil}
 use Rattle.std.proofs.lemmas.List.Elements.{All-nil}
 use Rattle.std.proofs.lemmas.Option.{slice_get_within}
 use Rattle.ix_values.specs.Faults.{IsFault}
-use Rattle.ix_values.specs.PlainAction.{PlainAction, action_of, text_of}
-use Rattle.ix_values.specs.Reading.{opened, word_length, first_word, code_after_name, code_after_value}
+use Rattle.ix_values.specs.PlainAction.{PlainAction, text_of}
+use Rattle.ix_values.specs.inside.ActionOf.{action_of}
+use Rattle.ix_values.specs.inside.FirstWord.{opened, word_length, first_word, code_after_name, code_after_value}
 use Rattle.ix_values.specs.Texts.{IsName, IsValue, IsAction}
 use Rattle.ix_values.proofs.FirstWord.{first_word-WasRead, no_word_next, take-next}
 use Rattle.ix_values.proofs.Stuck.{word_next, slice_get-drop, fault_behind_name, fault_behind_value}

@@ -2,7 +2,7 @@
 use Rattle.std.proofs.Common.{◌≡◌, ℕ, suc, ◌+◌, ◌-◌, ◌<◌, ◌≤◌, List, [], ◌∷◌, ◌++◌, length, take, set, get_or, sym, ◌∙◌, ap, subst, arith, below_more, append_assoc, length-append, length-take-le}
 use Rattle.std.specs.Prelude.{replicate}
 use Rattle.std.proofs.lemmas.List.{set_at, take_at, take_more, get_or_read, length_push}
-use Rattle.ix_values.specs.Padding.{padded, IsPadded}
+use Rattle.ix_values.specs.inside.Padding.{padded, IsPadded}
 
 -- a write into the first slot that holds no item
 pub padded-push : {A : Type 0} (size : ℕ) (fill : A) (items : List A) (n : ℕ) (x : A) → length items ≡ n → n < size → set (padded size fill items) n x ≡ padded size fill (items ++ x ∷ [])

@@ -7,8 +7,9 @@ use Rattle.std.proofs.lemmas.List.{append_cancel_right}
 use Rattle.std.proofs.lemmas.List.Elements.{All-take, All-nil}
 use Rattle.ix_values.specs.Bytes.{is_word_byte}
 use Rattle.ix_values.specs.Faults.{IsActionText, CanGoOn, EndsInLongest, EndsInFourthValue, IsTooLong, IsTooMany, IsFaultCode, IsFault}
-use Rattle.ix_values.specs.PlainAction.{PlainAction, action_of, text_of}
-use Rattle.ix_values.specs.Reading.{opened, code_after_name, code_after_value}
+use Rattle.ix_values.specs.PlainAction.{PlainAction, text_of}
+use Rattle.ix_values.specs.inside.ActionOf.{action_of}
+use Rattle.ix_values.specs.inside.FirstWord.{opened, code_after_name, code_after_value}
 use Rattle.ix_values.specs.Texts.{IsName, IsValue, IsAction, begins_with_letter}
 use Rattle.ix_values.proofs.Machine.{Kind, letter, tail, opens, closes, comma, other, State, dead, start, named, expecting, valued, closed, kind, is_word, move, in_name, in_value, begin_name, begin_value, run, may_end, run-append, run-dead, run-action, run-name, run-closed, run-opened, run-begun, is_word-kind, stuck_at_start, stuck_in_name, stuck_in_value, stuck_at_value, and-left, and-right}
 use Rattle.ix_values.proofs.TextsOfActions.{text_of-push, IsAction-push, goes_on_text, goes_on_empty, goes_on_action, goes_on_opened, goes_on_begun}

@@ -5,7 +5,8 @@ use Rattle.std.specs.List.{list_all}
 use Rattle.std.proofs.lemmas.List.Elements.{All-head, All-tail}
 use Rattle.ix_values.specs.Bytes.{is_word_byte}
 use Rattle.ix_values.specs.Laws.{TextsTellActionsApart}
-use Rattle.ix_values.specs.PlainAction.{action_of, text_of_rest, text_of_values}
+use Rattle.ix_values.specs.inside.ActionOf.{action_of}
+use Rattle.ix_values.specs.PlainAction.{text_of_rest, text_of_values}
 use Rattle.ix_values.specs.Texts.{IsValue}
 use Rattle.ix_values.proofs.Machine.{and-left, and-right}
 

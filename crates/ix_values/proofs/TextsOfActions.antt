@@ -4,8 +4,9 @@ use Rattle.std.specs.Prelude.{All}
 use Rattle.std.specs.List.{flat_map}
 use Rattle.std.proofs.lemmas.List.Elements.{All-push, All-nil}
 use Rattle.ix_values.specs.Faults.{CanGoOn, IsActionText}
-use Rattle.ix_values.specs.PlainAction.{PlainAction, action_of, text_of, text_of_rest, text_of_values}
-use Rattle.ix_values.specs.Reading.{opened}
+use Rattle.ix_values.specs.PlainAction.{PlainAction, text_of, text_of_rest, text_of_values}
+use Rattle.ix_values.specs.inside.ActionOf.{action_of}
+use Rattle.ix_values.specs.inside.FirstWord.{opened}
 use Rattle.ix_values.specs.Texts.{IsName, IsValue, IsAction}
 
 -- values with a comma behind each

@@ -1,14 +1,10 @@
 -- The bytes that names and values are made of, all of them ASCII.
 use Rattle.std.specs.Prelude.{ℕ, Bool, ◌||◌, ◌==◌}
-use Rattle.std.specs.Char.{is_ascii_alphabetic, is_ascii_digit, is_ascii_alphanumeric}
+use Rattle.std.specs.Char.{is_ascii_alphabetic, is_ascii_alphanumeric}
 
 -- `A` to `Z` and `a` to `z`
 abbrev pub is_letter : ℕ → Bool
 is_letter byte = is_ascii_alphabetic byte
-
--- `0` to `9`
-abbrev pub is_digit : ℕ → Bool
-is_digit byte = is_ascii_digit byte
 
 -- a letter, a digit or `_`
 abbrev pub is_word_byte : ℕ → Bool

@@ -1,8 +1,8 @@
 pub mod Bytes
-pub mod Padding
 pub mod PlainAction
 pub mod Texts
 pub mod Order
 pub mod Faults
-pub mod Reading
 pub mod Laws
+pub mod inside
+pub mod lemmas

@@ -7,10 +7,6 @@ pub record PlainAction : Type 0 where
   pub name : List ℕ
   pub values : List (List ℕ)
 
--- the action of a name and values
-abbrev pub action_of : List ℕ → List (List ℕ) → PlainAction
-action_of name values = record { name = name; values = values }
-
 -- a list of actions
 abbrev pub Word : Type 0
 Word = List PlainAction

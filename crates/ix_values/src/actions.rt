@@ -2,9 +2,10 @@
 
 ghost use Rattle.std.specs.Prelude.{◌≡◌, ◌<◌, ◌≤◌, ◌↔◌, ◌++◌, IsTrue, refl, [], ◌∷◌, length, All};
 ghost use Rattle.std.specs.Ordering.{as_partial_cmp};
-ghost use Rattle.ix_values.specs.Order.{action_eq, action_cmp, action_eq-partial, action_eq-equiv, action_eq-ties, action_cmp-partial, action_cmp-total};
-ghost use Rattle.ix_values.specs.Padding.{padded};
-ghost use Rattle.ix_values.specs.PlainAction.{action_of};
+ghost use Rattle.ix_values.specs.inside.ActionOrder.{action_eq, action_cmp};
+ghost use Rattle.ix_values.specs.lemmas.Order.{action_eq-partial, action_eq-equiv, action_eq-ties, action_cmp-partial, action_cmp-total};
+ghost use Rattle.ix_values.specs.inside.Padding.{padded};
+ghost use Rattle.ix_values.specs.inside.ActionOf.{action_of};
 ghost use Rattle.ix_values.specs.Texts.{IsAction, IsValue};
 
 use crate::names::Name;
@@ -23,8 +24,9 @@ pub struct Action {
 impl Model for Action {
     ghost use Rattle.std.specs.Prelude.{[], ◌∷◌, length, take};
     ghost use Rattle.std.proofs.Common.{sym};
-    ghost use Rattle.ix_values.specs.Padding.{IsPadded, padded};
-    ghost use Rattle.ix_values.specs.PlainAction.{PlainAction, action_of};
+    ghost use Rattle.ix_values.specs.inside.Padding.{IsPadded, padded};
+    ghost use Rattle.ix_values.specs.PlainAction.{PlainAction};
+    ghost use Rattle.ix_values.specs.inside.ActionOf.{action_of};
     ghost use Rattle.ix_values.specs.Texts.{IsAction};
 
     ghost Value = { PlainAction };

@@ -3,7 +3,7 @@
 ghost use Rattle.std.specs.Prelude.{◌≡◌, ◌≤◌, ◌↔◌, IsTrue, length};
 ghost use Rattle.std.specs.List.{list_all};
 ghost use Rattle.ix_values.specs.Bytes as spec;
-ghost use Rattle.ix_values.specs.Padding.{padded};
+ghost use Rattle.ix_values.specs.inside.Padding.{padded};
 ghost use Rattle.ix_values.specs.Texts.{IsName, IsValue};
 
 /// Whether `byte` is an ASCII letter, an ASCII digit or `_`.

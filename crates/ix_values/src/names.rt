@@ -22,7 +22,7 @@ pub struct Name {
 impl Model for Name {
     ghost use Rattle.std.specs.Prelude.{ℕ, List, length, take};
     ghost use Rattle.std.proofs.Common.{sym};
-    ghost use Rattle.ix_values.specs.Padding.{IsPadded, padded};
+    ghost use Rattle.ix_values.specs.inside.Padding.{IsPadded, padded};
     ghost use Rattle.ix_values.specs.Texts.{IsName};
 
     ghost Value = { List ℕ };

@@ -3,7 +3,7 @@
 ghost use Rattle.std.specs.Prelude.{◌≡◌, ◌<◌, ◌≤◌, ◌↔◌, IsTrue, false, length, take, slice_get, MatchOption, MatchResult};
 ghost use Rattle.ix_values.specs.Faults.{IsFault};
 ghost use Rattle.ix_values.specs.PlainAction.{text_of};
-ghost use Rattle.ix_values.specs.Reading as spec;
+ghost use Rattle.ix_values.specs.inside.FirstWord as spec;
 ghost use Rattle.ix_values.specs.Texts.{IsAction, IsName, IsValue, begins_with_letter};
 
 use crate::actions::Action;

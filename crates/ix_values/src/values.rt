@@ -22,7 +22,7 @@ pub struct Value {
 impl Model for Value {
     ghost use Rattle.std.specs.Prelude.{ℕ, List, length, take};
     ghost use Rattle.std.proofs.Common.{sym};
-    ghost use Rattle.ix_values.specs.Padding.{IsPadded, padded};
+    ghost use Rattle.ix_values.specs.inside.Padding.{IsPadded, padded};
     ghost use Rattle.ix_values.specs.Texts.{IsValue};
 
     ghost Value = { List ℕ };

@@ -4,7 +4,7 @@ ghost use Rattle.std.specs.Prelude.{◌≡◌, ◌+◌, ◌<◌, ◌≤◌, [], 
 ghost use Rattle.arrayvec.specs.ArrayVec.{array_vec_len};
 ghost use Rattle.ix_values.specs.Laws.{TextsTellActionsApart};
 ghost use Rattle.ix_values.specs.PlainAction.{text_of};
-ghost use Rattle.ix_values.specs.Reading.{opened};
+ghost use Rattle.ix_values.specs.inside.FirstWord.{opened};
 ghost use Rattle.ix_values.specs.Texts.{IsAction};
 
 use crate::actions::Action;

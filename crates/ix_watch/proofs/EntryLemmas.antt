@@ -8,9 +8,9 @@ use Rattle.indexmap.specs.Layout.{set_value_at}
 use Rattle.indexmap.specs.IndexMap.{insert_entry}
 use Rattle.ix_watch.specs.declared.pairs.Pair.{Pair}
 use Rattle.ix_watch.specs.declared.Mark.{Mark}
-use Rattle.ix_watch.specs.Pairs.{pair_eq}
-use Rattle.ix_watch.specs.Kept.{watch_of, watches_of}
-use Rattle.ix_watch.specs.Watches.{is_of, is_watched, AreDistinct, marked}
+use Rattle.ix_watch.specs.lemmas.Pairs.{pair_eq}
+use Rattle.ix_watch.specs.inside.Kept.{watch_of, watches_of}
+use Rattle.ix_watch.specs.inside.Watches.{is_of, is_watched, AreDistinct, marked}
 
 abbrev pub Entries : Type 0
 Entries = List (Pair × Mark)

@@ -3,8 +3,10 @@ use Rattle.std.proofs.Common.{◌≡◌, ℕ, zero, suc, ◌+◌, Bool, true, fa
 use Rattle.std.proofs.Math.Numerals.{one-add}
 use Rattle.std.specs.List.{position_or_len, AllByRecursion, slice_get, remove}
 use Rattle.ix_values.specs.PlainAction.{PlainAction}
-use Rattle.ix_values.specs.Order.{text_eq, action_eq, text_eq-decides, action_eq-decides}
-use Rattle.ix_watch.specs.Watches.{PlainWatch, is_of, is_watched, AreDistinct, told_again, without, marked, noted, told_to, has_changed, changes_of}
+use Rattle.ix_values.specs.Order.{text_eq}
+use Rattle.ix_values.specs.inside.ActionOrder.{action_eq}
+use Rattle.ix_values.specs.lemmas.Order.{text_eq-decides, action_eq-decides}
+use Rattle.ix_watch.specs.inside.Watches.{PlainWatch, is_of, is_watched, AreDistinct, told_again, without, marked, noted, told_to, has_changed, changes_of}
 
 both_true : (a b : Bool) → (a && b) ≡ true → (a ≡ true) × (b ≡ true)
 both_true true b h = (refl, h)

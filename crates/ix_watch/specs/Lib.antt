@@ -1,4 +1,2 @@
-pub mod Watches
-pub mod Pairs
-pub mod Added
-pub mod Kept
+pub mod inside
+pub mod lemmas

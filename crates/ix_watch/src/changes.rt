@@ -1,7 +1,7 @@
 //! What is to be told to a client.
 ghost use Rattle.std.specs.Prelude.{◌≡◌};
-ghost use Rattle.ix_watch.specs.Watches as spec;
-ghost use Rattle.ix_watch.specs.Kept.{watch_of};
+ghost use Rattle.ix_watch.specs.inside.Watches as spec;
+ghost use Rattle.ix_watch.specs.inside.Kept.{watch_of};
 ghost use Rattle.std.specs.Iterator.{YieldsFirstBy, item_count};
 
 use crate::pairs::Pair;
@@ -25,7 +25,7 @@ impl<'a> Model for Changes<'a> {
 
     ghost Value = { List (PlainAction × Bool) };
 
-    ghost use Rattle.ix_watch.specs.Watches.{changes_of};
+    ghost use Rattle.ix_watch.specs.inside.Watches.{changes_of};
 
     ghost view = { λ c. changes_of c.name.now (drop c.index c.watches.now) };
 }

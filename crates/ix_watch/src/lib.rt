@@ -6,8 +6,8 @@
 
 ghost use Rattle.std.specs.Prelude.{◌≡◌, ◌<◌, ◌≤◌, ◌↔◌, [], ◌∷◌, ◌++◌, false, length, is_some, slice_get, Some, IfSome, IfOk, IfErr, IsTrue, IsSomeAnd};
 ghost use Rattle.std.specs.List.{position_or_len};
-ghost use Rattle.ix_watch.specs.Watches.{is_of, is_watched, AreDistinct, without, marked, noted, told_to, changes_of};
-ghost use Rattle.ix_watch.specs.Added.{Adds};
+ghost use Rattle.ix_watch.specs.inside.Watches.{is_of, is_watched, AreDistinct, without, marked, noted, told_to, changes_of};
+ghost use Rattle.ix_watch.specs.inside.Added.{Adds};
 
 mod changes;
 mod pairs;
@@ -39,11 +39,11 @@ pub struct Watches {
 
 impl Model for Watches {
     ghost use Rattle.std.specs.Prelude.{List, ◌≤◌, length};
-    ghost use Rattle.ix_watch.specs.Watches.{PlainWatch};
+    ghost use Rattle.ix_watch.specs.inside.Watches.{PlainWatch};
 
     ghost Value = { List PlainWatch };
 
-    ghost use Rattle.ix_watch.specs.Kept.{watches_of};
+    ghost use Rattle.ix_watch.specs.inside.Kept.{watches_of};
 
     ghost view = { λ w. watches_of w.marks.entries };
 
@@ -69,7 +69,7 @@ pub enum WatchFault {
 }
 
 impl Watches {
-    ghost use Rattle.ix_watch.specs.Kept.{watch_of};
+    ghost use Rattle.ix_watch.specs.inside.Kept.{watch_of};
 
     /// No watches.
     pub fn new(alloc: Global) -> Watches

@@ -3,7 +3,8 @@
 use Rattle.std.proofs.Common.{◌≡◌, ℕ, ◌⊎◌, inl, inr, Bool, true, false, not, ◌==◌, List, [], ◌∷◌, ◌++◌, length, append_assoc, refl, sym, ap, ◌∙◌, subst, arith, eq-eqb}
 use Rattle.ix_words.specs.Each.{Each, no_item, item, Member, here, there}
 use Rattle.ix_words.specs.Parts.{part, joined, Projection, ended, kept, left_out}
-use Rattle.ix_words.specs.Words.{Joined, Repeated, Split, Numbered, Owned, Projected, Leads, Closed, Gives}
+use Rattle.ix_words.specs.Words.{Joined, Repeated, Split, Numbered, Owned, Projected, Closed, Gives}
+use Rattle.ix_words.specs.inside.Leads.{Leads}
 use Rattle.ix_words.proofs.Each.{Each-append, Each-left, Each-right, Each-same, Each-head, Each-tail, Each-weaker, Each-member, Each-joined, Each-pieces}
 use Rattle.ix_words.proofs.Parts.{cut, part-append, part-each, cond_rest, cond_first, projection_cut, Projection-each}
 

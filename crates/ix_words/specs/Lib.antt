@@ -3,3 +3,4 @@ pub mod Parts
 pub mod Words
 pub mod Canon
 pub mod Laws
+pub mod inside

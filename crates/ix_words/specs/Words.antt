@@ -43,10 +43,6 @@ pub record Projected {A : Type 0} (In : A → Type 0) (Q : List A → Type 0) (w
   pub projection : Projection In w rest
   pub rest_has : Q rest
 
--- a word with Q whose items all have G has R
-abbrev pub Leads : {A : Type 0} → (A → Type 0) → (List A → Type 0) → (List A → Type 0) → Type 0
-Leads {A} G Q R = (u : List A) → Each G u → Q u → R u
-
 -- each front of a word with Q has Q
 abbrev pub Closed : {A : Type 0} → (List A → Type 0) → Type 0
 Closed {A} Q = (u v : List A) → Q (u ++ v) → Q u

@@ -1,6 +1,7 @@
 use Rattle.std.proofs.Common.{sym, arith, subst, ◌∷◌, ◌+◌, ℕ}
 use Rattle.ix_lex.specs.declared.TokenKind.TheVariants.{Param}
-use Rattle.ix_lex.specs.Lexing.{BeginsWith, FirstToken}
+use Rattle.ix_lex.specs.Lexing.{BeginsWith}
+use Rattle.ix_lex.specs.inside.FirstToken.{FirstToken}
 use Rattle.ix_lex.proofs.FirstTokens.{FirstToken-word, FirstToken-param}
 use Rattle.ix_lex.proofs.first_token.Goals as goal
 

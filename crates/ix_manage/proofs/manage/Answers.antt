@@ -1,8 +1,8 @@
 use Rattle.std.proofs.Common.{◌++◌, subst, ◌∙◌, map, string_bytes}
 use Rattle.ix_outside.specs.Sink.{AppendsPart}
 use Rattle.ix_manage.specs.Ends.{Ends}
-use Rattle.ix_manage.specs.Refusal.{refusal_line, refusal_status}
-use Rattle.ix_manage.specs.Run.{RefusedAfter}
+use Rattle.ix_manage.specs.inside.Refusal.{refusal_line, refusal_status}
+use Rattle.ix_manage.specs.inside.RefusedAfter.{RefusedAfter}
 use Rattle.ix_manage.proofs.Tracing.{part_last}
 use Rattle.ix_manage.proofs.manage.Goals as goal
 

@@ -1,6 +1,6 @@
 use Rattle.std.proofs.Common.{◌≡◌, Some, length, refl, arith}
 use Rattle.std.proofs.lemmas.Option.{slice_get_read}
-use Rattle.ix_expr.specs.FormOf.{form_of}
+use Rattle.ix_expr.specs.inside.FormOf.{form_of}
 use Rattle.ix_expr.specs.FormFaults.{nodes_of, fault_at}
 use Rattle.ix_parse.proofs.Endings.{in_range}
 use Rattle.ix_parse.proofs.checked.Goals as goal

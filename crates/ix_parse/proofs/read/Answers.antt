@@ -1,5 +1,5 @@
 use Rattle.ix_parse.specs.Faults.{IsFirstFault}
-use Rattle.ix_parse.specs.Operands.{meaning_of}
+use Rattle.ix_parse.specs.inside.Operands.{meaning_of}
 use Rattle.ix_parse.proofs.Endings.{HasMeaning-places, read-fault}
 use Rattle.ix_parse.proofs.read.Goals as goal
 

@@ -1,16 +1,17 @@
 use Rattle.std.proofs.Common.{◌<◌, ◌≡◌, ◌≤◌, true, false, refl, sym, ap, ◌∙◌, subst, arith, List, [], ◌∷◌, ◌++◌, map, length, flat_map, take, get_or, rules, None, Some}
-use Rattle.ix_expr.specs.FormOf.{form_of}
+use Rattle.ix_expr.specs.inside.FormOf.{form_of}
 use Rattle.ix_expr.specs.Form.{atom, opt, seq, star, par, par_star, or, and, couple, any, every, sync, all}
 use Rattle.ix_tree.specs.Plain.{Plain, done, opt as opt_of, seq as seq_of, star as star_of, or as or_of, and as and_of, couple as couple_of, listed, par as par_of, par_star as par_star_of, bag, items_of, any as any_of, every as every_of, sync as sync_of, all as all_of}
-use Rattle.ix_tree.specs.PlainOf.{plain, plain_trees, plain_pair, plain_bag, plain_entry, plain_entries, plain_map, plain_maps}
-use Rattle.ix_tree.specs.PlainParts.{plain-Opt, plain-Seq, plain-Star, plain-Or, plain-And, plain-Couple, plain-Pair, plain-Par, plain-ParStar, plain-Bag, plain-Any, plain-Every, plain-Sync, plain-All}
-use Rattle.ix_can.specs.May.{may, tree_at}
+use Rattle.ix_tree.specs.PlainOf.{plain, plain_pair, plain_bag, plain_map}
+use Rattle.ix_tree.specs.inside.PlainLists.{plain_trees, plain_entry, plain_entries, plain_maps}
+use Rattle.ix_tree.specs.lemmas.PlainParts.{plain-Opt, plain-Seq, plain-Star, plain-Or, plain-And, plain-Couple, plain-Pair, plain-Par, plain-ParStar, plain-Bag, plain-Any, plain-Every, plain-Sync, plain-All}
+use Rattle.ix_can.specs.inside.May.{may, tree_at}
 use Rattle.ix_can.specs.Tests.{in_alphabet}
-use Rattle.ix_can.specs.Moved.{moved, moved_within, bag_with, picks}
-use Rattle.ix_step.specs.Building.{Builds, Gathers, IsAbove, put_all}
-use Rattle.ix_step.specs.Ready.{Ready}
-use Rattle.ix_step.specs.Initial.{initial_tree}
-use Rattle.ix_step.specs.Moves.{live_moves, begun_again, begun}
+use Rattle.ix_can.specs.inside.Moved.{moved, moved_within, bag_with, picks}
+use Rattle.ix_step.specs.inside.Builds.{Builds, Gathers, IsAbove, put_all}
+use Rattle.ix_step.specs.inside.Ready.{Ready}
+use Rattle.ix_step.specs.inside.Initial.{initial_tree}
+use Rattle.ix_step.specs.inside.Moves.{live_moves, begun_again, begun}
 use Rattle.std.specs.List.{list_any, remove}
 use Rattle.ix_words.specs.Each.{Each}
 use Rattle.ix_words.specs.Canon.{when}
@@ -23,7 +24,7 @@ use Rattle.ix_step.proofs.Shapes.{atom_moves, else_opt, else_seq, else_star, els
 use Rattle.ix_step.proofs.Measure.{form_size}
 use Rattle.ix_step.proofs.Arms.{seq_ready, star_ready, second_small, ready_at, seq_moves, star_moves, opt_ready, or_ready, and_ready, couple_ready, first_ready}
 use Rattle.std.proofs.lemmas.List.{length-map}
-use Rattle.ix_step.specs.Parallel.{pair_moves, IsReadyPair, bag_moves, IsReadyBag, pick_move}
+use Rattle.ix_step.specs.inside.ParallelMoves.{pair_moves, IsReadyPair, bag_moves, IsReadyBag, pick_move}
 use Rattle.ix_step.proofs.Gathering.{image_at, each_at, lots_more, lots_fail, lots_end}
 use Rattle.ix_tree.specs.Order.{first_part, second_part}
 use Rattle.ix_step.proofs.ParallelArms.{pair_fails, pair_gathers, pairs_ready, par_arm, bags_ready, par_star_arm, bag_fails, bag_gathers}
@@ -32,13 +33,13 @@ use Rattle.ix_tree.specs.Size.{size_of}
 use Rattle.ix_tree.proofs.PlainLists.{items_of-listed}
 use Rattle.ix_step.proofs.BagsPut.{length-picks, get-picks}
 use borrow.Author.Count.{falls}
-use Rattle.ix_step.specs.Quantified.{common_after, tree_after, touched}
+use Rattle.ix_step.specs.inside.ValueTrees.{common_after, tree_after, touched}
 use Rattle.ix_step.proofs.Quantifying.{any_ready, parts_small, any_built, every_ready, every_built, sync_ready, sync_built, common_ready, ready_same, builds_same, fault_of_common, parts_same, value_ready}
 use Rattle.ix_expr.specs.Environment.{bind}
-use Rattle.ix_step.specs.Entering.{entries_put}
+use Rattle.ix_step.specs.inside.EnterTrees.{entries_put}
 use Rattle.ix_tree.specs.contracts.tree.TreePartialEq.TheImpl.{ghosts as tree_ghosts}
 use Rattle.ix_step.proofs.EntriesPut.{nothing_proper, nothing_held, after_put, fault_at, keys_ascend, tree_at_item}
-use Rattle.ix_step.specs.Mapped.{HoldsWell, map_after, maps_after, begun_tree}
+use Rattle.ix_step.specs.inside.MapsAfter.{HoldsWell, map_after, maps_after, begun_tree}
 use Rattle.ix_step.proofs.Mapping.{each_at as each_at_mapped, step_on, stop_at, put_here, fault_here, all_built, all_held, begin_ready, map_keys, found_in_map, first_ready as first_map_ready, found_ready, begun_first, begun_found}
 use Rattle.ix_step.proofs.+advance.Goals as goal
 

@@ -1,17 +1,18 @@
 use Rattle.std.proofs.Common.{◌+◌, ◌*◌, ◌≡◌, map, drop, take, flat_map, ◌≤◌}
-use Rattle.ix_expr.specs.FormOf.{form_of}
-use Rattle.ix_tree.specs.PlainOf.{plain, plain_pair, plain_bag, plain_entry, plain_map}
-use Rattle.ix_step.specs.Building.{put_all}
-use Rattle.ix_step.specs.Moves.{live_moves}
+use Rattle.ix_expr.specs.inside.FormOf.{form_of}
+use Rattle.ix_tree.specs.PlainOf.{plain, plain_pair, plain_bag, plain_map}
+use Rattle.ix_tree.specs.inside.PlainLists.{plain_entry}
+use Rattle.ix_step.specs.inside.Builds.{put_all}
+use Rattle.ix_step.specs.inside.Moves.{live_moves}
 use Rattle.ix_step.proofs.Measure.{form_size}
-use Rattle.ix_step.specs.Parallel.{pair_moves, bag_moves, pick_move}
-use Rattle.ix_can.specs.Moved.{picks}
+use Rattle.ix_step.specs.inside.ParallelMoves.{pair_moves, bag_moves, pick_move}
+use Rattle.ix_can.specs.inside.Moved.{picks}
 use Rattle.ix_values.specs.Order.{text_cmp}
-use Rattle.ix_entries.specs.Entries.{IsProper}
+use Rattle.ix_entries.specs.inside.Entries.{IsProper}
 use Rattle.ix_tree.specs.contracts.tree.TreePartialEq.TheImpl.{ghosts as tree_ghosts}
-use Rattle.ix_step.specs.Entering.{HoldTrees}
-use Rattle.ix_step.specs.Quantified.{tree_after}
-use Rattle.ix_step.specs.Mapped.{maps_after, map_after}
+use Rattle.ix_step.specs.inside.EnterTrees.{HoldTrees}
+use Rattle.ix_step.specs.inside.ValueTrees.{tree_after}
+use Rattle.ix_step.specs.inside.MapsAfter.{maps_after, map_after}
 use Rattle.ix_step.proofs.+advance.Given as goal
 
 abbrev pub decreases-advance::advance : goal.decreases-advance::advance

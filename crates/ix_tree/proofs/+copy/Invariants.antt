@@ -1,5 +1,6 @@
 use Rattle.std.proofs.Common.{◌≡◌, map, take}
-use Rattle.ix_tree.specs.PlainOf.{plain, plain_pair, plain_bag, plain_map, plain_entry}
+use Rattle.ix_tree.specs.PlainOf.{plain, plain_pair, plain_bag, plain_map}
+use Rattle.ix_tree.specs.inside.PlainLists.{plain_entry}
 use Rattle.ix_tree.proofs.+copy.Given as goal
 
 abbrev pub invariant-copy::copy_trees-loop-tree : goal.invariant-copy::copy_trees-loop-tree

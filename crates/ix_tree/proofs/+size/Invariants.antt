@@ -1,5 +1,6 @@
 use Rattle.std.proofs.Common.{◌≡◌, ◌+◌, ◌*◌, drop}
-use Rattle.ix_tree.specs.PlainOf.{plain, plain_pair, plain_bag, plain_map, plain_trees, plain_pairs, plain_bags, plain_maps, plain_entries}
+use Rattle.ix_tree.specs.PlainOf.{plain, plain_pair, plain_bag, plain_map}
+use Rattle.ix_tree.specs.inside.PlainLists.{plain_trees, plain_pairs, plain_bags, plain_maps, plain_entries}
 use Rattle.ix_tree.specs.Size.{size_of}
 use Rattle.ix_tree.proofs.+size.Given as goal
 

@@ -2,11 +2,12 @@
 use Rattle.std.proofs.Common.{◌≡◌, ◌&&◌, refl, sym, ap, ◌∙◌, subst}
 use Rattle.std.specs.List.{list_all, list_any}
 use Rattle.ix_expr.specs.Form.{opt, seq, par, par_star, or, and, couple, any, every, sync, all}
-use Rattle.ix_expr.specs.FormOf.{form_of}
+use Rattle.ix_expr.specs.inside.FormOf.{form_of}
 use Rattle.ix_tree.specs.Order.{first_part}
 use Rattle.ix_tree.specs.Plain.{items_of}
-use Rattle.ix_tree.specs.PlainOf.{plain, plain_entries}
-use Rattle.ix_tree.specs.PlainParts.{plain-Opt, plain-Seq, plain-Par, plain-ParStar, plain-Or, plain-And, plain-Couple, plain-Any, plain-Every, plain-Sync, plain-All}
+use Rattle.ix_tree.specs.PlainOf.{plain}
+use Rattle.ix_tree.specs.inside.PlainLists.{plain_entries}
+use Rattle.ix_tree.specs.lemmas.PlainParts.{plain-Opt, plain-Seq, plain-Par, plain-ParStar, plain-Or, plain-And, plain-Couple, plain-Any, plain-Every, plain-Sync, plain-All}
 use Rattle.ix_can.specs.TreeOf.{is_final}
 use Rattle.ix_can.proofs.Children.{either_then, either_else, both_then, both_else, any_tree, all_trees, any_entry, all_entries, any_pair, any_bag, any_in_maps}
 use Rattle.ix_can.proofs.Shapes.{no_final_opt, no_final_seq, no_final_par, no_final_par_star, no_final_or, no_final_and, no_final_couple, no_final_any, no_final_every, no_final_sync, no_final_all}

@@ -1,7 +1,7 @@
 -- Measures and invariants of the functions behind `is_final`.
 use Rattle.std.proofs.Common.{◌≡◌, ◌&&◌, true, false, ◌+◌, ◌*◌, take}
 use Rattle.std.specs.List.{list_all, list_any}
-use Rattle.ix_expr.specs.FormOf.{form_of}
+use Rattle.ix_expr.specs.inside.FormOf.{form_of}
 use Rattle.ix_tree.specs.PlainOf.{plain}
 use Rattle.ix_can.specs.TreeOf.{is_final}
 use Rattle.ix_can.proofs.Measures.{count}

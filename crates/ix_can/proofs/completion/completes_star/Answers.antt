@@ -2,7 +2,7 @@
 use Rattle.std.proofs.Common.{sym, ap, ◌∙◌}
 use Rattle.ix_expr.specs.Form.{star}
 use Rattle.ix_tree.specs.PlainOf.{plain}
-use Rattle.ix_tree.specs.PlainParts.{plain-Star}
+use Rattle.ix_tree.specs.lemmas.PlainParts.{plain-Star}
 use Rattle.ix_can.specs.TreeOf.{is_final}
 use Rattle.ix_can.proofs.Shapes.{no_final_star}
 use Rattle.ix_can.proofs.completion.completes_star.Goals as goal

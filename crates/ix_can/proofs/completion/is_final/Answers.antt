@@ -1,6 +1,6 @@
 -- What the tree of a word tells of the word being complete.
 use Rattle.std.proofs.Common.{ap, ◌∙◌}
-use Rattle.ix_expr.specs.FormOf.{form_of}
+use Rattle.ix_expr.specs.inside.FormOf.{form_of}
 use Rattle.ix_can.specs.TreeOf.{is_final}
 use Rattle.ix_can.proofs.Lists.{same_test}
 use Rattle.ix_can.proofs.Naming.{fits_name}

@@ -6,10 +6,10 @@ use Rattle.ix_expr.specs.Environment.{bind}
 use Rattle.ix_expr.specs.Fitting.{FitsInside, OperandsFit}
 use Rattle.ix_expr.specs.Form.{couple}
 use Rattle.ix_expr.specs.FormFaults.{Fits}
-use Rattle.ix_expr.specs.FormOf.{form_of}
+use Rattle.ix_expr.specs.inside.FormOf.{form_of}
 use Rattle.ix_expr.proofs.Parts.{fits-operands}
-use Rattle.ix_can.specs.Asked.{first_or_stays}
-use Rattle.ix_can.specs.May.{may_first}
+use Rattle.ix_can.specs.inside.CanAsk.{first_or_stays}
+use Rattle.ix_can.specs.inside.May.{may_first}
 use Rattle.ix_can.specs.Tests.{in_alphabet}
 use Rattle.ix_can.proofs.Children.{either_else, both_then, any_made, all_made}
 use Rattle.ix_can.proofs.first.+begins.Goals as goal

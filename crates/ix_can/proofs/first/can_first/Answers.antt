@@ -1,5 +1,5 @@
 -- What the test of the first action tells.
-use Rattle.ix_expr.specs.FormOf.{form_of}
+use Rattle.ix_expr.specs.inside.FormOf.{form_of}
 use Rattle.ix_can.proofs.Lists.{same_test}
 use Rattle.ix_can.proofs.MovesTell.{each_step}
 use Rattle.ix_can.proofs.first.can_first.Goals as goal

@@ -9,16 +9,17 @@ use Rattle.ix_expr.specs.declared.expr.Expr.TheViews.{the_lemmas}
 use Rattle.ix_expr.specs.Environment.{bind}
 use Rattle.ix_expr.specs.Form.{opt, seq, star, par, par_star, or, and, couple, any, every, sync, all}
 use Rattle.ix_expr.specs.FormFaults.{Fits}
-use Rattle.ix_expr.specs.FormOf.{form_of}
+use Rattle.ix_expr.specs.inside.FormOf.{form_of}
 use Rattle.ix_expr.proofs.Parts.{fits-operands}
 use Rattle.ix_tree.specs.declared.tree.Tree.{Dead}
 use Rattle.ix_tree.specs.Order.{key, first_part}
 use Rattle.ix_tree.specs.Plain.{Plain, dead, is_dead, items_of}
-use Rattle.ix_tree.specs.PlainOf.{plain, plain_entry, plain_entries, plain_trees}
-use Rattle.ix_tree.specs.PlainParts.{plain-Dead, plain-Opt, plain-Seq, plain-Star, plain-Par, plain-ParStar, plain-Or, plain-And, plain-Couple, plain-Any, plain-Every, plain-Sync, plain-All}
-use Rattle.ix_can.specs.Asked.{may_or_stays, CanAsk, CanAskEach, CanAskPairs, CanAskBags, CanAskAt, AreProper, CanAskEntries, CanAskMaps}
+use Rattle.ix_tree.specs.PlainOf.{plain}
+use Rattle.ix_tree.specs.inside.PlainLists.{plain_entry, plain_entries, plain_trees}
+use Rattle.ix_tree.specs.lemmas.PlainParts.{plain-Dead, plain-Opt, plain-Seq, plain-Star, plain-Par, plain-ParStar, plain-Or, plain-And, plain-Couple, plain-Any, plain-Every, plain-Sync, plain-All}
+use Rattle.ix_can.specs.inside.CanAsk.{may_or_stays, CanAsk, CanAskEach, CanAskPairs, CanAskBags, CanAskAt, AreProper, CanAskEntries, CanAskMaps}
 use Rattle.ix_can.specs.Laws.{IsProper}
-use Rattle.ix_can.specs.May.{may_first, may, tree_at}
+use Rattle.ix_can.specs.inside.May.{may_first, may, tree_at}
 use Rattle.ix_can.specs.Tests.{in_alphabet}
 use Rattle.ix_can.proofs.Asking.{each_at, opt_asked, seq_first, seq_rest, star_rest, par_pairs, par_star_bags, or_first, or_second, and_first, and_second, couple_first, couple_second, any_common, any_entries, every_common, every_entries, sync_common, sync_entries, all_maps}
 use Rattle.ix_can.proofs.Children.{either_then, either_else, both_then, both_else, any_tree, any_pair, any_bag}

@@ -2,10 +2,11 @@
 use Rattle.std.proofs.Common.{◌≡◌, ◌||◌, true, false, ◌+◌, ◌*◌, map, take, Some}
 use Rattle.std.specs.List.{list_all, list_any}
 use Rattle.ix_expr.specs.Environment.{bind}
-use Rattle.ix_expr.specs.FormOf.{form_of}
-use Rattle.ix_tree.specs.PlainOf.{plain, plain_entry}
-use Rattle.ix_can.specs.Asked.{may_or_stays, may_own}
-use Rattle.ix_can.specs.May.{may, may_first, tree_at}
+use Rattle.ix_expr.specs.inside.FormOf.{form_of}
+use Rattle.ix_tree.specs.PlainOf.{plain}
+use Rattle.ix_tree.specs.inside.PlainLists.{plain_entry}
+use Rattle.ix_can.specs.inside.CanAsk.{may_or_stays, may_own}
+use Rattle.ix_can.specs.inside.May.{may, may_first, tree_at}
 use Rattle.ix_can.proofs.Measures.{count}
 use Rattle.ix_can.proofs.next.+goes_on.Given as goal
 

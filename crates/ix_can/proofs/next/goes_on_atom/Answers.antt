@@ -2,8 +2,8 @@
 use Rattle.std.proofs.Common.{◌≡◌, sym, ap, ◌∙◌, subst}
 use Rattle.ix_expr.specs.Form.{atom}
 use Rattle.ix_tree.specs.PlainOf.{plain}
-use Rattle.ix_tree.specs.PlainParts.{plain-Start}
-use Rattle.ix_can.specs.May.{may}
+use Rattle.ix_tree.specs.lemmas.PlainParts.{plain-Start}
+use Rattle.ix_can.specs.inside.May.{may}
 use Rattle.ix_can.proofs.Shapes.{no_may_atom}
 use Rattle.ix_can.proofs.next.goes_on_atom.Goals as goal
 

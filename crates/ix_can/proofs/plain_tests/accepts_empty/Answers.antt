@@ -1,7 +1,7 @@
 -- The test of the empty word agrees with the relation.
 use Rattle.std.proofs.Common.{[]}
 use Rattle.ix_can.proofs.Lists.{one_test, iff_trans, iff_sym}
-use Rattle.ix_expr.specs.FormOf.{form_of}
+use Rattle.ix_expr.specs.inside.FormOf.{form_of}
 use Rattle.ix_can.proofs.Testing.{empty_complete}
 use Rattle.ix_can.proofs.plain_tests.accepts_empty.Goals as goal
 

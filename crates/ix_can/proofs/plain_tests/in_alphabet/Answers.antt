@@ -1,6 +1,6 @@
 -- The test of the alphabet agrees with the relation.
 use Rattle.ix_can.proofs.Lists.{one_test, iff_trans, iff_sym}
-use Rattle.ix_expr.specs.FormOf.{form_of}
+use Rattle.ix_expr.specs.inside.FormOf.{form_of}
 use Rattle.ix_can.proofs.Testing.{alphabet_says}
 use Rattle.ix_can.proofs.plain_tests.in_alphabet.Goals as goal
 

@@ -1,7 +1,7 @@
 -- Each tree of a coupling of two atoms is proper.
 use Rattle.std.proofs.Common.{sym, ◌∙◌, subst}
 use Rattle.ix_expr.specs.declared.expr.Expr.{Expr}
-use Rattle.ix_expr.specs.FormOf.{form_of}
+use Rattle.ix_expr.specs.inside.FormOf.{form_of}
 use Rattle.ix_tree.specs.Order.{first_part, second_part}
 use Rattle.ix_tree.specs.Plain.{Plain}
 use Rattle.ix_tree.specs.PlainOf.{plain}

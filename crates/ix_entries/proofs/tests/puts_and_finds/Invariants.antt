@@ -1,6 +1,6 @@
 use Rattle.std.proofs.Common.{nat_eq}
 use Rattle.std.specs.Ordering.{nat_cmp}
-use Rattle.ix_entries.specs.Entries.{IsProper}
+use Rattle.ix_entries.specs.inside.Entries.{IsProper}
 use Rattle.ix_entries.proofs.tests.puts_and_finds.Given as goal
 
 abbrev pub invariant-loop-key : goal.invariant-loop-key

@@ -2,7 +2,7 @@ use Rattle.std.proofs.Common.{ℕ, ◌<◌, ◌⊎◌, inl, inr, Some, None, Lis
 use Rattle.ix_expr.specs.declared.expr.Expr.{Expr}
 use Rattle.ix_expr.specs.declared.expr.Expr.TheViews.{the_lemmas}
 use Rattle.ix_expr.specs.Environment.{Environment, bind}
-use Rattle.ix_expr.specs.FormOf.{form_of}
+use Rattle.ix_expr.specs.inside.FormOf.{form_of}
 use Rattle.ix_expr.specs.FormFaults.{Fits}
 use Rattle.ix_expr.specs.Meaning.{InAlphabet}
 use Rattle.ix_expr.proofs.Agreement.{some-in-alphabet, none-in-alphabet}

@@ -1,6 +1,6 @@
 use Rattle.std.proofs.Common.{ℕ, ◌<◌, List, Some, get_or}
 use Rattle.ix_expr.specs.Environment.{bind}
-use Rattle.ix_expr.specs.FormOf.{form_of}
+use Rattle.ix_expr.specs.inside.FormOf.{form_of}
 use Rattle.ix_expr.specs.Meaning.{InAlphabet}
 use Rattle.ix_expr.proofs.alphabet.+alphabet.Given as goal
 

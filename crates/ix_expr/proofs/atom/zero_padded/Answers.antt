@@ -1,5 +1,5 @@
 use Rattle.std.proofs.Common.{[], ◌∷◌, ◌∙◌, ap, set, take, arith}
-use Rattle.ix_values.specs.Padding.{padded}
+use Rattle.ix_values.specs.inside.Padding.{padded}
 use Rattle.ix_values.proofs.Slots.{padded-set, each-more}
 use Rattle.ix_expr.specs.declared.arg.Arg.TheVariants.{Fixed}
 use Rattle.ix_expr.specs.Spelling.{IsArgument}

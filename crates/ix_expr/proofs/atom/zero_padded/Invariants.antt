@@ -1,5 +1,5 @@
 use Rattle.std.proofs.Common.{◌≡◌, ℕ, ◌<◌, [], ◌∷◌, take, get_or}
-use Rattle.ix_values.specs.Padding.{padded}
+use Rattle.ix_values.specs.inside.Padding.{padded}
 use Rattle.ix_expr.specs.declared.arg.Arg.{Arg}
 use Rattle.ix_expr.specs.declared.arg.Arg.TheVariants.{Fixed}
 use Rattle.ix_expr.specs.Spelling.{IsArgument}

@@ -1,6 +1,6 @@
 use Rattle.std.proofs.Common.{◌⊎◌, inl, inr, true, false, sym, subst}
 use Rattle.ix_expr.specs.declared.expr.Expr.{Expr}
-use Rattle.ix_expr.specs.FormOf.{form_of}
+use Rattle.ix_expr.specs.inside.FormOf.{form_of}
 use Rattle.ix_expr.proofs.Emptiness.{Accepts, NeedsBoth, opt-accepts, star-accepts, par_star-accepts, seq-needs, par-needs, and-needs, couple-needs, accepts-then, accepts-else, any-accepts, every-accepts, sync-accepts, all-accepts}
 use Rattle.ix_expr.proofs.empty_word.+accepts_empty.Goals as goal
 

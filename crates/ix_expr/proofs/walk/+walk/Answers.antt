@@ -1,9 +1,9 @@
 use Rattle.std.proofs.Common.{◌≡◌, suc, ◌+◌, ◌∷◌, ◌++◌, ◌⊎◌, inl, inr, sym, ap, subst, arith}
 use Rattle.ix_expr.specs.declared.expr.Expr.{Expr}
 use Rattle.ix_expr.specs.FormFaults.{nodes_below}
-use Rattle.ix_expr.specs.FormOf.{form_of}
-use Rattle.ix_expr.specs.Scope.{binders}
-use Rattle.ix_expr.specs.Walk.{Walked, Passed, FaultFrom, fault_here, operator_node}
+use Rattle.ix_expr.specs.inside.FormOf.{form_of}
+use Rattle.ix_expr.specs.inside.Scope.{binders}
+use Rattle.ix_expr.specs.inside.Walk.{Walked, Passed, FaultFrom, fault_here, operator_node}
 use Rattle.ix_expr.proofs.Walks.{walked-node, walked-append, fault-before}
 use Rattle.ix_expr.proofs.walk.+walk.Goals as goal
 

@@ -1,5 +1,5 @@
 use Rattle.std.proofs.Common.{◌+◌, [], Ok, sym, arith}
-use Rattle.ix_expr.specs.Walk.{free_end, fault_here}
+use Rattle.ix_expr.specs.inside.Walk.{free_end, fault_here}
 use Rattle.ix_expr.proofs.Walks.{walked-node}
 use Rattle.ix_expr.proofs.walk.visit_atom.Goals as goal
 

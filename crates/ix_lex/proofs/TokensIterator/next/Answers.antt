@@ -1,5 +1,5 @@
 use Rattle.std.proofs.Common.{◌≡◌, ◌+◌, ◌-◌, arith, take, drop, ap, ℕ}
-use Rattle.ix_lex.specs.Items.{pieces_left}
+use Rattle.ix_lex.specs.inside.Items.{pieces_left}
 use Rattle.ix_lex.proofs.NextPiece.{no_blank_next, next-end, next-token, next-bad, item_lowers}
 use Rattle.ix_lex.proofs.TokensIterator.next.Goals as goal
 

@@ -1,7 +1,7 @@
 use Rattle.std.proofs.Common.{◌≡◌, ◌+◌, ◌-◌, refl, ap, subst, ◌∙◌, take, drop, length}
 use Rattle.std.proofs.lemmas.List.{take_rest}
 use Rattle.ix_lines.specs.Feeding.{Feeds, holds_after}
-use Rattle.ix_lines.specs.Answers.{told_item}
+use Rattle.ix_lines.specs.inside.FeedAnswers.{told_item}
 use Rattle.ix_lines.proofs.FeedLemmas.{tells_none}
 use Rattle.ix_lines.proofs.ResumeLemmas.{skips_whole, feeds_behind}
 use Rattle.ix_lines.proofs.Lines.feed.Goals as goal

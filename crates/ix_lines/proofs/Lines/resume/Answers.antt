@@ -1,8 +1,8 @@
 use Rattle.std.proofs.Common.{◌≡◌, ◌≤◌, sym, ap, subst, ◌∙◌, arith, take, length}
 use Rattle.std.proofs.lemmas.List.{length-take-le}
 use Rattle.ix_lines.specs.Feeding.{Held, skipping, unfinished}
-use Rattle.ix_lines.specs.Answers.{ResumesAt}
-use Rattle.ix_lines.specs.Buffer.{shown}
+use Rattle.ix_lines.specs.inside.FeedAnswers.{ResumesAt}
+use Rattle.ix_lines.specs.inside.Buffer.{shown}
 use Rattle.ix_lines.proofs.WindowLemmas.{no_end, skip_shown}
 use Rattle.ix_lines.proofs.ResumeLemmas.{resumes_open, resumes_behind}
 use Rattle.ix_lines.proofs.Lines.resume.Goals as goal

@@ -2,7 +2,7 @@ use Rattle.std.proofs.Common.{◌≡◌, ◌+◌, ◌-◌, [], Some, refl, sym, 
 use Rattle.std.proofs.lemmas.List.{length-take-le}
 use Rattle.ix_lines.specs.Items.{line}
 use Rattle.ix_lines.specs.Feeding.{unfinished, Feeds, holds_after}
-use Rattle.ix_lines.specs.Buffer.{shown}
+use Rattle.ix_lines.specs.inside.Buffer.{shown}
 use Rattle.ix_lines.proofs.WindowLemmas.{found_line, found_long, found_none, open_shown, on_ok, kept}
 use Rattle.ix_lines.proofs.Lines.take_line.Goals as goal
 

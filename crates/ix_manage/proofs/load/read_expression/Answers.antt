@@ -1,5 +1,5 @@
 use Rattle.std.proofs.Common.{subst}
-use Rattle.ix_parse.specs.Outcomes.{IsFaultOf}
+use Rattle.ix_parse.specs.inside.Outcomes.{IsFaultOf}
 use Rattle.ix_manage.proofs.load.read_expression.Goals as goal
 
 pub returns-in-Err-Bad-clause-err : goal.returns-in-Err-Bad-clause-err

@@ -1,9 +1,9 @@
 use Rattle.std.proofs.Common.{ℕ, List, [], sym, subst, ◌∙◌}
 use Rattle.ix_outside.specs.Files.{HasFile}
 use Rattle.ix_script.specs.Events.{HasEvents}
-use Rattle.ix_manage.specs.Ends.{ReplayEnds}
-use Rattle.ix_manage.specs.Refusal.{RefusesScript}
-use Rattle.ix_manage.specs.Replaying.{ScriptEnds}
+use Rattle.ix_manage.specs.inside.CommandEnds.{ReplayEnds}
+use Rattle.ix_manage.specs.inside.Refusal.{RefusesScript}
+use Rattle.ix_manage.specs.inside.ReplayProgress.{ScriptEnds}
 use Rattle.ix_manage.proofs.Ending.{replay_expression, replay_refused, replay_ends, script_refused}
 use Rattle.ix_manage.proofs.Stops.{done_on, refused_on}
 use Rattle.ix_manage.proofs.Tracing.{append_nothing}

@@ -1,7 +1,7 @@
 use Rattle.std.proofs.Common.{[], refl, arith}
 use Rattle.ix_manager.specs.Runs.{begin}
 use Rattle.ix_manage.specs.Replay.{cut, history_line}
-use Rattle.ix_manage.specs.Replaying.{played}
+use Rattle.ix_manage.specs.inside.ReplayProgress.{played}
 use Rattle.ix_manage.proofs.replay.run_manager.Goals as goal
 
 -- no event was taken

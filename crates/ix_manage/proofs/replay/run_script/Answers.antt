@@ -1,5 +1,5 @@
 use Rattle.std.proofs.Common.{[], Err, ap}
-use Rattle.ix_manage.specs.Replaying.{large, memory}
+use Rattle.ix_manage.specs.inside.ReplayProgress.{large, memory}
 use Rattle.ix_manage.proofs.Tracing.{append_nothing}
 use Rattle.ix_manage.proofs.replay.run_script.Goals as goal
 

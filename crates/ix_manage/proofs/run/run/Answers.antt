@@ -1,5 +1,6 @@
 use Rattle.std.proofs.Common.{ℕ, List, [], map, string_bytes}
-use Rattle.ix_manage.specs.Ends.{Ends, TraceEnds, ReplayEnds, other_words}
+use Rattle.ix_manage.specs.Ends.{Ends, other_words}
+use Rattle.ix_manage.specs.inside.CommandEnds.{TraceEnds, ReplayEnds}
 use Rattle.ix_manage.proofs.Stops.{done_on, refused_on}
 use Rattle.ix_manage.proofs.Tracing.{append_nothing}
 use Rattle.ix_manage.proofs.run.run.Goals as goal

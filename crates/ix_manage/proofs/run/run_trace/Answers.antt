@@ -1,6 +1,6 @@
 use Rattle.std.proofs.Common.{[], ◌++◌, Err, ap, subst}
 use Rattle.std.specs.Prelude.{codes}
-use Rattle.ix_manage.specs.Refusal.{RefusesActions}
+use Rattle.ix_manage.specs.inside.Refusal.{RefusesActions}
 use Rattle.ix_manage.specs.ActionLines.{line}
 use Rattle.ix_manage.proofs.Ending.{refused_start, refused_actions, trace_ends_run}
 use Rattle.ix_manage.proofs.Tracing.{append_nothing}

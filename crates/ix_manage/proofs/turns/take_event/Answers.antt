@@ -1,8 +1,8 @@
 use Rattle.std.proofs.Common.{length, ap, sym, subst, ◌∙◌, MutBor}
 use Rattle.ix_outside.specs.Counts.{Rose}
-use Rattle.ix_manager.specs.Managing.{ending_after}
-use Rattle.ix_script.specs.Site.{given_of}
-use Rattle.ix_manage.specs.Replaying.{IsTurn}
+use Rattle.ix_manager.specs.inside.EndingAfter.{ending_after}
+use Rattle.ix_script.specs.inside.Site.{given_of}
+use Rattle.ix_manage.specs.inside.ReplayProgress.{IsTurn}
 use Rattle.ix_manage.proofs.Replaying.{took_of, turn_taken, taken_count, more_kept, cut_lost, open_before, mark_is}
 use Rattle.ix_manage.proofs.turns.take_event.Goals as goal
 

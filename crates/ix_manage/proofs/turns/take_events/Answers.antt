@@ -1,6 +1,6 @@
 use Rattle.std.proofs.Common.{length, refl, sym, ap, subst, arith}
-use Rattle.ix_script.specs.Site.{given_of}
-use Rattle.ix_manage.specs.Replaying.{Stands, TakesTurn, TakesTurns}
+use Rattle.ix_script.specs.inside.Site.{given_of}
+use Rattle.ix_manage.specs.inside.ReplayProgress.{Stands, TakesTurn, TakesTurns}
 use Rattle.ix_manage.specs.declared.turns.Turn.TheVariants.{Done, Cut}
 use Rattle.ix_manage.proofs.Replaying.{stands_first, out_of_turns_put}
 use Rattle.ix_manage.proofs.turns.take_events.Goals as goal

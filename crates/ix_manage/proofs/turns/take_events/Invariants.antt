@@ -1,6 +1,6 @@
 use Rattle.std.proofs.Common.{◌≡◌, ◌≤◌, false, length}
-use Rattle.ix_script.specs.Site.{given_of}
-use Rattle.ix_manage.specs.Replaying.{Stands}
+use Rattle.ix_script.specs.inside.Site.{given_of}
+use Rattle.ix_manage.specs.inside.ReplayProgress.{Stands}
 use Rattle.ix_manage.proofs.turns.take_events.Given as goal
 
 -- the manager took the events given so far, one for each turn, and what the site was lent stays

@@ -1,4 +1,4 @@
-use Rattle.ix_manager.specs.Sending.{wired}
+use Rattle.ix_manager.specs.inside.WireState.{wired}
 use Rattle.ix_manager.proofs.AnswerLemmas.{poll_answered}
 use Rattle.ix_manager.proofs.answering.answer_request.Goals as goal
 

@@ -1,7 +1,7 @@
 use Rattle.std.proofs.Common.{refl, subst, sym, ◌∙◌, arith}
 use Rattle.ix_lines.specs.Feeding.{completes}
-use Rattle.ix_manager.specs.Clean.{IsClean}
-use Rattle.ix_manager.specs.Sending.{wired}
+use Rattle.ix_manager.specs.inside.Clean.{IsClean}
+use Rattle.ix_manager.specs.inside.WireState.{wired}
 use Rattle.ix_manager.proofs.TakeLemmas.{progress_begins, taken_goes_on, taken_stops, taken_ends, taken_holds, taken_clean, taken_tickets, clean_after}
 use Rattle.ix_manager.proofs.answering.take_piece.Goals as goal
 

@@ -1,8 +1,8 @@
 -- The items so far were answered; those of the rest are left.
 use Rattle.std.proofs.Common.{◌≡◌, ◌+◌, ◌≤◌, length}
 use Rattle.ix_lines.specs.Feeding.{completes, holds_after}
-use Rattle.ix_manager.specs.Clean.{IsClean}
-use Rattle.ix_manager.specs.Sending.{wired}
+use Rattle.ix_manager.specs.inside.Clean.{IsClean}
+use Rattle.ix_manager.specs.inside.WireState.{wired}
 use Rattle.ix_manager.proofs.TakeLemmas.{Progress}
 use Rattle.ix_manager.proofs.answering.take_piece.Given as goal
 

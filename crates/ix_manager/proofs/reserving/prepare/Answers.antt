@@ -2,7 +2,7 @@ use Rattle.std.proofs.Common.{◌≡◌, rules, Err, IsTrue, sym, subst}
 use Rattle.ix_engine.specs.declared.faults.PrepareFault.TheVariants as fault
 use Rattle.ix_proto.specs.declared.reply.Reply.{Reply}
 use Rattle.ix_proto.specs.declared.reply.Reply.TheVariants as reply
-use Rattle.ix_manager.specs.Ready.{Refuses, not_permitted, full, large, memory}
+use Rattle.ix_manager.specs.inside.Ready.{Refuses, not_permitted, full, large, memory}
 use Rattle.ix_manager.proofs.Stepping.{room_left}
 use Rattle.ix_manager.proofs.reserving.prepare.Goals as goal
 

@@ -1,6 +1,6 @@
 use Rattle.std.proofs.Common.{◌∙◌, sym, inl, arith}
 use Rattle.std.proofs.lemmas.Iterator.Consumers.{count_from_yields_List, YieldsList-from_first}
-use Rattle.ix_watch.specs.Watches.{changes_of}
+use Rattle.ix_watch.specs.inside.Watches.{changes_of}
 use Rattle.ix_manager.proofs.SendSteps.{few_changes, count_replies}
 use Rattle.ix_manager.proofs.sending.count_changes.Goals as goal
 

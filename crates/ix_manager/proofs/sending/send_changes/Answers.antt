@@ -1,4 +1,4 @@
-use Rattle.ix_watch.specs.Watches.{changes_of}
+use Rattle.ix_watch.specs.inside.Watches.{changes_of}
 use Rattle.ix_manager.proofs.SendSteps.{poll_sent}
 use Rattle.ix_manager.proofs.sending.send_changes.Goals as goal
 

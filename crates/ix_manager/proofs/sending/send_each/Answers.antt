@@ -1,4 +1,4 @@
-use Rattle.ix_manager.specs.Sending.{wired}
+use Rattle.ix_manager.specs.inside.WireState.{wired}
 use Rattle.ix_manager.proofs.SendSteps.{first_sent, none_left}
 use Rattle.ix_manager.proofs.sending.send_each.Goals as goal
 

@@ -1,6 +1,6 @@
 -- Whatever the changes that are left make, all of them make.
-use Rattle.ix_manager.specs.Core.{change_replies}
-use Rattle.ix_manager.specs.Sending.{WireState, wired, SendsAll}
+use Rattle.ix_manager.specs.inside.Core.{change_replies}
+use Rattle.ix_manager.specs.inside.WireState.{WireState, wired, SendsAll}
 use Rattle.ix_manager.proofs.sending.send_each.Given as goal
 
 abbrev pub invariant-loop-action : goal.invariant-loop-action

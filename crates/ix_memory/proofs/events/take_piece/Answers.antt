@@ -1,6 +1,6 @@
 -- The rest of a piece is kept where the piece was.
 use Rattle.std.proofs.Common.{◌≡◌, ◌<◌, ℕ, List, length, get_or, sym, subst, arith}
-use Rattle.ix_memory.specs.EventsState.{IsKept, AreEventsKept}
+use Rattle.ix_memory.specs.inside.EventsState.{IsKept, AreEventsKept}
 use Rattle.ix_memory.specs.declared.events.Piece.{Piece}
 use Rattle.ix_memory.proofs.GivingNext.{kept_at, kept_bytes, kept_rest, AreEventsKept-set}
 use Rattle.ix_memory.proofs.events.take_piece.Goals as goal

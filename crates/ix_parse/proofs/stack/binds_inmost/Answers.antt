@@ -1,6 +1,6 @@
 use Rattle.std.proofs.Common.{◌∙◌, Some, false, leb, refl, ap, sym}
 use Rattle.ix_parse.specs.declared.stack.Entry.TheVariants as entries
-use Rattle.ix_parse.specs.Stack.{is_left_inmost}
+use Rattle.ix_parse.specs.inside.Stack.{is_left_inmost}
 use Rattle.ix_parse.proofs.Stacks.{told, taking-no_left}
 use Rattle.ix_parse.proofs.stack.binds_inmost.Goals as goal
 

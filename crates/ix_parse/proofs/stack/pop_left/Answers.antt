@@ -1,7 +1,7 @@
 use Rattle.std.proofs.Common.{◌≡◌, ◌∷◌, [], ◌++◌, ◌∙◌, refl, ap, sym, leb-true}
 use Rattle.ix_parse.specs.declared.stack.Entry.TheVariants as entries
 use Rattle.ix_parse.specs.Symbols.{level}
-use Rattle.ix_parse.specs.Stack.{is_left_inmost, stack_of}
+use Rattle.ix_parse.specs.inside.Stack.{is_left_inmost, stack_of}
 use Rattle.ix_parse.proofs.Stacks.{clash_popped, popped, taking-no_left}
 use Rattle.ix_parse.proofs.stack.pop_left.Goals as goal
 

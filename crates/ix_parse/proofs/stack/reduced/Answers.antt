@@ -1,7 +1,7 @@
 use Rattle.std.proofs.Common.{◌∙◌, ap, sym}
-use Rattle.ix_parse.specs.Stack.{stack_of}
+use Rattle.ix_parse.specs.inside.Stack.{stack_of}
 use Rattle.ix_parse.specs.Symbols.{Meaning}
-use Rattle.ix_parse.specs.Machine as machine
+use Rattle.ix_parse.specs.inside.StackMachine as machine
 use Rattle.ix_parse.proofs.Stacks.{reduced-left}
 use Rattle.ix_parse.proofs.stack.reduced.Goals as goal
 

@@ -1,7 +1,7 @@
 use Rattle.std.proofs.Common.{◌≡◌, vec_len}
-use Rattle.ix_parse.specs.Machine as machine
-use Rattle.ix_parse.specs.Stack.{stack_of}
-use Rattle.ix_parse.specs.Operands.{meaning_of}
+use Rattle.ix_parse.specs.inside.StackMachine as machine
+use Rattle.ix_parse.specs.inside.Stack.{stack_of}
+use Rattle.ix_parse.specs.inside.Operands.{meaning_of}
 use Rattle.ix_parse.proofs.stack.reduced.Given as goal
 
 abbrev pub invariant-loop-left : goal.invariant-loop-left

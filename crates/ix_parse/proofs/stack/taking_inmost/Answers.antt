@@ -1,6 +1,6 @@
 use Rattle.std.proofs.Common.{◌∙◌, Some, false, refl, sym, ap}
 use Rattle.ix_parse.specs.declared.stack.Entry.TheVariants as entries
-use Rattle.ix_parse.specs.Stack.{is_prefix_inmost}
+use Rattle.ix_parse.specs.inside.Stack.{is_prefix_inmost}
 use Rattle.ix_parse.proofs.Stacks.{told}
 use Rattle.ix_parse.proofs.stack.taking_inmost.Goals as goal
 

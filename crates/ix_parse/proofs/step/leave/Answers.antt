@@ -1,8 +1,8 @@
 use Rattle.std.proofs.Common.{◌∷◌, [], ◌++◌, ◌∙◌, Some, refl, ap}
 use Rattle.ix_parse.specs.declared.stack.Entry.TheVariants as entries
-use Rattle.ix_parse.specs.Operands.{meaning_of}
-use Rattle.ix_parse.specs.Stack.{stack_of}
-use Rattle.ix_parse.specs.Machine as machine
+use Rattle.ix_parse.specs.inside.Operands.{meaning_of}
+use Rattle.ix_parse.specs.inside.Stack.{stack_of}
+use Rattle.ix_parse.specs.inside.StackMachine as machine
 use Rattle.ix_parse.proofs.Stacks.{left_group-popped, taking-no_group, no_some}
 use Rattle.ix_parse.proofs.step.leave.Goals as goal
 

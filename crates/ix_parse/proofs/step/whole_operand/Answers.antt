@@ -1,6 +1,6 @@
 use Rattle.std.proofs.Common.{◌≡◌, ◌∙◌, length, true, false, eqb, ap, sym, eqb-true, eq-eqb}
-use Rattle.ix_parse.specs.Operands.{meaning_of}
-use Rattle.ix_parse.specs.Machine as machine
+use Rattle.ix_parse.specs.inside.Operands.{meaning_of}
+use Rattle.ix_parse.specs.inside.StackMachine as machine
 use Rattle.ix_parse.proofs.Stacks.{alone_empty, alone_more}
 use Rattle.ix_parse.proofs.step.whole_operand.Goals as goal
 

@@ -1,8 +1,8 @@
 use Rattle.std.proofs.Common.{Some, sym, ap, ◌∙◌, subst}
-use Rattle.ix_lex.specs.Items.{plain_token, pieces_of}
-use Rattle.ix_parse.specs.Reading.{Progress}
-use Rattle.ix_parse.specs.Configs.{config_of}
-use Rattle.ix_parse.specs.Outcomes.{pending, IsFaultOf}
+use Rattle.ix_lex.specs.inside.Items.{plain_token, pieces_of}
+use Rattle.ix_parse.specs.inside.Progress.{Progress}
+use Rattle.ix_parse.specs.inside.Configs.{config_of}
+use Rattle.ix_parse.specs.inside.Outcomes.{pending, IsFaultOf}
 use Rattle.ix_parse.proofs.Rounds.{round-start, round-may, round-readable, round-step, round-err, round-bad, round-end, at-token, at-bad, at-end, param_next-pending, Progress-sound}
 use Rattle.ix_parse.proofs.taking.read_operand.Goals as goal
 

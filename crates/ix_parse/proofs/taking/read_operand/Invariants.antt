@@ -1,8 +1,8 @@
 use Rattle.std.proofs.Common.{length}
-use Rattle.ix_lex.specs.Items.{pieces_of}
-use Rattle.ix_parse.specs.Reading.{Progress}
-use Rattle.ix_parse.specs.Configs.{config_of}
-use Rattle.ix_parse.specs.Outcomes.{pending}
+use Rattle.ix_lex.specs.inside.Items.{pieces_of}
+use Rattle.ix_parse.specs.inside.Progress.{Progress}
+use Rattle.ix_parse.specs.inside.Configs.{config_of}
+use Rattle.ix_parse.specs.inside.Outcomes.{pending}
 use Rattle.ix_parse.proofs.taking.read_operand.Given as goal
 
 abbrev pub invariant-loop-ahead : goal.invariant-loop-ahead

@@ -1,8 +1,8 @@
 use Rattle.std.proofs.Common.{◌≡◌, length, subst, sym, ap, ◌∙◌, arith}
 use Rattle.ix_outside.specs.Contents.{GivenEvent, piece_of}
 use Rattle.ix_script.specs.Events.{HasEvents}
-use Rattle.ix_script.specs.Pieces.{IsNextPiece}
-use Rattle.ix_script.specs.Site.{given_of}
+use Rattle.ix_script.specs.inside.NextPiece.{IsNextPiece}
+use Rattle.ix_script.specs.inside.Site.{given_of}
 use Rattle.ix_script.proofs.Callers.{given_same, script_same}
 use Rattle.ix_script.proofs.GivenEvents.{pieces-next}
 use Rattle.ix_script.proofs.tests.take_events.Goals as goal

@@ -2,7 +2,7 @@ use Rattle.std.proofs.Common.{◌≡◌, List}
 use Rattle.ix_outside.specs.Contents.{GivenEvent}
 use Rattle.ix_script.specs.Events.{HasEvents}
 use Rattle.ix_script.specs.Pieces.{pieces_of}
-use Rattle.ix_script.specs.Site.{given_of}
+use Rattle.ix_script.specs.inside.Site.{given_of}
 use Rattle.ix_script.proofs.tests.take_events.Given as goal
 
 abbrev pub invariant-loop-i : goal.invariant-loop-i

@@ -1,5 +1,5 @@
 use Rattle.std.proofs.Common.{sym, ◌∙◌, arith}
-use Rattle.ix_expr.specs.FormOf.{form_of}
+use Rattle.ix_expr.specs.inside.FormOf.{form_of}
 use Rattle.ix_can.specs.TreeOf.{is_final}
 use Rattle.ix_step.proofs.Gathered.{any_found, any_passed, any_none}
 use Rattle.ix_step.proofs.alternatives.any_final.Goals as goal

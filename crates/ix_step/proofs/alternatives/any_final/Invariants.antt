@@ -1,6 +1,6 @@
 use Rattle.std.proofs.Common.{◌≡◌, drop, map}
 use Rattle.std.specs.List.{list_any}
-use Rattle.ix_expr.specs.FormOf.{form_of}
+use Rattle.ix_expr.specs.inside.FormOf.{form_of}
 use Rattle.ix_tree.specs.PlainOf.{plain}
 use Rattle.ix_can.specs.TreeOf.{is_final}
 use Rattle.ix_step.proofs.alternatives.any_final.Given as goal

@@ -1,12 +1,12 @@
 use Rattle.std.proofs.Common.{◌≡◌, [], ◌∷◌, map, refl, sym, ap, ◌∙◌, subst, arith}
 use Rattle.ix_words.specs.Canon.{when}
-use Rattle.ix_expr.specs.FormOf.{form_of}
+use Rattle.ix_expr.specs.inside.FormOf.{form_of}
 use Rattle.ix_tree.specs.PlainOf.{plain}
 use Rattle.ix_tree.specs.Size.{size_of}
-use Rattle.ix_tree.specs.DerivedOrder.{tree_order_is}
+use Rattle.ix_tree.specs.lemmas.DerivedOrder.{tree_order_is}
 use Rattle.ix_tree.specs.contracts.tree.TreeOrd.TheImpl.{ghosts}
-use Rattle.ix_step.specs.Building.{Gathers, put_all}
-use Rattle.ix_step.specs.Initial.{initial_tree}
+use Rattle.ix_step.specs.inside.Builds.{Gathers, put_all}
+use Rattle.ix_step.specs.inside.Initial.{initial_tree}
 use Rattle.ix_step.proofs.Gathered.{gathers_put}
 use Rattle.ix_step.proofs.alternatives.put_first.Goals as goal
 

@@ -1,7 +1,7 @@
 use Rattle.std.proofs.Common.{◌≡◌, map, refl, subst}
 use Rattle.ix_tree.specs.PlainOf.{plain}
 use Rattle.ix_can.specs.Nodes.{live}
-use Rattle.ix_step.specs.Building.{Builds, Gathers, IsSmall}
+use Rattle.ix_step.specs.inside.Builds.{Builds, Gathers, IsSmall}
 use Rattle.ix_step.proofs.Gathered.{live_fault}
 use Rattle.ix_step.proofs.alternatives.put_live.Goals as goal
 

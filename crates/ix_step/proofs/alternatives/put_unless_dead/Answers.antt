@@ -1,9 +1,9 @@
 use Rattle.std.proofs.Common.{not, [], ◌∷◌, map, refl, sym, ap, ◌∙◌, subst, arith}
 use Rattle.ix_words.specs.Canon.{when}
 use Rattle.ix_tree.specs.PlainOf.{plain}
-use Rattle.ix_tree.specs.DerivedOrder.{tree_order_is}
+use Rattle.ix_tree.specs.lemmas.DerivedOrder.{tree_order_is}
 use Rattle.ix_tree.specs.contracts.tree.TreeOrd.TheImpl.{ghosts}
-use Rattle.ix_step.specs.Building.{Gathers, put_all}
+use Rattle.ix_step.specs.inside.Builds.{Gathers, put_all}
 use Rattle.ix_step.proofs.Gathered.{gathers_put}
 use Rattle.ix_step.proofs.alternatives.put_unless_dead.Goals as goal
 

@@ -1,12 +1,12 @@
 use Rattle.std.proofs.Common.{◌≡◌, [], ◌∷◌, ◌++◌, map, ap, ◌∙◌, subst, arith}
 use Rattle.ix_words.specs.Canon.{when}
-use Rattle.ix_expr.specs.FormOf.{form_of}
+use Rattle.ix_expr.specs.inside.FormOf.{form_of}
 use Rattle.ix_tree.specs.Plain.{seq, listed}
 use Rattle.ix_tree.specs.PlainOf.{plain}
 use Rattle.ix_can.specs.Nodes.{set_of}
 use Rattle.ix_can.specs.TreeOf.{is_final}
-use Rattle.ix_step.specs.Building.{Builds, IsAbove, put_all}
-use Rattle.ix_step.specs.Initial.{initial_tree}
+use Rattle.ix_step.specs.inside.Builds.{Builds, IsAbove, put_all}
+use Rattle.ix_step.specs.inside.Initial.{initial_tree}
 use Rattle.ix_step.proofs.Limits.{above_grows}
 use Rattle.ix_step.proofs.Gathered.{last_fault, set_is}
 use Rattle.ix_step.proofs.alternatives.seq_begun.Goals as goal

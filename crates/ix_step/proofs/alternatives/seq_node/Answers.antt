@@ -1,12 +1,12 @@
 use Rattle.std.proofs.Common.{◌≡◌, [], ◌∷◌, ◌++◌, map, subst, arith}
 use Rattle.ix_words.specs.Canon.{when}
-use Rattle.ix_expr.specs.FormOf.{form_of}
+use Rattle.ix_expr.specs.inside.FormOf.{form_of}
 use Rattle.ix_tree.specs.Plain.{seq}
 use Rattle.ix_tree.specs.PlainOf.{plain}
 use Rattle.ix_can.specs.Nodes.{set_of}
 use Rattle.ix_can.specs.TreeOf.{is_final}
-use Rattle.ix_step.specs.Building.{Builds, Gathers, IsSmall}
-use Rattle.ix_step.specs.Initial.{initial_tree}
+use Rattle.ix_step.specs.inside.Builds.{Builds, Gathers, IsSmall}
+use Rattle.ix_step.specs.inside.Initial.{initial_tree}
 use Rattle.ix_step.proofs.Limits.{above_grows}
 use Rattle.ix_step.proofs.Gathered.{set_fault}
 use Rattle.ix_step.proofs.alternatives.seq_node.Goals as goal

@@ -1,10 +1,11 @@
 use Rattle.std.proofs.Common.{◌≡◌, map, refl, sym, ap, ◌∙◌, subst, arith}
 use Rattle.ix_tree.specs.Plain.{seq, listed}
-use Rattle.ix_tree.specs.PlainOf.{plain, plain_trees}
-use Rattle.ix_tree.specs.PlainParts.{plain-Seq}
+use Rattle.ix_tree.specs.PlainOf.{plain}
+use Rattle.ix_tree.specs.inside.PlainLists.{plain_trees}
+use Rattle.ix_tree.specs.lemmas.PlainParts.{plain-Seq}
 use Rattle.ix_tree.specs.Size.{size_of}
 use Rattle.ix_tree.proofs.Alternatives.{weight_of-list}
-use Rattle.ix_step.specs.Building.{IsAbove}
+use Rattle.ix_step.specs.inside.Builds.{IsAbove}
 use Rattle.ix_step.proofs.alternatives.seq_of_set.Goals as goal
 
 pub size-requires : goal.size-requires

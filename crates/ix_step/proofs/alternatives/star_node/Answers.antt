@@ -1,12 +1,12 @@
 use Rattle.std.proofs.Common.{◌≡◌, [], ◌++◌, map, sym, ap, ◌∙◌, subst, arith}
 use Rattle.ix_words.specs.Canon.{canon}
-use Rattle.ix_expr.specs.FormOf.{form_of}
+use Rattle.ix_expr.specs.inside.FormOf.{form_of}
 use Rattle.ix_tree.specs.Plain.{star, listed}
 use Rattle.ix_tree.specs.Order.{tree_cmp}
 use Rattle.ix_tree.specs.PlainOf.{plain}
 use Rattle.ix_can.specs.Nodes.{live, set_of}
 use Rattle.ix_can.specs.TreeOf.{is_final}
-use Rattle.ix_step.specs.Building.{Builds, Gathers, IsAbove, put_all}
+use Rattle.ix_step.specs.inside.Builds.{Builds, Gathers, IsAbove, put_all}
 use Rattle.ix_step.proofs.Limits.{above_grows}
 use Rattle.ix_step.proofs.Gathered.{set_fault, last_fault, set_is, any_of_set}
 use Rattle.std.specs.List.{list_any}

@@ -1,8 +1,8 @@
 use Rattle.std.proofs.Common.{◌≡◌, map, refl, ap, ◌∙◌, arith}
-use Rattle.ix_expr.specs.FormOf.{form_of}
+use Rattle.ix_expr.specs.inside.FormOf.{form_of}
 use Rattle.ix_tree.specs.Plain.{star, listed}
 use Rattle.ix_tree.specs.PlainOf.{plain}
-use Rattle.ix_tree.specs.PlainParts.{plain-Star}
+use Rattle.ix_tree.specs.lemmas.PlainParts.{plain-Star}
 use Rattle.ix_tree.specs.Size.{size_of}
 use Rattle.ix_tree.proofs.Alternatives.{weight_of-list}
 use Rattle.ix_can.specs.TreeOf.{is_final}

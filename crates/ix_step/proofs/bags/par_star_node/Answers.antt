@@ -1,7 +1,7 @@
 use Rattle.std.proofs.Common.{map, refl, ap, ◌∙◌}
 use Rattle.ix_tree.specs.Plain.{listed, par_star}
 use Rattle.ix_tree.specs.PlainOf.{plain_bag}
-use Rattle.ix_tree.specs.PlainParts.{plain-ParStar}
+use Rattle.ix_tree.specs.lemmas.PlainParts.{plain-ParStar}
 use Rattle.ix_tree.proofs.Alternatives.{weight_of-list}
 use Rattle.ix_step.proofs.ParallelArms.{node_fails, node_items, node_above, node_within}
 use Rattle.ix_step.proofs.bags.par_star_node.Goals as goal

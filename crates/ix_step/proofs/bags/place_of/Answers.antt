@@ -3,7 +3,7 @@ use Rattle.std.specs.Ordering.{is_gt}
 use Rattle.std.proofs.lemmas.List.{length-map}
 use Rattle.ix_tree.specs.PlainOf.{plain}
 use Rattle.ix_tree.specs.Order.{tree_cmp}
-use Rattle.ix_tree.specs.DerivedOrder.{tree_order_is}
+use Rattle.ix_tree.specs.lemmas.DerivedOrder.{tree_order_is}
 use Rattle.ix_step.proofs.BagsPut.{place_further, place_found}
 use Rattle.ix_step.proofs.Gathering.{image_at}
 use Rattle.ix_step.proofs.bags.place_of.Goals as goal

@@ -2,12 +2,12 @@ use Rattle.std.proofs.Common.{◌≡◌, [], ◌∷◌, length, map, refl, sym, 
 use Rattle.std.specs.List.{insert}
 use Rattle.ix_tree.specs.Plain.{bag, listed}
 use Rattle.ix_tree.specs.PlainOf.{plain, plain_bag}
-use Rattle.ix_tree.specs.PlainParts.{plain-Bag}
+use Rattle.ix_tree.specs.lemmas.PlainParts.{plain-Bag}
 use Rattle.ix_tree.specs.Size.{size_of}
-use Rattle.ix_tree.specs.DerivedOrder.{bag_order_is}
+use Rattle.ix_tree.specs.lemmas.DerivedOrder.{bag_order_is}
 use Rattle.ix_tree.specs.declared.tree.Bag.{Bag, roll-Bag}
 use Rattle.ix_can.specs.Nodes.{put_in}
-use Rattle.ix_step.specs.Building.{Gathers}
+use Rattle.ix_step.specs.inside.Builds.{Gathers}
 use Rattle.ix_step.proofs.BagsPut.{map-insert, size-put_in}
 use Rattle.ix_step.proofs.Gathered.{gathers_put}
 use Rattle.ix_step.proofs.bags.put_bag.Goals as goal

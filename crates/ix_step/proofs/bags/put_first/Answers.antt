@@ -2,8 +2,8 @@ use Rattle.std.proofs.Common.{map, refl, subst, arith}
 use Rattle.ix_tree.specs.Plain.{bag, listed}
 use Rattle.ix_tree.specs.PlainOf.{plain, plain_bag}
 use Rattle.ix_can.specs.Nodes.{put_in}
-use Rattle.ix_can.specs.Moved.{bag_with}
-use Rattle.ix_step.specs.Building.{Builds, Gathers, IsSmall}
+use Rattle.ix_can.specs.inside.Moved.{bag_with}
+use Rattle.ix_step.specs.inside.Builds.{Builds, Gathers, IsSmall}
 use Rattle.ix_step.proofs.BagsPut.{size-put_in}
 use Rattle.ix_step.proofs.LivePuts.{live_fails}
 use Rattle.ix_step.proofs.bags.put_first.Goals as goal

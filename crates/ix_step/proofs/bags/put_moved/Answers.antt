@@ -4,7 +4,7 @@ use Rattle.ix_tree.specs.Plain.{Plain, bag, listed, is_dead}
 use Rattle.ix_tree.specs.PlainOf.{plain, plain_bag}
 use Rattle.ix_tree.specs.Size.{size_of}
 use Rattle.ix_can.specs.Nodes.{put_in}
-use Rattle.ix_step.specs.Building.{Builds, IsSmall}
+use Rattle.ix_step.specs.inside.Builds.{Builds, IsSmall}
 use Rattle.ix_step.proofs.BagsPut.{size-put_in, size-remove}
 use Rattle.ix_step.proofs.LivePuts.{dead_adds, live_adds, live_fails}
 use Rattle.ix_step.proofs.bags.put_moved.Goals as goal

@@ -1,7 +1,7 @@
 use Rattle.std.proofs.Common.{[], sym, ap, ◌∙◌, subst, arith}
-use Rattle.ix_expr.specs.FormOf.{form_of}
+use Rattle.ix_expr.specs.inside.FormOf.{form_of}
 use Rattle.ix_tree.specs.Size.{size_of}
-use Rattle.ix_step.specs.Building.{Builds}
+use Rattle.ix_step.specs.inside.Builds.{Builds}
 use Rattle.ix_step.proofs.Beginnings.{initial_is, initial_small}
 use Rattle.ix_step.proofs.calls.initial.Goals as goal
 

@@ -1,9 +1,9 @@
 use Rattle.std.proofs.Common.{◌≡◌, refl, ap, subst, arith}
-use Rattle.ix_expr.specs.FormOf.{form_of}
+use Rattle.ix_expr.specs.inside.FormOf.{form_of}
 use Rattle.ix_tree.specs.PlainOf.{plain}
 use Rattle.ix_tree.specs.Size.{size_of}
-use Rattle.ix_can.specs.Moved.{moved}
-use Rattle.ix_step.specs.Building.{Builds, IsAbove}
+use Rattle.ix_can.specs.inside.Moved.{moved}
+use Rattle.ix_step.specs.inside.Builds.{Builds, IsAbove}
 use Rattle.ix_step.specs.declared.fault.BuildFault.TheVariants.{Over}
 use Rattle.ix_step.proofs.calls.moved_within.Goals as goal
 

@@ -1,8 +1,8 @@
 use Rattle.std.proofs.Common.{ap, ◌∙◌, subst}
-use Rattle.ix_expr.specs.FormOf.{form_of}
-use Rattle.ix_can.specs.Moved.{moved}
+use Rattle.ix_expr.specs.inside.FormOf.{form_of}
+use Rattle.ix_can.specs.inside.Moved.{moved}
 use Rattle.ix_can.proofs.MovesTell.{each_step}
-use Rattle.ix_step.specs.Building.{Builds}
+use Rattle.ix_step.specs.inside.Builds.{Builds}
 use Rattle.ix_step.proofs.calls.step.Goals as goal
 
 pub moved_within-requires-clause-fits : goal.moved_within-requires-clause-fits

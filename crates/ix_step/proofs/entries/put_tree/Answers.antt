@@ -5,7 +5,7 @@ use Rattle.ix_words.specs.Each.{here}
 use Rattle.ix_words.proofs.Each.{Member-right}
 use Rattle.ix_tree.specs.PlainOf.{plain}
 use Rattle.ix_tree.specs.contracts.tree.TreePartialEq.TheImpl.{ghosts as tree_ghosts}
-use Rattle.ix_step.specs.Building.{Builds}
+use Rattle.ix_step.specs.inside.Builds.{Builds}
 use Rattle.ix_step.proofs.EntriesPut.{fault_of_value, entered, entered_counts}
 use Rattle.ix_step.proofs.SameTrees.{same_trees}
 use Rattle.ix_step.proofs.entries.put_tree.Goals as goal

@@ -1,6 +1,6 @@
 use Rattle.std.proofs.Common.{[], map, subst}
 use Rattle.ix_tree.specs.PlainOf.{plain_map}
-use Rattle.ix_step.specs.Building.{Gathers}
+use Rattle.ix_step.specs.inside.Builds.{Gathers}
 use Rattle.ix_step.proofs.Mapping.{all_fault, all_gathered}
 use Rattle.ix_step.proofs.maps.all_node.Goals as goal
 

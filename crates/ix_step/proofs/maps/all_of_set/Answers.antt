@@ -1,7 +1,7 @@
 use Rattle.std.proofs.Common.{map, refl, ap, ◌∙◌, arith}
 use Rattle.ix_tree.specs.Plain.{listed, all as all_of}
 use Rattle.ix_tree.specs.PlainOf.{plain_map}
-use Rattle.ix_tree.specs.PlainParts.{plain-All}
+use Rattle.ix_tree.specs.lemmas.PlainParts.{plain-All}
 use Rattle.ix_tree.proofs.Alternatives.{weight_of-list}
 use Rattle.ix_step.proofs.maps.all_of_set.Goals as goal
 

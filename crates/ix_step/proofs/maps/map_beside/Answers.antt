@@ -1,7 +1,8 @@
 use Rattle.std.proofs.Common.{map, sym, ap, ◌∙◌}
 use Rattle.ix_tree.specs.Plain.{items_of}
-use Rattle.ix_tree.specs.PlainOf.{plain_entry, plain_map}
-use Rattle.ix_tree.specs.PlainParts.{plain-Map}
+use Rattle.ix_tree.specs.inside.PlainLists.{plain_entry}
+use Rattle.ix_tree.specs.PlainOf.{plain_map}
+use Rattle.ix_tree.specs.lemmas.PlainParts.{plain-Map}
 use Rattle.ix_tree.specs.Order.{first_part}
 use Rattle.ix_step.proofs.Mapping.{map_items, copy_proper, copy_with_tree}
 use Rattle.ix_step.proofs.maps.map_beside.Goals as goal

@@ -3,9 +3,9 @@ use Rattle.ix_tree.specs.Plain.{items_of}
 use Rattle.ix_tree.specs.PlainOf.{plain, plain_map}
 use Rattle.ix_tree.specs.Order.{first_part}
 use Rattle.ix_tree.specs.Size.{size_of}
-use Rattle.ix_tree.specs.DerivedOrder.{map_order_is}
+use Rattle.ix_tree.specs.lemmas.DerivedOrder.{map_order_is}
 use Rattle.ix_tree.specs.contracts.tree.MapOrd.TheImpl.{ghosts as map_ghosts}
-use Rattle.ix_step.specs.Mapped.{with_tree}
+use Rattle.ix_step.specs.inside.MapsAfter.{with_tree}
 use Rattle.ix_step.proofs.Gathered.{gathers_put}
 use Rattle.ix_step.proofs.Mapping.{with_tree_size, items_size, put_live_map}
 use Rattle.ix_step.proofs.maps.put_live.Goals as goal

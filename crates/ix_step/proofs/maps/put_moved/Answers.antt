@@ -2,7 +2,7 @@ use Rattle.std.proofs.Common.{map, subst}
 use Rattle.ix_tree.specs.Plain.{items_of}
 use Rattle.ix_tree.specs.PlainOf.{plain, plain_map}
 use Rattle.ix_tree.specs.Order.{first_part}
-use Rattle.ix_step.specs.Building.{Builds}
+use Rattle.ix_step.specs.inside.Builds.{Builds}
 use Rattle.ix_step.proofs.Mapping.{retold_fault}
 use Rattle.ix_step.proofs.maps.put_moved.Goals as goal
 

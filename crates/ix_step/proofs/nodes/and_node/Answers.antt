@@ -1,7 +1,7 @@
 use Rattle.std.proofs.Common.{◌≡◌, ap, ◌∙◌, arith}
 use Rattle.ix_tree.specs.Plain.{and, pair}
 use Rattle.ix_tree.specs.PlainOf.{plain}
-use Rattle.ix_tree.specs.PlainParts.{plain-And}
+use Rattle.ix_tree.specs.lemmas.PlainParts.{plain-And}
 use Rattle.ix_tree.specs.Size.{size_of}
 use Rattle.ix_tree.specs.declared.tree.Tree.{And}
 use Rattle.ix_step.proofs.Limits.{above_grows, builds_node}

@@ -1,5 +1,5 @@
 use Rattle.std.proofs.Common.{subst}
-use Rattle.ix_step.specs.Building.{Builds, IsSmall}
+use Rattle.ix_step.specs.inside.Builds.{Builds, IsSmall}
 use Rattle.ix_step.proofs.Limits.{box_small, box_built}
 use Rattle.ix_step.proofs.nodes.built_box.Goals as goal
 

@@ -1,7 +1,7 @@
 use Rattle.std.proofs.Common.{false, ◌≡◌, ap, ◌∙◌, arith}
 use Rattle.ix_tree.specs.Plain.{opt}
 use Rattle.ix_tree.specs.PlainOf.{plain}
-use Rattle.ix_tree.specs.PlainParts.{plain-Opt}
+use Rattle.ix_tree.specs.lemmas.PlainParts.{plain-Opt}
 use Rattle.ix_tree.specs.Size.{size_of}
 use Rattle.ix_tree.specs.declared.tree.Tree.{Opt}
 use Rattle.ix_step.proofs.Limits.{above_grows, builds_node}

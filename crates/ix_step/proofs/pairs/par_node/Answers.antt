@@ -1,7 +1,7 @@
 use Rattle.std.proofs.Common.{map, refl, ap, ◌∙◌}
 use Rattle.ix_tree.specs.Plain.{listed, par}
 use Rattle.ix_tree.specs.PlainOf.{plain_pair}
-use Rattle.ix_tree.specs.PlainParts.{plain-Par}
+use Rattle.ix_tree.specs.lemmas.PlainParts.{plain-Par}
 use Rattle.ix_tree.proofs.Alternatives.{weight_of-list}
 use Rattle.ix_step.proofs.ParallelArms.{node_fails, node_items, node_above, node_within}
 use Rattle.ix_step.proofs.pairs.par_node.Goals as goal

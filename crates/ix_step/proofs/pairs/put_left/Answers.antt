@@ -1,11 +1,11 @@
 use Rattle.std.proofs.Common.{◌≡◌, map, refl, sym, ap, ◌∙◌, subst, arith}
 use Rattle.ix_tree.specs.Plain.{pair, is_dead}
 use Rattle.ix_tree.specs.PlainOf.{plain, plain_pair}
-use Rattle.ix_tree.specs.PlainParts.{plain-Pair}
+use Rattle.ix_tree.specs.lemmas.PlainParts.{plain-Pair}
 use Rattle.ix_tree.specs.Size.{size_of}
-use Rattle.ix_tree.specs.DerivedOrder.{pair_order_is}
+use Rattle.ix_tree.specs.lemmas.DerivedOrder.{pair_order_is}
 use Rattle.ix_tree.specs.declared.tree.Pair.{Pair, roll-Pair}
-use Rattle.ix_step.specs.Building.{Builds, IsSmall}
+use Rattle.ix_step.specs.inside.Builds.{Builds, IsSmall}
 use Rattle.ix_step.proofs.LivePuts.{dead_adds, live_adds, live_fails}
 use Rattle.ix_step.proofs.Gathered.{gathers_put}
 use Rattle.ix_step.proofs.pairs.put_left.Goals as goal

@@ -1,4 +1,4 @@
-use Rattle.ix_tree.specs.TreeOrder.{tree_order}
+use Rattle.ix_tree.specs.lemmas.TreeOrder.{tree_order}
 use Rattle.ix_tree.proofs.laws.trees_are_ordered.Goals as goal
 
 pub returns : goal.returns

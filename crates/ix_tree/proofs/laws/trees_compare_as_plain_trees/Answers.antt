@@ -1,4 +1,4 @@
-use Rattle.ix_tree.specs.DerivedOrder.{tree_order_is, pair_order_is, bag_order_is, map_order_is}
+use Rattle.ix_tree.specs.lemmas.DerivedOrder.{tree_order_is, pair_order_is, bag_order_is, map_order_is}
 use Rattle.ix_tree.proofs.laws.trees_compare_as_plain_trees.Goals as goal
 
 pub returns-clause-trees : goal.returns-clause-trees

@@ -1,5 +1,5 @@
 use Rattle.std.proofs.Common.{◌≡◌, ℕ, ◌<◌, List, [], ◌∷◌, take, get_or}
-use Rattle.ix_values.specs.Padding.{padded}
+use Rattle.ix_values.specs.inside.Padding.{padded}
 use Rattle.ix_values.specs.Texts.{IsValue}
 use Rattle.ix_values.proofs.actions.zero_padded.Given as goal
 

@@ -1,5 +1,5 @@
 use Rattle.std.proofs.Common.{◌≡◌, ◌-◌, ◌<◌, ◌≤◌, length, take}
-use Rattle.ix_values.specs.Reading.{opened}
+use Rattle.ix_values.specs.inside.FirstWord.{opened}
 use Rattle.ix_values.specs.Texts.{IsAction}
 use Rattle.ix_values.proofs.reading.read_values.Given as goal
 

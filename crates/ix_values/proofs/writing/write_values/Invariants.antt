@@ -1,5 +1,5 @@
 use Rattle.std.proofs.Common.{◌≡◌, ◌+◌, ◌*◌, ◌≤◌, length, take}
-use Rattle.ix_values.specs.Reading.{opened}
+use Rattle.ix_values.specs.inside.FirstWord.{opened}
 use Rattle.ix_values.proofs.writing.write_values.Given as goal
 
 abbrev pub invariant-loop-value : goal.invariant-loop-value

@@ -1,5 +1,5 @@
 use Rattle.std.proofs.Common.{sym, ap, ◌∙◌}
-use Rattle.ix_watch.specs.Watches.{marked}
+use Rattle.ix_watch.specs.inside.Watches.{marked}
 use Rattle.ix_watch.proofs.WatchLemmas.{told_again-place}
 use Rattle.ix_watch.proofs.Watches.add.Goals as goal
 

@@ -4,9 +4,9 @@ use Rattle.std.specs.Map.{keys_of}
 use Rattle.indexmap.specs.IndexMap.{insert_entry}
 use Rattle.ix_watch.specs.declared.pairs.Pair.{Pair}
 use Rattle.ix_watch.specs.declared.Mark.{Mark}
-use Rattle.ix_watch.specs.Pairs.{pair_eq}
-use Rattle.ix_watch.specs.Kept.{watch_of, watches_of}
-use Rattle.ix_watch.specs.Watches.{PlainWatch, is_watched}
+use Rattle.ix_watch.specs.lemmas.Pairs.{pair_eq}
+use Rattle.ix_watch.specs.inside.Kept.{watch_of, watches_of}
+use Rattle.ix_watch.specs.inside.Watches.{PlainWatch, is_watched}
 use Rattle.ix_watch.proofs.EntryLemmas.{Entries, insert-new, watches-new, is_watched-keys}
 use Rattle.ix_watch.proofs.Watches.append.Goals as goal
 use Rattle.ix_watch.proofs.Watches.append.Goals.{in-Ok, in-Err}

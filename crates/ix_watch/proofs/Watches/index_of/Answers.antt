@@ -4,9 +4,9 @@ use Rattle.std.specs.Option.{IfSome}
 use Rattle.std.specs.List.{position, position_or_len}
 use Rattle.std.specs.Map.{keys_of}
 use Rattle.ix_watch.specs.declared.pairs.Pair.{Pair}
-use Rattle.ix_watch.specs.Pairs.{pair_eq}
-use Rattle.ix_watch.specs.Kept.{watches_of}
-use Rattle.ix_watch.specs.Watches.{is_of, is_watched, AreDistinct}
+use Rattle.ix_watch.specs.lemmas.Pairs.{pair_eq}
+use Rattle.ix_watch.specs.inside.Kept.{watches_of}
+use Rattle.ix_watch.specs.inside.Watches.{is_of, is_watched, AreDistinct}
 use Rattle.ix_watch.proofs.EntryLemmas.{Entries, is_watched-keys, place-index, distinct-keys}
 use Rattle.ix_watch.proofs.Watches.index_of.Goals as goal
 

@@ -1,5 +1,5 @@
 use Rattle.std.proofs.Common.{subst}
-use Rattle.ix_watch.specs.Watches.{AreDistinct}
+use Rattle.ix_watch.specs.inside.Watches.{AreDistinct}
 use Rattle.ix_watch.proofs.EntryLemmas.{distinct-keys}
 use Rattle.ix_watch.proofs.Watches.len.Goals as goal
 

@@ -1,6 +1,6 @@
 use Rattle.std.proofs.Common.{ap, ◌∙◌, arith}
 use Rattle.indexmap.specs.Layout.{length-set_value_at}
-use Rattle.ix_watch.specs.Watches.{marked}
+use Rattle.ix_watch.specs.inside.Watches.{marked}
 use Rattle.ix_watch.proofs.EntryLemmas.{watches-set_value_at}
 use Rattle.ix_watch.proofs.Watches.mark.Goals as goal
 

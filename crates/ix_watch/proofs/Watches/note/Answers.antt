@@ -1,5 +1,5 @@
 use Rattle.std.proofs.Common.{◌∙◌}
-use Rattle.ix_watch.specs.Kept.{watch_of}
+use Rattle.ix_watch.specs.inside.Kept.{watch_of}
 use Rattle.ix_watch.proofs.WatchLemmas.{noted-marked}
 use Rattle.ix_watch.proofs.Watches.note.Goals as goal
 

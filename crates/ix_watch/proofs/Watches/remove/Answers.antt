@@ -1,6 +1,6 @@
 use Rattle.std.proofs.Common.{sym, ap, ◌∙◌}
 use Rattle.std.specs.List.{remove}
-use Rattle.ix_watch.specs.Kept.{watches_of}
+use Rattle.ix_watch.specs.inside.Kept.{watches_of}
 use Rattle.ix_watch.proofs.EntryLemmas.{watches-remove}
 use Rattle.ix_watch.proofs.WatchLemmas.{without-place, without-absent}
 use Rattle.ix_watch.proofs.Watches.remove.Goals as goal

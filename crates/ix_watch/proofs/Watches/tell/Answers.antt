@@ -1,8 +1,8 @@
 use Rattle.std.proofs.Common.{◌≡◌, true, false, sym, ap, subst, ◌∙◌, arith, add-one, length, Some}
 use Rattle.std.specs.List.{slice_get}
 use Rattle.ix_values.specs.Order.{text_eq}
-use Rattle.ix_watch.specs.Kept.{watch_of}
-use Rattle.ix_watch.specs.Watches.{marked}
+use Rattle.ix_watch.specs.inside.Kept.{watch_of}
+use Rattle.ix_watch.specs.inside.Watches.{marked}
 use Rattle.ix_watch.proofs.WatchLemmas.{length-told_upto, told_upto, told_upto-true, told_upto-false, told_upto-length}
 use Rattle.ix_watch.proofs.Watches.tell.Goals as goal
 use Rattle.ix_watch.proofs.Watches.tell.Goals.{then-eq, else-eq}

@@ -1,6 +1,6 @@
 use Rattle.std.proofs.Common.{length, ◌∙◌, zero-add, rules}
 use Rattle.ix_expr.specs.FormFaults.{nodes_of}
-use Rattle.ix_expr.specs.FormOf.{form_of}
+use Rattle.ix_expr.specs.inside.FormOf.{form_of}
 use Rattle.ix_expr.proofs.Walks.{passed-HaveNoFault, found-IsFirstFault, fault-not-free}
 use Rattle.ix_expr.proofs.expression.Expression.new.Goals as goal
 

@@ -1,5 +1,5 @@
 use Rattle.std.proofs.Common.{arith}
-use Rattle.ix_expr.specs.FormOf.{form_of}
+use Rattle.ix_expr.specs.inside.FormOf.{form_of}
 use Rattle.ix_expr.proofs.Parts.{well-formed-few, some-nodes}
 use Rattle.ix_expr.proofs.expression.Expression.nodes.Goals as goal
 

@@ -4,7 +4,7 @@ use Rattle.ix_proto.specs.declared.request.Request.{Request}
 use Rattle.ix_proto.specs.declared.reply.Reply.{Reply}
 use Rattle.ix_proto.specs.declared.reply.Reply.TheVariants.{Stopping}
 use Rattle.ix_manager.specs.Machine.{Step, stopping}
-use Rattle.ix_manager.specs.Core.{Core}
+use Rattle.ix_manager.specs.inside.Core.{Core}
 use Rattle.ix_manager.proofs.Requesting.{OfEach, ask_is, may_is, watch_is, drop_is, stop_is}
 use Rattle.ix_manager.proofs.machine.Machine.answer.Goals as goal
 

@@ -1,6 +1,6 @@
 use Rattle.std.proofs.Common.{subst, refl}
-use Rattle.ix_manager.specs.Ready.{IsOpenUpTo}
-use Rattle.ix_manager.specs.Core.{Core}
+use Rattle.ix_manager.specs.inside.Ready.{IsOpenUpTo}
+use Rattle.ix_manager.specs.inside.Core.{Core}
 use Rattle.ix_manager.proofs.Stepping.{seen, busy_does, granted_does, refused_does}
 use Rattle.ix_manager.proofs.machine.Machine.ask.Goals as goal
 

@@ -2,7 +2,7 @@ use Rattle.std.proofs.Common.{◌≡◌, ◌+◌, ◌<◌, ◌≤◌, length, ge
 use Rattle.ix_values.specs.PlainAction.{Word}
 use Rattle.ix_proto.specs.Requests as request
 use Rattle.ix_proto.specs.declared.reply.Reply.{Reply}
-use Rattle.ix_manager.specs.Doing.{Does}
+use Rattle.ix_manager.specs.inside.Does.{Does}
 use Rattle.ix_manager.proofs.Stepping.{seen_same, entry_does, no_entry_does, zeroth_does}
 use Rattle.ix_manager.proofs.machine.Machine.log.Goals as goal
 

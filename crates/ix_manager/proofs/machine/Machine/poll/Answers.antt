@@ -1,6 +1,6 @@
 use Rattle.std.proofs.Common.{refl, sym, ap, subst, ◌∙◌}
-use Rattle.ix_manager.specs.Core.{Core}
-use Rattle.ix_manager.specs.Doing.{PollAnswers, Refreshes}
+use Rattle.ix_manager.specs.inside.Core.{Core}
+use Rattle.ix_manager.specs.inside.Does.{PollAnswers, Refreshes}
 use Rattle.ix_manager.specs.declared.machine.Answer.{Answer}
 use Rattle.ix_manager.specs.declared.machine.Answer.TheVariants as answer
 use Rattle.ix_manager.proofs.Stepping.{core_of, seen, poll_memory_does, refreshes}

@@ -1,5 +1,5 @@
 use Rattle.std.proofs.Common.{sym, subst}
-use Rattle.ix_manager.specs.Core.{Core, IsRefreshed, TellsPoll}
+use Rattle.ix_manager.specs.inside.Core.{Core, IsRefreshed, TellsPoll}
 use Rattle.ix_manager.proofs.Stepping.{core_of, tells_poll}
 use Rattle.ix_manager.proofs.machine.Machine.tell.Goals as goal
 

@@ -1,6 +1,6 @@
 use Rattle.std.proofs.Common.{◌≡◌, Err, subst, ◌∙◌}
 use Rattle.ix_watch.specs.declared.WatchFault.TheVariants.{Full, Memory}
-use Rattle.ix_manager.specs.Doing.{WatchAnswers}
+use Rattle.ix_manager.specs.inside.Does.{WatchAnswers}
 use Rattle.ix_manager.proofs.Stepping.{seen, watching_does, watches_full_does, watch_memory_does}
 use Rattle.ix_manager.proofs.machine.Machine.watch.Goals as goal
 use Rattle.ix_manager.proofs.machine.Machine.watch.Goals.{in-Ok, in-Err-Full, in-Err-Memory}

@@ -1,7 +1,8 @@
 use Rattle.std.proofs.Common.{◌≡◌, ap, ◌∙◌, refl}
-use Rattle.ix_manager.specs.Core.{Core}
-use Rattle.ix_manager.specs.Managing.{ManagerState, ending_after}
-use Rattle.ix_manager.specs.Sending.{wired}
+use Rattle.ix_manager.specs.inside.Core.{Core}
+use Rattle.ix_manager.specs.Handled.{ManagerState}
+use Rattle.ix_manager.specs.inside.EndingAfter.{ending_after}
+use Rattle.ix_manager.specs.inside.WireState.{wired}
 use Rattle.std.proofs.Common.{get_or, false}
 use Rattle.ix_manager.proofs.HandleLemmas.{at_moment, bytes_handled, closed_handled, end_handled}
 use Rattle.ix_manager.proofs.manager.Manager.handle.Goals as goal

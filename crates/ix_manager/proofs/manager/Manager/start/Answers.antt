@@ -1,5 +1,5 @@
 use Rattle.std.proofs.Common.{subst, sym}
-use Rattle.ix_manager.specs.Clean.{AreClean}
+use Rattle.ix_manager.specs.inside.Clean.{AreClean}
 use Rattle.ix_manager.proofs.TakeLemmas.{clean_at_start}
 use Rattle.ix_manager.proofs.manager.Manager.start.Goals as goal
 

@@ -1,5 +1,5 @@
 use Rattle.std.proofs.Common.{map, drop}
-use Rattle.ix_memory.specs.Taking.{beside, events_beside}
+use Rattle.ix_memory.specs.inside.CanCome.{beside, events_beside}
 use Rattle.ix_memory.proofs.TakingAll.{Takes}
 use Rattle.ix_memory.proofs.events.Events.new.Given as goal
 

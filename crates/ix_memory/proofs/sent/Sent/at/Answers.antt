@@ -2,8 +2,8 @@
 use Rattle.std.proofs.Common.{◌≡◌, ◌<◌, ℕ, List, length, map, get_or, slice_get, Some, sym, subst, arith}
 use Rattle.std.proofs.lemmas.List.{length-map}
 use Rattle.ix_memory.specs.declared.sent.Pair.{Pair}
-use Rattle.ix_memory.specs.Spans.{IsWithin, AreWithin}
-use Rattle.ix_memory.specs.SentState.{sent_of}
+use Rattle.ix_memory.specs.inside.Spans.{IsWithin, AreWithin}
+use Rattle.ix_memory.specs.inside.SentState.{sent_of}
 use Rattle.ix_memory.proofs.Spanning.{pair_within, sent_at}
 use Rattle.ix_memory.proofs.sent.Sent.at.Goals as goal
 

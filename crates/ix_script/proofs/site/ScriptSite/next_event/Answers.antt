@@ -1,6 +1,7 @@
 use Rattle.std.proofs.Common.{length, ap, sym, ◌∙◌}
-use Rattle.ix_script.specs.Pieces.{left_after, next_piece}
-use Rattle.ix_script.specs.Progress.{events_of, given_by, left_by}
+use Rattle.ix_script.specs.Pieces.{left_after}
+use Rattle.ix_script.specs.inside.NextPiece.{next_piece}
+use Rattle.ix_script.specs.inside.Progress.{events_of, given_by, left_by}
 use Rattle.ix_script.proofs.GivenEvents.{left_by-end, given_by-end, is_next}
 use Rattle.ix_script.proofs.site.ScriptSite.next_event.Goals as goal
 

@@ -1,5 +1,5 @@
 use Rattle.std.proofs.Common.{[], ◌∷◌, ◌<◌, length, take, subst, sym, arith}
-use Rattle.ix_values.specs.PlainAction.{action_of}
+use Rattle.ix_values.specs.inside.ActionOf.{action_of}
 use Rattle.ix_values.specs.Texts.{IsAction}
 use Rattle.ix_values.proofs.Slots.{items-push, IsPadded-push}
 use Rattle.ix_values.proofs.TextsOfActions.{IsAction-push}

@@ -1,7 +1,8 @@
 use Rattle.std.proofs.Common.{◌≡◌, ℕ, ◌+◌, ◌-◌, ◌≤◌, List, [], ◌∷◌, ◌++◌, length, take, get_or, sym, ◌∙◌, ap, arith}
 use Rattle.std.proofs.lemmas.List.{take_more, take_all}
-use Rattle.ix_values.specs.PlainAction.{action_of, text_of}
-use Rattle.ix_values.specs.Reading.{opened}
+use Rattle.ix_values.specs.inside.ActionOf.{action_of}
+use Rattle.ix_values.specs.PlainAction.{text_of}
+use Rattle.ix_values.specs.inside.FirstWord.{opened}
 use Rattle.ix_values.proofs.TextsOfActions.{text_of-push}
 use Rattle.ix_values.proofs.actions.Action.write.Goals as goal
 

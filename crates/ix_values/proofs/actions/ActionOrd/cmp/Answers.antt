@@ -1,5 +1,6 @@
 use Rattle.std.proofs.Common.{◌≡◌, ◌∙◌, rules}
-use Rattle.ix_values.specs.Order.{action_cmp, action_cmp-same}
+use Rattle.ix_values.specs.inside.ActionOrder.{action_cmp}
+use Rattle.ix_values.specs.lemmas.Order.{action_cmp-same}
 use Rattle.ix_values.proofs.actions.ActionOrd.cmp.Goals as goal
 
 pub returns-clause-same : goal.returns-clause-same

@@ -1,5 +1,6 @@
 use Rattle.std.proofs.Common.{◌≡◌, ◌∙◌, sym, rules}
-use Rattle.ix_values.specs.Order.{action_eq, action_eq-decides}
+use Rattle.ix_values.specs.inside.ActionOrder.{action_eq}
+use Rattle.ix_values.specs.lemmas.Order.{action_eq-decides}
 use Rattle.ix_values.proofs.actions.ActionPartialEq.eq.Goals as goal
 
 pub returns-then-eq-clause-same : goal.returns-then-eq-clause-same

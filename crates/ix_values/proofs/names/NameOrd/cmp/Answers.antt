@@ -1,5 +1,6 @@
 use Rattle.std.proofs.Common.{◌≡◌, ◌∙◌, rules}
-use Rattle.ix_values.specs.Order.{text_cmp, text_cmp-same}
+use Rattle.ix_values.specs.Order.{text_cmp}
+use Rattle.ix_values.specs.lemmas.Order.{text_cmp-same}
 use Rattle.ix_values.proofs.names.NameOrd.cmp.Goals as goal
 
 pub returns-clause-same : goal.returns-clause-same

@@ -1,6 +1,6 @@
 use Rattle.std.proofs.Common.{◌≡◌, ◌≤◌, ◌+◌, ◌∷◌, sym, ap, ◌∙◌, arith, add-one, drop, length, rules, drop_of_length-le}
-use Rattle.ix_watch.specs.Kept.{watch_of}
-use Rattle.ix_watch.specs.Watches.{changes_of}
+use Rattle.ix_watch.specs.inside.Kept.{watch_of}
+use Rattle.ix_watch.specs.inside.Watches.{changes_of}
 use Rattle.ix_watch.proofs.WatchLemmas.{changes-true, changes-false}
 use Rattle.ix_watch.proofs.changes.ChangesIterator.next.Goals as goal
 

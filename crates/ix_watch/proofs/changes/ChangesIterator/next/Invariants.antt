@@ -1,5 +1,5 @@
 use Rattle.std.proofs.Common.{◌-◌, ◌≡◌, drop, length}
-use Rattle.ix_watch.specs.Watches.{changes_of}
+use Rattle.ix_watch.specs.inside.Watches.{changes_of}
 use Rattle.ix_watch.proofs.changes.ChangesIterator.next.Given as goal
 
 -- what was looked at isn't to be told

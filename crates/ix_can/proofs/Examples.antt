@@ -1,0 +1,180 @@
+-- Sizes of trees and whole trees that the definitions give, worked out by hand.
+use Rattle.std.specs.Prelude.{true, false, ◌≡◌, ℕ, List, [], ◌∷◌, codes}
+use Rattle.std.proofs.Common.{refl}
+use Rattle.ix_values.specs.PlainAction.{PlainAction, Word}
+use Rattle.ix_values.specs.inside.ActionOf.{action_of}
+use Rattle.ix_expr.specs.declared.arg.Arg.TheVariants.{Fixed, Param}
+use Rattle.ix_expr.specs.Form.{Form, atom, opt, seq, star, par, par_star, or, and, couple, any, every, sync, all}
+use Rattle.ix_tree.specs.Plain.{Plain, dead, start, done, opt as opt_tree, seq as seq_tree, star as star_tree, par as par_tree, par_star as par_star_tree, or as or_tree, and as and_tree, couple as couple_tree, any as any_tree, every as every_tree, sync as sync_tree, all as all_tree, pair, bag, map, entry}
+use Rattle.ix_tree.specs.Size.{size_of}
+use Rattle.ix_can.specs.Nodes.{listed}
+use Rattle.ix_can.specs.TreeOf.{tree_of}
+
+-- the Size of the tree of the word
+abbrev pub size_after : Form → Word → ℕ
+size_after x w = size_of (tree_of x [] w)
+
+-- actions and atoms by name
+abbrev named : List ℕ → PlainAction
+named name = action_of name []
+
+abbrev plain : List ℕ → Form
+plain name = atom (record { name = name; arguments = [] })
+
+-- `#(a - b)`
+abbrev many : Form
+many = par_star (seq (plain (codes "a")) (plain (codes "b")))
+
+pub many_before : size_after many [] ≡ 2
+many_before = refl
+
+pub many_once : size_after many (named (codes "a") ∷ []) ≡ 5
+many_once = refl
+
+pub many_twice : size_after many (named (codes "a") ∷ named (codes "a") ∷ []) ≡ 8
+many_twice = refl
+
+-- `(a - b) + (a - c)`
+pub both_once : size_after (par (seq (plain (codes "a")) (plain (codes "b"))) (seq (plain (codes "a")) (plain (codes "c")))) (named (codes "a") ∷ []) ≡ 13
+both_once = refl
+
+-- `any $p (a - b($p))`
+abbrev some_value : Form
+some_value = any (codes "p") (seq (plain (codes "a")) (atom (record { name = codes "b"; arguments = Param (codes "p") ∷ [] })))
+
+pub some_value_once : size_after some_value (named (codes "a") ∷ []) ≡ 4
+some_value_once = refl
+
+pub some_value_twice : size_after some_value (named (codes "a") ∷ action_of (codes "b") (codes "u" ∷ []) ∷ []) ≡ 6
+some_value_twice = refl
+
+-- a call and then a performance of the patient and the examination
+abbrev visit : Form
+visit = seq (atom (record { name = codes "call"; arguments = Param (codes "p") ∷ Param (codes "x") ∷ [] })) (atom (record { name = codes "perform"; arguments = Param (codes "p") ∷ Param (codes "x") ∷ [] }))
+
+abbrev patients : Form
+patients = all (codes "p") (star (any (codes "x") visit))
+
+abbrev examinations : Form
+examinations = all (codes "x") (star (any (codes "p") visit))
+
+abbrev called : Word
+called = action_of (codes "call") (codes "p1" ∷ codes "x1" ∷ []) ∷ []
+
+pub patients_called : size_after patients called ≡ 10
+patients_called = refl
+
+pub both_called : size_after (couple patients examinations) called ≡ 21
+both_called = refl
+
+-- Whole trees
+
+-- the tree of the word
+abbrev after : Form → Word → Plain
+after x w = tree_of x [] w
+
+-- the actions `a`, `b`, `c`, `b(u)` and `b(v)`
+abbrev do_a : PlainAction
+do_a = named (codes "a")
+
+abbrev do_b : PlainAction
+do_b = named (codes "b")
+
+abbrev do_c : PlainAction
+do_c = named (codes "c")
+
+abbrev do_bu : PlainAction
+do_bu = action_of (codes "b") (codes "u" ∷ [])
+
+abbrev do_bv : PlainAction
+do_bv = action_of (codes "b") (codes "v" ∷ [])
+
+-- the expressions `a`, `b`, `b($p)` and `b(u)`
+abbrev only_a : Form
+only_a = plain (codes "a")
+
+abbrev only_b : Form
+only_b = plain (codes "b")
+
+abbrev with_p : Form
+with_p = atom (record { name = codes "b"; arguments = Param (codes "p") ∷ [] })
+
+abbrev with_u : Form
+with_u = atom (record { name = codes "b"; arguments = Fixed (codes "u") ∷ [] })
+
+-- `a`
+pub atom_before : after only_a [] ≡ start
+atom_before = refl
+
+pub atom_once : after only_a (do_a ∷ []) ≡ done
+atom_once = refl
+
+pub atom_other : after only_a (do_b ∷ []) ≡ dead
+atom_other = refl
+
+-- `?a`
+pub opt_before : after (opt only_a) [] ≡ opt_tree true start
+opt_before = refl
+
+pub opt_once : after (opt only_a) (do_a ∷ []) ≡ opt_tree false done
+opt_once = refl
+
+-- `a - b`
+pub seq_once : after (seq only_a only_b) (do_a ∷ []) ≡ seq_tree done (listed (start ∷ []))
+seq_once = refl
+
+pub seq_twice : after (seq only_a only_b) (do_a ∷ do_b ∷ []) ≡ seq_tree dead (listed (done ∷ []))
+seq_twice = refl
+
+-- `*(a - b)`
+pub star_thrice : after (star (seq only_a only_b)) (do_a ∷ do_b ∷ do_a ∷ []) ≡ star_tree false (listed (seq_tree done (listed (start ∷ [])) ∷ []))
+star_thrice = refl
+
+-- `a + b` and `a + a`
+pub par_once : after (par only_a only_b) (do_a ∷ []) ≡ par_tree (listed (pair done start ∷ []))
+par_once = refl
+
+pub par_either : after (par only_a only_a) (do_a ∷ []) ≡ par_tree (listed (pair start done ∷ pair done start ∷ []))
+par_either = refl
+
+-- `#(a - b)`
+pub par_star_thrice : after many (do_a ∷ do_b ∷ do_a ∷ []) ≡ par_star_tree (listed (bag (listed (seq_tree dead (listed (done ∷ [])) ∷ seq_tree done (listed (start ∷ [])) ∷ [])) ∷ []))
+par_star_thrice = refl
+
+-- `#a`: a bag keeps repeats
+pub par_star_twice : after (par_star only_a) (do_a ∷ do_a ∷ []) ≡ par_star_tree (listed (bag (listed (done ∷ done ∷ [])) ∷ []))
+par_star_twice = refl
+
+-- `a | b`
+pub or_once : after (or only_a only_b) (do_a ∷ []) ≡ or_tree done dead
+or_once = refl
+
+-- `a & ?a`
+pub and_once : after (and only_a (opt only_a)) (do_a ∷ []) ≡ and_tree done (opt_tree false done)
+and_once = refl
+
+-- `a @ b`
+pub couple_once : after (couple only_a only_b) (do_b ∷ []) ≡ couple_tree start done
+couple_once = refl
+
+pub couple_other : after (couple only_a only_b) (do_c ∷ []) ≡ dead
+couple_other = refl
+
+-- `any $p (a - b($p))`
+pub any_twice : after some_value (do_a ∷ do_bu ∷ []) ≡ any_tree dead (listed (entry (codes "u") (seq_tree dead (listed (done ∷ []))) ∷ []))
+any_twice = refl
+
+-- `every $p (b(u) | b($p))`
+pub every_once : after (every (codes "p") (or with_u with_p)) (do_bu ∷ []) ≡ every_tree (or_tree done dead) (listed (entry (codes "u") (or_tree done done) ∷ []))
+every_once = refl
+
+-- `sync $p b($p)`
+pub sync_twice : after (sync (codes "p") with_p) (do_bv ∷ do_bu ∷ []) ≡ sync_tree start (listed (entry (codes "u") done ∷ entry (codes "v") done ∷ []))
+sync_twice = refl
+
+pub sync_other : after (sync (codes "p") with_p) (do_a ∷ []) ≡ dead
+sync_other = refl
+
+-- `all $p *b($p)`
+pub all_thrice : after (all (codes "p") (star with_p)) (do_bv ∷ do_bu ∷ do_bv ∷ []) ≡ all_tree (listed (map (listed (entry (codes "u") (star_tree true (listed (done ∷ []))) ∷ entry (codes "v") (star_tree true (listed (done ∷ []))) ∷ [])) ∷ []))
+all_thrice = refl

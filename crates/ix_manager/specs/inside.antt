@@ -1,0 +1,9 @@
+-- What contracts between crates and private ones cite, and no claim of the program or law reaches.
+pub mod Clean
+pub mod Core
+pub mod Does
+pub mod EndingAfter
+pub mod Ready
+pub mod StartFaults
+pub mod TakenItems
+pub mod WireState

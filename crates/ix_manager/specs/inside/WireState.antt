@@ -1,0 +1,87 @@
+-- A connection while replies are sent on it, and what an item's replies make of it.
+use Rattle.std.specs.Prelude.{◌≡◌, ℕ, ◌+◌, ◌≤◌, Bool, true, false, List, ◌∷◌, length, Option, Some, None}
+use Rattle.ix_values.specs.PlainAction.{PlainAction}
+use Rattle.ix_lines.specs.Items.{Item}
+use Rattle.ix_outside.specs.Contents.{Contents, SendsWhole, SendsPart}
+use Rattle.ix_outside.specs.Counts.{Counts, Rose, OnlySend}
+use Rattle.ix_outside.specs.Held as outside
+use Rattle.ix_proto.specs.declared.reply.Reply.{Reply}
+use Rattle.ix_proto.specs.declared.reply.Reply.TheVariants as reply
+use Rattle.ix_proto.specs.Requests.{PlainRequest, IsRequest}
+use Rattle.ix_proto.specs.inside.Lends.{Lends}
+use Rattle.ix_proto.specs.declared.request.Request.{Request}
+use Rattle.ix_proto.specs.declared.request.Request.TheVariants.{Stop}
+use Rattle.ix_manager.specs.declared.faults.Go.{Go}
+use Rattle.ix_manager.specs.Machine.{Step}
+use Rattle.ix_manager.specs.Runs.{Ending, going, stopped, ItemStep, Steps}
+use Rattle.ix_manager.specs.Wire.{SendsInOrder, reply_line, all_replies}
+use Rattle.ix_manager.specs.inside.EndingAfter.{ending_after}
+use Rattle.ix_manager.specs.inside.Core.{Core, change_replies}
+
+-- whether the connection is marked as gone, and what the site tells
+pub record WireState : Type 0 where
+  pub gone : Bool
+  pub contents : Contents
+  pub counts : Counts
+  pub attached : Bool
+  pub held : outside.Held
+
+-- the same, part by part
+abbrev pub wired : Bool → Contents → Counts → Bool → outside.Held → WireState
+wired gone contents counts attached held =
+    record { gone = gone; contents = contents; counts = counts; attached = attached; held = held }
+
+-- replies are sent in order on a connection; it is newly marked only where the count of sends rose
+pub record SendsAll (conn : ℕ) (replies : List Reply) (old new : WireState) : Type 0 where
+  pub order : SendsInOrder (λ reply. SendsWhole conn (reply_line reply)) (λ reply. SendsPart conn (reply_line reply))
+      replies old.gone old.contents new.gone new.contents
+  pub marks : old.gone ≡ false → new.gone ≡ true → Rose old.counts.send new.counts.send
+  pub counts : OnlySend old.counts new.counts
+  pub attached : new.attached ≡ old.attached
+  pub held : new.held ≡ old.held
+
+-- the replies that tell a poll's changes, behind their number
+abbrev pub poll_replies : List (PlainAction × Bool) → List Reply
+poll_replies changes = reply.Changes (length (change_replies changes)) ∷ change_replies changes
+
+-- the request lends a request's texts
+abbrev pub IsPlain : Request → Type 0
+IsPlain request = (plain : PlainRequest) × IsRequest plain × Lends request plain
+
+-- each request whose texts are lent makes its step, and the replies are sent
+pub record AnswersRequest (conn : ℕ) (request : Request) (old new : Core) (before after : WireState) : Type 0 where
+  pub replies : List Reply
+  pub step : (plain : PlainRequest) → IsRequest plain → Lends request plain
+      → Step old.form old.limit old.state plain replies new.state
+  pub sends : SendsAll conn replies before after
+  pub form : new.form ≡ old.form
+  pub limit : new.limit ≡ old.limit
+  pub ticket : new.state.ticket ≤ old.state.ticket + 1
+
+-- an item is answered by the machine, and the replies are sent
+pub record AnswersItem (conn : ℕ) (item : Item) (ending : Ending) (old new : Core) (before after : WireState) : Type 0 where
+  pub replies : List Reply
+  pub step : ItemStep old.form old.limit old.state item replies new.state ending
+  pub sends : SendsAll conn replies before after
+  pub form : new.form ≡ old.form
+  pub limit : new.limit ≡ old.limit
+  pub ticket : new.state.ticket ≤ old.state.ticket + 1
+
+-- where something was fed, it is answered; else all is as before
+abbrev pub AnswersFed : ℕ → Option Item → Option Go → Core → Core → WireState → WireState → Type 0
+AnswersFed conn (Some item) (Some go) old new before after = AnswersItem conn item (ending_after go) old new before after
+AnswersFed conn None None old new before after = (new ≡ old) × (after ≡ before)
+AnswersFed _ _ _ _ _ _ _ = ⊥
+
+-- items are answered in order, and the replies are sent
+pub record AnswersItems (conn : ℕ) (items : List Item) (ending : Ending) (old new : Core) (before after : WireState) : Type 0 where
+  pub answers : List (List Reply)
+  pub steps : Steps old.form old.limit old.state items answers new.state ending
+  pub sends : SendsAll conn (all_replies answers) before after
+  pub form : new.form ≡ old.form
+  pub limit : new.limit ≡ old.limit
+
+-- `stop` ends the run
+abbrev pub request_ending : Request → Ending
+request_ending Stop = stopped
+request_ending _ = going

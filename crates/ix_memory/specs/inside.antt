@@ -1,0 +1,12 @@
+-- What contracts between crates and private ones cite, and no claim of the program or law reaches.
+pub mod CanCome
+pub mod EventsState
+pub mod Fate
+pub mod FilesState
+pub mod NextEvent
+pub mod NextPiece
+pub mod Room
+pub mod SentState
+pub mod SinkState
+pub mod SiteState
+pub mod Spans

@@ -1,0 +1,191 @@
+-- Which fault the next symbol meets, as tests of what the machine holds.
+use Rattle.std.specs.Prelude.{ℕ, Bool, true, false, not, ◌&&◌, List, [], ◌∷◌, length, Option, Some, None, if◌then◌else◌, nat_lt, nat_le, ◌==◌}
+use Rattle.ix_parse.specs.declared.faults.Fault.{Fault}
+use Rattle.ix_parse.specs.declared.faults.Fault.TheVariants as faults
+use Rattle.ix_parse.specs.declared.signs.WordClass.{WordClass}
+use Rattle.ix_parse.specs.declared.signs.WordClass.TheVariants.{Quantifies, Withheld, Names, Other}
+use Rattle.ix_lex.specs.Lexing.{Piece, token, bad_byte}
+use Rattle.ix_parse.specs.Symbols.{symbol_of, Symbol, word, param, opening, closing, comma, before, between, class_of}
+use Rattle.ix_parse.specs.inside.StackMachine.{Mode, wanted, name_read, argument_wanted, argument_read, quantifier_read, operand_read, Config, levels, groups}
+
+abbrev pub is_wanted : Mode → Bool
+is_wanted wanted = true
+is_wanted (name_read at w) = false
+is_wanted (argument_wanted at w args) = false
+is_wanted (argument_read at w args) = false
+is_wanted (quantifier_read at q) = false
+is_wanted (operand_read x) = false
+
+-- a word that begins no operand, by whether a parameter is next
+abbrev pub begins_nothing : WordClass → Bool → Bool
+begins_nothing (Quantifies q) param_next = not param_next
+begins_nothing Withheld param_next = true
+begins_nothing Names param_next = false
+begins_nothing Other param_next = false
+
+abbrev pub is_reserved_word : Symbol → Bool → Bool
+is_reserved_word (word at w) param_next = begins_nothing (class_of w) param_next
+is_reserved_word (param p) param_next = false
+is_reserved_word opening param_next = false
+is_reserved_word closing param_next = false
+is_reserved_word comma param_next = false
+is_reserved_word (before at p) param_next = false
+is_reserved_word (between at o) param_next = false
+
+abbrev pub is_comma : Symbol → Bool
+is_comma (word at w) = false
+is_comma (param p) = false
+is_comma opening = false
+is_comma closing = false
+is_comma comma = true
+is_comma (before at p) = false
+is_comma (between at o) = false
+
+-- four arguments were read
+abbrev pub has_four : Mode → Bool
+has_four wanted = false
+has_four (name_read at w) = false
+has_four (argument_wanted at w args) = false
+has_four (argument_read at w args) = nat_le 4 (length args)
+has_four (quantifier_read at q) = false
+has_four (operand_read x) = false
+
+abbrev pub begins_operand : WordClass → Bool
+begins_operand (Quantifies q) = true
+begins_operand Withheld = false
+begins_operand Names = true
+begins_operand Other = false
+
+abbrev pub may_begin : Symbol → Bool
+may_begin (word at w) = begins_operand (class_of w)
+may_begin (param p) = false
+may_begin opening = true
+may_begin closing = false
+may_begin comma = false
+may_begin (before at p) = true
+may_begin (between at o) = false
+
+-- behind an operand, by whether a group is open
+abbrev pub may_follow : Bool → Symbol → Bool
+may_follow open_group (word at w) = false
+may_follow open_group (param p) = false
+may_follow open_group opening = false
+may_follow open_group closing = open_group
+may_follow open_group comma = false
+may_follow open_group (before at p) = false
+may_follow open_group (between at o) = true
+
+abbrev pub may_follow_name : Bool → Symbol → Bool
+may_follow_name open_group (word at w) = false
+may_follow_name open_group (param p) = false
+may_follow_name open_group opening = true
+may_follow_name open_group closing = open_group
+may_follow_name open_group comma = false
+may_follow_name open_group (before at p) = false
+may_follow_name open_group (between at o) = true
+
+abbrev pub is_param : Symbol → Bool
+is_param (word at w) = false
+is_param (param p) = true
+is_param opening = false
+is_param closing = false
+is_param comma = false
+is_param (before at p) = false
+is_param (between at o) = false
+
+abbrev pub is_argument : Symbol → Bool
+is_argument (word at w) = true
+is_argument (param p) = true
+is_argument opening = false
+is_argument closing = false
+is_argument comma = false
+is_argument (before at p) = false
+is_argument (between at o) = false
+
+-- behind so many arguments
+abbrev pub may_follow_argument : ℕ → Symbol → Bool
+may_follow_argument count (word at w) = false
+may_follow_argument count (param p) = false
+may_follow_argument count opening = false
+may_follow_argument count closing = true
+may_follow_argument count comma = nat_lt count 4
+may_follow_argument count (before at p) = false
+may_follow_argument count (between at o) = false
+
+-- whether the symbol may come, by what was read last and whether a group is open
+abbrev pub may_come_by : Bool → Mode → Symbol → Bool
+may_come_by open_group wanted t = may_begin t
+may_come_by open_group (name_read at w) t = may_follow_name open_group t
+may_come_by open_group (argument_wanted at w args) t = is_argument t
+may_come_by open_group (argument_read at w args) t = may_follow_argument (length args) t
+may_come_by open_group (quantifier_read at q) t = is_param t
+may_come_by open_group (operand_read x) t = may_follow open_group t
+
+abbrev pub may_come : Config → Symbol → Bool
+may_come c t = may_come_by (nat_lt 0 (groups c.stack)) c.mode t
+
+abbrev pub is_long : Symbol → Bool
+is_long (word at w) = nat_lt 32 (length w)
+is_long (param p) = nat_lt 32 (length p)
+is_long opening = false
+is_long closing = false
+is_long comma = false
+is_long (before at p) = false
+is_long (between at o) = false
+
+abbrev pub is_quantifier : WordClass → Bool
+is_quantifier (Quantifies q) = true
+is_quantifier Withheld = false
+is_quantifier Names = false
+is_quantifier Other = false
+
+abbrev pub opens_level : Symbol → Bool
+opens_level (word at w) = is_quantifier (class_of w)
+opens_level (param p) = false
+opens_level opening = true
+opens_level closing = false
+opens_level comma = false
+opens_level (before at p) = true
+opens_level (between at o) = false
+
+-- the symbol is a node's token, by whether an operand is wanted
+abbrev pub is_node : Bool → Symbol → Bool
+is_node wants (word at w) = wants
+is_node wants (param p) = false
+is_node wants opening = false
+is_node wants closing = false
+is_node wants comma = false
+is_node wants (before at p) = true
+is_node wants (between at o) = true
+
+-- whether a fault is met at a symbol, after n nodes, by whether a parameter is next
+abbrev pub meets : Config → ℕ → Symbol → Bool → Fault → Bool
+meets c n t param_next faults.NoToken = false
+meets c n t param_next faults.Reserved = is_wanted c.mode && is_reserved_word t param_next
+meets c n t param_next faults.FifthArgument = has_four c.mode && is_comma t
+meets c n t param_next faults.Unexpected = not (may_come c t)
+meets c n t param_next faults.LongName = is_long t
+meets c n t param_next faults.TooDeep = (is_wanted c.mode && opens_level t) && (levels c.stack == 64)
+meets c n t param_next faults.TooManyNodes = is_node (is_wanted c.mode) t && (n == 512)
+meets c n t param_next faults.Ended = false
+
+-- the first of the faults that is met
+abbrev pub first_met : (Fault → Bool) → Option Fault
+first_met test =
+    if test faults.Reserved then Some faults.Reserved
+    else (if test faults.FifthArgument then Some faults.FifthArgument
+    else (if test faults.Unexpected then Some faults.Unexpected
+    else (if test faults.LongName then Some faults.LongName
+    else (if test faults.TooDeep then Some faults.TooDeep
+    else (if test faults.TooManyNodes then Some faults.TooManyNodes
+    else None)))))
+
+-- the fault that is met at a symbol
+abbrev pub judged : Config → ℕ → Symbol → Bool → Option Fault
+judged c n t param_next = first_met (meets c n t param_next)
+
+-- whether the next piece is a parameter
+abbrev pub param_next : List Piece → Bool
+param_next [] = false
+param_next (token t ∷ rest) = is_param (symbol_of t)
+param_next (bad_byte at ∷ rest) = false

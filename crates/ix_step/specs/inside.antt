@@ -1,0 +1,9 @@
+-- What contracts between crates and private ones cite, and no claim of the program or law reaches.
+pub mod Builds
+pub mod EnterTrees
+pub mod Initial
+pub mod MapsAfter
+pub mod Moves
+pub mod ParallelMoves
+pub mod Ready
+pub mod ValueTrees

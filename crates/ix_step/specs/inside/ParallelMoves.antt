@@ -1,0 +1,50 @@
+-- The alternatives of `+` and of `#` after an action, and what is asked before their parts are moved.
+use Rattle.std.specs.Prelude.{ℕ, ◌≤◌, List, [], ◌∷◌, ◌++◌, flat_map}
+use Rattle.ix_words.specs.Each.{Each}
+use Rattle.ix_words.specs.Canon.{when}
+use Rattle.ix_values.specs.PlainAction.{PlainAction}
+use Rattle.ix_expr.specs.Form.{Form}
+use Rattle.ix_expr.specs.Environment.{Environment}
+use Rattle.ix_tree.specs.Plain.{Plain, pair, items_of}
+use Rattle.ix_tree.specs.Order.{first_part, second_part}
+use Rattle.ix_tree.specs.Size.{size_of}
+use Rattle.ix_can.specs.Nodes.{is_live}
+use Rattle.ix_can.specs.inside.Moved.{moved, picks, bag_with}
+use Rattle.ix_step.specs.inside.Moves.{begun}
+use Rattle.ix_step.specs.inside.Ready.{Ready}
+
+-- the pair of the two trees, if the left one is live
+abbrev pub left_live : Plain → Plain → List Plain
+left_live x right = when (is_live x) (pair x right ∷ [])
+
+-- the pair of the two trees, if the right one is live
+abbrev pub right_live : Plain → Plain → List Plain
+right_live left x = when (is_live x) (pair left x ∷ [])
+
+-- the pairs in which one of the two sides is moved
+abbrev pub pair_moves : Form → Form → Environment → PlainAction → Plain → List Plain
+pair_moves y z e a p = left_live (moved y e (first_part p) a) (second_part p) ++ right_live (first_part p) (moved z e (second_part p) a)
+
+-- the bag of a moved tree and the others
+abbrev pub pick_move : Form → Environment → PlainAction → Plain × List Plain → List Plain
+pick_move y e a p = bag_with (moved y e p.0 a) p.1
+
+-- the bags in which one of the trees is moved
+abbrev pub pick_moves : Form → Environment → PlainAction → List Plain → List Plain
+pick_moves y e a trees = flat_map (pick_move y e a) (picks trees)
+
+-- the bags in which one of the trees is moved or one more begins
+abbrev pub bag_moves : Form → Environment → PlainAction → Plain → List Plain
+bag_moves y e a b = pick_moves y e a (items_of (first_part b)) ++ bag_with (begun y e a) (items_of (first_part b))
+
+-- both sides of the pair are ready
+abbrev pub IsReadyPair : ℕ → Form → Form → Environment → Plain → Type 0
+IsReadyPair limit y z e p = Ready limit y e (first_part p) × Ready limit z e (second_part p)
+
+-- each tree of the bag is ready, and the bag isn't too large
+abbrev pub IsReadyBag : ℕ → Form → Environment → Plain → Type 0
+IsReadyBag limit y e b = Each (Ready limit y e) (items_of (first_part b)) × (size_of b ≤ 1000000)
+
+-- the limit is in its range
+abbrev pub IsLimit : ℕ → Type 0
+IsLimit limit = (1 ≤ limit) × (limit ≤ 1000000)

@@ -1,0 +1,5 @@
+-- Lemmas that ghost members cite.
+pub mod DerivedOrder
+pub mod PlainParts
+pub mod TreeOrder
+pub mod Weights

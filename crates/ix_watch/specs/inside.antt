@@ -1,0 +1,4 @@
+-- What contracts between crates and private ones cite, and no claim of the program or law reaches.
+pub mod Added
+pub mod Kept
+pub mod Watches
