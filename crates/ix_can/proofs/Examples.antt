@@ -6,13 +6,8 @@ use Rattle.ix_values.specs.inside.ActionOf.{action_of}
 use Rattle.ix_expr.specs.declared.arg.Arg.TheVariants.{Fixed, Param}
 use Rattle.ix_expr.specs.Form.{Form, atom, opt, seq, star, par, par_star, or, and, couple, any, every, sync, all}
 use Rattle.ix_tree.specs.Plain.{Plain, dead, start, done, opt as opt_tree, seq as seq_tree, star as star_tree, par as par_tree, par_star as par_star_tree, or as or_tree, and as and_tree, couple as couple_tree, any as any_tree, every as every_tree, sync as sync_tree, all as all_tree, pair, bag, map, entry}
-use Rattle.ix_tree.specs.Size.{size_of}
 use Rattle.ix_can.specs.Nodes.{listed}
-use Rattle.ix_can.specs.TreeOf.{tree_of}
-
--- the Size of the tree of the word
-abbrev pub size_after : Form → Word → ℕ
-size_after x w = size_of (tree_of x [] w)
+use Rattle.ix_can.specs.TreeOf.{tree_of, tree_size}
 
 -- actions and atoms by name
 abbrev named : List ℕ → PlainAction
@@ -25,27 +20,27 @@ plain name = atom (record { name = name; arguments = [] })
 abbrev many : Form
 many = par_star (seq (plain (codes "a")) (plain (codes "b")))
 
-pub many_before : size_after many [] ≡ 2
+pub many_before : tree_size many [] ≡ 2
 many_before = refl
 
-pub many_once : size_after many (named (codes "a") ∷ []) ≡ 5
+pub many_once : tree_size many (named (codes "a") ∷ []) ≡ 5
 many_once = refl
 
-pub many_twice : size_after many (named (codes "a") ∷ named (codes "a") ∷ []) ≡ 8
+pub many_twice : tree_size many (named (codes "a") ∷ named (codes "a") ∷ []) ≡ 8
 many_twice = refl
 
 -- `(a - b) + (a - c)`
-pub both_once : size_after (par (seq (plain (codes "a")) (plain (codes "b"))) (seq (plain (codes "a")) (plain (codes "c")))) (named (codes "a") ∷ []) ≡ 13
+pub both_once : tree_size (par (seq (plain (codes "a")) (plain (codes "b"))) (seq (plain (codes "a")) (plain (codes "c")))) (named (codes "a") ∷ []) ≡ 13
 both_once = refl
 
 -- `any $p (a - b($p))`
 abbrev some_value : Form
 some_value = any (codes "p") (seq (plain (codes "a")) (atom (record { name = codes "b"; arguments = Param (codes "p") ∷ [] })))
 
-pub some_value_once : size_after some_value (named (codes "a") ∷ []) ≡ 4
+pub some_value_once : tree_size some_value (named (codes "a") ∷ []) ≡ 4
 some_value_once = refl
 
-pub some_value_twice : size_after some_value (named (codes "a") ∷ action_of (codes "b") (codes "u" ∷ []) ∷ []) ≡ 6
+pub some_value_twice : tree_size some_value (named (codes "a") ∷ action_of (codes "b") (codes "u" ∷ []) ∷ []) ≡ 6
 some_value_twice = refl
 
 -- a call and then a performance of the patient and the examination
@@ -61,10 +56,10 @@ examinations = all (codes "x") (star (any (codes "p") visit))
 abbrev called : Word
 called = action_of (codes "call") (codes "p1" ∷ codes "x1" ∷ []) ∷ []
 
-pub patients_called : size_after patients called ≡ 10
+pub patients_called : tree_size patients called ≡ 10
 patients_called = refl
 
-pub both_called : size_after (couple patients examinations) called ≡ 21
+pub both_called : tree_size (couple patients examinations) called ≡ 21
 both_called = refl
 
 -- Whole trees

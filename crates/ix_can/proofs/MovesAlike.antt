@@ -13,7 +13,7 @@ use Rattle.ix_can.specs.Tests.{values_and_outside, accepts_empty}
 use Rattle.ix_can.specs.Nodes.{is_dead, is_live, items_of, set_of, live, dead_if}
 use Rattle.ix_can.specs.TreeOf.{is_final, tree_of}
 use Rattle.ix_can.specs.inside.May.{both_move, moves_within, tree_at, may_first, may}
-use Rattle.ix_can.specs.inside.Moved.{picks, bag_with, entry_with, map_with, or_initial, moved_within, moved}
+use Rattle.ix_can.specs.inside.Moved.{picks, bag_with, entry_with, map_with, or_initial, moved_inside, moved}
 use Rattle.ix_can.proofs.Agreeing.{alphabet_alike}
 
 module _ (a : PlainAction) where
@@ -86,8 +86,8 @@ module _ (a : PlainAction) where
   moved_alike (and y z) (and_of t u) k = (λ i. dead_if (not (may_alike (and y z) (and_of t u) k i)) (and_of (moved_alike y t k i) (moved_alike z u k i)))
   moved_alike (couple y z) (couple_of t u) k =
       (λ i. dead_if (not (may_alike (couple y z) (couple_of t u) k i)) (couple_of
-      (moved_within (alphabet_alike y a k i) (moved_alike y t k i) t)
-      (moved_within (alphabet_alike z a k i) (moved_alike z u k i) u)))
+      (moved_inside (alphabet_alike y a k i) (moved_alike y t k i) t)
+      (moved_inside (alphabet_alike z a k i) (moved_alike z u k i) u)))
   moved_alike (any p y) (any_of common entries) k =
       (λ i. dead_if (not (may_alike (any p y) (any_of common entries) k i)) (any_of (moved_alike y common (bind-agree p None a k) i)
       (set_of (flat_map (λ x. entry_with (moved_alike y common (bind-agree p None a k) i) (key x) (moved_alike y (first_part x) (bind-agree p (Some (key x)) a k) i)) (items_of entries)
@@ -98,11 +98,11 @@ module _ (a : PlainAction) where
       ++ flat_map (λ v. entry_with (moved_alike y common (bind-agree p None a k) i) v (moved_alike y (tree_at v common (items_of entries)) (bind-agree p (Some v) a k) i)) a.values))))
   moved_alike (sync p y) (sync_of common entries) k =
       (λ i. dead_if (not (may_alike (sync p y) (sync_of common entries) k i)) (sync_of
-      (moved_within (alphabet_alike y a (bind-agree p None a k) i) (moved_alike y common (bind-agree p None a k) i) common)
-      (set_of (flat_map (λ x. entry_with (moved_within (alphabet_alike y a (bind-agree p None a k) i) (moved_alike y common (bind-agree p None a k) i) common) (key x)
-      (moved_within (alphabet_alike y a (bind-agree p (Some (key x)) a k) i) (moved_alike y (first_part x) (bind-agree p (Some (key x)) a k) i) (first_part x))) (items_of entries)
-      ++ flat_map (λ v. entry_with (moved_within (alphabet_alike y a (bind-agree p None a k) i) (moved_alike y common (bind-agree p None a k) i) common) v
-      (moved_within (alphabet_alike y a (bind-agree p (Some v) a k) i) (moved_alike y (tree_at v common (items_of entries)) (bind-agree p (Some v) a k) i) (tree_at v common (items_of entries)))) a.values))))
+      (moved_inside (alphabet_alike y a (bind-agree p None a k) i) (moved_alike y common (bind-agree p None a k) i) common)
+      (set_of (flat_map (λ x. entry_with (moved_inside (alphabet_alike y a (bind-agree p None a k) i) (moved_alike y common (bind-agree p None a k) i) common) (key x)
+      (moved_inside (alphabet_alike y a (bind-agree p (Some (key x)) a k) i) (moved_alike y (first_part x) (bind-agree p (Some (key x)) a k) i) (first_part x))) (items_of entries)
+      ++ flat_map (λ v. entry_with (moved_inside (alphabet_alike y a (bind-agree p None a k) i) (moved_alike y common (bind-agree p None a k) i) common) v
+      (moved_inside (alphabet_alike y a (bind-agree p (Some v) a k) i) (moved_alike y (tree_at v common (items_of entries)) (bind-agree p (Some v) a k) i) (tree_at v common (items_of entries)))) a.values))))
   moved_alike (all p y) (all_of maps) k =
       (λ i. dead_if (not (may_alike (all p y) (all_of maps) k i)) (all_of (set_of (flat_map (λ m. flat_map (λ v.
       map_with (tree_of y [] []) v (moved_alike y (or_initial (tree_of y [] []) (tree_at v dead (items_of (first_part m)))) (bind-agree p (Some v) a k) i) (items_of (first_part m))) a.values) (items_of maps)))))

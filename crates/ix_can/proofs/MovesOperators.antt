@@ -16,7 +16,7 @@ use Rattle.ix_can.specs.Tests.{is_match, in_alphabet}
 use Rattle.ix_can.specs.Ways.{is_empty}
 use Rattle.ix_can.specs.Nodes.{is_dead, items_of, set_of, live}
 use Rattle.ix_can.specs.TreeOf.{is_final, tree_of}
-use Rattle.ix_can.specs.inside.Moved.{moved, moved_within, Moves}
+use Rattle.ix_can.specs.inside.Moved.{moved, moved_inside, Moves}
 use Rattle.ix_can.proofs.Lists.{iff_trans, iff_sym, both_iff, one_test, when_both, when_not, when_passes, made_says, any_same, filled_says}
 use Rattle.ix_can.proofs.Ways.{joined_says}
 use Rattle.ix_can.proofs.Ends.{filter_end, repeated_end}
@@ -70,10 +70,10 @@ module _ (a : PlainAction) where
 
   -- the action moves what it is inside of, and leaves what it isn't inside of
   pub side_moves : (y : Form) (e : Environment) (test : PlainAction → Bool) → Moves y e a → (w : Word) →
-      moved_within (test a) (moved y e (tree_of y e (filter test w)) a) (tree_of y e (filter test w)) ≡ tree_of y e (filter test (w ++ a ∷ []))
+      moved_inside (test a) (moved y e (tree_of y e (filter test w)) a) (tree_of y e (filter test w)) ≡ tree_of y e (filter test (w ++ a ∷ []))
   side_moves y e test v w = side (test a) (filter test w) ∙ ap (tree_of y e) (sym (filter_end test w a))
     where
-      side : (t : Bool) (u : Word) → moved_within t (moved y e (tree_of y e u) a) (tree_of y e u) ≡ tree_of y e (u ++ cond t (a ∷ []) [])
+      side : (t : Bool) (u : Word) → moved_inside t (moved y e (tree_of y e u) a) (tree_of y e u) ≡ tree_of y e (u ++ cond t (a ∷ []) [])
       side true u = v u
       side false u = ap (tree_of y e) (sym (append-nil u))
 
@@ -85,7 +85,7 @@ module _ (a : PlainAction) where
         let outside : Word → Bool = λ x. not (list_all (λ b. in_alphabet y e b || in_alphabet z e b) x) || (is_dead (left x) || is_dead (right x)) in
         node_moves (couple y z) e a (outside w) (outside (w ++ a ∷ []))
         (couple_of (left w) (right w)) (couple_of (left (w ++ a ∷ [])) (right (w ++ a ∷ [])))
-        (couple_of (moved_within (in_alphabet y e a) (moved y e (left w) a) (left w)) (moved_within (in_alphabet z e a) (moved z e (right w) a) (right w))) refl
+        (couple_of (moved_inside (in_alphabet y e a) (moved y e (left w) a) (left w)) (moved_inside (in_alphabet z e a) (moved z e (right w) a) (right w))) refl
         (couple_may a y z e k l m n w) refl (couple_told y z e k l (w ++ a ∷ [])).partial
         (λ b p. (λ i. couple_of (side_moves y e (in_alphabet y e) v w i) (side_moves z e (in_alphabet z e) u w i)))
 

@@ -14,7 +14,7 @@ use Rattle.ix_can.specs.Ways.{is_empty}
 use Rattle.ix_can.specs.Nodes.{is_dead, items_of, set_of, has_dead_entry}
 use Rattle.ix_can.specs.TreeOf.{tree_of, entries_of}
 use Rattle.ix_can.specs.inside.May.{tree_at}
-use Rattle.ix_can.specs.inside.Moved.{entry_with, moved_within, moved, Moves}
+use Rattle.ix_can.specs.inside.Moved.{entry_with, moved_inside, moved, Moves}
 use Rattle.ix_can.proofs.QuantifiersTell.{TellAll, entries, own, own_tree, own_entries, any_told, every_told, sync_told}
 use Rattle.ix_can.proofs.Agreeing.{alphabet_alike}
 use Rattle.ix_can.proofs.Ends.{filter_end}
@@ -86,21 +86,21 @@ module _ (p : List ℕ) (y : Form) (e : Environment) (a : PlainAction) where
 
   -- the tree of the projected word moves where the action is inside
   abbrev own_moved : Option (List ℕ) → Plain → Plain
-  own_moved v t = moved_within (in_alphabet y (bind p v e) a) (moved y (bind p v e) t a) t
+  own_moved v t = moved_inside (in_alphabet y (bind p v e) a) (moved y (bind p v e) t a) t
 
   own_moves : MoveAll → (v : Option (List ℕ)) (w : Word) → own_moved v (own_tree p y e w v) ≡ own_tree p y e (w ++ a ∷ []) v
   own_moves g v w =
       chosen (in_alphabet y (bind p v e) a) (own p y e v w) (g v (own p y e v w))
       ∙ ap (tree_of y (bind p v e)) (sym (filter_end (in_alphabet y (bind p v e)) w a))
     where
-      chosen : (b : Bool) (u : Word) → moved y (bind p v e) (tree_of y (bind p v e) u) a ≡ tree_of y (bind p v e) (u ++ a ∷ []) → moved_within b (moved y (bind p v e) (tree_of y (bind p v e) u) a) (tree_of y (bind p v e) u) ≡ tree_of y (bind p v e) (u ++ cond b (a ∷ []) [])
+      chosen : (b : Bool) (u : Word) → moved y (bind p v e) (tree_of y (bind p v e) u) a ≡ tree_of y (bind p v e) (u ++ a ∷ []) → moved_inside b (moved y (bind p v e) (tree_of y (bind p v e) u) a) (tree_of y (bind p v e) u) ≡ tree_of y (bind p v e) (u ++ cond b (a ∷ []) [])
       chosen true u h = h
       chosen false u h = ap (tree_of y (bind p v e)) (sym (append-nil u))
 
   own_unmoved : (c : Plain) (v : List ℕ) → ¬ Member v a.values → own_moved (Some v) c ≡ own_moved None c
   own_unmoved c v n =
       let g = outside-agree e p v a n in
-      (λ i. moved_within (alphabet_alike y a g i) (moved_alike a y c g i) c)
+      (λ i. moved_inside (alphabet_alike y a g i) (moved_alike a y c g i) c)
 
   -- the entries of the projected words after the move
   abbrev own_after : Plain → List Plain → Plain → List Plain

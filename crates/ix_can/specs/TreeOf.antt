@@ -9,6 +9,7 @@ use Rattle.ix_expr.specs.Form.{PlainAtom, Form, atom, opt, seq, star, par, par_s
 use Rattle.ix_expr.specs.Environment.{Environment, bind}
 use Rattle.ix_tree.specs.Plain.{Plain, dead, start, done, opt as opt_of, seq as seq_of, star as star_of, par as par_of, par_star as par_star_of, or as or_of, and as and_of, couple as couple_of, any as any_of, every as every_of, sync as sync_of, all as all_of, pair as pair_of, bag as bag_of, map as map_of, entry as entry_of}
 use Rattle.ix_tree.specs.Order.{first_part, second_part}
+use Rattle.ix_tree.specs.Size.{size_of}
 use Rattle.ix_can.specs.Tests.{is_match, in_alphabet, values_and_outside, accepts_empty}
 use Rattle.ix_can.specs.Ways.{is_empty, is_concatenation, numberings, nonempty_parts, ownings}
 use Rattle.ix_can.specs.Nodes.{is_live, same_tree, listed, items_of, set_of, sorted, live, opt_node, seq_node, star_node, par_node, par_star_node, or_node, and_node, couple_node, any_node, every_node, sync_node, all_node}
@@ -84,3 +85,7 @@ tree_of (sync p y) e w =
     (λ v. tree_of y (bind p (Some v) e) (filter (in_alphabet y (bind p (Some v) e)) w)) (values_of w))
 tree_of (all p y) e w =
     all_node (flat_map (λ owners. live_map (tree_of y e []) (λ v. tree_of y (bind p (Some v) e) (part (text_eq v) owners w)) owners) (ownings w))
+
+-- the Size of the tree of a word of the whole expression
+abbrev pub tree_size : Form → Word → ℕ
+tree_size x w = size_of (tree_of x [] w)

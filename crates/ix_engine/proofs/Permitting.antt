@@ -6,18 +6,19 @@ use Rattle.ix_expr.specs.Meaning.{IsPartial}
 use Rattle.ix_engine.specs.declared.next.Next.{Next}
 use Rattle.ix_engine.specs.declared.faults.PrepareFault.{PrepareFault}
 use Rattle.ix_engine.specs.declared.faults.PrepareFault.TheVariants.{NotPartial, Full, Over, Memory}
-use Rattle.ix_engine.specs.Engine.{EngineState, IsPermitted, extended, size_after}
+use Rattle.ix_can.specs.TreeOf.{tree_size}
+use Rattle.ix_engine.specs.inside.Engine.{EngineState, Allows, extended}
 
 module _ (s : EngineState) (a : PlainAction) where
   pub judged : (r : Result Next PrepareFault)
-      → OnOk r (IsPermitted s a)
+      → OnOk r (Allows s a)
       → ((r ≡ Err NotPartial) ↔ ¬ IsPartial s.form [] (extended s a))
       → ((r ≡ Err Full) ↔ (IsPartial s.form [] (extended s a) × (length s.history ≡ 1000000)))
-      → ((l : ℕ) → r ≡ Err (Over l) → (l ≡ s.limit) × IsPartial s.form [] (extended s a) × (length s.history < 1000000) × (s.limit < size_after s (extended s a)))
+      → ((l : ℕ) → r ≡ Err (Over l) → (l ≡ s.limit) × IsPartial s.form [] (extended s a) × (length s.history < 1000000) × (s.limit < tree_size s.form (extended s a)))
       → ¬ (r ≡ Err Memory)
-      → IsTrue (is_ok r) ↔ IsPermitted s a
+      → IsTrue (is_ok r) ↔ Allows s a
   judged (Ok next) p not_partial full over memory = (λ h. p, λ h. refl)
-  judged (Err NotPartial) p not_partial full over memory = (λ h. absurd (true≢false (sym h)), λ h. absurd (not_partial.0 refl h.partial))
+  judged (Err NotPartial) p not_partial full over memory = (λ h. absurd (true≢false (sym h)), λ h. absurd (not_partial.0 refl h.permitted))
   judged (Err Full) p not_partial full over memory = (λ h. absurd (true≢false (sym h)), λ h. let e = (full.0 refl).1 in let l = h.room in absurd (omega arith))
   judged (Err (Over l)) p not_partial full over memory = (λ h. absurd (true≢false (sym h)), λ h. let e = (over l refl).3 in let w = h.within in absurd (omega arith))
   judged (Err Memory) p not_partial full over memory = absurd (memory refl)

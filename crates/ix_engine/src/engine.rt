@@ -5,7 +5,8 @@ ghost use Rattle.ix_expr.specs.Meaning.{IsComplete, IsPartial};
 ghost use Rattle.ix_tree.specs.PlainOf.{plain};
 ghost use Rattle.ix_tree.specs.Size.{size_of};
 ghost use Rattle.ix_can.specs.TreeOf.{tree_of};
-ghost use Rattle.ix_engine.specs.Engine.{IsPermitted, Follows, extended, size_after};
+ghost use Rattle.ix_can.specs.TreeOf.{tree_size};
+ghost use Rattle.ix_engine.specs.inside.Engine.{Allows, Follows, extended};
 
 use crate::{Next, PrepareFault};
 use ix_can::{can, is_final};
@@ -29,7 +30,7 @@ pub struct Engine {
 }
 
 impl Model for Engine {
-    ghost use Rattle.ix_engine.specs.Engine.{EngineState};
+    ghost use Rattle.ix_engine.specs.inside.Engine.{EngineState};
     ghost use Rattle.ix_expr.specs.lemmas.FormCode.{form_code};
     ghost use Rattle.std.specs.Coded.{codes};
 
@@ -105,7 +106,7 @@ impl Engine {
 
     /// The Size of the history's tree, at most the limit.
     pub fn nodes(&self) -> usize
-        ensures value { result ≡ size_after self.now self.now.history }
+        ensures value { result ≡ tree_size self.now.form self.now.history }
         ensures within { result ≤ self.now.limit }
     {
         self.tree.size()
@@ -124,7 +125,7 @@ impl Engine {
     pub fn prepare(&self, alloc: Global, action: &Action) -> Result<Next, PrepareFault>
         ensures follows { IfOk result (λ next. Follows self.now next.action (plain next.tree)) }
         ensures action { IfOk result (λ next. next.action ≡ action.now) }
-        ensures permitted { OnOk result (IsPermitted self.now action.now) }
+        ensures permitted { OnOk result (Allows self.now action.now) }
         ensures not_partial { (result ≡ Err PrepareFault.NotPartial)
             ↔ ¬ IsPartial self.now.form [] (extended self.now action.now) }
         ensures full { (result ≡ Err PrepareFault.Full)
@@ -133,7 +134,7 @@ impl Engine {
             → (l ≡ self.now.limit)
             × IsPartial self.now.form [] (extended self.now action.now)
             × (length self.now.history < 1000000)
-            × (self.now.limit < size_after self.now (extended self.now action.now)) }
+            × (self.now.limit < tree_size self.now.form (extended self.now action.now)) }
     {
         let expr = self.expression.expr();
         let env = Env::new();
@@ -179,7 +180,7 @@ impl Engine {
 
     /// Whether `prepare` would give the action, were there memory enough.
     pub fn permitted(&self, alloc: Global, action: &Action) -> Result<bool, AllocError>
-        ensures { IfOk result (λ answer. IsTrue answer ↔ IsPermitted self.now action.now) }
+        ensures { IfOk result (λ answer. IsTrue answer ↔ Allows self.now action.now) }
     {
         let prepared = self.prepare(alloc, action);
         if matches!(prepared, Err(PrepareFault::Memory)) {

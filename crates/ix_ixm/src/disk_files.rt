@@ -1,6 +1,6 @@
-// Files of the disk.
+//! Files of the disk.
 ghost use Rattle.std.specs.Prelude.{◌≡◌, ◌≤◌, length, IfOk, None};
-ghost use Rattle.ix_outside.specs.Held.{free};
+ghost use Rattle.ix_outside.specs.Loans.{free};
 
 use ix_outside::{Files, LoadFault};
 use std::alloc::Global;

@@ -1,5 +1,5 @@
-// A site that isn't there.
-ghost use Rattle.ix_outside.specs.Held.{free};
+//! A site that isn't there.
+ghost use Rattle.ix_outside.specs.Loans.{free};
 
 use ix_outside::{DiskFailed, Event, Gone, Site, WireFailed};
 

@@ -1,6 +1,6 @@
-// Standard output.
+//! Standard output.
 ghost use Rattle.std.specs.Prelude.{None};
-ghost use Rattle.ix_outside.specs.Held.{free};
+ghost use Rattle.ix_outside.specs.Loans.{free};
 
 use ix_outside::{Failed, Sink};
 use std::io::Write;

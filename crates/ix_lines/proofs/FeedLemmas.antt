@@ -6,7 +6,7 @@ use Rattle.std.proofs.lemmas.List.Folds.{list_any-append}
 use Rattle.std.proofs.lemmas.List.{map-append, take-append-drop}
 use Rattle.std.proofs.Math.Seq.{take-length}
 use Rattle.ix_lines.specs.Items.{Cut, cut, Item, line, too_long, item_of, item_of_last, items}
-use Rattle.ix_lines.specs.Feeding.{Held, unfinished, skipping, held_of_last, held, completes, holds_after, Feeds, at_end, going_on, CompletesTheRest, AnyCutting, FedToItsEnd}
+use Rattle.ix_lines.specs.Feeding.{UnfinishedLine, unfinished, skipping, held_of_last, held, completes, holds_after, Feeds, at_end, going_on, CompletesTheRest, AnyCutting, FedToItsEnd}
 use Rattle.ix_lines.proofs.CutLemmas.{joined, cut-append, is_end, cut_plain, Behind, behind, long-append, last_plain, drop_through-some, drop_through-none}
 
 -- the items of parts
@@ -150,7 +150,7 @@ fed_to_its_end old piece told new (going_on _ _ item used later _ fed rest) =
     )
 
 -- a feed tells nothing exactly where the piece completes nothing
-pub tells_none : (old : Held) (piece : List ℕ) (item : Option Item) (used : ℕ) → Feeds old piece item used
+pub tells_none : (old : UnfinishedLine) (piece : List ℕ) (item : Option Item) (used : ℕ) → Feeds old piece item used
     → (IsNone item → completes old piece ≡ []) × (completes old piece ≡ [] → IsNone item)
 tells_none old piece None used fed =
     let all : take used piece ≡ piece = ap (λ n. take n piece) (fed.whole refl) ∙ take-length piece in

@@ -3,7 +3,7 @@ use Rattle.std.proofs.Common.{◌||◌, ◌≡◌, ℕ, Bool, true, false, List,
 use Rattle.std.specs.List.{list_any, AllByRecursion}
 use Rattle.std.proofs.lemmas.Bool.{eqb-true}
 use Rattle.ix_lines.specs.Items.{Cut, cut}
-use Rattle.ix_lines.specs.Ends.{HasNoEnd}
+use Rattle.ix_lines.specs.Cutting.{HasNoEnd}
 use Rattle.ix_lines.specs.Cutting.{ended_by_ten, IsCut, CutAtEachEnd}
 use Rattle.ix_lines.proofs.CutLemmas.{before, is_end, cut_plain, cut_line}
 

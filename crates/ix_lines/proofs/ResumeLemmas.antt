@@ -9,8 +9,8 @@ use Rattle.std.proofs.lemmas.List.{take-take, length-drop}
 use Rattle.std.proofs.Math.Seq.{take-length, take-suc, take-add}
 use Rattle.memchr.specs.Find.{NoneBefore, Passes, is_byte}
 use Rattle.ix_lines.specs.Items.{Item, items}
-use Rattle.ix_lines.specs.Feeding.{Held, unfinished, skipping, held, completes, holds_after, Feeds}
-use Rattle.ix_lines.specs.Ends.{HasNoEnd}
+use Rattle.ix_lines.specs.Feeding.{UnfinishedLine, unfinished, skipping, held, completes, holds_after, Feeds}
+use Rattle.ix_lines.specs.Cutting.{HasNoEnd}
 use Rattle.ix_lines.specs.inside.FeedAnswers.{ResumesAt}
 use Rattle.ix_lines.proofs.CutLemmas.{is_end, drop_through-none}
 use Rattle.ix_lines.proofs.FeedLemmas.{any_cutting}
@@ -83,7 +83,7 @@ skips_whole piece none =
     )
 
 -- a feed of the rest of a piece is a feed of the piece
-pub feeds_behind : (old new : Held) (piece : List ℕ) (place : ℕ) (item : Option Item) (used : ℕ)
+pub feeds_behind : (old new : UnfinishedLine) (piece : List ℕ) (place : ℕ) (item : Option Item) (used : ℕ)
     → ResumesAt old piece place new → Feeds new (drop place piece) item used
     → Feeds old piece item (place + used) × (holds_after new (take used (drop place piece)) ≡ holds_after old (take (place + used) piece))
 feeds_behind old new piece place item used resumes fed =

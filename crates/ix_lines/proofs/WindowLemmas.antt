@@ -7,9 +7,9 @@ use Rattle.std.proofs.lemmas.List.{take-append-drop, take-take, take_all, length
 use Rattle.std.proofs.Math.Seq.{take-length, take-suc}
 use Rattle.memchr.specs.Find.{NoneBefore, Nowhere, Passes, is_byte}
 use Rattle.ix_lines.specs.Items.{Cut, line, too_long, item_of, item_of_last, items}
-use Rattle.ix_lines.specs.Feeding.{Held, unfinished, skipping, held, holds_after, Feeds}
+use Rattle.ix_lines.specs.Feeding.{UnfinishedLine, unfinished, skipping, held, holds_after, Feeds}
 use Rattle.ix_lines.specs.inside.Buffer.{shown, IsBuffer}
-use Rattle.ix_lines.specs.Ends.{HasNoEnd}
+use Rattle.ix_lines.specs.Cutting.{HasNoEnd}
 use Rattle.ix_lines.specs.inside.FeedAnswers.{IsOpen}
 use Rattle.ix_lines.proofs.CutLemmas.{is_end, or_false, cut_plain, cut_line}
 
@@ -162,12 +162,12 @@ module _ (part piece : List ℕ) (room n : ℕ) (plain : HasNoEnd part) (fills :
       )
 
 -- a line that isn't skipped is the open bytes
-pub open_shown : (test : Bool) (bytes : List ℕ) (value : Held) → shown test bytes ≡ value → IsOpen value → (test ≡ false) × (value ≡ unfinished bytes)
+pub open_shown : (test : Bool) (bytes : List ℕ) (value : UnfinishedLine) → shown test bytes ≡ value → IsOpen value → (test ≡ false) × (value ≡ unfinished bytes)
 open_shown true bytes value is open_value = absurd (subst IsOpen (sym is) open_value)
 open_shown false bytes value is open_value = (refl, sym is)
 
 -- a line that is skipped
-pub skip_shown : (test : Bool) (bytes : List ℕ) (value : Held) → shown test bytes ≡ value → test ≡ true → value ≡ skipping
+pub skip_shown : (test : Bool) (bytes : List ℕ) (value : UnfinishedLine) → shown test bytes ≡ value → test ≡ true → value ≡ skipping
 skip_shown true bytes value is on = sym is
 skip_shown false bytes value is on = cc
 

@@ -1,8 +1,11 @@
 -- The cut of a text, as a relation.
-use Rattle.std.specs.Prelude.{◌≡◌, ℕ, List, [], ◌∷◌, ◌++◌}
-use Rattle.std.specs.List.{flat_map, AllByRecursion}
+use Rattle.std.specs.Prelude.{◌≡◌, ℕ, false, List, [], ◌∷◌, ◌++◌, ◌==◌}
+use Rattle.std.specs.List.{flat_map, list_any, AllByRecursion}
 use Rattle.ix_lines.specs.Items.{cut}
-use Rattle.ix_lines.specs.Ends.{HasNoEnd}
+
+-- no byte ends a line
+abbrev pub HasNoEnd : List ℕ → Type 0
+HasNoEnd bytes = list_any (λ byte. byte == 10) bytes ≡ false
 
 -- each part, with a byte 10 behind it
 abbrev pub ended_by_ten : List (List ℕ) → List ℕ

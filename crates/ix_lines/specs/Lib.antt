@@ -1,5 +1,4 @@
 pub mod Items
 pub mod Feeding
 pub mod Cutting
-pub mod Ends
 pub mod inside

@@ -31,9 +31,9 @@ pub struct Lines {
 
 impl Model for Lines {
     ghost use Rattle.std.specs.Prelude.{take};
-    ghost use Rattle.ix_lines.specs.Feeding.{Held};
+    ghost use Rattle.ix_lines.specs.Feeding.{UnfinishedLine};
 
-    ghost Value = { Held };
+    ghost Value = { UnfinishedLine };
 
     ghost use Rattle.ix_lines.specs.inside.Buffer.{shown, IsBuffer};
 
@@ -62,7 +62,7 @@ pub struct Fed<'a> {
 
 impl Lines {
     ghost use Rattle.ix_lines.specs.inside.FeedAnswers.{told_item, HoldsAfter, IsOpen, ResumesAt};
-    ghost use Rattle.ix_lines.specs.Ends.{HasNoEnd};
+    ghost use Rattle.ix_lines.specs.Cutting.{HasNoEnd};
 
     /// No text so far.
     pub fn new() -> Lines

@@ -4,14 +4,14 @@ use Rattle.std.specs.Prelude.{codes}
 use Rattle.ix_values.specs.PlainAction.{PlainAction, Word}
 use Rattle.ix_expr.specs.Form.{Form}
 use Rattle.ix_manage.specs.ActionLines.{line}
-use Rattle.ix_engine.specs.Engine.{EngineState, IsPermitted, extended}
+use Rattle.ix_engine.specs.inside.Engine.{EngineState, Allows, extended}
 use Rattle.ix_manage.specs.Trace.{Answers, Verdict, done, no, full, large, yes}
 
--- an action that is permitted, and joins
-pub answers_yes : (s : EngineState) (a joined : PlainAction) (after : Word) → IsPermitted s a → joined ≡ a → after ≡ extended s joined
+-- an action that is allowed, and joins
+pub answers_yes : (s : EngineState) (a joined : PlainAction) (after : Word) → Allows s a → joined ≡ a → after ≡ extended s joined
     → Answers s.form s.limit s.history (a ∷ []) (line (codes "yes")) after
-answers_yes s a joined after permitted same longer =
-    subst (Answers s.form s.limit s.history (a ∷ []) (line (codes "yes"))) (sym (longer ∙ ap (extended s) same)) (yes permitted.partial permitted.room permitted.within done)
+answers_yes s a joined after allowed same longer =
+    subst (Answers s.form s.limit s.history (a ∷ []) (line (codes "yes"))) (sym (longer ∙ ap (extended s) same)) (yes allowed.permitted allowed.room allowed.within done)
 
 -- the answers to a front, and those to what is behind it
 pub answers_join : {x : Form} {limit : ℕ} {history middle after front back : Word} {text more : List ℕ} → Answers x limit history front text middle → Answers x limit middle back more after

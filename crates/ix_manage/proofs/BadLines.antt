@@ -7,7 +7,7 @@ use Rattle.ix_words.proofs.Each.{Each-append}
 use Rattle.ix_values.specs.Faults.{IsActionText, IsFault}
 use Rattle.ix_values.specs.PlainAction.{PlainAction, text_of}
 use Rattle.ix_values.specs.Texts.{IsAction}
-use Rattle.ix_manage.specs.ActionLines.{IsFirstBadLine, line}
+use Rattle.ix_manage.specs.ActionLines.{IsFirstActionFault, line}
 use Rattle.ix_script.specs.Lines.{bytes_of, lines_of}
 use Rattle.ix_script.proofs.LineLists.{lines_of-none}
 
@@ -49,7 +49,7 @@ good_step all rest next text cut good place so_far = record {
 
 -- a line that is no action's text
 pub first_bad : (all rest next text : List ℕ) (code at within : ℕ) → lines_of rest ≡ text ∷ lines_of next → IsFault text code within
-    → at ≡ (length all - length rest) + within → GoodBefore all rest → IsFirstBadLine all code at
+    → at ≡ (length all - length rest) + within → GoodBefore all rest → IsFirstActionFault all code at
 first_bad all rest next text code at within cut fault place so_far = record {
   before = so_far.before;
   bad = text;

@@ -5,7 +5,7 @@ use Rattle.ix_parse.specs.Faults.{StandsFor, IsFirstFault}
 use Rattle.ix_outside.specs.Contents.{GivenEvent}
 use Rattle.ix_outside.specs.Files.{Listing, HasFile}
 use Rattle.ix_script.specs.Events.{HasEvents}
-use Rattle.ix_script.specs.Grammar.{IsFirstBadLine}
+use Rattle.ix_script.specs.Grammar.{IsFirstScriptFault}
 use Rattle.ix_manage.specs.Command.{NamesTrace, NamesReplay, in_trace, in_replay}
 use Rattle.ix_manage.specs.Ends.{Ends, bad_text, bad_actions, large_start, lost_expression, lost_actions, no_memory, traced, bad_script, lost_script, large_replay, replayed}
 use Rattle.ix_manage.specs.inside.Refusal.{refusal_line, refusal_status, RefusesExpression, RefusesActions, RefusesScript, RefusesStart, RefusesText, IsBadScript}
@@ -124,7 +124,7 @@ module _ (words : List (List ℕ)) (files : Option Listing) (limit turns : ℕ) 
 -- a script's fault is one of its file
 pub script_refused : (files : Option Listing) (name bytes passed : List ℕ) → HasFile files name bytes → length bytes ≤ 67108864 → passed ≡ bytes
     → (refusal : Refusal) → IsBadScript passed refusal → RefusesScript files name refusal
-script_refused files name bytes passed file short same (BadScript code at) why = bad_line file short (subst (λ b. IsFirstBadLine b code at) same why)
+script_refused files name bytes passed file short same (BadScript code at) why = bad_line file short (subst (λ b. IsFirstScriptFault b code at) same why)
 script_refused files name bytes passed file short same Words why = absurd why
 script_refused files name bytes passed file short same (BadText code at) why = absurd why
 script_refused files name bytes passed file short same (Large most) why = absurd why

@@ -1,7 +1,7 @@
 -- What words that name a replay are, part by part.
 use Rattle.std.proofs.Common.{◌≡◌, ◌≢◌, ℕ, ◌<◌, ◌^◌, List, [], ◌∷◌, length, map, get_or, drop, refl, sym, ap, subst, ◌∙◌, arith}
 use Rattle.std.specs.Prelude.{codes}
-use Rattle.ix_manage.specs.Command.{IsNumberText, TakesOption, absent, present, NamesFiles, NamesReplay}
+use Rattle.ix_manage.specs.Command.{IsNumberUpTo, TakesOption, absent, present, NamesFiles, NamesReplay}
 
 -- the words `EXPR - SCRIPT`
 module _ {words : List (List ℕ)} {a b c : List ℕ} (all : words ≡ a ∷ b ∷ c ∷ []) where
@@ -35,12 +35,12 @@ module _ {name : List ℕ} {usual greatest : ℕ} where
   not_alone (absent none) is = none [] is
   not_alone (present text) is = let long = ap length is in absurd (omega (arith, long))
 
-  pub takes_present : {words rest : List (List ℕ)} {text : List ℕ} {number : ℕ} → words ≡ name ∷ text ∷ rest → IsNumberText greatest text number → TakesOption name usual greatest words number rest
+  pub takes_present : {words rest : List (List ℕ)} {text : List ℕ} {number : ℕ} → words ≡ name ∷ text ∷ rest → IsNumberUpTo greatest text number → TakesOption name usual greatest words number rest
   takes_present {rest = rest} {number = number} all text = subst (λ ws. TakesOption name usual greatest ws number rest) (sym all) (present text)
 
-  pub number_behind : (later : List (List ℕ)) (text : List ℕ) {words rest : List (List ℕ)} {number : ℕ} → TakesOption name usual greatest words number rest → words ≡ name ∷ text ∷ later → IsNumberText greatest text number
+  pub number_behind : (later : List (List ℕ)) (text : List ℕ) {words rest : List (List ℕ)} {number : ℕ} → TakesOption name usual greatest words number rest → words ≡ name ∷ text ∷ later → IsNumberUpTo greatest text number
   number_behind later text (absent none) is = absurd (none (text ∷ later) is)
-  number_behind later text {number = number} (present said) is = subst (λ t. IsNumberText greatest t number) (ap (λ ws. get_or ws 1 []) is) said
+  number_behind later text {number = number} (present said) is = subst (λ t. IsNumberUpTo greatest t number) (ap (λ ws. get_or ws 1 []) is) said
 
   pub takes_same : greatest < 2 ^ 64 → {words other rest last : List (List ℕ)} {m n : ℕ} → TakesOption name usual greatest words m rest → TakesOption name usual greatest other n last → words ≡ other → rest ≡ last
   takes_same small (absent none) (absent nothing) is = is

@@ -6,7 +6,7 @@ use Rattle.std.proofs.lemmas.List.{length-take-le, length_push, length-replicate
 use Rattle.ix_words.specs.Each.{no_item, item}
 use Rattle.ix_words.proofs.Each.{Each-append}
 use Rattle.ix_expr.specs.Form.{Form}
-use Rattle.ix_lines.specs.Feeding.{Held}
+use Rattle.ix_lines.specs.Feeding.{UnfinishedLine}
 use Rattle.ix_outside.specs.Contents.{GivenEvent, Contents, SendsWhole, SendsPart, piece_of}
 use Rattle.ix_outside.specs.Event.{FitsBuffer, KindFits}
 use Rattle.ix_outside.specs.Sink.{AppendsPart}
@@ -66,7 +66,7 @@ marks_same End conn = set_same 64 conn false
 no_steps : {x : Form} {limit : ℕ} {s after : MachineState} {answers : List (List Reply)} {ending : Ending} → Steps x limit s [] answers after ending → answers ≡ []
 no_steps none = refl
 
-no_answers : {x : Form} {limit : ℕ} {s after : MachineState} {answers : List (List Reply)} {ending : Ending} (kind : EventKind) (h : Held) (bytes : List ℕ)
+no_answers : {x : Form} {limit : ℕ} {s after : MachineState} {answers : List (List Reply)} {ending : Ending} (kind : EventKind) (h : UnfinishedLine) (bytes : List ℕ)
     → Steps x limit s (completed_by kind h bytes) answers after ending → kind ≡ Closed → answers ≡ []
 no_answers (Bytes n) h bytes steps closed = cc
 no_answers Closed h bytes steps closed = no_steps steps

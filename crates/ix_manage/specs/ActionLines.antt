@@ -16,7 +16,7 @@ pub record HasActions (bytes : List ℕ) (actions : Word) : Type 0 where
   pub lines : lines_of bytes ≡ map text_of actions
 
 -- the first line that is no action's text has this fault, whose place is counted in the bytes
-pub record IsFirstBadLine (bytes : List ℕ) (code at : ℕ) : Type 0 where
+pub record IsFirstActionFault (bytes : List ℕ) (code at : ℕ) : Type 0 where
   pub before : List (List ℕ)
   pub bad : List ℕ
   pub behind : List (List ℕ)

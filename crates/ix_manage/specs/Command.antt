@@ -2,14 +2,14 @@
 use Rattle.std.specs.Prelude.{◌≡◌, ◌≢◌, ℕ, ◌≤◌, List, [], ◌∷◌, codes, decimal}
 
 -- the text of a number from 1 to a greatest one, in decimal without leading zeros
-pub record IsNumberText (greatest : ℕ) (text : List ℕ) (number : ℕ) : Type 0 where
+pub record IsNumberUpTo (greatest : ℕ) (text : List ℕ) (number : ℕ) : Type 0 where
   pub same : text ≡ decimal number
   pub least : 1 ≤ number
   pub most : number ≤ greatest
 
 -- the text of a limit of Size
 abbrev pub IsLimitText : List ℕ → ℕ → Type 0
-IsLimitText text limit = IsNumberText 1000000 text limit
+IsLimitText text limit = IsNumberUpTo 1000000 text limit
 
 -- The words are `trace EXPR ACTIONS`, with the limit 100,000, or `trace --nodes N EXPR ACTIONS`, with the limit N.
 -- Behind the command `--nodes` is the option, and never a file.
@@ -28,7 +28,7 @@ pub data TakesOption (name : List ℕ) (usual greatest : ℕ) : List (List ℕ) 
       → ((rest : List (List ℕ)) → words ≢ name ∷ rest)
       → TakesOption name usual greatest words usual words
   present : {text : List ℕ} {rest : List (List ℕ)} {number : ℕ}
-      → IsNumberText greatest text number
+      → IsNumberUpTo greatest text number
       → TakesOption name usual greatest (name ∷ text ∷ rest) number rest
 
 -- the words are `EXPR - SCRIPT`, and EXPR is no option's name

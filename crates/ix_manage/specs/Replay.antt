@@ -10,7 +10,7 @@ use Rattle.ix_manager.specs.Machine.{MachineState}
 use Rattle.ix_manager.specs.Runs.{Ending, Run, going, stopped}
 use Rattle.ix_manager.specs.Wire.{run_text}
 use Rattle.ix_script.specs.Events.{HasEvents}
-use Rattle.ix_script.specs.Grammar.{IsFirstBadLine}
+use Rattle.ix_script.specs.Grammar.{IsFirstScriptFault}
 use Rattle.ix_script.specs.Pieces.{pieces_of}
 use Rattle.ix_manage.specs.ActionLines.{line}
 
@@ -25,7 +25,7 @@ pub record ReadsEvents (files : Option Listing) (name : List ℕ) (events : List
 pub data HasBadScript (files : Option Listing) (name : List ℕ) : ℕ → ℕ → Type 0 where
   too_long : HasLonger files name 67108864 → HasBadScript files name 34 67108864
   bad_line : {bytes : List ℕ} {code at : ℕ}
-      → HasFile files name bytes → length bytes ≤ 67108864 → IsFirstBadLine bytes code at
+      → HasFile files name bytes → length bytes ≤ 67108864 → IsFirstScriptFault bytes code at
       → HasBadScript files name code at
 
 -- these are the first events, in pieces of at most 4,096 bytes

@@ -2,36 +2,32 @@
 use Rattle.std.specs.Prelude.{◌≡◌, ℕ, ◌<◌, ◌≤◌, List, [], ◌∷◌, ◌++◌, length, Option, codes, decimal}
 use Rattle.ix_values.specs.PlainAction.{PlainAction, Word}
 use Rattle.ix_expr.specs.Form.{Form}
-use Rattle.ix_expr.specs.Meaning.{IsComplete, IsPartial}
+use Rattle.ix_expr.specs.Meaning.{IsComplete}
 use Rattle.ix_parse.specs.Faults.{StandsFor, IsFirstFault}
 use Rattle.ix_outside.specs.Files.{Listing, HasFile, HasLonger}
-use Rattle.ix_tree.specs.Size.{size_of}
-use Rattle.ix_can.specs.TreeOf.{tree_of}
-use Rattle.ix_manage.specs.ActionLines.{HasActions, IsFirstBadLine, line}
+use Rattle.ix_can.specs.TreeOf.{tree_size}
+use Rattle.ix_engine.specs.Allowed.{IsPermitted}
+use Rattle.ix_manage.specs.ActionLines.{HasActions, IsFirstActionFault, line}
 
--- the Size of the tree of a word of the expression
-abbrev pub tree_size : Form → Word → ℕ
-tree_size x w = size_of (tree_of x [] w)
-
--- The lines for actions after a history, and the history after them, under a limit of Size. An action with which the
--- history isn't partial is answered `no`; any other `full` where the history has 1,000,000 actions, else `large` where
+-- The lines for actions after a history, and the history after them, under a limit of Size. An action that isn't permitted
+-- is answered `no`; any other `full` where the history has 1,000,000 actions, else `large` where
 -- the Size of the tree of the history with it is above the limit, and else `yes`. A `yes` action joins the history.
 pub data Answers (x : Form) (limit : ℕ) : Word → Word → List ℕ → Word → Type 0 where
   done : {history : Word} → Answers x limit history [] [] history
   no : {history actions after : Word} {action : PlainAction} {text : List ℕ}
-      → (IsPartial x [] (history ++ action ∷ []) → ⊥)
+      → (IsPermitted x history action → ⊥)
       → Answers x limit history actions text after
       → Answers x limit history (action ∷ actions) (line (codes "no") ++ text) after
   full : {history actions after : Word} {action : PlainAction} {text : List ℕ}
-      → IsPartial x [] (history ++ action ∷ []) → length history ≡ 1000000
+      → IsPermitted x history action → length history ≡ 1000000
       → Answers x limit history actions text after
       → Answers x limit history (action ∷ actions) (line (codes "full") ++ text) after
   large : {history actions after : Word} {action : PlainAction} {text : List ℕ}
-      → IsPartial x [] (history ++ action ∷ []) → length history < 1000000 → limit < tree_size x (history ++ action ∷ [])
+      → IsPermitted x history action → length history < 1000000 → limit < tree_size x (history ++ action ∷ [])
       → Answers x limit history actions text after
       → Answers x limit history (action ∷ actions) (line (codes "large") ++ text) after
   yes : {history actions after : Word} {action : PlainAction} {text : List ℕ}
-      → IsPartial x [] (history ++ action ∷ []) → length history < 1000000 → tree_size x (history ++ action ∷ []) ≤ limit
+      → IsPermitted x history action → length history < 1000000 → tree_size x (history ++ action ∷ []) ≤ limit
       → Answers x limit (history ++ action ∷ []) actions text after
       → Answers x limit history (action ∷ actions) (line (codes "yes") ++ text) after
 
@@ -75,7 +71,7 @@ pub data HasBadText (files : Option Listing) (name : List ℕ) : ℕ → ℕ →
 pub data HasBadActions (files : Option Listing) (name : List ℕ) : ℕ → ℕ → Type 0 where
   too_long : HasLonger files name 67108864 → HasBadActions files name 6 67108864
   bad_line : {bytes : List ℕ} {code at : ℕ}
-      → HasFile files name bytes → length bytes ≤ 67108864 → IsFirstBadLine bytes code at
+      → HasFile files name bytes → length bytes ≤ 67108864 → IsFirstActionFault bytes code at
       → HasBadActions files name code at
 
 -- the line that says which of the two files has a fault, and which

@@ -1,10 +1,10 @@
-// The lines of an actions file, each of them an action's text.
+//! The lines of an actions file, each of them an action's text.
 ghost use Rattle.std.specs.Prelude.{◌≡◌, ◌+◌, ◌^◌, ◌<◌, ◌≤◌, ◌∷◌, length, MatchOption};
 ghost use Rattle.ix_words.specs.Each.{Each};
 ghost use Rattle.ix_values.specs.Faults.{IsActionText};
 ghost use Rattle.ix_values.specs.PlainAction.{text_of};
 ghost use Rattle.ix_values.specs.Texts.{IsAction};
-ghost use Rattle.ix_manage.specs.ActionLines.{IsFirstBadLine};
+ghost use Rattle.ix_manage.specs.ActionLines.{IsFirstActionFault};
 ghost use Rattle.ix_script.specs.Lines.{lines_of};
 
 use ix_script::first_line;
@@ -27,7 +27,7 @@ pub fn read_action(line: &[u8]) -> Action
 
 /// The fault of the first line that is no action's text, its place counted in the bytes, or None where there is none.
 pub fn first_fault(bytes: &[u8]) -> Option<ActionFault>
-    ensures { MatchOption result (Each IsActionText (lines_of bytes.now)) (λ fault. IsFirstBadLine bytes.now fault.code fault.at) }
+    ensures { MatchOption result (Each IsActionText (lines_of bytes.now)) (λ fault. IsFirstActionFault bytes.now fault.code fault.at) }
 {
     let mut rest = bytes;
     while !rest.is_empty() {

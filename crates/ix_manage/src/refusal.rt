@@ -1,4 +1,4 @@
-// Why a run ends before it has its answer.
+//! Why a run ends before it has its answer.
 ghost use Rattle.std.specs.Prelude.{◌≡◌, ◌+◌, ◌≤◌, [], ◌∷◌, ◌++◌, codes, length};
 ghost use Rattle.arrayvec.specs.ArrayVec.{array_vec_len};
 ghost use Rattle.ix_manage.specs.Trace.{fault_line, large_line};

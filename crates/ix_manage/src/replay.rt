@@ -1,4 +1,4 @@
-// One replay, up to the last line that a refusal puts.
+//! One replay, up to the last line that a refusal puts.
 ghost use Rattle.std.specs.Prelude.{◌≡◌, ◌≤◌, ◌++◌, ℕ, List, [], length, OnOk, IfOk, IfErr, IsErrOf};
 ghost use Rattle.std.specs.Io.KnownBytes.{append_known};
 ghost use Rattle.ix_outside.specs.Counts.{Rose};

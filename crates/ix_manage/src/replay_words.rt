@@ -1,4 +1,4 @@
-// The words of a replay.
+//! The words of a replay.
 ghost use Rattle.std.specs.Prelude.{◌≡◌, ◌≤◌, ℕ, List, map, MatchOption, string_bytes};
 ghost use Rattle.ix_manage.specs.Command.{NamesFiles, NamesReplay, TakesOption};
 

@@ -1,4 +1,4 @@
-// The engine that a trace begins with.
+//! The engine that a trace begins with.
 ghost use Rattle.std.specs.Prelude.{◌≡◌, ◌≤◌, [], IfOk, IfErr, IsErrOf};
 ghost use Rattle.ix_outside.specs.Counts.{Rose};
 ghost use Rattle.ix_manage.specs.inside.Refusal.{RefusesStart};

@@ -1,4 +1,4 @@
-// The top call over devices in memory.
+//! The top call over devices in memory.
 ghost use Rattle.std.specs.Prelude.{◌≡◌, ◌<◌, false, IfOk};
 
 use super::*;

@@ -1,4 +1,4 @@
-// Answers actions one after the other, and says at the end whether the history is complete.
+//! Answers actions one after the other, and says at the end whether the history is complete.
 ghost use Rattle.std.specs.Prelude.{◌≡◌, ◌≤◌, ℕ, List, [], ◌∷◌, ◌++◌, IfOk, OnOk, OnErr, IsErrOf, codes};
 ghost use Rattle.std.specs.Io.KnownBytes.{append_known};
 ghost use Rattle.ix_words.specs.Each.{Each};

@@ -1,4 +1,4 @@
-// Takes the events of a script one by one.
+//! Takes the events of a script one by one.
 ghost use Rattle.std.specs.Prelude.{◌≡◌, ◌≢◌, ◌+◌, ◌^◌, ◌<◌, ◌≤◌, [], false, length, MatchBool};
 ghost use Rattle.ix_outside.specs.Contents.{piece_of};
 ghost use Rattle.ix_outside.specs.Counts.{Rose};

@@ -1,6 +1,6 @@
-// The words of the command line.
+//! The words of the command line.
 ghost use Rattle.std.specs.Prelude.{◌≡◌, ◌≤◌, ℕ, List, map, MatchOption, decimal, string_bytes};
-ghost use Rattle.ix_manage.specs.Command.{NamesTrace, IsNumberText};
+ghost use Rattle.ix_manage.specs.Command.{NamesTrace, IsNumberUpTo};
 
 use itoa::Buffer;
 
@@ -55,8 +55,8 @@ pub fn trace_words(words: &[String]) -> Option<TraceWords<'_>>
 /// The number whose text this is, from 1 to a greatest one, in decimal without leading zeros.
 pub fn read_number(text: &str, greatest: usize) -> Option<usize>
     ensures { MatchOption result
-        ((number : ℕ) → IsNumberText greatest text.now number → ⊥)
-        (λ number. IsNumberText greatest text.now number) }
+        ((number : ℕ) → IsNumberUpTo greatest text.now number → ⊥)
+        (λ number. IsNumberUpTo greatest text.now number) }
 {
     let Ok(number) = text.parse::<usize>() else {
         return None;

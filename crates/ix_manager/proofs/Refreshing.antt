@@ -3,7 +3,7 @@ use Rattle.std.proofs.Common.{◌≡◌, ◌↔◌, ℕ, zero, suc, ◌+◌, Boo
 use Rattle.std.specs.List.{slice_get}
 use Rattle.std.specs.Prelude.{Result}
 use Rattle.ix_words.specs.Each.{Each, no_item, item}
-use Rattle.ix_engine.specs.Engine.{EngineState, IsPermitted}
+use Rattle.ix_engine.specs.inside.Engine.{EngineState, Allows}
 use Rattle.ix_watch.specs.inside.Watches.{PlainWatch, noted}
 use Rattle.ix_manager.specs.Machine.{Tells, HasNoWatch}
 use Rattle.ix_manager.specs.inside.Core.{watch_of}
@@ -75,18 +75,18 @@ abbrev pub IsNotedUpTo : EngineState → List ℕ → List PlainWatch → ℕ �
 IsNotedUpTo engine name old count watches =
     (map watch_of watches ≡ map watch_of old)
     × (length watches ≡ length old)
-    × FirstHave (λ (watch : PlainWatch). watch.name ≡ name → Tells (IsPermitted engine watch.action) watch.now) count watches
+    × FirstHave (λ (watch : PlainWatch). watch.name ≡ name → Tells (Allows engine watch.action) watch.now) count watches
 
 module _ (engine : EngineState) (name : List ℕ) (old : List PlainWatch) where
   pub one_noted : (watches watches' : List PlainWatch) (index : ℕ) (watch : PlainWatch) (answer : Bool) → slice_get watches index ≡ Some watch
-      → IsTrue answer ↔ IsPermitted engine watch.action → watches' ≡ noted watches index answer
+      → IsTrue answer ↔ Allows engine watch.action → watches' ≡ noted watches index answer
       → IsNotedUpTo engine name old index watches → IsNotedUpTo engine name old (index + 1) watches'
   one_noted watches watches' index watch answer there both same before =
       subst (λ (ws : List PlainWatch). IsNotedUpTo engine name old (index + 1) ws) (sym same) (
         noted-kept watches index answer ∙ before.0,
         length-noted watches index answer ∙ before.1,
-        subst (λ n. FirstHave (λ (w : PlainWatch). w.name ≡ name → Tells (IsPermitted engine w.action) w.now) n (noted watches index answer)) (sym (add-one index))
-            (first_noted (λ (w : PlainWatch). w.name ≡ name → Tells (IsPermitted engine w.action) w.now) watches index watch answer there before.2
+        subst (λ n. FirstHave (λ (w : PlainWatch). w.name ≡ name → Tells (Allows engine w.action) w.now) n (noted watches index answer)) (sym (add-one index))
+            (first_noted (λ (w : PlainWatch). w.name ≡ name → Tells (Allows engine w.action) w.now) watches index watch answer there before.2
             (λ named. tells_of answer both)),
       )
 
@@ -97,13 +97,13 @@ module _ (engine : EngineState) (name : List ℕ) (old : List PlainWatch) where
       subst (λ (ws : List PlainWatch). IsNotedUpTo engine name old (index + 1) ws) (sym same) (
         before.0,
         before.1,
-        subst (λ n. FirstHave (λ (w : PlainWatch). w.name ≡ name → Tells (IsPermitted engine w.action) w.now) n watches) (sym (add-one index))
-            (first_kept (λ (w : PlainWatch). w.name ≡ name → Tells (IsPermitted engine w.action) w.now) watches index watch there before.2
+        subst (λ n. FirstHave (λ (w : PlainWatch). w.name ≡ name → Tells (Allows engine w.action) w.now) n watches) (sym (add-one index))
+            (first_kept (λ (w : PlainWatch). w.name ≡ name → Tells (Allows engine w.action) w.now) watches index watch there before.2
             (λ named. absurd (other named))),
       )
 
   pub all_noted : (watches : List PlainWatch) (count : ℕ) → count ≡ length watches → IsNotedUpTo engine name old count watches
       → IsNoted engine name watches
   all_noted watches count all before =
-      all_have (λ (w : PlainWatch). w.name ≡ name → Tells (IsPermitted engine w.action) w.now) watches
-      (subst (λ n. FirstHave (λ (w : PlainWatch). w.name ≡ name → Tells (IsPermitted engine w.action) w.now) n watches) all before.2)
+      all_have (λ (w : PlainWatch). w.name ≡ name → Tells (Allows engine w.action) w.now) watches
+      (subst (λ n. FirstHave (λ (w : PlainWatch). w.name ≡ name → Tells (Allows engine w.action) w.now) n watches) all before.2)

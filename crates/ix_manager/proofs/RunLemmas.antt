@@ -5,7 +5,7 @@ use Rattle.std.proofs.lemmas.List.{append-nil, length-set, length_push, length-r
 use Rattle.ix_values.specs.PlainAction.{Word}
 use Rattle.ix_expr.specs.Form.{Form}
 use Rattle.ix_lines.specs.Items.{Item, items}
-use Rattle.ix_lines.specs.Feeding.{Held, unfinished, held}
+use Rattle.ix_lines.specs.Feeding.{UnfinishedLine, unfinished, held}
 use Rattle.ix_lines.proofs.FeedLemmas.{completes_the_rest}
 use Rattle.ix_outside.specs.Contents.{GivenEvent}
 use Rattle.ix_outside.specs.declared.event.Event.{Event}
@@ -15,7 +15,7 @@ use Rattle.ix_proto.specs.declared.reply.Reply.{Reply}
 use Rattle.ix_manager.specs.Machine.{MachineState}
 use Rattle.ix_manager.specs.Runs.{Ending, going, Steps, Run, begin, takes, raised, with_piece, text_behind}
 use Rattle.ix_manager.specs.Handled.{ManagerState, completed_by, held_after, held_at, has_ended, TakesEvent, KindHas, FitsEvent, started}
-use Rattle.ix_manager.specs.RunLaws.{given_event, Follows, CallsMakeARun}
+use Rattle.ix_manager.specs.RunLaws.{given_event, FollowsRun, CallsMakeARun}
 
 -- a run has replies to each of its events
 pub run_lengths : {x : Form} {limit : ℕ} {history : Word} {events : List GivenEvent} {answers : List (List (List Reply))} {s : MachineState} {ending : Ending}
@@ -68,7 +68,7 @@ held_next Closed text bytes = refl
 held_next End text bytes = refl
 
 -- a manager that was just started
-pub started_follows : (x : Form) (limit : ℕ) → Follows x limit [] [] [] (started x limit)
+pub started_follows : (x : Form) (limit : ℕ) → FollowsRun x limit [] [] [] (started x limit)
 started_follows x limit = record {
   run = begin;
   form_is = refl;
@@ -80,7 +80,7 @@ started_follows x limit = record {
 
 module _ (x : Form) (limit : ℕ) (history : Word) (events : List GivenEvent) (answers : List (List (List Reply)))
     (old : ManagerState) (event : Event) (bytes : List ℕ) (last : List (List Reply)) (new : ManagerState) (ending : Ending)
-    (follows : Follows x limit history events answers old) (fits : FitsEvent event bytes) (taken : TakesEvent old event bytes last new ending) where
+    (follows : FollowsRun x limit history events answers old) (fits : FitsEvent event bytes) (taken : TakesEvent old event bytes last new ending) where
   -- the connection's text before the event
   abbrev text : List ℕ
   text = text_behind event.conn [] events
@@ -98,7 +98,7 @@ module _ (x : Form) (limit : ℕ) (history : Word) (events : List GivenEvent) (a
       (subst (λ f. Steps f limit state completed last new.machine ending) follows.form_is
       (subst (λ l. Steps old.form l state completed last new.machine ending) follows.limit_is taken.steps))
 
-  abbrev now_held : Held
+  abbrev now_held : UnfinishedLine
   now_held = held_after event.kind (held_at event.conn old.lines) bytes
 
   -- what is held of a connection after it
@@ -120,7 +120,7 @@ module _ (x : Form) (limit : ℕ) (history : Word) (events : List GivenEvent) (a
           ∙ ap held (sym (text_behind-same [] events (given_event event bytes))))
 
   -- the manager follows the longer run
-  pub taken_follows : ending ≡ going → Follows x limit history (events ++ given_event event bytes ∷ []) (answers ++ last ∷ []) new
+  pub taken_follows : ending ≡ going → FollowsRun x limit history (events ++ given_event event bytes ∷ []) (answers ++ last ∷ []) new
   taken_follows on = record {
     run = subst (Run x limit history (events ++ given_event event bytes ∷ []) (answers ++ last ∷ []) new.machine) on taken_goes_on;
     form_is = taken.form ∙ follows.form_is;

@@ -4,7 +4,7 @@ use Rattle.std.proofs.lemmas.List.{length-set, get_or-set_same, get_or-set_other
 use Rattle.std.specs.Option.{option_map}
 use Rattle.std.specs.Io.KnownBytes.{append_known}
 use Rattle.ix_expr.specs.Form.{Form}
-use Rattle.ix_lines.specs.Feeding.{Held}
+use Rattle.ix_lines.specs.Feeding.{UnfinishedLine}
 use Rattle.ix_outside.specs.Contents.{GivenEvent, Contents, Sends, SendsWhole, SendsPart, send_text, with_pair, with_gone}
 use Rattle.ix_outside.specs.Sink.{AppendsPart}
 use Rattle.ix_outside.specs.declared.event.Event.{Event}
@@ -97,7 +97,7 @@ marks_others End conn marked marks other isnt = get_or-set_other marks conn othe
 no_steps : {x : Form} {limit : ℕ} {s after : MachineState} {answers : List (List Reply)} {ending : Ending} → Steps x limit s [] answers after ending → answers ≡ []
 no_steps none = refl
 
-no_answers : {x : Form} {limit : ℕ} {s after : MachineState} {answers : List (List Reply)} {ending : Ending} (kind : EventKind) (h : Held) (bytes : List ℕ)
+no_answers : {x : Form} {limit : ℕ} {s after : MachineState} {answers : List (List Reply)} {ending : Ending} (kind : EventKind) (h : UnfinishedLine) (bytes : List ℕ)
     → Steps x limit s (completed_by kind h bytes) answers after ending → kind ≡ Closed → answers ≡ []
 no_answers (Bytes n) h bytes steps closed = cc
 no_answers Closed h bytes steps closed = no_steps steps

@@ -3,7 +3,8 @@ use Rattle.std.proofs.Common.{◌≡◌, ◌↔◌, ℕ, zero, suc, ◌+◌, ◌
 use Rattle.ix_words.specs.Each.{Each, no_item, item}
 use Rattle.ix_values.specs.PlainAction.{PlainAction, Word}
 use Rattle.ix_expr.specs.Meaning.{IsPartial, IsComplete}
-use Rattle.ix_engine.specs.Engine.{EngineState, IsPermitted, extended, size_after}
+use Rattle.ix_can.specs.TreeOf.{tree_size}
+use Rattle.ix_engine.specs.inside.Engine.{EngineState, Allows, extended}
 use Rattle.ix_engine.specs.declared.next.Next.{Next}
 use Rattle.ix_lease.specs.Slots.{IsOpenAt, HasTicket}
 use Rattle.ix_lease.specs.declared.Slot.{Slot}
@@ -18,7 +19,7 @@ use Rattle.ix_proto.specs.inside.ReplyTexts.{CanBeTold}
 use Rattle.ix_proto.specs.declared.reply.Reply.{Reply}
 use Rattle.ix_proto.specs.declared.reply.Reply.TheVariants as reply
 use Rattle.ix_manager.specs.Machine as machine
-use Rattle.ix_manager.specs.Machine.{Step, MachineWatch, MachineState, Tells, IsAllowed, IsUnwatched, HasNoWatch}
+use Rattle.ix_manager.specs.Machine.{Step, MachineWatch, MachineState, Tells, IsUnwatched, HasNoWatch}
 use Rattle.ix_manager.specs.inside.Core.{Core, watch_of, IsRefreshed, TellsPoll}
 use Rattle.ix_manager.specs.inside.Ready.{IsReady, Refuses, not_permitted, full, large, memory, IsOpenUpTo}
 use Rattle.ix_manager.specs.inside.Does.{Does, Refreshes, IsNoted, AddsTold}
@@ -76,15 +77,6 @@ ready_action engine slot pending number a deadline next ready held is =
 pub room_left : (count : ℕ) → count ≤ 1000000 → (count ≡ 1000000 → ⊥) → count < 1000000
 room_left count most not_all = omega arith
 
--- what the engine permits is allowed, and only that
-pub permitted_allowed : (engine : EngineState) (slot : Slot) (watches : List PlainWatch) (moment ticket : ℕ) (a : PlainAction) → IsPermitted engine a
-    → IsAllowed engine.form engine.limit (core_of engine slot watches moment ticket).state a
-permitted_allowed engine slot watches moment ticket a p = record { next = p.partial; room = p.room; small = p.within }
-
-pub allowed_permitted : (engine : EngineState) (slot : Slot) (watches : List PlainWatch) (moment ticket : ℕ) (a : PlainAction)
-    → IsAllowed engine.form engine.limit (core_of engine slot watches moment ticket).state a → IsPermitted engine a
-allowed_permitted engine slot watches moment ticket a p = record { partial = p.next; room = p.room; within = p.small }
-
 -- a reservation is open
 pub busy_does : (core : Core) (a : PlainAction) (lease deadline : ℕ) → IsOpenUpTo core.state.slot core.state.moment deadline
     → Does core (request.ask a lease) (reply.Refused 20 deadline) core
@@ -138,14 +130,14 @@ module _ (engine : EngineState) (slot : Slot) (watches : List PlainWatch) (momen
       step _ (memory p l) = machine.ask_memory free p l
 
   pub granted_does : (f : EngineState) (a : PlainAction) (lease deadline : ℕ) → f.form ≡ engine.form → f.history ≡ engine.history → f.limit ≡ engine.limit
-      → ¬ IsOpenAt slot moment → IsPermitted engine a → deadline ≡ min (moment + lease) (2 ^ 64 - 1)
+      → ¬ IsOpenAt slot moment → Allows engine a → deadline ≡ min (moment + lease) (2 ^ 64 - 1)
       → Does old (request.ask a lease) (reply.Granted ticket) (core_of f (Held ticket a deadline) watches moment (ticket + 1))
-  granted_does f a lease deadline p q r free permitted until =
+  granted_does f a lease deadline p q r free allowed until =
       along f (Held ticket a deadline) watches (ticket + 1)
       (record old.state { slot = Held ticket a (min (moment + lease) (2 ^ 64 - 1)); ticket = ticket + 1 })
       (request.ask a lease) (reply.Granted ticket) p r
       (λ i. record { history = q i; slot = Held ticket a (until i); watches = map watch_of watches; moment = moment; ticket = ticket + 1 })
-      tt (omega arith) (machine.granted free (permitted_allowed engine slot watches moment ticket a permitted))
+      tt (omega arith) (machine.granted free allowed)
 
   pub confirmed_does : (f : EngineState) (slot' : Slot) (number : ℕ) (a b : PlainAction) (deadline count : ℕ) → f.form ≡ engine.form → f.limit ≡ engine.limit
       → f.history ≡ extended engine b → b ≡ a → count ≡ length f.history
@@ -207,10 +199,6 @@ module _ (engine : EngineState) (slot : Slot) (watches : List PlainWatch) (momen
       (λ i. record { history = engine.history; slot = slot; watches = same i; moment = moment; ticket = ticket })
       told (omega arith) step
 
-  tells_allowed : (a : PlainAction) (answer : Bool) → Tells (IsPermitted engine a) answer → Tells (IsAllowed engine.form engine.limit old.state a) answer
-  tells_allowed a answer tells =
-      tells_along answer (permitted_allowed engine slot watches moment ticket a) (allowed_permitted engine slot watches moment ticket a) tells
-
   pub watching_does : (watches' : List PlainWatch) (name : List ℕ) (a : PlainAction) (told : Bool) → AddsTold engine name a watches told watches'
       → Does old (request.watch name a) (reply.Watching told) (core_of engine slot watches' moment ticket)
   watching_does watches' name a told adds = by_place adds.added adds.adds
@@ -221,14 +209,14 @@ module _ (engine : EngineState) (slot : Slot) (watches : List PlainWatch) (momen
           with_watches watches' (map watch_of watches ++ record { name = name; action = a; told = told } ∷ [])
           (request.watch name a) (reply.Watching told)
           (ap (map watch_of) h.2 ∙ map_between watches (new_watch name a told) []) tt
-          (machine.watches_new (unwatched name a watches h.0) (omega (arith, length-watches watches, h.1)) (tells_allowed a told adds.tells))
+          (machine.watches_new (unwatched name a watches h.0) (omega (arith, length-watches watches, h.1)) adds.tells)
       by_place Again h =
           let there = found name a told watches adds.distinct h.0 in
           with_watches watches' (map watch_of there.before ++ record (watch_of there.watch) { told = told } ∷ map watch_of there.behind)
           (request.watch name a) (reply.Watching told)
           (ap (map watch_of) (h.1 ∙ there.again) ∙ map_between there.before (record there.watch { told = told; now = told }) there.behind) tt
           (machine.watches_again (map watch_of there.before) (map watch_of there.behind) (watch_of there.watch)
-          (ap (map watch_of) there.same ∙ map_between there.before there.watch there.behind) there.is (tells_allowed a told adds.tells))
+          (ap (map watch_of) there.same ∙ map_between there.before there.watch there.behind) there.is adds.tells)
 
   pub watches_full_does : (watches' : List PlainWatch) (name : List ℕ) (a : PlainAction) → is_watched name a watches ≡ false → length watches ≡ 4096 → watches' ≡ watches
       → Does old (request.watch name a) (reply.Refused 40 0) (core_of engine slot watches' moment ticket)
@@ -272,17 +260,16 @@ module _ (engine : EngineState) (slot : Slot) (watches : List PlainWatch) (momen
   }
     where
       each : (rest : List PlainWatch) → IsNoted engine name rest
-          → Each (λ (watch : PlainWatch). watch.name ≡ name → Tells (IsAllowed engine.form engine.limit (core_of engine slot watches' moment ticket).state watch.action) watch.now) rest
+          → Each (λ (watch : PlainWatch). watch.name ≡ name → Tells (Allows engine watch.action) watch.now) rest
       each [] none = no_item
       each (watch ∷ rest) (item tells others) =
-          item (λ named. tells_along watch.now (permitted_allowed engine slot watches' moment ticket watch.action)
-          (allowed_permitted engine slot watches' moment ticket watch.action) (tells named)) (each rest others)
+          item tells (each rest others)
 
   pub tells_poll : (watches' : List PlainWatch) (name : List ℕ) → watches' ≡ told_to name watches → IsRefreshed old name
       → TellsPoll old name (core_of engine slot watches' moment ticket)
   tells_poll watches' name same refreshed =
       subst (λ (ws : List PlainWatch). TellsPoll old name (core_of engine slot ws moment ticket)) (sym same) (record {
-        polls = polls_refreshed (IsAllowed engine.form engine.limit old.state) name watches refreshed;
+        polls = polls_refreshed (Allows engine) name watches refreshed;
         rest = refl;
         form = refl;
         limit = refl;
@@ -293,7 +280,7 @@ module _ (engine : EngineState) (slot : Slot) (watches : List PlainWatch) (momen
   may_does a answer both = unchanged old (request.may a) (reply.May answer) (machine.may (tells_of answer both)) tt
 
   pub status_does : (complete : Bool) (count nodes : ℕ) → IsTrue complete ↔ IsComplete engine.form [] engine.history
-      → count ≡ length engine.history → nodes ≡ size_after engine engine.history
+      → count ≡ length engine.history → nodes ≡ tree_size engine.form engine.history
       → Does old request.status (reply.Status complete count nodes) old
   status_does complete count nodes both counted sized =
       unchanged old request.status (reply.Status complete count nodes)

@@ -3,7 +3,7 @@ use Rattle.std.proofs.Common.{◌≡◌, ℕ, zero, suc, ◌+◌, ◌-◌, ◌�
 use Rattle.std.proofs.Math.ListN.{length-set}
 use Rattle.std.proofs.lemmas.List.{take_rest, length-drop, length-replicate, take-append-drop, append-nil, append_cancel_left}
 use Rattle.ix_lines.specs.Items.{Item}
-use Rattle.ix_lines.specs.Feeding.{Held, unfinished, Feeds, completes, holds_after}
+use Rattle.ix_lines.specs.Feeding.{UnfinishedLine, unfinished, Feeds, completes, holds_after}
 use Rattle.ix_lines.proofs.FeedLemmas.{any_cutting}
 use Rattle.ix_proto.specs.declared.reply.Reply.{Reply}
 use Rattle.ix_manager.specs.Machine.{MachineState}
@@ -20,27 +20,27 @@ use Rattle.ix_manager.specs.inside.WireState.{WireState, SendsAll, AnswersItem, 
 use Rattle.ix_manager.proofs.SendSteps.{nothing_sent, sends-append}
 
 -- what is held behind a piece completes nothing by itself
-pub clean_after : (held : Held) (piece : List ℕ) → IsClean (holds_after held piece)
+pub clean_after : (held : UnfinishedLine) (piece : List ℕ) → IsClean (holds_after held piece)
 clean_after held piece =
     let law = any_cutting held piece [] in
     append_cancel_left (completes held piece) (completes (holds_after held piece) []) []
     (sym law.0 ∙ ap (completes held) (append-nil piece) ∙ sym (append-nil (completes held piece)))
 
 -- the items of a piece are the first one and those of the rest
-pub items_behind : (held : Held) (piece : List ℕ) (item : Item) (used : ℕ) → Feeds held piece (Some item) used
+pub items_behind : (held : UnfinishedLine) (piece : List ℕ) (item : Item) (used : ℕ) → Feeds held piece (Some item) used
     → completes held piece ≡ item ∷ completes (holds_after held (take used piece)) (drop used piece)
 items_behind held piece item used feeds =
     ap (completes held) (sym (take-append-drop used piece)) ∙ (any_cutting held (take used piece) (drop used piece)).0
     ∙ ap (λ its. its ++ completes (holds_after held (take used piece)) (drop used piece)) feeds.told
 
 -- what is held behind a piece is what is held behind its rest
-pub held_behind : (held : Held) (piece : List ℕ) (used : ℕ)
+pub held_behind : (held : UnfinishedLine) (piece : List ℕ) (used : ℕ)
     → holds_after held piece ≡ holds_after (holds_after held (take used piece)) (drop used piece)
 held_behind held piece used =
     ap (holds_after held) (sym (take-append-drop used piece)) ∙ (any_cutting held (take used piece) (drop used piece)).1
 
 -- an item takes a byte
-pub takes_a_byte : (held : Held) (piece : List ℕ) (item : Item) (used : ℕ) → Feeds held piece (Some item) used → IsClean held → 0 < used
+pub takes_a_byte : (held : UnfinishedLine) (piece : List ℕ) (item : Item) (used : ℕ) → Feeds held piece (Some item) used → IsClean held → 0 < used
 takes_a_byte held piece item zero feeds clean =
     absurd (let h : item ∷ [] ≡ [] = sym feeds.told ∙ clean in cc)
 takes_a_byte held piece item (suc used) feeds clean = omega arith
@@ -107,7 +107,7 @@ progress_ends conn all first before now here progress = record {
   limit = progress.limit;
 }
 
-each-set : (lines : List Held) (conn : ℕ) (held : Held) → ((k : ℕ) → IsClean (held_at k lines)) → IsClean held
+each-set : (lines : List UnfinishedLine) (conn : ℕ) (held : UnfinishedLine) → ((k : ℕ) → IsClean (held_at k lines)) → IsClean held
     → (k : ℕ) → IsClean (held_at k (set lines conn held))
 each-set [] conn held clean here k = clean k
 each-set (x ∷ xs) zero held clean here zero = here
@@ -116,12 +116,12 @@ each-set (x ∷ xs) (suc conn) held clean here zero = clean zero
 each-set (x ∷ xs) (suc conn) held clean here (suc k) = each-set xs conn held (λ j. clean (suc j)) here k
 
 -- the texts of all connections stay clean where one's text is
-pub clean-set : (lines : List Held) (conn : ℕ) (held : Held) → AreClean lines → IsClean held → AreClean (set lines conn held)
+pub clean-set : (lines : List UnfinishedLine) (conn : ℕ) (held : UnfinishedLine) → AreClean lines → IsClean held → AreClean (set lines conn held)
 clean-set lines conn held clean here =
     record { count = length-set lines conn held ∙ clean.count; clean = each-set lines conn held clean.clean here }
 
 -- an item of a piece was taken, and the rest of the piece is left
-pub taken_goes_on : (conn : ℕ) (all : List Item) (first : Core) (before : WireState) (held : Held) (piece : List ℕ) (taken : Taken) (after_it : Held) (now next : Core) (here there : WireState)
+pub taken_goes_on : (conn : ℕ) (all : List Item) (first : Core) (before : WireState) (held : UnfinishedLine) (piece : List ℕ) (taken : Taken) (after_it : UnfinishedLine) (now next : Core) (here there : WireState)
     → Progress conn all first before (completes held piece) now here → TakesOne conn held piece taken after_it now next here there → taken.go ≡ More
     → Progress conn all first before (completes after_it (take (length piece - taken.used) (drop taken.used piece))) next there
 taken_goes_on conn all first before held piece taken after_it now next here there progress one goes =
@@ -136,7 +136,7 @@ taken_goes_on conn all first before held piece taken after_it now next here ther
     (progress_goes_on conn all first before one.item (completes (holds_after held (take taken.used piece)) rest) now here next there begun answers)
 
 -- `stop` was taken
-pub taken_stops : (conn : ℕ) (all : List Item) (first : Core) (before : WireState) (held : Held) (piece : List ℕ) (taken : Taken) (after_it : Held) (now next : Core) (here there : WireState)
+pub taken_stops : (conn : ℕ) (all : List Item) (first : Core) (before : WireState) (held : UnfinishedLine) (piece : List ℕ) (taken : Taken) (after_it : UnfinishedLine) (now next : Core) (here there : WireState)
     → Progress conn all first before (completes held piece) now here → TakesOne conn held piece taken after_it now next here there → taken.go ≡ Stopped
     → AnswersItems conn all stopped first next before there
 taken_stops conn all first before held piece taken after_it now next here there progress one stops =
@@ -148,7 +148,7 @@ taken_stops conn all first before held piece taken after_it now next here there 
     progress_stops conn all first before one.item (completes (holds_after held (take taken.used piece)) rest) now here next there begun answers
 
 -- the piece was taken to its end
-pub taken_ends : (conn : ℕ) (all : List Item) (first : Core) (before : WireState) (held : Held) (piece : List ℕ) (after_it : Held) (now next : Core) (here there : WireState)
+pub taken_ends : (conn : ℕ) (all : List Item) (first : Core) (before : WireState) (held : UnfinishedLine) (piece : List ℕ) (after_it : UnfinishedLine) (now next : Core) (here there : WireState)
     → Progress conn all first before (completes held piece) now here → TakesNone held piece after_it now next here there
     → AnswersItems conn all going first next before there
 taken_ends conn all first before held piece after_it now next here there progress none_taken =
@@ -159,7 +159,7 @@ taken_ends conn all first before held piece after_it now next here there progres
     progress_ends conn all first before next there (subst (λ w. Progress conn all first before [] next w) (sym none_taken.wire) moved)
 
 -- what is held behind the rest is what is held behind the piece
-pub taken_holds : (conn : ℕ) (held : Held) (piece : List ℕ) (taken : Taken) (after_it : Held) (now next : Core) (here there : WireState)
+pub taken_holds : (conn : ℕ) (held : UnfinishedLine) (piece : List ℕ) (taken : Taken) (after_it : UnfinishedLine) (now next : Core) (here there : WireState)
     → TakesOne conn held piece taken after_it now next here there
     → holds_after held piece ≡ holds_after after_it (take (length piece - taken.used) (drop taken.used piece))
 taken_holds conn held piece taken after_it now next here there one =
@@ -167,13 +167,13 @@ taken_holds conn held piece taken after_it now next here there one =
     ∙ ap (holds_after after_it) (sym (take_rest piece taken.used))
 
 -- what is held behind an item is clean
-pub taken_clean : (conn : ℕ) (held : Held) (piece : List ℕ) (taken : Taken) (after_it : Held) (now next : Core) (here there : WireState)
+pub taken_clean : (conn : ℕ) (held : UnfinishedLine) (piece : List ℕ) (taken : Taken) (after_it : UnfinishedLine) (now next : Core) (here there : WireState)
     → TakesOne conn held piece taken after_it now next here there → IsClean after_it
 taken_clean conn held piece taken after_it now next here there one =
     subst IsClean (sym one.held_is) (clean_after held (take taken.used piece))
 
 -- an item takes at least as many bytes as tickets
-pub taken_tickets : (conn : ℕ) (held : Held) (piece : List ℕ) (taken : Taken) (after_it : Held) (now next : Core) (here there : WireState)
+pub taken_tickets : (conn : ℕ) (held : UnfinishedLine) (piece : List ℕ) (taken : Taken) (after_it : UnfinishedLine) (now next : Core) (here there : WireState)
     → TakesOne conn held piece taken after_it now next here there → IsClean held
     → next.state.ticket + length (take (length piece - taken.used) (drop taken.used piece)) ≤ now.state.ticket + length piece
 taken_tickets conn held piece taken after_it now next here there one clean =
@@ -183,7 +183,7 @@ taken_tickets conn held piece taken after_it now next here there one clean =
     rw rest (omega (arith, some, one.feeds.within, one.answers.ticket))
 
 -- the rest of a piece is shorter
-pub taken_shorter : (conn : ℕ) (held : Held) (piece : List ℕ) (taken : Taken) (after_it : Held) (now next : Core) (here there : WireState)
+pub taken_shorter : (conn : ℕ) (held : UnfinishedLine) (piece : List ℕ) (taken : Taken) (after_it : UnfinishedLine) (now next : Core) (here there : WireState)
     → TakesOne conn held piece taken after_it now next here there → IsClean held
     → length (take (length piece - taken.used) (drop taken.used piece)) < length piece
 taken_shorter conn held piece taken after_it now next here there one clean =

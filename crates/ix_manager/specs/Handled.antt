@@ -2,7 +2,7 @@
 use Rattle.std.specs.Prelude.{◌≡◌, ℕ, ◌<◌, ◌≤◌, Bool, true, false, List, [], length, get_or, set, replicate}
 use Rattle.ix_expr.specs.Form.{Form}
 use Rattle.ix_lines.specs.Items.{Item}
-use Rattle.ix_lines.specs.Feeding.{Held, unfinished, completes, holds_after}
+use Rattle.ix_lines.specs.Feeding.{UnfinishedLine, unfinished, completes, holds_after}
 use Rattle.ix_outside.specs.Contents.{Contents, SendsWhole, SendsPart}
 use Rattle.ix_outside.specs.declared.event.Event.{Event}
 use Rattle.ix_outside.specs.declared.event.EventKind.{EventKind}
@@ -18,24 +18,24 @@ pub record ManagerState : Type 0 where
   pub form : Form
   pub limit : ℕ
   pub machine : MachineState
-  pub lines : List Held
+  pub lines : List UnfinishedLine
   pub marks : List Bool
   pub ended : Bool
 
 -- the items that an event completes behind what is held of its connection's text
-abbrev pub completed_by : EventKind → Held → List ℕ → List Item
+abbrev pub completed_by : EventKind → UnfinishedLine → List ℕ → List Item
 completed_by (Bytes n) held bytes = completes held bytes
 completed_by Closed held bytes = []
 completed_by End held bytes = []
 
 -- what is held after it
-abbrev pub held_after : EventKind → Held → List ℕ → Held
+abbrev pub held_after : EventKind → UnfinishedLine → List ℕ → UnfinishedLine
 held_after (Bytes n) held bytes = holds_after held bytes
 held_after Closed held bytes = unfinished []
 held_after End held bytes = held
 
 -- what is held of a connection's text
-abbrev pub held_at : ℕ → List Held → Held
+abbrev pub held_at : ℕ → List UnfinishedLine → UnfinishedLine
 held_at conn lines = get_or lines conn (unfinished [])
 
 -- `stop` came

@@ -1,3 +1,4 @@
+pub mod Refusals
 pub mod Machine
 pub mod Runs
 pub mod Wire

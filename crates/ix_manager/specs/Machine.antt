@@ -3,9 +3,9 @@ use Rattle.std.specs.Prelude.{◌≡◌, ◌≢◌, ◌⊎◌, ℕ, ◌+◌, ◌
 use Rattle.ix_words.specs.Each.{Each}
 use Rattle.ix_values.specs.PlainAction.{PlainAction, Word}
 use Rattle.ix_expr.specs.Form.{Form}
-use Rattle.ix_expr.specs.Meaning.{IsComplete, IsPartial}
-use Rattle.ix_tree.specs.Size.{size_of}
-use Rattle.ix_can.specs.TreeOf.{tree_of}
+use Rattle.ix_expr.specs.Meaning.{IsComplete}
+use Rattle.ix_can.specs.TreeOf.{tree_size}
+use Rattle.ix_engine.specs.Allowed.{IsPermitted, IsAllowed}
 use Rattle.ix_lease.specs.Slots.{IsOpenAt, HasTicket}
 use Rattle.ix_lease.specs.declared.Slot.{Slot}
 use Rattle.ix_lease.specs.declared.Slot.TheVariants as slot
@@ -13,6 +13,7 @@ use Rattle.ix_proto.specs.Requests as request
 use Rattle.ix_proto.specs.Requests.{PlainRequest}
 use Rattle.ix_proto.specs.declared.reply.Reply.{Reply}
 use Rattle.ix_proto.specs.declared.reply.Reply.TheVariants as reply
+use Rattle.ix_manager.specs.Refusals as refused
 
 -- a watch: a client's name, an action, and what was last told of it
 pub record MachineWatch : Type 0 where
@@ -31,20 +32,6 @@ pub record MachineState : Type 0 where
 -- the state at the start, with what was recovered
 abbrev pub start_of : Word → MachineState
 start_of history = record { history = history; slot = slot.Free; watches = []; moment = 0; ticket = 1 }
-
--- the history extended by the action is partial
-abbrev pub IsNext : Form → MachineState → PlainAction → Type 0
-IsNext x s a = IsPartial x [] (s.history ++ a ∷ [])
-
--- the Size of the tree of a word
-abbrev pub word_size : Form → Word → ℕ
-word_size x w = size_of (tree_of x [] w)
-
--- the action may come next, there is room for it, and the Size of the extended history's tree is within the limit
-pub record IsAllowed (x : Form) (limit : ℕ) (s : MachineState) (a : PlainAction) : Type 0 where
-  pub next : IsNext x s a
-  pub room : length s.history < 1000000
-  pub small : word_size x (s.history ++ a ∷ []) ≤ limit
 
 -- the truth value tells whether it holds
 abbrev pub Tells : Type 0 → Bool → Type 0
@@ -83,79 +70,79 @@ pub data Polls (allowed : PlainAction → Type 0) (name : List ℕ) : List Machi
 pub data Step (x : Form) (limit : ℕ) (s : MachineState) : PlainRequest → List Reply → MachineState → Type 0 where
   busy : {a : PlainAction} {lease deadline : ℕ} (held : PlainAction) (ticket : ℕ)
       → s.slot ≡ slot.Held ticket held deadline → s.moment < deadline
-      → Step x limit s (request.ask a lease) (reply.Refused 20 deadline ∷ []) s
+      → Step x limit s (request.ask a lease) (refused.busy_until deadline ∷ []) s
   not_permitted : {a : PlainAction} {lease : ℕ}
-      → (IsOpenAt s.slot s.moment → ⊥) → (IsNext x s a → ⊥)
-      → Step x limit s (request.ask a lease) (reply.Refused 21 0 ∷ []) (record s { slot = slot.Free })
+      → (IsOpenAt s.slot s.moment → ⊥) → (IsPermitted x s.history a → ⊥)
+      → Step x limit s (request.ask a lease) (refused.not_permitted ∷ []) (record s { slot = slot.Free })
   full : {a : PlainAction} {lease : ℕ}
-      → (IsOpenAt s.slot s.moment → ⊥) → IsNext x s a → length s.history ≡ 1000000
-      → Step x limit s (request.ask a lease) (reply.Refused 23 0 ∷ []) (record s { slot = slot.Free })
+      → (IsOpenAt s.slot s.moment → ⊥) → IsPermitted x s.history a → length s.history ≡ 1000000
+      → Step x limit s (request.ask a lease) (refused.full ∷ []) (record s { slot = slot.Free })
   large : {a : PlainAction} {lease : ℕ}
-      → (IsOpenAt s.slot s.moment → ⊥) → IsNext x s a → length s.history < 1000000
-      → limit < word_size x (s.history ++ a ∷ [])
-      → Step x limit s (request.ask a lease) (reply.Refused 22 limit ∷ []) (record s { slot = slot.Free })
+      → (IsOpenAt s.slot s.moment → ⊥) → IsPermitted x s.history a → length s.history < 1000000
+      → limit < tree_size x (s.history ++ a ∷ [])
+      → Step x limit s (request.ask a lease) (refused.above limit ∷ []) (record s { slot = slot.Free })
   granted : {a : PlainAction} {lease : ℕ}
-      → (IsOpenAt s.slot s.moment → ⊥) → IsAllowed x limit s a
+      → (IsOpenAt s.slot s.moment → ⊥) → IsAllowed x limit s.history a
       → Step x limit s (request.ask a lease) (reply.Granted s.ticket ∷ [])
       (record s { slot = slot.Held s.ticket a (min (s.moment + lease) (2 ^ 64 - 1)); ticket = s.ticket + 1 })
   ask_memory : {a : PlainAction} {lease : ℕ}
-      → (IsOpenAt s.slot s.moment → ⊥) → IsNext x s a → length s.history < 1000000
-      → Step x limit s (request.ask a lease) (reply.Refused 90 0 ∷ []) (record s { slot = slot.Free })
+      → (IsOpenAt s.slot s.moment → ⊥) → IsPermitted x s.history a → length s.history < 1000000
+      → Step x limit s (request.ask a lease) (refused.no_memory ∷ []) (record s { slot = slot.Free })
   confirmed : {ticket : ℕ} (a : PlainAction) (deadline : ℕ)
       → s.slot ≡ slot.Held ticket a deadline → s.moment < deadline
       → Step x limit s (request.confirm ticket) (reply.Confirmed (length s.history + 1) ∷ [])
       (record s { history = s.history ++ a ∷ []; slot = slot.Free })
   confirm_expired : {ticket : ℕ}
       → HasTicket s.slot ticket → (IsOpenAt s.slot s.moment → ⊥)
-      → Step x limit s (request.confirm ticket) (reply.Refused 31 0 ∷ []) s
+      → Step x limit s (request.confirm ticket) (refused.expired ∷ []) s
   confirm_no_such : {ticket : ℕ}
       → (HasTicket s.slot ticket → ⊥)
-      → Step x limit s (request.confirm ticket) (reply.Refused 30 0 ∷ []) s
+      → Step x limit s (request.confirm ticket) (refused.no_such_ticket ∷ []) s
   cancelled : {ticket : ℕ} (a : PlainAction) (deadline : ℕ)
       → s.slot ≡ slot.Held ticket a deadline → s.moment < deadline
       → Step x limit s (request.cancel ticket) (reply.Cancelled ticket ∷ []) (record s { slot = slot.Free })
   cancel_expired : {ticket : ℕ}
       → HasTicket s.slot ticket → (IsOpenAt s.slot s.moment → ⊥)
-      → Step x limit s (request.cancel ticket) (reply.Refused 31 0 ∷ []) s
+      → Step x limit s (request.cancel ticket) (refused.expired ∷ []) s
   cancel_no_such : {ticket : ℕ}
       → (HasTicket s.slot ticket → ⊥)
-      → Step x limit s (request.cancel ticket) (reply.Refused 30 0 ∷ []) s
+      → Step x limit s (request.cancel ticket) (refused.no_such_ticket ∷ []) s
   may : {a : PlainAction} {answer : Bool}
-      → Tells (IsNext x s a) answer
+      → Tells (IsPermitted x s.history a) answer
       → Step x limit s (request.may a) (reply.May answer ∷ []) s
   watches_full : {name : List ℕ} {a : PlainAction}
       → IsUnwatched name a s.watches → length s.watches ≡ 4096
-      → Step x limit s (request.watch name a) (reply.Refused 40 0 ∷ []) s
+      → Step x limit s (request.watch name a) (refused.too_many_watches ∷ []) s
   watches_new : {name : List ℕ} {a : PlainAction} {told : Bool}
-      → IsUnwatched name a s.watches → length s.watches < 4096 → Tells (IsAllowed x limit s a) told
+      → IsUnwatched name a s.watches → length s.watches < 4096 → Tells (IsAllowed x limit s.history a) told
       → Step x limit s (request.watch name a) (reply.Watching told ∷ [])
       (record s { watches = s.watches ++ record { name = name; action = a; told = told } ∷ [] })
   watches_again : {name : List ℕ} {a : PlainAction} {told : Bool} (before behind : List MachineWatch) (watch : MachineWatch)
-      → s.watches ≡ before ++ watch ∷ behind → IsOf name a watch → Tells (IsAllowed x limit s a) told
+      → s.watches ≡ before ++ watch ∷ behind → IsOf name a watch → Tells (IsAllowed x limit s.history a) told
       → Step x limit s (request.watch name a) (reply.Watching told ∷ [])
       (record s { watches = before ++ record watch { told = told } ∷ behind })
   watch_memory : {name : List ℕ} {a : PlainAction}
       → (IsUnwatched name a s.watches → length s.watches < 4096)
-      → Step x limit s (request.watch name a) (reply.Refused 90 0 ∷ []) s
+      → Step x limit s (request.watch name a) (refused.no_memory ∷ []) s
   dropped : {name : List ℕ} {a : PlainAction} (before behind : List MachineWatch) (watch : MachineWatch)
       → s.watches ≡ before ++ watch ∷ behind → IsOf name a watch
       → Step x limit s (request.drop_watch name a) (reply.Dropped ∷ []) (record s { watches = before ++ behind })
   drop_no_such : {name : List ℕ} {a : PlainAction}
       → IsUnwatched name a s.watches
-      → Step x limit s (request.drop_watch name a) (reply.Refused 41 0 ∷ []) s
+      → Step x limit s (request.drop_watch name a) (refused.no_such_watch ∷ []) s
   polled : {name : List ℕ} {changes : List Reply} {after : List MachineWatch}
-      → Polls (IsAllowed x limit s) name s.watches changes after
+      → Polls (IsAllowed x limit s.history) name s.watches changes after
       → Step x limit s (request.poll name) (reply.Changes (length changes) ∷ changes) (record s { watches = after })
   poll_memory : {name : List ℕ}
       → (HasNoWatch name s.watches → ⊥)
-      → Step x limit s (request.poll name) (reply.Refused 90 0 ∷ []) s
+      → Step x limit s (request.poll name) (refused.no_memory ∷ []) s
   status : {complete : Bool}
       → Tells (IsComplete x [] s.history) complete
-      → Step x limit s request.status (reply.Status complete (length s.history) (word_size x s.history) ∷ []) s
+      → Step x limit s request.status (reply.Status complete (length s.history) (tree_size x s.history) ∷ []) s
   entry : {number : ℕ} {a : PlainAction} (before behind : Word)
       → s.history ≡ before ++ a ∷ behind → number ≡ length before + 1
       → Step x limit s (request.log number) (reply.Entry number a ∷ []) s
   no_such_entry : {number : ℕ}
       → (number ≡ 0) ⊎ (length s.history < number)
-      → Step x limit s (request.log number) (reply.Refused 42 0 ∷ []) s
+      → Step x limit s (request.log number) (refused.no_such_entry ∷ []) s
   stopping : Step x limit s request.stop (reply.Stopping ∷ []) s

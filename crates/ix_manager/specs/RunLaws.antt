@@ -20,7 +20,7 @@ given_event event bytes = record { event = event; bytes = bytes }
 
 -- A manager that took the events of a run, which goes on: its machine is in the run's last state, and of each connection it
 -- holds what is unfinished of the connection's text.
-pub record Follows (x : Form) (limit : ℕ) (history : Word) (events : List GivenEvent) (answers : List (List (List Reply))) (m : ManagerState) : Type 0 where
+pub record FollowsRun (x : Form) (limit : ℕ) (history : Word) (events : List GivenEvent) (answers : List (List (List Reply))) (m : ManagerState) : Type 0 where
   pub run : Run x limit history events answers m.machine going
   pub form_is : m.form ≡ x
   pub limit_is : m.limit ≡ limit
@@ -30,16 +30,16 @@ pub record Follows (x : Form) (limit : ℕ) (history : Word) (events : List Give
 
 -- a manager that was just started follows the run without events
 abbrev pub StartsARun : Type 0
-StartsARun = (x : Form) (limit : ℕ) → Follows x limit [] [] [] (started x limit)
+StartsARun = (x : Form) (limit : ℕ) → FollowsRun x limit [] [] [] (started x limit)
 
 -- where a manager follows a run, any event that it takes goes on that run, and it follows the longer run as long as that goes on
 abbrev pub GoesOnARun : Type 0
 GoesOnARun =
     (x : Form) (limit : ℕ) (history : Word) (events : List GivenEvent) (answers : List (List (List Reply)))
     (old : ManagerState) (event : Event) (bytes : List ℕ) (last : List (List Reply)) (new : ManagerState) (ending : Ending)
-    → Follows x limit history events answers old → FitsEvent event bytes → TakesEvent old event bytes last new ending
+    → FollowsRun x limit history events answers old → FitsEvent event bytes → TakesEvent old event bytes last new ending
     → Run x limit history (events ++ given_event event bytes ∷ []) (answers ++ last ∷ []) new.machine ending
-    × (ending ≡ going → Follows x limit history (events ++ given_event event bytes ∷ []) (answers ++ last ∷ []) new)
+    × (ending ≡ going → FollowsRun x limit history (events ++ given_event event bytes ∷ []) (answers ++ last ∷ []) new)
 
 -- what a manager takes from its start on makes a run
 abbrev pub CallsMakeARun : Type 0

@@ -2,9 +2,10 @@
 
 ghost use Rattle.std.specs.Prelude.{◌≡◌, ◌+◌, ◌-◌, ◌^◌, ◌<◌, ◌≤◌, ℕ, [], length, IfOk, OnOk};
 ghost use Rattle.ix_watch.specs.inside.Watches.{changes_of};
-ghost use Rattle.ix_manager.specs.Machine.{start_of, word_size};
+ghost use Rattle.ix_can.specs.TreeOf.{tree_size};
+ghost use Rattle.ix_manager.specs.Machine.{start_of};
 ghost use Rattle.ix_manager.specs.Runs.{raised};
-ghost use Rattle.ix_manager.specs.inside.Core.{Answers, IsRefreshed, TellsPoll};
+ghost use Rattle.ix_manager.specs.inside.Core.{MachineAnswers, IsRefreshed, TellsPoll};
 ghost use Rattle.ix_proto.specs.Requests.{PlainRequest, IsRequest};
 ghost use Rattle.ix_proto.specs.inside.Lends.{Lends};
 
@@ -77,8 +78,8 @@ impl Machine {
         requires least { 1 ≤ limit }
         requires most { limit ≤ 1000000 }
         ensures starts { IfOk result (λ m. m ≡ record { form = expression; limit = limit; state = start_of []; noted = [] }) }
-        ensures within { OnOk result (word_size expression [] ≤ limit) }
-        ensures over { (l : ℕ) → result ≡ Err (BuildFault.Over l) → (l ≡ limit) × (limit < word_size expression []) }
+        ensures within { OnOk result (tree_size expression [] ≤ limit) }
+        ensures over { (l : ℕ) → result ≡ Err (BuildFault.Over l) → (l ≡ limit) × (limit < tree_size expression []) }
     {
         match Engine::new(alloc, expression, limit) {
             Ok(engine) => Ok(Machine {
@@ -104,7 +105,7 @@ impl Machine {
     pub fn answer(&mut self, alloc: Global, request: &Request<'_>) -> Answer
         requires read { (plain : PlainRequest) × IsRequest plain × Lends request.now plain }
         requires tickets { self.old.state.ticket < 2 ^ 64 - 1 }
-        ensures answers { Answers self.old request.now result self.new }
+        ensures answers { MachineAnswers self.old request.now result self.new }
         ensures tickets { self.new.state.ticket ≤ self.old.state.ticket + 1 }
         ensures form { self.new.form ≡ self.old.form }
         ensures limit { self.new.limit ≡ self.old.limit }

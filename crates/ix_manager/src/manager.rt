@@ -2,7 +2,7 @@
 
 ghost use Rattle.std.specs.Prelude.{◌≡◌, ◌+◌, ◌-◌, ◌^◌, ◌<◌, ◌≤◌, ℕ, [], false, true, length, get_or, set, replicate, IfOk, OnOk};
 ghost use Rattle.ix_outside.specs.Counts.{Rose, OnlySend};
-ghost use Rattle.ix_manager.specs.Machine.{word_size};
+ghost use Rattle.ix_can.specs.TreeOf.{tree_size};
 ghost use Rattle.ix_lines.specs.Feeding.{unfinished};
 ghost use Rattle.ix_manager.specs.Handled as spec;
 ghost use Rattle.ix_manager.specs.inside.WireState.{wired};
@@ -69,8 +69,8 @@ impl Manager {
         requires least { 1 ≤ limit }
         requires most { limit ≤ 1000000 }
         ensures starts { IfOk result (λ m. m ≡ started expression limit) }
-        ensures within { OnOk result (word_size expression [] ≤ limit) }
-        ensures large { (l : ℕ) → result ≡ Err (StartFault.Large l) → (l ≡ limit) × (limit < word_size expression []) }
+        ensures within { OnOk result (tree_size expression [] ≤ limit) }
+        ensures large { (l : ℕ) → result ≡ Err (StartFault.Large l) → (l ≡ limit) × (limit < tree_size expression []) }
 
         // Nothing of the site changes.
         ensures counts { S.counts site.new ≡ S.counts site.old }

@@ -1,7 +1,7 @@
 //! Asks, and what becomes of a reservation.
 
 ghost use Rattle.std.specs.Prelude.{◌≡◌, ◌-◌, ◌^◌, ◌<◌, IfOk, IfErr, OnOk, IfSome, IfNone};
-ghost use Rattle.ix_engine.specs.Engine.{IsPermitted};
+ghost use Rattle.ix_engine.specs.inside.Engine.{Allows};
 ghost use Rattle.ix_lease.specs.Slots.{IsOpenAt};
 ghost use Rattle.ix_proto.specs.Requests as request;
 ghost use Rattle.ix_manager.specs.inside.Ready.{IsPrepared, Refuses, IsOpenUpTo};
@@ -99,7 +99,7 @@ fn open_deadline(slot: &Slot, moment: u64) -> Option<u64>
 /// Prepares an action, with the memory to commit it, or tells why not.
 fn prepare(engine: &mut Engine, alloc: Global, action: &Action) -> Result<Next, Reply>
     ensures prepared { IfOk result (λ next. IsPrepared engine.new action.now next) }
-    ensures permitted { OnOk result (IsPermitted engine.old action.now) }
+    ensures permitted { OnOk result (Allows engine.old action.now) }
     ensures refused { IfErr result (λ reply. Refuses engine.old action.now reply) }
     ensures form { engine.new.form ≡ engine.old.form }
     ensures history { engine.new.history ≡ engine.old.history }

@@ -1,4 +1,4 @@
-// The numbers of the calls that are told to fail.
+//! The numbers of the calls that are told to fail.
 ghost use Rattle.std.specs.Prelude.{◌≡◌};
 ghost use Rattle.ix_memory.specs.Calls.{is_told, next_call};
 

@@ -1,4 +1,4 @@
-// The events that a site gives.
+//! The events that a site gives.
 ghost use Rattle.std.specs.Prelude.{◌≡◌, ◌≤◌, ◌<◌, ◌+◌, ◌-◌, ◌^◌, ◌++◌, [], ◌∷◌, ℕ, length, take, drop, IfOk, OnOk};
 ghost use Rattle.ix_outside.specs.Contents.{piece_of};
 ghost use Rattle.ix_outside.specs.Event.{FitsBuffer};

@@ -1,8 +1,8 @@
-// Files in memory.
+//! Files in memory.
 ghost use Rattle.std.specs.Prelude.{◌≡◌, ◌≤◌, ◌<◌, ◌↔◌, ℕ, List, length, map, IfOk, IsErrOf, IsTrue, string_bytes, Some, MatchOption, true, ◌⊎◌};
 ghost use Rattle.ix_outside.specs.Counts.{Rose};
 ghost use Rattle.ix_outside.specs.Files.{HasFile, HasLonger, Lists};
-ghost use Rattle.ix_outside.specs.Held.{free};
+ghost use Rattle.ix_outside.specs.Loans.{free};
 ghost use Rattle.ix_memory.specs.Calls.{next_call, one_more};
 ghost use Rattle.ix_memory.specs.inside.FilesState.{FailsToLoad, IsAbsent, listing_of};
 

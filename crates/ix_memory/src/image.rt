@@ -1,4 +1,4 @@
-// The bytes of a file.
+//! The bytes of a file.
 ghost use Rattle.std.specs.Prelude.{◌≡◌, ◌≤◌, ◌+◌, ◌-◌, min, length, take, drop, vec_len, vec_capacity};
 ghost use Rattle.ix_memory.specs.inside.SiteState.{written};
 

@@ -1,4 +1,4 @@
-// Which calls of a site fail.
+//! Which calls of a site fail.
 ghost use Rattle.std.specs.Prelude.{◌≡◌};
 ghost use Rattle.ix_memory.specs.PlanState.{fresh_plan};
 ghost use Rattle.ix_memory.specs.inside.Fate.{fate_of, TakesRoom, Tells};

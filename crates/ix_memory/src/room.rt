@@ -1,4 +1,4 @@
-// Pushes and copies for which there is room.
+//! Pushes and copies for which there is room.
 ghost use Rattle.std.specs.Prelude.{◌≡◌, ◌<◌, ◌≤◌, ◌+◌, ◌++◌, [], ◌∷◌, length, take, drop, vec_len, vec_capacity};
 
 /// Puts an item behind the others, which takes no memory.

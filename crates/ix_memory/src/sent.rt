@@ -1,4 +1,4 @@
-// What a site sent, and the names that it heard.
+//! What a site sent, and the names that it heard.
 ghost use Rattle.std.specs.Prelude.{◌≡◌, ◌≤◌, ◌<◌, ◌+◌, ◌++◌, length, slice_get, vec_len, vec_capacity, IfOk, Some};
 ghost use Rattle.ix_outside.specs.Contents.{with_pair, with_gone};
 ghost use Rattle.ix_memory.specs.inside.SentState.{no_sends, with_heard};

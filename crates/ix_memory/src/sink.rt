@@ -1,8 +1,8 @@
-// A sink in memory.
+//! A sink in memory.
 ghost use Rattle.std.specs.Prelude.{◌≡◌, ◌≤◌, ◌++◌, [], length, not, is_ok, IfOk, OnOk, OnErr, Some};
 ghost use Rattle.std.specs.Io.KnownBytes.{append_known};
 ghost use Rattle.ix_outside.specs.Counts.{Rose};
-ghost use Rattle.ix_outside.specs.Held.{free};
+ghost use Rattle.ix_outside.specs.Loans.{free};
 ghost use Rattle.ix_outside.specs.Sink.{AppendsPart};
 ghost use Rattle.ix_memory.specs.Calls.{next_call, one_more};
 ghost use Rattle.ix_memory.specs.inside.SinkState.{fails_to_put};

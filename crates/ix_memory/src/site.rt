@@ -1,9 +1,9 @@
-// A site in memory.
+//! A site in memory.
 ghost use Rattle.std.specs.Prelude.{◌≡◌, ◌≤◌, ◌<◌, ◌+◌, ◌-◌, ◌*◌, ◌&&◌, ◌++◌, [], ◌∷◌, length as list_length, nat_le, true, false, min, length, take, drop, not, is_ok, slice_get, Some, IfOk, OnOk, OnErr};
 ghost use Rattle.ix_outside.specs.Contents.{piece_of, with_pair, Listens, Gives, SendsBytes};
 ghost use Rattle.ix_outside.specs.Counts.{Rose, OnlyDisk, OnlyWire, OnlySend};
 ghost use Rattle.ix_outside.specs.Event.{FitsBuffer};
-ghost use Rattle.ix_outside.specs.Held.{free};
+ghost use Rattle.ix_outside.specs.Loans.{free};
 ghost use Rattle.ix_memory.specs.inside.NextEvent.{next_event, then_coming};
 ghost use Rattle.ix_memory.specs.Plan.{fails_at, is_full};
 ghost use Rattle.ix_memory.specs.inside.SentState.{with_heard};

@@ -2,6 +2,6 @@ pub mod Contents
 pub mod Counts
 pub mod Event
 pub mod Files
-pub mod Held
+pub mod Loans
 pub mod Sink
 pub mod inside

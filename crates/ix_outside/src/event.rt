@@ -1,4 +1,4 @@
-// What a site tells of its connections.
+//! What a site tells of its connections.
 
 /// What happened on a connection.
 #[derive(Clone, Copy, Debug, PartialEq, Eq)]

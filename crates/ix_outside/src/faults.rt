@@ -1,4 +1,4 @@
-// What the calls of the outside answer in place of Ok.
+//! What the calls of the outside answer in place of Ok.
 ghost use Rattle.std.specs.Prelude.{◌≡◌};
 ghost use Rattle.ix_outside.specs.declared.faults.LoadFault.TheVariants.{Memory};
 

@@ -1,8 +1,8 @@
-// Files that are read whole.
+//! Files that are read whole.
 ghost use Rattle.std.specs.Prelude.{◌≡◌, ◌≤◌, ℕ, length, IfOk, IsErrOf, Option};
 ghost use Rattle.ix_outside.specs.Counts.{Rose};
 ghost use Rattle.ix_outside.specs.Files.{Listing, HasFile, HasLonger};
-ghost use Rattle.ix_outside.specs.Held.{Held};
+ghost use Rattle.ix_outside.specs.Loans.{Loans};
 
 use crate::LoadFault;
 use std::alloc::Global;
@@ -16,7 +16,7 @@ pub trait Files {
     ghost faults: { Self → ℕ };
 
     /// The other objects that this one was lent. Every call keeps it.
-    ghost held: { Self → Held };
+    ghost held: { Self → Loans };
 
     /// The bytes of the file of this name, at most `limit` of them. The files stay as they were, told or not.
     fn load(&mut self, alloc: Global, name: &str, limit: usize) -> Result<Vec<u8>, LoadFault>

@@ -1,9 +1,9 @@
-// A place that takes bytes.
+//! A place that takes bytes.
 ghost use Rattle.std.specs.Prelude.{◌≡◌, ◌≤◌, ℕ, List, OnOk, OnErr, Option};
 ghost use Rattle.std.specs.Io.KnownBytes.{append_known};
 ghost use Rattle.ix_outside.specs.Counts.{Rose};
 ghost use Rattle.ix_outside.specs.Sink.{AppendsPart};
-ghost use Rattle.ix_outside.specs.Held.{Held};
+ghost use Rattle.ix_outside.specs.Loans.{Loans};
 
 use crate::Failed;
 
@@ -16,7 +16,7 @@ pub trait Sink {
     ghost faults: { Self → ℕ };
 
     /// The other objects that this one was lent. Every call keeps it.
-    ghost held: { Self → Held };
+    ghost held: { Self → Loans };
 
     /// Puts the bytes out, or after a fault some front of them. Whether they are told stays.
     fn put(&mut self, bytes: &[u8]) -> Result<(), Failed>

@@ -1,9 +1,9 @@
-// The wire and the disk of a running manager.
+//! The wire and the disk of a running manager.
 ghost use Rattle.std.specs.Prelude.{◌≡◌, ◌≤◌, ◌<◌, Bool, true, false, length, IfOk, OnOk, OnErr};
 ghost use Rattle.ix_outside.specs.Contents.{Contents, nothing_told, Listens, Gives, SendsBytes};
 ghost use Rattle.ix_outside.specs.Counts.{Counts, Rose, OnlyDisk, OnlyWire, OnlySend};
 ghost use Rattle.ix_outside.specs.Event.{FitsBuffer};
-ghost use Rattle.ix_outside.specs.Held.{Held};
+ghost use Rattle.ix_outside.specs.Loans.{Loans};
 
 use crate::{DiskFailed, Event, Gone, WireFailed};
 
@@ -17,7 +17,7 @@ pub trait Site {
     ghost attached: { Self → Bool };
 
     /// The other objects that this one was lent. Every call keeps it.
-    ghost held: { Self → Held };
+    ghost held: { Self → Loans };
 
     /// What the site tells of its connections. It ceases to tell a part only in a send that answers Gone, and never begins
     /// to.

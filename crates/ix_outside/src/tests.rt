@@ -1,6 +1,6 @@
-// Small objects of the three traits, which show that the contracts can be met.
+//! Small objects of the three traits, which show that the contracts can be met.
 ghost use Rattle.std.specs.Prelude.{◌≡◌, [], ◌∷◌, false, Some};
-ghost use Rattle.ix_outside.specs.Held.{free};
+ghost use Rattle.ix_outside.specs.Loans.{free};
 
 use super::*;
 use std::alloc::{AllocError, Global};

@@ -6,7 +6,7 @@ use Rattle.ix_parse.specs.declared.signs.WordClass.{WordClass}
 use Rattle.ix_parse.specs.declared.signs.WordClass.TheVariants.{Quantifies, Withheld, Names, Other}
 use Rattle.ix_parse.specs.Symbols.{Symbol, word, param, opening, closing, comma, before, between, class_of, level, Meaning, joined, named, argument_of}
 use Rattle.ix_parse.specs.Grammar.{Stands}
-use Rattle.ix_parse.specs.inside.StackMachine.{Entry, group, sign, binder, left, Config, Held, held, closed, reduced, left_group, step_operand, step_word, step_wanted, step_name, step_argument, step_quantifier, with_argument, step, groups}
+use Rattle.ix_parse.specs.inside.StackMachine.{Entry, group, sign, binder, left, Config, WithOperand, held, closed, reduced, left_group, step_operand, step_word, step_wanted, step_name, step_argument, step_quantifier, with_argument, step, groups}
 use Rattle.ix_parse.specs.inside.Judged.{begins_operand, may_begin, may_follow, may_follow_name, may_follow_argument, is_argument, is_param, may_come}
 use Rattle.ix_parse.proofs.Runs.{hole, level-some}
 use Rattle.ix_parse.proofs.Holding.{Holds, hole-low, Reads, Ended, Ended-closed, Reads-reduced}
@@ -18,7 +18,7 @@ groups-closed (sign at p ∷ s) x = groups-closed s _
 groups-closed (binder at q p ∷ s) x = groups-closed s _
 groups-closed (left at o y ∷ s) x = refl
 
-groups-by : (v : Bool) (h g : Held) (n : ℕ) → groups h.stack ≡ n → groups g.stack ≡ n → groups (cond v h g).stack ≡ n
+groups-by : (v : Bool) (h g : WithOperand) (n : ℕ) → groups h.stack ≡ n → groups g.stack ≡ n → groups (cond v h g).stack ≡ n
 groups-by true h g n first second = first
 groups-by false h g n first second = second
 
@@ -37,7 +37,7 @@ inmost (sign at p ∷ s) x fits = absurd (omega arith)
 inmost (binder at q p ∷ s) x fits = absurd (omega arith)
 inmost (left at o y ∷ s) x fits = let some = level-some o in absurd (omega arith)
 
-closes : (all : List Symbol) (h : Held) → Ended all h → ltb 0 (groups h.stack) ≡ is_some (step_operand h.stack h.operand closing)
+closes : (all : List Symbol) (h : WithOperand) → Ended all h → ltb 0 (groups h.stack) ≡ is_some (step_operand h.stack h.operand closing)
 closes all h e =
     let r = Reads-reduced 1 6 e.front e.operand h.stack h.operand (omega arith) (omega arith) (omega arith) (hole-low h.stack) e.clear e.stands e.holds in
     ap (λ n. ltb 0 n) (sym (groups-reduced 1 h.stack h.operand)) ∙ inmost (reduced 1 h.stack h.operand).stack (reduced 1 h.stack h.operand).operand r.fits

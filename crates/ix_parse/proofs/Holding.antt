@@ -7,7 +7,7 @@ use Rattle.ix_parse.specs.declared.signs.Quantifier.{Quantifier}
 use Rattle.ix_parse.specs.declared.signs.WordClass.TheVariants.{Quantifies, Names}
 use Rattle.ix_parse.specs.Symbols.{Symbol, word, param, opening, closing, comma, before, between, class_of, level, Meaning, joined, prefixed, quantified, argument_of}
 use Rattle.ix_parse.specs.Grammar.{Arguments, Stands, Cut, CanGoOn}
-use Rattle.ix_parse.specs.inside.StackMachine.{Entry, group, sign, binder, left, wanted, name_read, argument_wanted, argument_read, quantifier_read, operand_read, Config, Held, held, config, closed, reduced, with_operand, left_group, with_left, step_operand, levels}
+use Rattle.ix_parse.specs.inside.StackMachine.{Entry, group, sign, binder, left, wanted, name_read, argument_wanted, argument_read, quantifier_read, operand_read, Config, WithOperand, held, config, closed, reduced, with_operand, left_group, with_left, step_operand, levels}
 use Rattle.ix_parse.proofs.Runs.{hole, level-low, level-some}
 use Rattle.ix_parse.proofs.Cuts.{Stands-loosen, Cut-loosen, Cut-then, fill}
 
@@ -92,7 +92,7 @@ pub data Reads : List Symbol → Config → Type 0 where
   behind_operand : (ts us : List Symbol) (s : List Entry) (x : Meaning) → IsClear s → Stands 6 us x → Holds ts s → Reads (ts ++ us) (config s (operand_read x))
 
 -- an operand that no prefix takes, behind what is open
-pub record Ended (all : List Symbol) (h : Held) : Type 0 where
+pub record Ended (all : List Symbol) (h : WithOperand) : Type 0 where
   pub front : List Symbol
   pub operand : List Symbol
   pub split : all ≡ front ++ operand
@@ -101,7 +101,7 @@ pub record Ended (all : List Symbol) (h : Held) : Type 0 where
   pub holds : Holds front h.stack
 
 -- the symbols at the end of an operand, seen from its front
-regroup : (ts us vs : List Symbol) (h : Held) → Ended (ts ++ (us ++ vs)) h → Ended ((ts ++ us) ++ vs) h
+regroup : (ts us vs : List Symbol) (h : WithOperand) → Ended (ts ++ (us ++ vs)) h → Ended ((ts ++ us) ++ vs) h
 regroup ts us vs h r = subst (λ l. Ended l h) (sym (append_assoc ts us vs)) r
 
 -- the operand takes the prefixes in front of it
@@ -112,14 +112,14 @@ Ended-closed _ us _ x (Holds.open_sign ts s at p h) stands = regroup ts (before 
 Ended-closed _ us _ x (Holds.open_binder ts s at w q p is h) stands = regroup ts (word at w ∷ param p ∷ []) us _ (Ended-closed ts (word at w ∷ param p ∷ us) s (quantified q at p x) h (Stands.quantifies at w q p us x is stands))
 Ended-closed _ us _ x (Holds.open_left ts vs s at o y fits first h) stands = record { front = ts ++ vs ++ between at o ∷ []; operand = us; split = refl; clear = tt; stands = stands; holds = Holds.open_left ts vs s at o y fits first h }
 
-pub Reads-ended : (all : List Symbol) (h : Held) → Ended all h → Reads all (with_operand h)
+pub Reads-ended : (all : List Symbol) (h : WithOperand) → Ended all h → Reads all (with_operand h)
 Reads-ended all h r = subst (λ l. Reads l (with_operand h)) (sym r.split) (Reads.behind_operand r.front r.operand h.stack h.operand r.clear r.stands r.holds)
 
 pub Reads-closed : (ts us : List Symbol) (s : List Entry) (x : Meaning) → Holds ts s → Stands 6 us x → Reads (ts ++ us) (with_operand (closed s x))
 Reads-closed ts us s x h stands = Reads-ended (ts ++ us) (closed s x) (Ended-closed ts us s x h stands)
 
 -- an operand of level k behind what is open, to which nothing of level k is left to join
-pub record ReadTo (k : ℕ) (all : List Symbol) (h : Held) : Type 0 where
+pub record ReadTo (k : ℕ) (all : List Symbol) (h : WithOperand) : Type 0 where
   pub front : List Symbol
   pub operand : List Symbol
   pub split : all ≡ front ++ operand
@@ -151,7 +151,7 @@ Reads-reduced k j _ us _ x some below low fits clear stands (Holds.open_left ts 
         record { front = ts ++ vs ++ between at o ∷ []; operand = us; split = refl; fits = leb-false k (level o) ends; holds = Holds.open_left ts vs s at o y left_fits first h; stands = Stands-loosen j k us x below low stands }
 
 -- an operator behind an operand
-pub Reads-left : (at : ℕ) (o : Operator) (all : List Symbol) (h : Held) → ReadTo (level o) all h → Reads (all ++ between at o ∷ []) (with_left at o h)
+pub Reads-left : (at : ℕ) (o : Operator) (all : List Symbol) (h : WithOperand) → ReadTo (level o) all h → Reads (all ++ between at o ∷ []) (with_left at o h)
 Reads-left at o all h r =
     let same : all ++ between at o ∷ [] ≡ r.front ++ r.operand ++ between at o ∷ [] = ap (λ l. l ++ between at o ∷ []) r.split in
     subst (λ l. Reads l (with_left at o h)) (sym same)

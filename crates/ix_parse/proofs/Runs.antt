@@ -7,7 +7,7 @@ use Rattle.ix_parse.specs.declared.signs.Operator.TheVariants as operators
 use Rattle.ix_parse.specs.declared.signs.WordClass.{WordClass}
 use Rattle.ix_parse.specs.Symbols.{Symbol, word, param, opening, closing, comma, between, level, Meaning, joined, quantified, named}
 use Rattle.ix_parse.specs.Grammar.{Arguments, Stands, Cut, CanGoOn, Wanted, AfterArgument}
-use Rattle.ix_parse.specs.inside.StackMachine.{Entry, group, sign, binder, left, Mode, wanted, name_read, argument_wanted, argument_read, quantifier_read, operand_read, Config, Held, held, config, closed, reduced, with_operand, left_group, with_left, step_operand, step_word, with_argument, step_by, step, settled_by, settled, alone, joined_all, whole, start, step_some, run, levels}
+use Rattle.ix_parse.specs.inside.StackMachine.{Entry, group, sign, binder, left, Mode, wanted, name_read, argument_wanted, argument_read, quantifier_read, operand_read, Config, WithOperand, held, config, closed, reduced, with_operand, left_group, with_left, step_operand, step_word, with_argument, step_by, step, settled_by, settled, alone, joined_all, whole, start, step_some, run, levels}
 
 -- a run over an appended list is a run over its parts
 pub run-append : (c : Option Config) (ts us : List Symbol) → run c (ts ++ us) ≡ run (run c ts) us
@@ -44,30 +44,30 @@ closed-clear (binder at q p ∷ s) x h = absurd (omega arith)
 closed-clear (left at o y ∷ s) x h = refl
 
 -- behind an operand the machine goes on as from the operand
-pub step-closing : (s : List Entry) (mode : Mode) (h : Held) → settled_by s mode ≡ Some h → step_by s mode closing ≡ step_operand h.stack h.operand closing
+pub step-closing : (s : List Entry) (mode : Mode) (h : WithOperand) → settled_by s mode ≡ Some h → step_by s mode closing ≡ step_operand h.stack h.operand closing
 step-closing s wanted h e = absurd cc
-step-closing s (name_read at w) h e = let same : closed s (named at w []) ≡ h = cc in ap (λ (g : Held). step_operand g.stack g.operand closing) same
+step-closing s (name_read at w) h e = let same : closed s (named at w []) ≡ h = cc in ap (λ (g : WithOperand). step_operand g.stack g.operand closing) same
 step-closing s (argument_wanted at w args) h e = absurd cc
 step-closing s (argument_read at w args) h e = absurd cc
 step-closing s (quantifier_read at q) h e = absurd cc
-step-closing s (operand_read x) h e = let same : held s x ≡ h = cc in ap (λ (g : Held). step_operand g.stack g.operand closing) same
+step-closing s (operand_read x) h e = let same : held s x ≡ h = cc in ap (λ (g : WithOperand). step_operand g.stack g.operand closing) same
 
-pub step-between : (s : List Entry) (mode : Mode) (h : Held) (at : ℕ) (o : Operator) → settled_by s mode ≡ Some h → step_by s mode (between at o) ≡ step_operand h.stack h.operand (between at o)
+pub step-between : (s : List Entry) (mode : Mode) (h : WithOperand) (at : ℕ) (o : Operator) → settled_by s mode ≡ Some h → step_by s mode (between at o) ≡ step_operand h.stack h.operand (between at o)
 step-between s wanted h at o e = absurd cc
-step-between s (name_read at' w) h at o e = let same : closed s (named at' w []) ≡ h = cc in ap (λ (g : Held). step_operand g.stack g.operand (between at o)) same
+step-between s (name_read at' w) h at o e = let same : closed s (named at' w []) ≡ h = cc in ap (λ (g : WithOperand). step_operand g.stack g.operand (between at o)) same
 step-between s (argument_wanted at' w args) h at o e = absurd cc
 step-between s (argument_read at' w args) h at o e = absurd cc
 step-between s (quantifier_read at' q) h at o e = absurd cc
-step-between s (operand_read x) h at o e = let same : held s x ≡ h = cc in ap (λ (g : Held). step_operand g.stack g.operand (between at o)) same
+step-between s (operand_read x) h at o e = let same : held s x ≡ h = cc in ap (λ (g : WithOperand). step_operand g.stack g.operand (between at o)) same
 
-abbrev pub reduced_held : ℕ → Held → Held
+abbrev pub reduced_held : ℕ → WithOperand → WithOperand
 reduced_held k h = reduced k h.stack h.operand
 
 -- the machine has read an operand of level n: what it holds means, at each level up to n, what `whole` means
-pub record Reached (n : ℕ) (whole : Held) (c : Option Config) : Type 0 where
+pub record Reached (n : ℕ) (whole : WithOperand) (c : Option Config) : Type 0 where
   pub last : Config
   pub is : c ≡ Some last
-  pub held : Held
+  pub held : WithOperand
   pub settled_is : settled last ≡ Some held
   pub same : (k : ℕ) → k ≤ n → reduced_held k held ≡ reduced_held k whole
 
@@ -110,7 +110,7 @@ run-left at o ts us x s fits r =
     let low = level-low o in
     let clear = closed-clear s x (omega arith) in
     let found : reduced_held (level o) r.held ≡ held s x = r.same (level o) (omega arith) ∙ ap (reduced_held (level o)) clear ∙ reduced-clear (level o) s x fits in
-    let stepped : step r.last (between at o) ≡ Some (config (left at o x ∷ s) wanted) = step-between r.last.stack r.last.mode r.held at o r.settled_is ∙ ap (λ (h : Held). Some (with_left at o h)) found in
+    let stepped : step r.last (between at o) ≡ Some (config (left at o x ∷ s) wanted) = step-between r.last.stack r.last.mode r.held at o r.settled_is ∙ ap (λ (h : WithOperand). Some (with_left at o h)) found in
     run-append (Some (config s wanted)) ts (between at o ∷ us) ∙ ap (λ (c : Option Config). run (step_some c (between at o)) us) r.is ∙ ap (λ (c : Option Config). run c us) stepped
 
 -- each symbol list that stands for a meaning is read as it
@@ -140,7 +140,7 @@ run-stands _ _ _ (Stands.group ts x inner) s fits =
       last = with_operand (closed s x);
       is =
           run-append (Some (config (group ∷ s) wanted)) ts (closing ∷ []) ∙ ap (λ (c : Option Config). step_some c closing) r.is
-          ∙ step-closing r.last.stack r.last.mode r.held r.settled_is ∙ ap (λ (h : Held). left_group h.stack h.operand) found;
+          ∙ step-closing r.last.stack r.last.mode r.held r.settled_is ∙ ap (λ (h : WithOperand). left_group h.stack h.operand) found;
       held = closed s x;
       settled_is = refl;
       same = λ k h. refl;
@@ -164,7 +164,7 @@ pub whole-stands : (ts : List Symbol) (x : Meaning) → Stands 1 ts x → (c : C
 whole-stands ts x stands c is =
     let r = run-stands 1 ts x stands [] (omega arith) in
     let same : r.last ≡ c = let e : Some r.last ≡ Some c = sym r.is ∙ is in cc in
-    ap whole (sym same) ∙ ap joined_all r.settled_is ∙ ap (λ (h : Held). alone h.stack h.operand) (r.same 1 (omega arith))
+    ap whole (sym same) ∙ ap joined_all r.settled_is ∙ ap (λ (h : WithOperand). alone h.stack h.operand) (r.same 1 (omega arith))
 
 -- where symbols can go on, the machine isn't stuck
 pub run-can : (ts : List Symbol) → CanGoOn ts → run (Some start) ts ≡ None → ⊥

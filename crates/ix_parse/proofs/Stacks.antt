@@ -118,7 +118,7 @@ pushed es e = stack_of-push [] es e
 
 -- what is left of a group, by what was popped
 pub left_group-popped : (s : List machine.Entry) (x : Meaning) (es fs : List Entry) (e : Entry) (y : Meaning) → reduced 1 s x ≡ held (stack_of es) y → es ≡ fs ++ e ∷ [] → left_group (reduced 1 s x).stack (reduced 1 s x).operand ≡ left_group (entry_of e ∷ stack_of fs) y
-left_group-popped s x es fs e y r is = ap (λ (h : machine.Held). left_group h.stack h.operand) r ∙ ap (λ t. left_group t y) (ap stack_of is ∙ pushed fs e)
+left_group-popped s x es fs e y r is = ap (λ (h : machine.WithOperand). left_group h.stack h.operand) r ∙ ap (λ t. left_group t y) (ap stack_of is ∙ pushed fs e)
 
 pub taking-no_group : (t : _) (s : List machine.Entry) (y : Meaning) → left_group (taking_of t ∷ s) y ≡ None
 taking-no_group (Sign at p) s y = refl

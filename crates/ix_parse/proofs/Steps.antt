@@ -8,7 +8,7 @@ use Rattle.ix_parse.specs.declared.signs.WordClass.{WordClass}
 use Rattle.ix_parse.specs.declared.signs.WordClass.TheVariants.{Quantifies, Withheld, Names, Other}
 use Rattle.ix_parse.specs.Symbols.{Symbol, word, param, opening, closing, comma, before, between, class_of, Meaning, named, argument_of}
 use Rattle.ix_parse.specs.Grammar.{Arguments, Stands, CanGoOn}
-use Rattle.ix_parse.specs.inside.StackMachine.{Entry, group, sign, binder, argument_wanted, Config, Held, held, config, closed, reduced, step_operand, step_word, step_wanted, step_name, step_argument, step_quantifier, with_argument, step, alone, joined_all, whole, start, run}
+use Rattle.ix_parse.specs.inside.StackMachine.{Entry, group, sign, binder, argument_wanted, Config, WithOperand, held, config, closed, reduced, step_operand, step_word, step_wanted, step_name, step_argument, step_quantifier, with_argument, step, alone, joined_all, whole, start, run}
 use Rattle.ix_parse.proofs.Runs.{run-none}
 use Rattle.ix_parse.proofs.Cuts.{CanGoOn-front}
 use Rattle.ix_parse.proofs.Holding.{Holds, hole-low, Holds-fill, Listed, Listed-argument, Arguments-comma, Reads, Ended, Ended-closed, Reads-closed, ReadTo, Reads-reduced, Reads-operand}
@@ -34,7 +34,7 @@ wanted-step ts s (before at p) c h e = subst (Reads (ts ++ before at p ∷ [])) 
 wanted-step ts s (between at o) c h e = absurd cc
 
 -- a symbol behind what was closed
-closed-step : (all : List Symbol) (h : Held) (t : Symbol) (c : Config) → Ended all h → step_operand h.stack h.operand t ≡ Some c → Reads (all ++ t ∷ []) c
+closed-step : (all : List Symbol) (h : WithOperand) (t : Symbol) (c : Config) → Ended all h → step_operand h.stack h.operand t ≡ Some c → Reads (all ++ t ∷ []) c
 closed-step all h t c r e = subst (λ l. Reads (l ++ t ∷ []) c) (sym r.split) (Reads-operand r.front r.operand h.stack h.operand t c r.clear r.stands r.holds e)
 
 -- a symbol behind the name of an atom
@@ -121,14 +121,14 @@ Holds-none _ _ (Holds.open_binder ts s at w q p is h) e = absurd cc
 Holds-none _ _ (Holds.open_left ts us s at o x fits stands h) e = absurd cc
 
 -- an operand with nothing open around it is whole
-Stands-read : (all : List Symbol) (h : Held) (x : Meaning) → ReadTo 1 all h → alone h.stack h.operand ≡ Some x → Stands 1 all x
+Stands-read : (all : List Symbol) (h : WithOperand) (x : Meaning) → ReadTo 1 all h → alone h.stack h.operand ≡ Some x → Stands 1 all x
 Stands-read all h x r e = by-stack h.stack refl (λ none. subst (λ l. Stands 1 l h.operand) (sym (r.split ∙ ap (λ l. l ++ r.operand) (Holds-none r.front h.stack r.holds none))) r.stands) e
   where
     by-stack : (s : List Entry) → h.stack ≡ s → (h.stack ≡ [] → Stands 1 all h.operand) → alone s h.operand ≡ Some x → Stands 1 all x
     by-stack [] is whole e = subst (Stands 1 all) (some_is h.operand x e) (whole is)
     by-stack (entry ∷ s) is whole e = absurd cc
 
-ended-whole : (all : List Symbol) (h : Held) (x : Meaning) → Ended all h → joined_all (Some h) ≡ Some x → Stands 1 all x
+ended-whole : (all : List Symbol) (h : WithOperand) (x : Meaning) → Ended all h → joined_all (Some h) ≡ Some x → Stands 1 all x
 ended-whole all h x r e =
     let reads = Reads-reduced 1 6 r.front r.operand h.stack h.operand (omega arith) (omega arith) (omega arith) (hole-low h.stack) r.clear r.stands r.holds in
     subst (λ l. Stands 1 l x) (sym r.split) (Stands-read (r.front ++ r.operand) (reduced 1 h.stack h.operand) x reads e)

@@ -2,7 +2,7 @@
 use Rattle.std.proofs.Common.{◌≡◌, ℕ, ◌+◌, ◌-◌, ◌<◌, List, [], ◌∷◌, ◌++◌, length, refl, sym, ap, subst, ◌∙◌, append_assoc, length-append, arith}
 use Rattle.std.specs.List.{flat_map}
 use Rattle.std.proofs.lemmas.List.{append-nil}
-use Rattle.ix_script.specs.Grammar.{InGrammar, AllInGrammar, IsLineFault, IsFirstBadLine}
+use Rattle.ix_script.specs.Grammar.{InGrammar, AllInGrammar, IsLineFault, IsFirstScriptFault}
 use Rattle.ix_script.specs.Lines.{bytes_of, lines_of}
 use Rattle.ix_script.proofs.LineLists.{lines_of-none}
 
@@ -44,7 +44,7 @@ good_step all rest next text cut good place so_far = record {
 
 -- a line that isn't in the grammar
 pub first_bad : (all rest next text : List ℕ) (code at : ℕ) → lines_of rest ≡ text ∷ lines_of next → IsLineFault text code
-    → at ≡ length all - length rest → GoodBefore all rest → IsFirstBadLine all code at
+    → at ≡ length all - length rest → GoodBefore all rest → IsFirstScriptFault all code at
 first_bad all rest next text code at cut fault place so_far = record {
   before = so_far.before;
   bad = text;

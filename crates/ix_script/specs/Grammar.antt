@@ -34,7 +34,7 @@ pub data IsLineFault (line : List ℕ) : ℕ → Type 0 where
   no_text : {moment conn : ℕ} {behind : List ℕ} → BeginsWith (2 ^ 64) line moment behind → BeginsWith 64 behind conn (92 ∷ []) → IsLineFault line 33
 
 -- the first line that isn't in the grammar has this fault; the place is that of its first byte
-pub record IsFirstBadLine (bytes : List ℕ) (code place : ℕ) : Type 0 where
+pub record IsFirstScriptFault (bytes : List ℕ) (code place : ℕ) : Type 0 where
   pub before : List (List ℕ)
   pub bad : List ℕ
   pub behind : List (List ℕ)

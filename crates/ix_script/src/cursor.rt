@@ -1,4 +1,4 @@
-// A place in a script.
+//! A place in a script.
 ghost use Rattle.std.specs.Prelude.{◌≡◌, ◌<◌};
 ghost use Rattle.ix_script.specs.Grammar.{AllInGrammar};
 ghost use Rattle.ix_script.specs.Lines.{lines_of};

@@ -1,4 +1,4 @@
-// One line of a script.
+//! One line of a script.
 ghost use Rattle.std.specs.Prelude.{◌≡◌, ◌++◌, MatchResult};
 ghost use Rattle.ix_script.specs.Events.{is_close as tells_close, text_bytes};
 ghost use Rattle.ix_script.specs.Grammar.{InGrammar, IsScriptLine, IsLineFault};

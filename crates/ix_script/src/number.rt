@@ -1,4 +1,4 @@
-// A decimal number and a space at the front of a text.
+//! A decimal number and a space at the front of a text.
 ghost use Rattle.std.specs.Prelude.{◌≡◌, ◌==◌, ◌+◌, ◌<◌, ◌^◌, ℕ, Some, decimal, position, MatchOption};
 ghost use Rattle.ix_script.specs.Grammar.{Begins, BeginsWith};
 ghost use Rattle.ix_script.specs.inside.Numbers.{IsNumber};

@@ -1,8 +1,8 @@
-// A script that was checked.
+//! A script that was checked.
 ghost use Rattle.std.specs.Prelude.{◌≡◌, ◌+◌, ◌^◌, ◌<◌, ◌≤◌, List, length, MatchOption, IfOk, IfErr};
 ghost use Rattle.ix_outside.specs.Contents.{GivenEvent};
 ghost use Rattle.ix_script.specs.Events.{HasEvents};
-ghost use Rattle.ix_script.specs.Grammar.{AllInGrammar, IsFirstBadLine};
+ghost use Rattle.ix_script.specs.Grammar.{AllInGrammar, IsFirstScriptFault};
 ghost use Rattle.ix_script.specs.Lines.{lines_of};
 
 use crate::line::read_line;
@@ -28,7 +28,7 @@ impl<'a> Script<'a> {
     pub fn read(bytes: &'a [u8]) -> Result<Script<'a>, ScriptFault>
         ensures same { IfOk result (λ script. script.bytes.now ≡ bytes.now) }
         ensures events { IfOk result (λ script. (events : List GivenEvent) × HasEvents bytes.now events) }
-        ensures fault { IfErr result (λ fault. IsFirstBadLine bytes.now fault.code fault.at) }
+        ensures fault { IfErr result (λ fault. IsFirstScriptFault bytes.now fault.code fault.at) }
     {
         match first_fault(bytes) {
             None => Ok(Script { bytes }),
@@ -39,7 +39,7 @@ impl<'a> Script<'a> {
 
 // The fault of the first line that isn't in the grammar, or None where there is none.
 fn first_fault(bytes: &[u8]) -> Option<ScriptFault>
-    ensures { MatchOption result (AllInGrammar (lines_of bytes.now)) (λ fault. IsFirstBadLine bytes.now fault.code fault.at) }
+    ensures { MatchOption result (AllInGrammar (lines_of bytes.now)) (λ fault. IsFirstScriptFault bytes.now fault.code fault.at) }
 {
     let mut rest = bytes;
     while !rest.is_empty() {

@@ -1,4 +1,4 @@
-// A script's events as a site, whose sends go to a sink and whose disk is that of another site.
+//! A script's events as a site, whose sends go to a sink and whose disk is that of another site.
 ghost use Rattle.std.specs.Prelude.{◌≡◌};
 ghost use Rattle.ix_script.specs.inside.Cursor.{left_of};
 ghost use Rattle.ix_script.specs.inside.Progress.{events_of, left_by};
@@ -79,7 +79,7 @@ impl<'a, S: Site, K: Sink> Site for ScriptSite<'a, S, K> {
     ghost use Rattle.std.specs.Prelude.{Some, None};
     ghost use Rattle.ix_outside.specs.Contents.{Contents};
     ghost use Rattle.ix_outside.specs.Counts.{Counts};
-    ghost use Rattle.ix_outside.specs.Held.{free, lent, reads, unused_wire};
+    ghost use Rattle.ix_outside.specs.Loans.{free, lent, reads, unused_wire};
     ghost use Rattle.ix_script.specs.inside.Site.{given_of};
 
     ghost counts = { λ it. record { disk = (S.counts it.site.now).disk; wire = 0; send = K.faults it.sink.now } };

@@ -1,7 +1,7 @@
-// Scripts, good and bad, and a script's site as its callers see it.
+//! Scripts, good and bad, and a script's site as its callers see it.
 ghost use Rattle.std.specs.Prelude.{◌≡◌, ◌<◌, ◌≤◌, ◌⊎◌, List, [], false, Some, None};
 ghost use Rattle.ix_outside.specs.Contents.{GivenEvent};
-ghost use Rattle.ix_outside.specs.Held.{free};
+ghost use Rattle.ix_outside.specs.Loans.{free};
 ghost use Rattle.ix_script.specs.Events.{HasEvents};
 ghost use Rattle.ix_script.specs.Pieces.{pieces_of};
 ghost use Rattle.ix_script.specs.inside.Site.{given_of};

@@ -7,7 +7,7 @@ ghost use Rattle.ix_expr.specs.Form.{opt, seq, star, or, and, couple};
 ghost use Rattle.ix_tree.specs.PlainOf.{plain};
 ghost use Rattle.ix_can.specs.inside.May.{may};
 ghost use Rattle.ix_can.specs.Tests.{in_alphabet};
-ghost use Rattle.ix_can.specs.inside.Moved.{moved, moved_within};
+ghost use Rattle.ix_can.specs.inside.Moved.{moved, moved_inside};
 ghost use Rattle.ix_step.specs.inside.Builds.{Builds, Gathers};
 ghost use Rattle.ix_step.specs.inside.Initial.{initial_tree};
 ghost use Rattle.ix_step.specs.inside.Moves.{live_moves, begun_again};
@@ -167,7 +167,7 @@ pub(crate) fn advance_inside(
     limit: usize,
 ) -> Result<Tree, BuildFault>
     requires { Ready limit (form_of expr.now) env.now (plain tree.now) }
-    ensures { Builds limit (moved_within (in_alphabet (form_of expr.now) env.now action.now) (moved (form_of expr.now) env.now (plain tree.now) action.now) (plain tree.now)) result }
+    ensures { Builds limit (moved_inside (in_alphabet (form_of expr.now) env.now action.now) (moved (form_of expr.now) env.now (plain tree.now) action.now) (plain tree.now)) result }
 {
     if contains(expr, env, action) {
         advance(expr, tree, env, action, alloc, limit)

@@ -36,8 +36,8 @@ abbrev pub or_initial : Plain → Plain → Plain
 or_initial initial x = if is_dead x then initial else x
 
 -- the moved tree where the action is inside, else the tree as it was
-abbrev pub moved_within : Bool → Plain → Plain → Plain
-moved_within inside moved_tree x = if inside then moved_tree else x
+abbrev pub moved_inside : Bool → Plain → Plain → Plain
+moved_inside inside moved_tree x = if inside then moved_tree else x
 
 -- the tree of the word that is extended by the action, x being its expression and t the tree of the word before; it is
 -- dead where the action may not come next
@@ -63,8 +63,8 @@ moved (or y z) e (or_of t u) a = dead_if (not (may (or y z) e (or_of t u) a)) (o
 moved (and y z) e (and_of t u) a = dead_if (not (may (and y z) e (and_of t u) a)) (and_of (moved y e t a) (moved z e u a))
 moved (couple y z) e (couple_of t u) a =
     dead_if (not (may (couple y z) e (couple_of t u) a)) (couple_of
-    (moved_within (in_alphabet y e a) (moved y e t a) t)
-    (moved_within (in_alphabet z e a) (moved z e u a) u))
+    (moved_inside (in_alphabet y e a) (moved y e t a) t)
+    (moved_inside (in_alphabet z e a) (moved z e u a) u))
 moved (any p y) e (any_of common entries) a =
     dead_if (not (may (any p y) e (any_of common entries) a)) (any_of (moved y (bind p None e) common a)
     (set_of (flat_map (λ x. entry_with (moved y (bind p None e) common a) (key x) (moved y (bind p (Some (key x)) e) (first_part x) a)) (items_of entries)
@@ -75,11 +75,11 @@ moved (every p y) e (every_of common entries) a =
     ++ flat_map (λ v. entry_with (moved y (bind p None e) common a) v (moved y (bind p (Some v) e) (tree_at v common (items_of entries)) a)) a.values)))
 moved (sync p y) e (sync_of common entries) a =
     dead_if (not (may (sync p y) e (sync_of common entries) a)) (sync_of
-    (moved_within (in_alphabet y (bind p None e) a) (moved y (bind p None e) common a) common)
-    (set_of (flat_map (λ x. entry_with (moved_within (in_alphabet y (bind p None e) a) (moved y (bind p None e) common a) common) (key x)
-    (moved_within (in_alphabet y (bind p (Some (key x)) e) a) (moved y (bind p (Some (key x)) e) (first_part x) a) (first_part x))) (items_of entries)
-    ++ flat_map (λ v. entry_with (moved_within (in_alphabet y (bind p None e) a) (moved y (bind p None e) common a) common) v
-    (moved_within (in_alphabet y (bind p (Some v) e) a) (moved y (bind p (Some v) e) (tree_at v common (items_of entries)) a) (tree_at v common (items_of entries)))) a.values)))
+    (moved_inside (in_alphabet y (bind p None e) a) (moved y (bind p None e) common a) common)
+    (set_of (flat_map (λ x. entry_with (moved_inside (in_alphabet y (bind p None e) a) (moved y (bind p None e) common a) common) (key x)
+    (moved_inside (in_alphabet y (bind p (Some (key x)) e) a) (moved y (bind p (Some (key x)) e) (first_part x) a) (first_part x))) (items_of entries)
+    ++ flat_map (λ v. entry_with (moved_inside (in_alphabet y (bind p None e) a) (moved y (bind p None e) common a) common) v
+    (moved_inside (in_alphabet y (bind p (Some v) e) a) (moved y (bind p (Some v) e) (tree_at v common (items_of entries)) a) (tree_at v common (items_of entries)))) a.values)))
 moved (all p y) e (all_of maps) a =
     dead_if (not (may (all p y) e (all_of maps) a)) (all_of (set_of (flat_map (λ m. flat_map (λ v.
     map_with (tree_of y [] []) v (moved y (bind p (Some v) e) (or_initial (tree_of y [] []) (tree_at v dead (items_of (first_part m)))) a) (items_of (first_part m))) a.values) (items_of maps))))

@@ -1,10 +1,10 @@
 -- What a `Lines` shows of its buffer.
 use Rattle.std.specs.Prelude.{◌≤◌, ℕ, Bool, true, false, List, length, take}
-use Rattle.ix_lines.specs.Feeding.{Held, unfinished, skipping}
-use Rattle.ix_lines.specs.Ends.{HasNoEnd}
+use Rattle.ix_lines.specs.Feeding.{UnfinishedLine, unfinished, skipping}
+use Rattle.ix_lines.specs.Cutting.{HasNoEnd}
 
 -- the open bytes, unless the line is skipped
-abbrev pub shown : Bool → List ℕ → Held
+abbrev pub shown : Bool → List ℕ → UnfinishedLine
 shown true open_bytes = skipping
 shown false open_bytes = unfinished open_bytes
 

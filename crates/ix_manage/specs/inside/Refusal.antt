@@ -4,7 +4,7 @@ use Rattle.ix_manage.specs.declared.refusal.Refusal.{Refusal}
 use Rattle.ix_manage.specs.declared.refusal.Refusal.TheVariants.{Words, BadText, Large, LostExpression, BadActions, LostActions, BadScript, LostScript, Turns, Memory}
 use Rattle.ix_outside.specs.Files.{Listing}
 use Rattle.ix_parse.specs.Faults.{IsFirstFault}
-use Rattle.ix_script.specs.Grammar.{IsFirstBadLine}
+use Rattle.ix_script.specs.Grammar.{IsFirstScriptFault}
 use Rattle.ix_manage.specs.ActionLines.{line}
 use Rattle.ix_manage.specs.Replay.{HasBadScript}
 use Rattle.ix_manage.specs.Trace.{fault_line, large_line, HasBadText, HasBadActions, StartsAbove}
@@ -72,5 +72,5 @@ RefusesScript files name _ = ⊥
 
 -- why bytes are refused as a script
 abbrev pub IsBadScript : List ℕ → Refusal → Type 0
-IsBadScript bytes (BadScript code at) = IsFirstBadLine bytes code at
+IsBadScript bytes (BadScript code at) = IsFirstScriptFault bytes code at
 IsBadScript bytes _ = ⊥

@@ -9,7 +9,7 @@ use Rattle.ix_outside.specs.declared.event.EventKind.{EventKind}
 use Rattle.ix_outside.specs.declared.event.EventKind.TheVariants.{End}
 use Rattle.ix_proto.specs.declared.reply.Reply.{Reply}
 use Rattle.ix_manager.specs.Handled.{ManagerState}
-use Rattle.ix_manager.specs.RunLaws.{Follows}
+use Rattle.ix_manager.specs.RunLaws.{FollowsRun}
 use Rattle.ix_manager.specs.Runs.{Ending, going, stopped}
 use Rattle.ix_manager.specs.Wire.{run_text, unmarked}
 use Rattle.ix_script.specs.Events.{HasEvents}
@@ -26,7 +26,7 @@ ReplaysScript x limit turns bytes status text = (events : List GivenEvent) → H
 -- a manager that took these events of a script, none of them the end, and put its replies behind what was known before
 pub record Stands (x : Form) (limit : ℕ) (bytes : List ℕ) (known : Option (List ℕ)) (given : List GivenEvent) (m : ManagerState) (now : Option (List ℕ)) : Type 0 where
   pub answers : List (List (List Reply))
-  pub follows : Follows x limit [] given answers m
+  pub follows : FollowsRun x limit [] given answers m
   pub marks : m.marks ≡ unmarked
   pub tickets : m.machine.ticket ≤ 1 + 4096 * length given
   pub first : (events : List GivenEvent) → HasEvents bytes events → AreFirst events given

@@ -10,7 +10,8 @@ use Rattle.ix_proto.specs.inside.ReplyTexts.{CanBeTold}
 use Rattle.ix_proto.specs.declared.reply.Reply.{Reply}
 use Rattle.ix_proto.specs.declared.reply.Reply.TheVariants as reply
 use Rattle.ix_proto.specs.declared.request.Request.{Request}
-use Rattle.ix_manager.specs.Machine.{MachineState, MachineWatch, Step, Tells, IsAllowed, Polls}
+use Rattle.ix_engine.specs.Allowed.{IsAllowed}
+use Rattle.ix_manager.specs.Machine.{MachineState, MachineWatch, Step, Tells, Polls}
 use Rattle.ix_manager.specs.declared.machine.Answer.{Answer}
 use Rattle.ix_manager.specs.declared.machine.Answer.TheVariants as answer
 
@@ -28,22 +29,22 @@ watch_of watch = record { name = watch.name; action = watch.action; told = watch
 -- of each watch of this name it is noted whether its action is allowed
 abbrev pub IsRefreshed : Core → List ℕ → Type 0
 IsRefreshed core name =
-    Each (λ (watch : PlainWatch). watch.name ≡ name → Tells (IsAllowed core.form core.limit core.state watch.action) watch.now) core.noted
+    Each (λ (watch : PlainWatch). watch.name ≡ name → Tells (IsAllowed core.form core.limit core.state.history watch.action) watch.now) core.noted
 
 -- the replies that tell changes
 abbrev pub change_replies : List (PlainAction × Bool) → List Reply
 change_replies changes = map (λ (change : PlainAction × Bool). reply.Change change.1 change.0) changes
 
 -- the machine's answer to a request: one reply, with its step; or a poll is to be told, of which nothing is told yet
-abbrev pub Answers : Core → Request → Answer → Core → Type 0
-Answers old request (answer.One one) new =
+abbrev pub MachineAnswers : Core → Request → Answer → Core → Type 0
+MachineAnswers old request (answer.One one) new =
     ((plain : PlainRequest) → IsRequest plain → Lends request plain → Step old.form old.limit old.state plain (one ∷ []) new.state)
     × CanBeTold one
-Answers old request (answer.Poll name) new = Lends request (poll name) × (new.state ≡ old.state) × IsRefreshed new name
+MachineAnswers old request (answer.Poll name) new = Lends request (poll name) × (new.state ≡ old.state) × IsRefreshed new name
 
 -- a poll of a name was told
 pub record TellsPoll (old : Core) (name : List ℕ) (new : Core) : Type 0 where
-  pub polls : Polls (IsAllowed old.form old.limit old.state) name old.state.watches
+  pub polls : Polls (IsAllowed old.form old.limit old.state.history) name old.state.watches
       (change_replies (changes_of name old.noted)) new.state.watches
   pub rest : new.state ≡ record old.state { watches = new.state.watches }
   pub form : new.form ≡ old.form

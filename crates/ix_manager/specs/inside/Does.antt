@@ -1,7 +1,7 @@
 -- What a call that answers one request makes of the machine.
 use Rattle.std.specs.Prelude.{◌≡◌, ℕ, ◌+◌, ◌<◌, ◌≤◌, Bool, false, List, [], ◌∷◌, length, Result, Ok, Err}
 use Rattle.ix_words.specs.Each.{Each}
-use Rattle.ix_engine.specs.Engine.{EngineState, IsPermitted}
+use Rattle.ix_engine.specs.inside.Engine.{EngineState, Allows}
 use Rattle.ix_values.specs.PlainAction.{PlainAction}
 use Rattle.ix_watch.specs.inside.Watches.{PlainWatch, is_watched, AreDistinct}
 use Rattle.ix_watch.specs.inside.Added.{Adds}
@@ -38,11 +38,11 @@ PollAnswers old name (answer.Poll told) new = (told ≡ name) × Refreshes old n
 
 -- of each watch of this name it is noted whether its action is permitted
 abbrev pub IsNoted : EngineState → List ℕ → List PlainWatch → Type 0
-IsNoted engine name watches = Each (λ (watch : PlainWatch). watch.name ≡ name → Tells (IsPermitted engine watch.action) watch.now) watches
+IsNoted engine name watches = Each (λ (watch : PlainWatch). watch.name ≡ name → Tells (Allows engine watch.action) watch.now) watches
 
 -- a pair was added to distinct watches, of which whether its action is permitted is told
 pub record AddsTold (engine : EngineState) (name : List ℕ) (a : PlainAction) (old : List PlainWatch) (told : Bool) (new : List PlainWatch) : Type 0 where
-  pub tells : Tells (IsPermitted engine a) told
+  pub tells : Tells (Allows engine a) told
   pub distinct : AreDistinct old
   pub added : Added
   pub adds : Adds old name a told (Ok added) new

@@ -1,14 +1,14 @@
 -- What stands ready for a reservation, and why an action isn't prepared for one.
 use Rattle.std.specs.Prelude.{◌≡◌, ℕ, ◌<◌, ◌≤◌, Option, Some, None, length, []}
 use Rattle.ix_values.specs.PlainAction.{PlainAction}
-use Rattle.ix_expr.specs.Meaning.{IsPartial}
 use Rattle.ix_tree.specs.PlainOf.{plain}
-use Rattle.ix_engine.specs.Engine.{EngineState, Follows, extended, size_after}
+use Rattle.ix_can.specs.TreeOf.{tree_size}
+use Rattle.ix_engine.specs.inside.Engine.{EngineState, Follows, Permits, extended}
 use Rattle.ix_engine.specs.declared.next.Next.{Next}
 use Rattle.ix_lease.specs.declared.Slot.{Slot}
 use Rattle.ix_lease.specs.declared.Slot.TheVariants.{Free, Held}
 use Rattle.ix_proto.specs.declared.reply.Reply.{Reply}
-use Rattle.ix_proto.specs.declared.reply.Reply.TheVariants.{Refused}
+use Rattle.ix_manager.specs.Refusals as refused
 
 -- the prepared action is this one and follows the engine, which has the memory for it
 pub record IsPrepared (engine : EngineState) (action : PlainAction) (next : Next) : Type 0 where
@@ -24,14 +24,14 @@ IsReady engine (Held ticket action deadline) (Some next) = IsPrepared engine act
 
 -- the refusals of an action that isn't prepared
 pub data Refuses (engine : EngineState) (action : PlainAction) : Reply → Type 0 where
-  not_permitted : ¬ IsPartial engine.form [] (extended engine action) → Refuses engine action (Refused 21 0)
-  full : IsPartial engine.form [] (extended engine action) → length engine.history ≡ 1000000
-      → Refuses engine action (Refused 23 0)
-  large : IsPartial engine.form [] (extended engine action) → length engine.history < 1000000
-      → engine.limit < size_after engine (extended engine action)
-      → Refuses engine action (Refused 22 engine.limit)
-  memory : IsPartial engine.form [] (extended engine action) → length engine.history < 1000000
-      → Refuses engine action (Refused 90 0)
+  not_permitted : ¬ Permits engine action → Refuses engine action refused.not_permitted
+  full : Permits engine action → length engine.history ≡ 1000000
+      → Refuses engine action refused.full
+  large : Permits engine action → length engine.history < 1000000
+      → engine.limit < tree_size engine.form (extended engine action)
+      → Refuses engine action (refused.above engine.limit)
+  memory : Permits engine action → length engine.history < 1000000
+      → Refuses engine action refused.no_memory
 
 -- open at the moment, up to this deadline
 abbrev pub IsOpenUpTo : Slot → ℕ → ℕ → Type 0

@@ -1,7 +1,7 @@
 -- What taking one item of a piece makes, and what taking all bytes of an event makes.
 use Rattle.std.specs.Prelude.{◌≡◌, ℕ, Bool, List, [], Option, Some, None, take, set}
 use Rattle.ix_lines.specs.Items.{Item}
-use Rattle.ix_lines.specs.Feeding.{Held, Feeds, completes, holds_after}
+use Rattle.ix_lines.specs.Feeding.{UnfinishedLine, Feeds, completes, holds_after}
 use Rattle.ix_proto.specs.declared.reply.Reply.{Reply}
 use Rattle.ix_manager.specs.declared.answering.Taken.{Taken}
 use Rattle.ix_manager.specs.Runs.{Ending, going, Steps}
@@ -12,21 +12,21 @@ use Rattle.ix_manager.specs.inside.Core.{Core}
 use Rattle.ix_manager.specs.inside.WireState.{WireState, SendsAll, AnswersItem}
 
 -- the first item of a piece is taken and answered
-pub record TakesOne (conn : ℕ) (held : Held) (piece : List ℕ) (taken : Taken) (after_it : Held) (old new : Core) (before after : WireState) : Type 0 where
+pub record TakesOne (conn : ℕ) (held : UnfinishedLine) (piece : List ℕ) (taken : Taken) (after_it : UnfinishedLine) (old new : Core) (before after : WireState) : Type 0 where
   pub item : Item
   pub feeds : Feeds held piece (Some item) taken.used
   pub held_is : after_it ≡ holds_after held (take taken.used piece)
   pub answers : AnswersItem conn item (ending_after taken.go) old new before after
 
 -- the piece is taken to its end, and completes nothing
-pub record TakesNone (held : Held) (piece : List ℕ) (after_it : Held) (old new : Core) (before after : WireState) : Type 0 where
+pub record TakesNone (held : UnfinishedLine) (piece : List ℕ) (after_it : UnfinishedLine) (old new : Core) (before after : WireState) : Type 0 where
   pub completes_none : completes held piece ≡ []
   pub held_is : after_it ≡ holds_after held piece
   pub core : new ≡ old
   pub wire : after ≡ before
 
 -- the first item of a piece is taken, if it completes one
-abbrev pub TakesItem : ℕ → Held → List ℕ → Option Taken → Held → Core → Core → WireState → WireState → Type 0
+abbrev pub TakesItem : ℕ → UnfinishedLine → List ℕ → Option Taken → UnfinishedLine → Core → Core → WireState → WireState → Type 0
 TakesItem conn held piece (Some taken) after_it old new before after = TakesOne conn held piece taken after_it old new before after
 TakesItem conn held piece None after_it old new before after = TakesNone held piece after_it old new before after
 

@@ -4,7 +4,7 @@ use Rattle.ix_values.specs.PlainAction.{PlainAction}
 use Rattle.ix_lines.specs.Items.{Item}
 use Rattle.ix_outside.specs.Contents.{Contents, SendsWhole, SendsPart}
 use Rattle.ix_outside.specs.Counts.{Counts, Rose, OnlySend}
-use Rattle.ix_outside.specs.Held as outside
+use Rattle.ix_outside.specs.Loans.{Loans}
 use Rattle.ix_proto.specs.declared.reply.Reply.{Reply}
 use Rattle.ix_proto.specs.declared.reply.Reply.TheVariants as reply
 use Rattle.ix_proto.specs.Requests.{PlainRequest, IsRequest}
@@ -24,10 +24,10 @@ pub record WireState : Type 0 where
   pub contents : Contents
   pub counts : Counts
   pub attached : Bool
-  pub held : outside.Held
+  pub held : Loans
 
 -- the same, part by part
-abbrev pub wired : Bool → Contents → Counts → Bool → outside.Held → WireState
+abbrev pub wired : Bool → Contents → Counts → Bool → Loans → WireState
 wired gone contents counts attached held =
     record { gone = gone; contents = contents; counts = counts; attached = attached; held = held }
 

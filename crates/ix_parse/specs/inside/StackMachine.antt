@@ -36,18 +36,18 @@ pub record Config : Type 0 where
   pub mode : Mode
 
 -- what is open, with an operand behind it
-pub record Held : Type 0 where
+pub record WithOperand : Type 0 where
   pub stack : List Entry
   pub operand : Meaning
 
-abbrev pub held : List Entry → Meaning → Held
+abbrev pub held : List Entry → Meaning → WithOperand
 held s x = record { stack = s; operand = x }
 
 abbrev pub config : List Entry → Mode → Config
 config s mode = record { stack = s; mode = mode }
 
 -- the operand takes the prefixes in front of it
-abbrev pub closed : List Entry → Meaning → Held
+abbrev pub closed : List Entry → Meaning → WithOperand
 closed [] x = held [] x
 closed (group ∷ s) x = held (group ∷ s) x
 closed (sign at p ∷ s) x = closed s (prefixed p at x)
@@ -55,7 +55,7 @@ closed (binder at q p ∷ s) x = closed s (quantified q at p x)
 closed (left at o y ∷ s) x = held (left at o y ∷ s) x
 
 -- the operand is joined to the left operands of operators that bind at least as tightly as the level
-abbrev pub reduced : ℕ → List Entry → Meaning → Held
+abbrev pub reduced : ℕ → List Entry → Meaning → WithOperand
 reduced k [] x = held [] x
 reduced k (group ∷ s) x = held (group ∷ s) x
 reduced k (sign at p ∷ s) x = held (sign at p ∷ s) x
@@ -63,7 +63,7 @@ reduced k (binder at q p ∷ s) x = held (binder at q p ∷ s) x
 reduced k (left at o y ∷ s) x = if nat_le k (level o) then reduced k s (joined o at y x) else held (left at o y ∷ s) x
 
 -- an operand was read
-abbrev pub with_operand : Held → Config
+abbrev pub with_operand : WithOperand → Config
 with_operand h = config h.stack (operand_read h.operand)
 
 -- a parenthesis closes the group that is inmost
@@ -75,7 +75,7 @@ left_group (binder at q p ∷ s) x = None
 left_group (left at o y ∷ s) x = None
 
 -- an operator, with its left operand
-abbrev pub with_left : ℕ → Operator → Held → Config
+abbrev pub with_left : ℕ → Operator → WithOperand → Config
 with_left at o h = config (left at o h.operand ∷ h.stack) wanted
 
 -- a symbol behind an operand
@@ -153,7 +153,7 @@ abbrev pub step : Config → Symbol → Option Config
 step c t = step_by c.stack c.mode t
 
 -- the operand that was read, with what is open
-abbrev pub settled_by : List Entry → Mode → Option Held
+abbrev pub settled_by : List Entry → Mode → Option WithOperand
 settled_by s wanted = None
 settled_by s (name_read at w) = Some (closed s (named at w []))
 settled_by s (argument_wanted at w args) = None
@@ -161,7 +161,7 @@ settled_by s (argument_read at w args) = None
 settled_by s (quantifier_read at q) = None
 settled_by s (operand_read x) = Some (held s x)
 
-abbrev pub settled : Config → Option Held
+abbrev pub settled : Config → Option WithOperand
 settled c = settled_by c.stack c.mode
 
 -- the operand, where nothing is open
@@ -169,7 +169,7 @@ abbrev pub alone : List Entry → Meaning → Option Meaning
 alone [] x = Some x
 alone (e ∷ s) x = None
 
-abbrev pub joined_all : Option Held → Option Meaning
+abbrev pub joined_all : Option WithOperand → Option Meaning
 joined_all None = None
 joined_all (Some h) = alone (reduced 1 h.stack h.operand).stack (reduced 1 h.stack h.operand).operand
 

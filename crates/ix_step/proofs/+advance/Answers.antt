@@ -7,7 +7,7 @@ use Rattle.ix_tree.specs.inside.PlainLists.{plain_trees, plain_entry, plain_entr
 use Rattle.ix_tree.specs.lemmas.PlainParts.{plain-Opt, plain-Seq, plain-Star, plain-Or, plain-And, plain-Couple, plain-Pair, plain-Par, plain-ParStar, plain-Bag, plain-Any, plain-Every, plain-Sync, plain-All}
 use Rattle.ix_can.specs.inside.May.{may, tree_at}
 use Rattle.ix_can.specs.Tests.{in_alphabet}
-use Rattle.ix_can.specs.inside.Moved.{moved, moved_within, bag_with, picks}
+use Rattle.ix_can.specs.inside.Moved.{moved, moved_inside, bag_with, picks}
 use Rattle.ix_step.specs.inside.Builds.{Builds, Gathers, IsAbove, put_all}
 use Rattle.ix_step.specs.inside.Ready.{Ready}
 use Rattle.ix_step.specs.inside.Initial.{initial_tree}
@@ -286,17 +286,17 @@ advance::advance_couple-advance_inside-right-requires t c =
 
 pub advance::advance_couple-couple_node-requires-clause-left : goal.advance::advance_couple-couple_node-requires-clause-left
 advance::advance_couple-couple_node-requires-clause-left t c =
-    small_built c.args.limit (moved_within (in_alphabet (form_of c.args.y.now) c.args.env.now c.args.action.now) (moved (form_of c.args.y.now) c.args.env.now (plain c.deref.result.now) c.args.action.now) (plain c.deref.result.now)) c.advance_inside-left.result c.requires.ready.bounded c.advance_inside-left.ensures
+    small_built c.args.limit (moved_inside (in_alphabet (form_of c.args.y.now) c.args.env.now c.args.action.now) (moved (form_of c.args.y.now) c.args.env.now (plain c.deref.result.now) c.args.action.now) (plain c.deref.result.now)) c.advance_inside-left.result c.requires.ready.bounded c.advance_inside-left.ensures
 
 pub advance::advance_couple-couple_node-requires-clause-right : goal.advance::advance_couple-couple_node-requires-clause-right
 advance::advance_couple-couple_node-requires-clause-right t c =
-    small_built c.args.limit (moved_within (in_alphabet (form_of c.args.z.now) c.args.env.now c.args.action.now) (moved (form_of c.args.z.now) c.args.env.now (plain c.deref-2.result.now) c.args.action.now) (plain c.deref-2.result.now)) c.advance_inside-right.result c.requires.ready.bounded c.advance_inside-right.ensures
+    small_built c.args.limit (moved_inside (in_alphabet (form_of c.args.z.now) c.args.env.now c.args.action.now) (moved (form_of c.args.z.now) c.args.env.now (plain c.deref-2.result.now) c.args.action.now) (plain c.deref-2.result.now)) c.advance_inside-right.result c.requires.ready.bounded c.advance_inside-right.ensures
 
 pub advance::advance_couple-returns : goal.advance::advance_couple-returns
 advance::advance_couple-returns t c =
     let shape : plain c.args.tree.now ≡ couple_of (plain c.deref.result.now) (plain c.deref-2.result.now) = ap plain c.in-Couple.is ∙ plain-Couple c.in-Couple.left c.in-Couple.right ∙ ap (λ x. couple_of (plain x) (plain c.in-Couple.right.value)) (sym c.deref.ensures) ∙ ap (λ x. couple_of (plain c.deref.result.now) (plain x)) (sym c.deref-2.ensures) in
-    let left = moved_within (in_alphabet (form_of c.args.y.now) c.args.env.now c.args.action.now) (moved (form_of c.args.y.now) c.args.env.now (plain c.deref.result.now) c.args.action.now) (plain c.deref.result.now) in
-    let right = moved_within (in_alphabet (form_of c.args.z.now) c.args.env.now c.args.action.now) (moved (form_of c.args.z.now) c.args.env.now (plain c.deref-2.result.now) c.args.action.now) (plain c.deref-2.result.now) in
+    let left = moved_inside (in_alphabet (form_of c.args.y.now) c.args.env.now c.args.action.now) (moved (form_of c.args.y.now) c.args.env.now (plain c.deref.result.now) c.args.action.now) (plain c.deref.result.now) in
+    let right = moved_inside (in_alphabet (form_of c.args.z.now) c.args.env.now c.args.action.now) (moved (form_of c.args.z.now) c.args.env.now (plain c.deref-2.result.now) c.args.action.now) (plain c.deref-2.result.now) in
     builds_arm c.args.limit (couple (form_of c.args.y.now) (form_of c.args.z.now)) c.args.env.now c.args.action.now (plain c.args.tree.now) (couple_of (plain c.deref.result.now) (plain c.deref-2.result.now)) (couple_of left right) c.couple_node.result shape refl c.requires.may (c.couple_node.ensures left right c.advance_inside-left.ensures c.advance_inside-right.ensures)
 
 pub advance::advance_inside-contains-requires : goal.advance::advance_inside-contains-requires
@@ -311,13 +311,13 @@ advance::advance_inside-copied-requires t c = omega (arith, c.requires.small)
 pub advance::advance_inside-returns-then-contains : goal.advance::advance_inside-returns-then-contains
 advance::advance_inside-returns-then-contains t c =
     let x = form_of c.args.expr.now in
-    subst (λ b. Builds c.args.limit (moved_within b (moved x c.args.env.now (plain c.args.tree.now) c.args.action.now) (plain c.args.tree.now)) c.advance.result)
+    subst (λ b. Builds c.args.limit (moved_inside b (moved x c.args.env.now (plain c.args.tree.now) c.args.action.now) (plain c.args.tree.now)) c.advance.result)
     (sym c.if-contains.true ∙ same_alphabet c.contains.result x c.args.env.now c.args.action.now c.contains.ensures) c.advance.ensures
 
 pub advance::advance_inside-returns-else-contains : goal.advance::advance_inside-returns-else-contains
 advance::advance_inside-returns-else-contains t c =
     let x = form_of c.args.expr.now in
-    subst (λ b. Builds c.args.limit (moved_within b (moved x c.args.env.now (plain c.args.tree.now) c.args.action.now) (plain c.args.tree.now)) c.copied.result)
+    subst (λ b. Builds c.args.limit (moved_inside b (moved x c.args.env.now (plain c.args.tree.now) c.args.action.now) (plain c.args.tree.now)) c.copied.result)
     (sym c.if-contains.false ∙ same_alphabet c.contains.result x c.args.env.now c.args.action.now c.contains.ensures) c.copied.ensures
 
 pub advance::advance_seq-advance-first-requires : goal.advance::advance_seq-advance-first-requires

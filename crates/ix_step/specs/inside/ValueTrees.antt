@@ -15,7 +15,7 @@ use Rattle.ix_tree.specs.declared.tree.Tree.{Tree}
 use Rattle.ix_can.specs.Tests.{in_alphabet}
 use Rattle.ix_can.specs.Laws.{IsProper, ProperEntries}
 use Rattle.ix_can.specs.inside.May.{tree_at}
-use Rattle.ix_can.specs.inside.Moved.{moved, moved_within}
+use Rattle.ix_can.specs.inside.Moved.{moved, moved_inside}
 use Rattle.ix_step.specs.inside.Builds.{IsAbove}
 use Rattle.ix_step.specs.inside.EnterTrees.{entries_put}
 use Rattle.ix_step.specs.declared.fault.BuildFault.{BuildFault}
@@ -32,7 +32,7 @@ pub record ReadyInside (limit : ℕ) (p : List ℕ) (y : Form) (e : Environment)
 -- the moved tree; where only what is inside moves, the tree as it was where the action is outside the alphabet
 abbrev pub moved_part : Bool → Form → Environment → PlainAction → Plain → Plain
 moved_part only_inside y e a t =
-    if only_inside then moved_within (in_alphabet y e a) (moved y e t a) t else moved y e t a
+    if only_inside then moved_inside (in_alphabet y e a) (moved y e t a) t else moved y e t a
 
 -- the common tree after the action
 abbrev pub common_after : Bool → List ℕ → Form → Environment → PlainAction → Plain → Plain

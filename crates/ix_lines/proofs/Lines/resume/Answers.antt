@@ -1,6 +1,6 @@
 use Rattle.std.proofs.Common.{◌≡◌, ◌≤◌, sym, ap, subst, ◌∙◌, arith, take, length}
 use Rattle.std.proofs.lemmas.List.{length-take-le}
-use Rattle.ix_lines.specs.Feeding.{Held, skipping, unfinished}
+use Rattle.ix_lines.specs.Feeding.{UnfinishedLine, skipping, unfinished}
 use Rattle.ix_lines.specs.inside.FeedAnswers.{ResumesAt}
 use Rattle.ix_lines.specs.inside.Buffer.{shown}
 use Rattle.ix_lines.proofs.WindowLemmas.{no_end, skip_shown}
@@ -13,7 +13,7 @@ returns-then-not-self-clause-some c =
     let part = take c.self.inside.open_len c.self.inside.buffer.items in
     let is : unfinished part ≡ c.args.self.now = ap (λ test. shown test part) (sym c.if-not-self.true) ∙ c.self.view_is in
     let fits : length part ≤ 512 = omega (arith, c.self.invariant.fits, length-take-le c.self.inside.open_len c.self.inside.buffer.items c.self.invariant.within) in
-    subst (λ (h : Held). ResumesAt h c.args.piece.now 0 h) is (resumes_open part c.args.piece.now c.self.invariant.plain fits)
+    subst (λ (h : UnfinishedLine). ResumesAt h c.args.piece.now 0 h) is (resumes_open part c.args.piece.now c.self.invariant.plain fits)
 
 -- a line is skipped, and doesn't end
 pub returns-in_err-end-clause-none : goal.returns-in_err-end-clause-none

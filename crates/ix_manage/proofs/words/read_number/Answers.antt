@@ -1,13 +1,13 @@
 use Rattle.std.proofs.Common.{ℕ, List, Result, Ok, sym, ap, ◌≡◌, ◌∙◌, ◌<◌, ◌^◌, decimal, arith}
 use Rattle.std.specs.Str.Parse.{ParsesUnsigned}
 use Rattle.std.proofs.lemmas.Fmt.{parse-decimal}
-use Rattle.ix_manage.specs.Command.{IsNumberText}
+use Rattle.ix_manage.specs.Command.{IsNumberUpTo}
 use Rattle.ix_manage.proofs.NamedWords.{unequal}
 use Rattle.ix_manage.proofs.words.read_number.Goals as goal
 use Rattle.ix_manage.proofs.words.read_number.Goals.{then-number-lt1-via-then-number-lt1, then-number-lt1-via-else-number-lt1+then-number-greatest}
 
 -- what the reader of std gives at the text of a limit
-reads : {E : Type 0} (text : List ℕ) (greatest limit : ℕ) → greatest < 2 ^ 64 → IsNumberText greatest text limit → (r : Result ℕ E) → ParsesUnsigned 64 10 text r → r ≡ Ok limit
+reads : {E : Type 0} (text : List ℕ) (greatest limit : ℕ) → greatest < 2 ^ 64 → IsNumberUpTo greatest text limit → (r : Result ℕ E) → ParsesUnsigned 64 10 text r → r ≡ Ok limit
 reads text greatest limit room h r parses = let fits : limit < 2 ^ 64 = omega (arith, h.most, room) in parse-decimal 64 limit text r fits fits h.same parses
 
 -- the number that it read is the limit

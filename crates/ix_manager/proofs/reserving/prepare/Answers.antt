@@ -33,5 +33,5 @@ returns-in-Err-Memory-clause-refused c =
 
 pub returns-in-Err-clause-refused : goal.returns-in-Err-clause-refused
 returns-in-Err-clause-refused c =
-    let permitted = c.in-Ok.ensures.permitted in
-    subst (λ (r : Reply). Refuses c.args.engine.now c.args.action.now r) (sym c.refused-in-Err.ensures) (memory permitted.partial permitted.room)
+    let allowed = c.in-Ok.ensures.permitted in
+    subst (λ (r : Reply). Refuses c.args.engine.now c.args.action.now r) (sym c.refused-in-Err.ensures) (memory allowed.permitted allowed.room)

@@ -1,6 +1,6 @@
 use Rattle.std.proofs.Common.{◌≡◌, ◌↔◌, List, IsTrue, IfOk, length, sym, subst, ◌∙◌, arith, true≢false}
 use Rattle.ix_values.specs.PlainAction.{PlainAction}
-use Rattle.ix_engine.specs.Engine.{IsPermitted}
+use Rattle.ix_engine.specs.inside.Engine.{Allows}
 use Rattle.ix_manager.specs.Machine.{MachineWatch, HasNoWatch}
 use Rattle.ix_manager.proofs.Refreshing.{some_of, on_err, has_watch, one_noted, one_passed, all_noted}
 use Rattle.ix_manager.proofs.watching.refresh.Goals as goal
@@ -20,8 +20,8 @@ loop-index-preserved c =
     elim c.if-eq.branch [
       | then-eq+in_ok-allowed w ↦
           one_noted c.args.engine.now c.args.name.now c.args.watches.now c.loop-index.watches c.if-eq.watches c.loop-index.index there.0 w.in_ok-allowed.allowed there.1
-          (subst (λ (a : PlainAction). IsTrue w.in_ok-allowed.allowed ↔ IsPermitted c.args.engine.now a) there.2.1
-          (subst (λ r. IfOk r (λ answer. IsTrue answer ↔ IsPermitted c.args.engine.now c.at.result.1.now)) w.in_ok-allowed.was w.permitted.ensures))
+          (subst (λ (a : PlainAction). IsTrue w.in_ok-allowed.allowed ↔ Allows c.args.engine.now a) there.2.1
+          (subst (λ r. IfOk r (λ answer. IsTrue answer ↔ Allows c.args.engine.now c.at.result.1.now)) w.in_ok-allowed.was w.permitted.ensures))
           (w.watches-is ∙ w.note.ensures) c.loop-index.invariant
       | else-eq w ↦
           one_passed c.args.engine.now c.args.name.now c.args.watches.now c.loop-index.watches c.if-eq.watches c.loop-index.index there.0 there.1

@@ -27,4 +27,4 @@ returns c =
     let fs = c.pop.new.self.items in
     left_group-popped (stack_of c.args.stack.items) (meaning_of c.args.operand) c.reduced.new.stack.items fs entries.Group (meaning_of c.in_ok-inner.inner) c.in_ok-inner.ensures
     (c.in-Some-Group.ensures.items ∙ ap (λ e. fs ++ e ∷ []) c.in-Some-Group.field-0-is)
-    ∙ ap (λ (h : machine.Held). Some (machine.with_operand h)) c.in_ok-group-in-Some-Group.ensures
+    ∙ ap (λ (h : machine.WithOperand). Some (machine.with_operand h)) c.in_ok-group-in-Some-Group.ensures

@@ -1,12 +1,12 @@
--- An engine as contracts see it, and what it permits.
-use Rattle.std.specs.Prelude.{◌≡◌, ℕ, ◌<◌, ◌≤◌, false, List, [], ◌∷◌, ◌++◌, length}
+-- An engine as contracts see it, and what follows it.
+use Rattle.std.specs.Prelude.{◌≡◌, ℕ, ◌<◌, ◌≤◌, false, [], ◌∷◌, ◌++◌, length}
 use Rattle.ix_values.specs.PlainAction.{PlainAction, Word}
 use Rattle.ix_expr.specs.Form.{Form}
-use Rattle.ix_expr.specs.Meaning.{IsPartial}
 use Rattle.ix_tree.specs.Plain.{Plain}
 use Rattle.ix_tree.specs.Size.{size_of}
 use Rattle.ix_can.specs.Nodes.{is_dead}
 use Rattle.ix_can.specs.TreeOf.{tree_of}
+use Rattle.ix_engine.specs.Allowed.{IsAllowed, IsPermitted}
 
 -- the expression, the confirmed actions, the most that the Size of their tree may be, and how many more actions have
 -- their memory already
@@ -20,15 +20,13 @@ pub record EngineState : Type 0 where
 abbrev pub extended : EngineState → PlainAction → Word
 extended s a = s.history ++ a ∷ []
 
--- the Size of the tree of a word of the engine's expression
-abbrev pub size_after : EngineState → Word → ℕ
-size_after s w = size_of (tree_of s.form [] w)
+-- the action is permitted after the engine's history
+abbrev pub Permits : EngineState → PlainAction → Type 0
+Permits s a = IsPermitted s.form s.history a
 
--- the extended history is partial, there is room for an action, and the Size is within the limit
-pub record IsPermitted (s : EngineState) (a : PlainAction) : Type 0 where
-  pub partial : IsPartial s.form [] (extended s a)
-  pub room : length s.history < 1000000
-  pub within : size_after s (extended s a) ≤ s.limit
+-- the action is allowed after the engine's history
+abbrev pub Allows : EngineState → PlainAction → Type 0
+Allows s a = IsAllowed s.form s.limit s.history a
 
 -- a prepared action follows the engine: there is room for it, and the tree is that of the history extended by it, live and
 -- within the limit

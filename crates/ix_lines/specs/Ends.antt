@@ -1,7 +1,0 @@
--- Bytes that end no line.
-use Rattle.std.specs.Prelude.{◌≡◌, ℕ, false, List, ◌==◌}
-use Rattle.std.specs.List.{list_any}
-
--- no byte ends a line
-abbrev pub HasNoEnd : List ℕ → Type 0
-HasNoEnd bytes = list_any (λ byte. byte == 10) bytes ≡ false
