@@ -1,6 +1,7 @@
 //! Texts that the language's documents give.
 
 use super::*;
+use ix_values::Value;
 use std::test::Fail;
 
 fn name(bytes: &[u8]) -> Result<Name, Fail> {
@@ -59,6 +60,28 @@ fn groups(rt: HostRuntime) -> Result<(), Fail> {
     assert_eq!(rt;
         printed(alloc, whole)?.as_slice(),
         b"a - (b - c)".as_slice()
+    );
+    Ok(())
+}
+
+/// `(a | b) & ?(c - d) @ #e + every $p sync $q f($p,$q,v)`, with the forms that the others lack.
+#[test]
+fn other_forms(rt: HostRuntime) -> Result<(), Fail> {
+    let alloc = rt.alloc();
+    let left = Expr::Or(atom(alloc, b"a", &[])?, atom(alloc, b"b", &[])?);
+    let steps = sequence(alloc, atom(alloc, b"c", &[])?, atom(alloc, b"d", &[])?)?;
+    let option = boxed(alloc, Expr::Opt(steps))?;
+    let many = boxed(alloc, Expr::ParStar(atom(alloc, b"e", &[])?))?;
+    let (first, second) = (name(b"p")?, name(b"q")?);
+    let value = Value::read(b"v").ok_or("not a value")?;
+    let args = [Arg::Param(first), Arg::Param(second), Arg::Fixed(value)];
+    let shared = boxed(alloc, Expr::Sync(second, atom(alloc, b"f", &args)?))?;
+    let each = boxed(alloc, Expr::Every(first, shared))?;
+    let right = Expr::Couple(option, boxed(alloc, Expr::Par(many, each))?);
+    let whole = Expr::And(boxed(alloc, left)?, boxed(alloc, right)?);
+    assert_eq!(rt;
+        printed(alloc, boxed(alloc, whole)?)?.as_slice(),
+        b"(a | b) & ?(c - d) @ #e + every $p sync $q f($p,$q,v)".as_slice()
     );
     Ok(())
 }
