@@ -90,8 +90,8 @@ impl<T: Ord + Weight + Drop> AltSet<T> {
         self.items
     }
 
-    /// Puts an item of at most 2^32 in weight into its place by the order: true where it is new, false
-    /// where an equal item is there. An `Err` leaves the set as it was; the item is dropped.
+    /// Puts an item of at most 2^32 in weight into its place by the order: true where it is new,
+    /// false where an equal item is there. An `Err` leaves the set as it was; the item is dropped.
     pub fn insert(&mut self, item: T) -> Result<bool, AltFault>
         requires { T.weight item ≤ 2 ^ 32 }
         ensures list { OnOk result (self.new.items ≡ insert_key T.Ord.cmp self.old.items item) }

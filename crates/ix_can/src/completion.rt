@@ -16,7 +16,7 @@ use ix_expr::Expr;
 use ix_tree::{Bag, Map, Pair, Tree};
 use ix_values::Value;
 
-/// Whether the word whose tree this is is complete in the expression.
+/// Whether the word is complete in the expression, where `tree` is the tree of the word.
 pub fn is_final(tree: &Tree, expr: &Expr) -> bool
     ensures by_tree { result ≡ is_final (form_of expr.now) (plain tree.now) }
     ensures tells { (e : Environment) (w : Word) → Fits (form_of expr.now) e → plain tree.now ≡ tree_of (form_of expr.now) e w → IsTrue result ↔ IsComplete (form_of expr.now) e w }
@@ -24,7 +24,6 @@ pub fn is_final(tree: &Tree, expr: &Expr) -> bool
     completes(expr, tree)
 }
 
-/// What `is_final` answers.
 #[cycle(completes)]
 fn completes(expr: &Expr, tree: &Tree) -> bool
     ensures { result ≡ is_final (form_of expr.now) (plain tree.now) }
@@ -46,14 +45,13 @@ fn completes(expr: &Expr, tree: &Tree) -> bool
     }
 }
 
-/// `is_final` of an atom: its one action has happened.
 fn is_done(tree: &Tree) -> bool
     ensures { (x : PlainAtom) → result ≡ is_final (atom x) (plain tree.now) }
 {
     matches!(tree, Tree::Done)
 }
 
-/// `is_final` of a sequential iteration: the word is a concatenation of complete words.
+/// The flag says whether the word is a concatenation of complete words.
 fn completes_star(tree: &Tree) -> bool
     ensures { (y : Form) → result ≡ is_final (star y) (plain tree.now) }
 {
@@ -63,7 +61,7 @@ fn completes_star(tree: &Tree) -> bool
     }
 }
 
-/// `is_final` of an option: nothing has happened, or what has is complete.
+/// The flag says whether the word is empty, which is complete too.
 #[cycle(completes)]
 fn completes_opt(y: &Expr, tree: &Tree) -> bool
     ensures { result ≡ is_final (opt (form_of y.now)) (plain tree.now) }
@@ -74,7 +72,6 @@ fn completes_opt(y: &Expr, tree: &Tree) -> bool
     }
 }
 
-/// `is_final` of a sequence: some alternative for the second part is final.
 #[cycle(completes)]
 fn completes_seq(y: &Expr, z: &Expr, tree: &Tree) -> bool
     ensures { result ≡ is_final (seq (form_of y.now) (form_of z.now)) (plain tree.now) }
@@ -85,7 +82,6 @@ fn completes_seq(y: &Expr, z: &Expr, tree: &Tree) -> bool
     }
 }
 
-/// `is_final` of two sides in parallel: both trees of some pair are final.
 #[cycle(completes)]
 fn completes_par(y: &Expr, z: &Expr, tree: &Tree) -> bool
     ensures { result ≡ is_final (par (form_of y.now) (form_of z.now)) (plain tree.now) }
@@ -96,7 +92,6 @@ fn completes_par(y: &Expr, z: &Expr, tree: &Tree) -> bool
     }
 }
 
-/// `is_final` of a parallel iteration: all trees of some bag are final.
 #[cycle(completes)]
 fn completes_par_star(y: &Expr, tree: &Tree) -> bool
     ensures { result ≡ is_final (par_star (form_of y.now)) (plain tree.now) }
@@ -107,7 +102,6 @@ fn completes_par_star(y: &Expr, tree: &Tree) -> bool
     }
 }
 
-/// `is_final` of a disjunction: one side's tree is final.
 #[cycle(completes)]
 fn completes_or(y: &Expr, z: &Expr, tree: &Tree) -> bool
     ensures { result ≡ is_final (or (form_of y.now) (form_of z.now)) (plain tree.now) }
@@ -118,7 +112,6 @@ fn completes_or(y: &Expr, z: &Expr, tree: &Tree) -> bool
     }
 }
 
-/// `is_final` of a conjunction: both sides' trees are final.
 #[cycle(completes)]
 fn completes_and(y: &Expr, z: &Expr, tree: &Tree) -> bool
     ensures { result ≡ is_final (and (form_of y.now) (form_of z.now)) (plain tree.now) }
@@ -129,7 +122,6 @@ fn completes_and(y: &Expr, z: &Expr, tree: &Tree) -> bool
     }
 }
 
-/// `is_final` of a coupling: both sides' trees are final.
 #[cycle(completes)]
 fn completes_couple(y: &Expr, z: &Expr, tree: &Tree) -> bool
     ensures { result ≡ is_final (couple (form_of y.now) (form_of z.now)) (plain tree.now) }
@@ -140,7 +132,6 @@ fn completes_couple(y: &Expr, z: &Expr, tree: &Tree) -> bool
     }
 }
 
-/// `is_final` for some value: the common tree or some entry's is final.
 #[cycle(completes)]
 fn completes_any(y: &Expr, tree: &Tree) -> bool
     ensures { (p : List ℕ) → result ≡ is_final (any p (form_of y.now)) (plain tree.now) }
@@ -151,7 +142,6 @@ fn completes_any(y: &Expr, tree: &Tree) -> bool
     }
 }
 
-/// `is_final` for every value: the common tree and each entry's are final.
 #[cycle(completes)]
 fn completes_every(y: &Expr, tree: &Tree) -> bool
     ensures { (p : List ℕ) → result ≡ is_final (every p (form_of y.now)) (plain tree.now) }
@@ -162,7 +152,6 @@ fn completes_every(y: &Expr, tree: &Tree) -> bool
     }
 }
 
-/// `is_final` for every value on its own alphabet: the common tree and each entry's are final.
 #[cycle(completes)]
 fn completes_sync(y: &Expr, tree: &Tree) -> bool
     ensures { (p : List ℕ) → result ≡ is_final (sync p (form_of y.now)) (plain tree.now) }
@@ -173,8 +162,7 @@ fn completes_sync(y: &Expr, tree: &Tree) -> bool
     }
 }
 
-/// `is_final` for all values side by side: the values that didn't begin accept the empty word, and in some map each
-/// tree is final.
+/// The values that didn't begin have to accept the empty word, and in some map each tree is final.
 #[cycle(completes)]
 fn completes_all(y: &Expr, tree: &Tree) -> bool
     ensures { (p : List ℕ) → result ≡ is_final (all p (form_of y.now)) (plain tree.now) }
@@ -185,7 +173,6 @@ fn completes_all(y: &Expr, tree: &Tree) -> bool
     }
 }
 
-/// Whether some tree of the list is final.
 #[cycle(completes)]
 fn some_completes(y: &Expr, items: &[Tree]) -> bool
     ensures { result ≡ list_any (λ x. is_final (form_of y.now) (plain x)) items.now }
@@ -198,7 +185,6 @@ fn some_completes(y: &Expr, items: &[Tree]) -> bool
     false
 }
 
-/// Whether each tree of the list is final.
 #[cycle(completes)]
 fn each_completes(y: &Expr, items: &[Tree]) -> bool
     ensures { result ≡ list_all (λ x. is_final (form_of y.now) (plain x)) items.now }
@@ -211,7 +197,6 @@ fn each_completes(y: &Expr, items: &[Tree]) -> bool
     true
 }
 
-/// Whether both trees of the pair are final.
 #[cycle(completes)]
 fn pair_completes(y: &Expr, z: &Expr, pair: &Pair) -> bool
     ensures { result ≡ (is_final (form_of y.now) (plain pair.now.first) && is_final (form_of z.now) (plain pair.now.second)) }
@@ -219,7 +204,6 @@ fn pair_completes(y: &Expr, z: &Expr, pair: &Pair) -> bool
     completes(y, &pair.first) && completes(z, &pair.second)
 }
 
-/// Whether both trees of some pair are final.
 #[cycle(completes)]
 fn some_pair_completes(y: &Expr, z: &Expr, pairs: &[Pair]) -> bool
     ensures { result ≡ list_any (λ p. is_final (form_of y.now) (plain p.first) && is_final (form_of z.now) (plain p.second)) pairs.now }
@@ -232,7 +216,6 @@ fn some_pair_completes(y: &Expr, z: &Expr, pairs: &[Pair]) -> bool
     false
 }
 
-/// Whether all trees of some bag are final.
 #[cycle(completes)]
 fn some_bag_completes(y: &Expr, bags: &[Bag]) -> bool
     ensures { result ≡ list_any (λ b. list_all (λ x. is_final (form_of y.now) (plain x)) b.items.items) bags.now }
@@ -245,7 +228,6 @@ fn some_bag_completes(y: &Expr, bags: &[Bag]) -> bool
     false
 }
 
-/// Whether some entry's tree is final.
 #[cycle(completes)]
 fn some_entry_completes(y: &Expr, entries: &[(Value, Tree)]) -> bool
     ensures { result ≡ list_any (λ x. is_final (form_of y.now) (plain x.1)) entries.now }
@@ -258,7 +240,6 @@ fn some_entry_completes(y: &Expr, entries: &[(Value, Tree)]) -> bool
     false
 }
 
-/// Whether each entry's tree is final.
 #[cycle(completes)]
 fn each_entry_completes(y: &Expr, entries: &[(Value, Tree)]) -> bool
     ensures { result ≡ list_all (λ x. is_final (form_of y.now) (plain x.1)) entries.now }
@@ -271,7 +252,6 @@ fn each_entry_completes(y: &Expr, entries: &[(Value, Tree)]) -> bool
     true
 }
 
-/// Whether in some map each tree is final.
 #[cycle(completes)]
 fn some_map_completes(y: &Expr, maps: &[Map]) -> bool
     ensures { result ≡ list_any (λ m. list_all (λ x. is_final (form_of y.now) (plain x.1)) m.entries.items) maps.now }

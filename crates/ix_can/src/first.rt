@@ -25,7 +25,6 @@ pub fn can_first(expr: &Expr, env: &Env, action: &Action) -> bool
     begins(expr, env, action)
 }
 
-/// What `can_first` answers.
 #[cycle(begins)]
 pub(crate) fn begins(expr: &Expr, env: &Env, action: &Action) -> bool
     requires { Fits (form_of expr.now) env.now }
@@ -46,7 +45,7 @@ pub(crate) fn begins(expr: &Expr, env: &Env, action: &Action) -> bool
     }
 }
 
-/// `can_first` of a sequence: its first part begins, or that may be empty and the second begins.
+/// Where the first part may be empty, the second may begin.
 #[cycle(begins)]
 fn begins_seq(y: &Expr, z: &Expr, env: &Env, action: &Action) -> bool
     requires first { Fits (form_of y.now) env.now }
@@ -56,7 +55,6 @@ fn begins_seq(y: &Expr, z: &Expr, env: &Env, action: &Action) -> bool
     begins(y, env, action) || (accepts_empty(y) && begins(z, env, action))
 }
 
-/// Whether one of the two may begin with the action.
 #[cycle(begins)]
 fn begins_either(y: &Expr, z: &Expr, env: &Env, action: &Action) -> bool
     requires first { Fits (form_of y.now) env.now }
@@ -66,7 +64,6 @@ fn begins_either(y: &Expr, z: &Expr, env: &Env, action: &Action) -> bool
     begins(y, env, action) || begins(z, env, action)
 }
 
-/// Whether both may begin with the action.
 #[cycle(begins)]
 fn begins_both(y: &Expr, z: &Expr, env: &Env, action: &Action) -> bool
     requires first { Fits (form_of y.now) env.now }
@@ -76,7 +73,7 @@ fn begins_both(y: &Expr, z: &Expr, env: &Env, action: &Action) -> bool
     begins(y, env, action) && begins(z, env, action)
 }
 
-/// Whether each of the two that has the action in its alphabet may begin with it, where one has.
+/// Some side has the action in its alphabet. The answer is whether each such side begins with it.
 #[cycle(begins)]
 fn begins_couple(y: &Expr, z: &Expr, env: &Env, action: &Action) -> bool
     requires first { Fits (form_of y.now) env.now }
@@ -87,7 +84,7 @@ fn begins_couple(y: &Expr, z: &Expr, env: &Env, action: &Action) -> bool
     begins_or_stays(true, y, env, action) && begins_or_stays(true, z, env, action)
 }
 
-/// Whether the expression may begin with the action or, where standing still counts, hasn't it in its alphabet.
+/// With `stays`, an action outside the alphabet is taken too: the expression stands still.
 #[cycle(begins)]
 fn begins_or_stays(stays: bool, y: &Expr, env: &Env, action: &Action) -> bool
     requires { Fits (form_of y.now) env.now }
@@ -100,7 +97,7 @@ fn begins_or_stays(stays: bool, y: &Expr, env: &Env, action: &Action) -> bool
     }
 }
 
-/// `begins_or_stays` with the parameter given the value, or outside.
+/// A value of None is outside.
 #[cycle(begins)]
 fn begins_at(
     stays: bool,
@@ -116,7 +113,7 @@ fn begins_at(
     begins_or_stays(stays, y, &env.with(*p, value), action)
 }
 
-/// Whether the body may begin with the action for outside or for one of the action's values.
+/// Outside stands for every value that isn't one of the action's.
 #[cycle(begins)]
 fn begins_for_some(p: &Name, y: &Expr, env: &Env, action: &Action) -> bool
     requires { FitsInside p.now (form_of y.now) env.now }
@@ -125,7 +122,6 @@ fn begins_for_some(p: &Name, y: &Expr, env: &Env, action: &Action) -> bool
     begins_at(false, p, y, None, env, action) || some_value_begins(p, y, env, action)
 }
 
-/// Whether the body begins or stays for outside and for each of the action's values.
 #[cycle(begins)]
 fn begins_for_each(stays: bool, p: &Name, y: &Expr, env: &Env, action: &Action) -> bool
     requires { FitsInside p.now (form_of y.now) env.now }
@@ -134,7 +130,6 @@ fn begins_for_each(stays: bool, p: &Name, y: &Expr, env: &Env, action: &Action) 
     begins_at(stays, p, y, None, env, action) && each_value_begins(stays, p, y, env, action)
 }
 
-/// Whether the body may begin with the action for one of the action's values.
 #[cycle(begins)]
 fn some_value_begins(p: &Name, y: &Expr, env: &Env, action: &Action) -> bool
     requires { FitsInside p.now (form_of y.now) env.now }
@@ -148,7 +143,6 @@ fn some_value_begins(p: &Name, y: &Expr, env: &Env, action: &Action) -> bool
     false
 }
 
-/// Whether the body begins or stays for each of the action's values.
 #[cycle(begins)]
 fn each_value_begins(stays: bool, p: &Name, y: &Expr, env: &Env, action: &Action) -> bool
     requires { FitsInside p.now (form_of y.now) env.now }

@@ -7,8 +7,8 @@ pub fn match_tests_decide()
     ensures { MatchTestsDecide }
 {}
 
-/// The test of the alphabet is true exactly where the action is in the alphabet, whatever the expression and the
-/// environment.
+/// The test of the alphabet is true exactly where the action is in the alphabet, whatever the
+/// expression and the environment.
 pub fn alphabet_tests_decide()
     ensures { AlphabetTestsDecide }
 {}
@@ -23,8 +23,8 @@ pub fn fitting_expressions_name()
     ensures { FittingExpressionsName }
 {}
 
-/// Of an expression that fits its environment, the tree of every word is dead exactly where the word isn't partial, and
-/// final exactly where the word is complete.
+/// Of an expression that fits its environment, the tree of every word is dead exactly where the
+/// word isn't partial, and final exactly where the word is complete.
 pub fn trees_tell()
     ensures { TreesTell }
 {}
@@ -39,8 +39,9 @@ pub fn empty_words_have_one_tree()
     ensures { EmptyWordsHaveOneTree }
 {}
 
-/// In the tree of a word all lists of alternatives ascend strictly, entries ascend strictly by their values, bags rise,
-/// and no entry has the common tree or, in a map, the tree of the empty word.
+/// In the tree of a word all lists of alternatives ascend strictly, entries ascend
+/// strictly by their values, bags rise, and no entry has the common tree or, in a map, the
+/// tree of the empty word.
 pub fn trees_are_proper()
     ensures { TreesAreProper }
 {}

@@ -24,7 +24,7 @@ use ix_expr::{Atom, Env, Expr};
 use ix_tree::{Bag, Map, Pair, Tree};
 use ix_values::{Action, Name, Value};
 
-/// Whether the word whose tree this is, extended by the action, is partial.
+/// Whether the word extended by the action is partial, where `tree` is the tree of the word.
 pub fn can(tree: &Tree, expr: &Expr, env: &Env, action: &Action) -> bool
     requires fits { Fits (form_of expr.now) env.now }
     requires proper { IsProper (form_of expr.now) (plain tree.now) }
@@ -34,7 +34,6 @@ pub fn can(tree: &Tree, expr: &Expr, env: &Env, action: &Action) -> bool
     goes_on(expr, env, tree, action)
 }
 
-/// What `can` answers.
 #[cycle(goes_on)]
 fn goes_on(expr: &Expr, env: &Env, tree: &Tree, action: &Action) -> bool
     requires { CanAsk (form_of expr.now) env.now (plain tree.now) }
@@ -58,7 +57,6 @@ fn goes_on(expr: &Expr, env: &Env, tree: &Tree, action: &Action) -> bool
     }
 }
 
-/// `can` of an atom: nothing has happened, and the action matches.
 fn goes_on_atom(atom: &Atom, env: &Env, tree: &Tree, action: &Action) -> bool
     ensures { result ≡ may (forms.atom atom.now) env.now (plain tree.now) action.now }
 {
@@ -68,7 +66,6 @@ fn goes_on_atom(atom: &Atom, env: &Env, tree: &Tree, action: &Action) -> bool
     }
 }
 
-/// Whether an iteration that may begin again begins with the action.
 fn begins_again(again: bool, y: &Expr, env: &Env, action: &Action) -> bool
     requires { Fits (form_of y.now) env.now }
     ensures { result ≡ (again && may_first (form_of y.now) env.now action.now) }
@@ -76,7 +73,6 @@ fn begins_again(again: bool, y: &Expr, env: &Env, action: &Action) -> bool
     again && begins(y, env, action)
 }
 
-/// `can` of an option: its operand goes on.
 #[cycle(goes_on)]
 fn goes_on_opt(y: &Expr, env: &Env, tree: &Tree, action: &Action) -> bool
     requires { CanAsk (opt (form_of y.now)) env.now (plain tree.now) }
@@ -88,7 +84,6 @@ fn goes_on_opt(y: &Expr, env: &Env, tree: &Tree, action: &Action) -> bool
     }
 }
 
-/// `can` of a sequence: the first part goes on, or some alternative for the second.
 #[cycle(goes_on)]
 fn goes_on_seq(y: &Expr, z: &Expr, env: &Env, tree: &Tree, action: &Action) -> bool
     requires { CanAsk (seq (form_of y.now) (form_of z.now)) env.now (plain tree.now) }
@@ -100,7 +95,6 @@ fn goes_on_seq(y: &Expr, z: &Expr, env: &Env, tree: &Tree, action: &Action) -> b
     }
 }
 
-/// `can` of a sequential iteration: it begins again, or some alternative for the last part goes on.
 #[cycle(goes_on)]
 fn goes_on_star(y: &Expr, env: &Env, tree: &Tree, action: &Action) -> bool
     requires { CanAsk (star (form_of y.now)) env.now (plain tree.now) }
@@ -114,7 +108,6 @@ fn goes_on_star(y: &Expr, env: &Env, tree: &Tree, action: &Action) -> bool
     }
 }
 
-/// `can` of two sides in parallel: of some pair one side goes on.
 #[cycle(goes_on)]
 fn goes_on_par(y: &Expr, z: &Expr, env: &Env, tree: &Tree, action: &Action) -> bool
     requires { CanAsk (par (form_of y.now) (form_of z.now)) env.now (plain tree.now) }
@@ -126,7 +119,6 @@ fn goes_on_par(y: &Expr, z: &Expr, env: &Env, tree: &Tree, action: &Action) -> b
     }
 }
 
-/// `can` of a parallel iteration: a run begins, or one of some bag goes on.
 #[cycle(goes_on)]
 fn goes_on_par_star(y: &Expr, env: &Env, tree: &Tree, action: &Action) -> bool
     requires { CanAsk (par_star (form_of y.now)) env.now (plain tree.now) }
@@ -138,7 +130,6 @@ fn goes_on_par_star(y: &Expr, env: &Env, tree: &Tree, action: &Action) -> bool
     }
 }
 
-/// `can` of a disjunction: one side goes on.
 #[cycle(goes_on)]
 fn goes_on_or(y: &Expr, z: &Expr, env: &Env, tree: &Tree, action: &Action) -> bool
     requires { CanAsk (or (form_of y.now) (form_of z.now)) env.now (plain tree.now) }
@@ -150,7 +141,6 @@ fn goes_on_or(y: &Expr, z: &Expr, env: &Env, tree: &Tree, action: &Action) -> bo
     }
 }
 
-/// `can` of a conjunction: both sides go on.
 #[cycle(goes_on)]
 fn goes_on_and(y: &Expr, z: &Expr, env: &Env, tree: &Tree, action: &Action) -> bool
     requires { CanAsk (and (form_of y.now) (form_of z.now)) env.now (plain tree.now) }
@@ -162,7 +152,7 @@ fn goes_on_and(y: &Expr, z: &Expr, env: &Env, tree: &Tree, action: &Action) -> b
     }
 }
 
-/// `can` of a coupling, where one side has the action: each side that has it goes on.
+/// Some side has the action in its alphabet. The answer is whether each such side goes on with it.
 #[cycle(goes_on)]
 fn goes_on_couple(y: &Expr, z: &Expr, env: &Env, tree: &Tree, action: &Action) -> bool
     requires asked { CanAsk (couple (form_of y.now) (form_of z.now)) env.now (plain tree.now) }
@@ -177,7 +167,6 @@ fn goes_on_couple(y: &Expr, z: &Expr, env: &Env, tree: &Tree, action: &Action) -
     }
 }
 
-/// `can` for some value: the common tree, some entry's or that of a value of the action goes on.
 #[cycle(goes_on)]
 fn goes_on_any(p: &Name, y: &Expr, env: &Env, tree: &Tree, action: &Action) -> bool
     requires { CanAsk (any p.now (form_of y.now)) env.now (plain tree.now) }
@@ -193,7 +182,6 @@ fn goes_on_any(p: &Name, y: &Expr, env: &Env, tree: &Tree, action: &Action) -> b
     }
 }
 
-/// `can` for every value: the tree of each goes on.
 #[cycle(goes_on)]
 fn goes_on_every(p: &Name, y: &Expr, env: &Env, tree: &Tree, action: &Action) -> bool
     requires { CanAsk (every p.now (form_of y.now)) env.now (plain tree.now) }
@@ -205,7 +193,8 @@ fn goes_on_every(p: &Name, y: &Expr, env: &Env, tree: &Tree, action: &Action) ->
     }
 }
 
-/// `can` for every value on its own alphabet, where one has the action: the tree of each that has it goes on.
+/// Some value has the action in its alphabet. The answer is whether each such
+/// value goes on with it.
 #[cycle(goes_on)]
 fn goes_on_sync(p: &Name, y: &Expr, env: &Env, tree: &Tree, action: &Action) -> bool
     requires asked { CanAsk (sync p.now (form_of y.now)) env.now (plain tree.now) }
@@ -218,7 +207,7 @@ fn goes_on_sync(p: &Name, y: &Expr, env: &Env, tree: &Tree, action: &Action) -> 
     }
 }
 
-/// `can` for all values side by side: in some map one of the action's own values goes on.
+/// In some map one of the action's own values goes on: no other value takes part.
 #[cycle(goes_on)]
 fn goes_on_all(p: &Name, y: &Expr, env: &Env, tree: &Tree, action: &Action) -> bool
     requires { CanAsk (all p.now (form_of y.now)) env.now (plain tree.now) }
@@ -230,7 +219,6 @@ fn goes_on_all(p: &Name, y: &Expr, env: &Env, tree: &Tree, action: &Action) -> b
     }
 }
 
-/// Whether some tree of the list goes on.
 #[cycle(goes_on)]
 fn some_goes_on(y: &Expr, env: &Env, items: &[Tree], action: &Action) -> bool
     requires { CanAskEach (form_of y.now) env.now items.now }
@@ -244,7 +232,6 @@ fn some_goes_on(y: &Expr, env: &Env, items: &[Tree], action: &Action) -> bool
     false
 }
 
-/// Whether of some pair one side goes on.
 #[cycle(goes_on)]
 fn some_pair_goes_on(y: &Expr, z: &Expr, env: &Env, pairs: &[Pair], action: &Action) -> bool
     requires { CanAskPairs (form_of y.now) (form_of z.now) env.now pairs.now }
@@ -258,7 +245,6 @@ fn some_pair_goes_on(y: &Expr, z: &Expr, env: &Env, pairs: &[Pair], action: &Act
     false
 }
 
-/// Whether one side of the pair goes on.
 #[cycle(goes_on)]
 fn pair_goes_on(y: &Expr, z: &Expr, env: &Env, pair: &Pair, action: &Action) -> bool
     requires first { CanAsk (form_of y.now) env.now (plain pair.now.first) }
@@ -268,7 +254,6 @@ fn pair_goes_on(y: &Expr, z: &Expr, env: &Env, pair: &Pair, action: &Action) -> 
     goes_on(y, env, &pair.first, action) || goes_on(z, env, &pair.second, action)
 }
 
-/// Whether a run begins beside some bag, or one in it goes on.
 #[cycle(goes_on)]
 fn some_bag_goes_on(y: &Expr, env: &Env, bags: &[Bag], action: &Action) -> bool
     requires { CanAskBags (form_of y.now) env.now bags.now }
@@ -282,7 +267,6 @@ fn some_bag_goes_on(y: &Expr, env: &Env, bags: &[Bag], action: &Action) -> bool
     false
 }
 
-/// Whether a run begins beside the bag, or one in it goes on.
 #[cycle(goes_on)]
 fn bag_goes_on(y: &Expr, env: &Env, bag: &Bag, action: &Action) -> bool
     requires { CanAskEach (form_of y.now) env.now bag.now.items.items }
@@ -291,7 +275,7 @@ fn bag_goes_on(y: &Expr, env: &Env, bag: &Bag, action: &Action) -> bool
     begins(y, env, action) || some_goes_on(y, env, &bag.items, action)
 }
 
-/// Whether the tree goes on or, where standing still counts, the action is outside the alphabet.
+/// With `stays`, an action outside the alphabet is taken too: the tree stands still.
 #[cycle(goes_on)]
 fn goes_on_or_stays(stays: bool, y: &Expr, env: &Env, tree: &Tree, action: &Action) -> bool
     requires { CanAsk (form_of y.now) env.now (plain tree.now) }
@@ -304,7 +288,7 @@ fn goes_on_or_stays(stays: bool, y: &Expr, env: &Env, tree: &Tree, action: &Acti
     }
 }
 
-/// `goes_on_or_stays` with the parameter given the value, or outside.
+/// A value of None is outside.
 #[cycle(goes_on)]
 fn goes_on_at(
     stays: bool,
@@ -321,7 +305,6 @@ fn goes_on_at(
     goes_on_or_stays(stays, y, &env.with(*p, value), tree, action)
 }
 
-/// Whether the tree of some entry goes on.
 #[cycle(goes_on)]
 fn some_entry_goes_on(
     p: &Name,
@@ -341,7 +324,6 @@ fn some_entry_goes_on(
     false
 }
 
-/// Whether the tree of each entry goes on or stays.
 #[cycle(goes_on)]
 fn each_entry_goes_on(
     stays: bool,
@@ -362,7 +344,6 @@ fn each_entry_goes_on(
     true
 }
 
-/// Whether the tree of one of the action's values goes on.
 #[cycle(goes_on)]
 fn some_value_goes_on(
     p: &Name,
@@ -384,7 +365,6 @@ fn some_value_goes_on(
     false
 }
 
-/// Whether the tree of each of the action's values goes on or stays.
 #[cycle(goes_on)]
 fn each_value_goes_on(
     stays: bool,
@@ -407,7 +387,7 @@ fn each_value_goes_on(
     true
 }
 
-/// Whether the tree of the value, which is its entry's or the common one, goes on or stays.
+/// A value that has no entry is at the common tree.
 #[cycle(goes_on)]
 fn value_goes_on(
     stays: bool,
@@ -434,7 +414,6 @@ fn value_goes_on(
     )
 }
 
-/// Whether the common tree, each entry's and that of each of the action's values go on or stay.
 #[cycle(goes_on)]
 fn each_goes_on(
     stays: bool,
@@ -456,7 +435,6 @@ fn each_goes_on(
             && each_value_goes_on(stays, p, y, env, common, entries, action))
 }
 
-/// Whether in some map one of the action's own values goes on.
 #[cycle(goes_on)]
 fn some_map_goes_on(p: &Name, y: &Expr, env: &Env, maps: &[Map], action: &Action) -> bool
     requires { CanAskMaps p.now (form_of y.now) env.now maps.now }
@@ -470,7 +448,6 @@ fn some_map_goes_on(p: &Name, y: &Expr, env: &Env, maps: &[Map], action: &Action
     false
 }
 
-/// Whether in the map one of the action's own values goes on.
 #[cycle(goes_on)]
 fn some_owner_goes_on(
     p: &Name,
@@ -490,7 +467,7 @@ fn some_owner_goes_on(
     false
 }
 
-/// Whether the value goes on in the map, or begins where the map has no entry for it.
+/// A value that has no entry in the map begins.
 #[cycle(goes_on)]
 fn owner_goes_on(
     p: &Name,

@@ -1,12 +1,11 @@
 //! The engine.
 
 ghost use Rattle.std.specs.Prelude.{◌≡◌, ◌<◌, ◌≤◌, ◌↔◌, ℕ, [], ◌∷◌, ◌++◌, length, IsTrue, IfOk, OnOk};
-ghost use Rattle.ix_expr.specs.Meaning.{IsComplete, IsPartial};
+ghost use Rattle.ix_expr.specs.Meaning.{IsComplete};
 ghost use Rattle.ix_tree.specs.PlainOf.{plain};
 ghost use Rattle.ix_tree.specs.Size.{size_of};
-ghost use Rattle.ix_can.specs.TreeOf.{tree_of};
-ghost use Rattle.ix_can.specs.TreeOf.{tree_size};
-ghost use Rattle.ix_engine.specs.inside.Engine.{Allows, Follows, extended};
+ghost use Rattle.ix_can.specs.TreeOf.{tree_of, tree_size};
+ghost use Rattle.ix_engine.specs.inside.Engine.{Allows, Permits, Follows, extended};
 
 use crate::{Next, PrepareFault};
 use ix_can::{can, is_final};
@@ -18,9 +17,10 @@ use std::alloc::{AllocError, Global};
 use std::marker::Model;
 
 /// The most actions of a history.
-pub const MOST_ACTIONS: usize = 1_000_000;
+pub(crate) const MOST_ACTIONS: usize = 1_000_000;
 
-/// The confirmed actions of an expression, and the state tree of this history, which is always there.
+/// The confirmed actions of an expression, and the state tree of this history,
+/// which is always there.
 #[derive(Drop)]
 pub struct Engine {
     expression: Expression,
@@ -59,17 +59,18 @@ impl Model for Engine {
 }
 
 impl Engine {
-    /// The engine of an expression with an empty history. The limit, 1 to 1,000,000, is the most that the Size of its
-    /// tree may be; `Over` comes exactly where the tree of the empty word is above it. A refused expression is dropped.
+    /// The engine of an expression with an empty history. The limit, 1 to 1,000,000, is the most
+    /// that the Size of its tree may be; `Over` comes exactly where the tree of the empty word is
+    /// above it. A refused expression is dropped.
     pub fn new(alloc: Global, expression: Expression, limit: usize) -> Result<Engine, BuildFault>
         requires least { 1 ≤ limit }
         requires most { limit ≤ 1000000 }
         ensures form { IfOk result (λ s. s.form ≡ expression) }
         ensures history { IfOk result (λ s. s.history ≡ []) }
         ensures limit { IfOk result (λ s. s.limit ≡ limit) }
-        ensures within { OnOk result (size_of (tree_of expression [] []) ≤ limit) }
+        ensures within { OnOk result (tree_size expression [] ≤ limit) }
         ensures over { (l : ℕ) → result ≡ Err (BuildFault.Over l)
-            → (l ≡ limit) × (limit < size_of (tree_of expression [] [])) }
+            → (l ≡ limit) × (limit < tree_size expression []) }
     {
         match initial(alloc, expression.expr(), limit) {
             Ok(tree) => Ok(Engine {
@@ -84,7 +85,7 @@ impl Engine {
 
     /// Whether the history extended by the action is a partial word.
     pub fn may(&self, action: &Action) -> bool
-        ensures { IsTrue result ↔ IsPartial self.now.form [] (extended self.now action.now) }
+        ensures { IsTrue result ↔ Permits self.now action.now }
     {
         can(&self.tree, self.expression.expr(), &Env::new(), action)
     }
@@ -119,20 +120,21 @@ impl Engine {
         self.limit
     }
 
-    /// The action with the tree of the extended history; it follows this engine. The refusals in their order:
-    /// `NotPartial` exactly where the action may not come next, `Full` exactly where the history has 1,000,000
-    /// actions, `Over` exactly where the Size of the extended history's tree is above the limit, and want of memory.
+    /// The action with the tree of the extended history; it follows this engine. The refusals in
+    /// their order: `NotPartial` exactly where the action may not come next, `Full` exactly where
+    /// the history has 1,000,000 actions, `Over` exactly where the Size of the extended history's
+    /// tree is above the limit, and want of memory.
     pub fn prepare(&self, alloc: Global, action: &Action) -> Result<Next, PrepareFault>
         ensures follows { IfOk result (λ next. Follows self.now next.action (plain next.tree)) }
         ensures action { IfOk result (λ next. next.action ≡ action.now) }
         ensures permitted { OnOk result (Allows self.now action.now) }
         ensures not_partial { (result ≡ Err PrepareFault.NotPartial)
-            ↔ ¬ IsPartial self.now.form [] (extended self.now action.now) }
+            ↔ ¬ Permits self.now action.now }
         ensures full { (result ≡ Err PrepareFault.Full)
-            ↔ (IsPartial self.now.form [] (extended self.now action.now) × (length self.now.history ≡ 1000000)) }
+            ↔ (Permits self.now action.now × (length self.now.history ≡ 1000000)) }
         ensures over { (l : ℕ) → result ≡ Err (PrepareFault.Over l)
             → (l ≡ self.now.limit)
-            × IsPartial self.now.form [] (extended self.now action.now)
+            × Permits self.now action.now
             × (length self.now.history < 1000000)
             × (self.now.limit < tree_size self.now.form (extended self.now action.now)) }
     {

@@ -19,9 +19,9 @@ pub fn at<'a, K: Ord, T>(entries: &'a [(K, T)], common: &'a T, key: &K) -> &'a T
     }
 }
 
-/// Gives the key this item. An item equal to the common one leaves no entry; every other key keeps its
-/// item. The keys ascend strictly and no item equals the common one, before and after. Where memory runs
-/// out, the entries are as before.
+/// Gives the key this item. An item equal to the common one leaves no entry; every other key keeps
+/// its item. The keys ascend strictly and no item equals the common one, before and after. Where
+/// memory runs out, the entries are as before.
 pub fn put<K: Ord + Drop, T: Eq + Drop>(
     entries: &mut Vec<(K, T)>,
     common: &T,
@@ -60,7 +60,7 @@ pub fn put<K: Ord + Drop, T: Eq + Drop>(
     }
 }
 
-// The place of the key's entry, or the place where it would stand.
+/// `Ok` is the place of the key's entry, and `Err` the place where it would stand.
 fn place_of<K: Ord, T>(entries: &[(K, T)], key: &K) -> Result<usize, usize>
     ensures bound { IsSearchInRange result (length entries.now) }
     ensures position { IsBinarySearchResult (λ entry. K.cmp entry.0 key.now) entries.now result }

@@ -12,8 +12,9 @@ use crate::expr::Expr;
 use crate::matching::matches;
 use ix_values::{Action, Name};
 
-/// Whether the action is in the alphabet of the expression: an atom's is the actions that it matches, an operator's is
-/// the union of its operands', a quantifier's is the union over all values of its parameter.
+/// Whether the action is in the alphabet of the expression: an atom's is the actions that it
+/// matches, an operator's is the union of its operands', a quantifier's is the union over all
+/// values of its parameter.
 #[cycle(alphabet)]
 pub fn contains(expr: &Expr, env: &Env, action: &Action) -> bool
     requires { Fits (form_of expr.now) env.now }
@@ -31,8 +32,8 @@ pub fn contains(expr: &Expr, env: &Env, action: &Action) -> bool
     }
 }
 
-/// Whether the action is in the alphabet of `body` for some value of the parameter. A value that isn't one of the
-/// action's does as outside does.
+/// Whether the action is in the alphabet of `body` for some value of the parameter. A value that
+/// isn't one of the action's does as outside does.
 #[cycle(alphabet)]
 fn contains_for_some(body: &Expr, parameter: &Name, env: &Env, action: &Action) -> bool
     requires { FitsInside parameter.now (form_of body.now) env.now }

@@ -39,8 +39,8 @@ impl Model for Atom {
 }
 
 impl Atom {
-    /// The atom of this name and these arguments, or None where the name is a reserved word (`any`, `every`, `sync`,
-    /// `all` or `times`) or there are more than four arguments.
+    /// The atom of this name and these arguments, or None where the name is a reserved word (`any`,
+    /// `every`, `sync`, `all` or `times`) or there are more than four arguments.
     pub fn new(name: Name, args: &[Arg]) -> Option<Atom>
         ensures refused { IsNone result ↔ (IsTrue (reserved.is_reserved name) ⊎ (4 < length args.now)) }
         ensures value { IfSome result (λ atom. atom ≡ atom_of name args.now) }
@@ -74,7 +74,6 @@ impl Atom {
     }
 }
 
-/// Whether `name` is one of the words that no atom has as its name.
 fn is_reserved(name: &Name) -> bool
     ensures { result ≡ reserved.is_reserved name.now }
 {
@@ -96,7 +95,6 @@ fn zero() -> Value
     }
 }
 
-/// The arguments `args`, and the value `0` in the places behind them.
 fn zero_padded(args: &[Arg]) -> [Arg; 4]
     requires { length args.now ≤ 4 }
     ensures value { result ≡ padded 4 (Arg.Fixed (48 ∷ [])) args.now }
@@ -109,7 +107,6 @@ fn zero_padded(args: &[Arg]) -> [Arg; 4]
     places
 }
 
-/// The argument, whose bytes are those of a value or of a name.
 fn checked(arg: Arg) -> Arg
     ensures same { result ≡ arg }
     ensures valid { IsArgument arg }

@@ -7,7 +7,8 @@ ghost use Rattle.ix_expr.specs.Meaning.{IsComplete};
 
 use crate::expr::Expr;
 
-/// Whether the empty word is complete in the expression. That is so under each environment or under none.
+/// Whether the empty word is complete in the expression. The answer is the same
+/// in every environment.
 pub fn accepts_empty(expr: &Expr) -> bool
     ensures { (e : Environment) → IsTrue result ↔ IsComplete (form_of expr.now) e [] }
 {

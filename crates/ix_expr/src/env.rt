@@ -7,7 +7,8 @@ ghost use Rattle.ix_expr.specs.FormFaults.{binders_of, is_bound};
 use ix_values::{Name, Value};
 use std::marker::Model;
 
-/// What at most eight parameters stand for: each a value, or outside, which equals no value of an action.
+/// What at most eight parameters stand for: each a value, or outside, which equals
+/// no value of an action.
 #[derive(Clone, Copy, Debug)]
 pub struct Env {
     entries: [(Name, Option<Value>); 8],

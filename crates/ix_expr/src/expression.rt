@@ -12,9 +12,10 @@ use std::marker::Model;
 
 /// The first form fault of an expression: a code, and the number of the node in pre-order from 0.
 ///
-/// The codes are 5 where an atom has a parameter that no enclosing quantifier binds, 6 where a quantifier's parameter is
-/// bound by an enclosing one, 7 where an atom inside an `all` doesn't name its parameter, 8 at the node numbered 512,
-/// 9 at a node at depth 257 (the root has depth 1), and 13 at a quantifier inside eight others.
+/// The codes are 5 where an atom has a parameter that no enclosing quantifier binds, 6 where a
+/// quantifier's parameter is bound by an enclosing one, 7 where an atom inside an `all` doesn't
+/// name its parameter, 8 at the node numbered 512, 9 at a node at depth 257 (the root has depth 1),
+/// and 13 at a quantifier inside eight others.
 #[derive(Clone, Copy, Debug, PartialEq, Eq)]
 pub struct FormFault {
     pub code: u8,

@@ -2,8 +2,8 @@
 
 ghost use Rattle.ix_expr.specs.Fitting.{OperandsOfFittingFit, WellFormedFits};
 
-/// The operands of an expression that fits an environment fit it: the body of a quantifier with its parameter given any
-/// value or outside, the others as it is.
+/// The operands of an expression that fits an environment fit it: the body of a quantifier with its
+/// parameter given any value or outside, the others as it is.
 pub fn operands_of_fitting_fit()
     ensures { OperandsOfFittingFit }
 {}

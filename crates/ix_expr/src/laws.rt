@@ -22,14 +22,14 @@ pub fn partial_words_stay_in_the_alphabet()
     ensures { PartialWordsStayInTheAlphabet }
 {}
 
-/// Environments that agree on a word give the same answer on whether it is complete and on whether it is partial, and
-/// the same alphabet at each of its actions.
+/// Environments that agree on a word give the same answer on whether it is complete and on whether
+/// it is partial, and the same alphabet at each of its actions.
 pub fn agreeing_environments_mean_the_same()
     ensures { AgreeingEnvironmentsMeanTheSame }
 {}
 
-/// In `all $p y`, where every atom of y names `$p`, an owner whose part is partial is a value of each action that it
-/// owns.
+/// In `all $p y`, where every atom of y names `$p`, an owner whose part is partial is a value of
+/// each action that it owns.
 pub fn owners_are_values()
     ensures { OwnersAreValues }
 {}

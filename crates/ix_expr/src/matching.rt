@@ -8,15 +8,17 @@ use crate::atom::Atom;
 use crate::env::Env;
 use ix_values::{Action, Value};
 
-/// Whether the atom matches the action: the names agree, the counts agree, and each argument's value (its own, or its
-/// parameter's in `env`) is the action's value in that place. A parameter that `env` hasn't counts as outside.
+/// Whether the atom matches the action: the names agree, the counts agree, and each argument's
+/// value (its own, or its parameter's in `env`) is the action's value in that place. A parameter
+/// that `env` hasn't counts as outside.
 pub fn matches(atom: &Atom, env: &Env, action: &Action) -> bool
     ensures { IsTrue result ↔ Matches atom.now env.now action.now }
 {
     atom.name() == action.name() && have_values(atom.args(), env, action.values())
 }
 
-/// Whether there are as many arguments as values, and each argument's value is the value in its place.
+/// Whether there are as many arguments as values, and each argument's value is
+/// the value in its place.
 fn have_values(args: &[Arg], env: &Env, values: &[Value]) -> bool
     ensures { IsTrue result ↔ HaveValues env.now args.now values.now }
 {
@@ -31,7 +33,6 @@ fn have_values(args: &[Arg], env: &Env, values: &[Value]) -> bool
     true
 }
 
-/// Whether the argument's value is `value`.
 fn has_value(arg: &Arg, env: &Env, value: &Value) -> bool
     ensures { IsTrue result ↔ HasValue env.now arg.now value.now }
 {

@@ -23,7 +23,6 @@ pub(crate) enum Scope<'a> {
 }
 
 impl Scope<'_> {
-    /// Whether one of the quantifiers binds `parameter`.
     pub(crate) fn binds(&self, parameter: &Name) -> bool
         ensures { result ≡ faults.is_bound (binders self.now) parameter.now }
     {
@@ -61,14 +60,12 @@ impl Scope<'_> {
         }
     }
 
-    /// Whether each parameter of the atom is bound.
     pub(crate) fn binds_all(&self, atom: &Atom) -> bool
         ensures { result ≡ list_all (faults.is_bound_argument (binders self.now)) atom.now.arguments }
     {
         atom.args().iter().all(|arg| self.binds_argument(arg))
     }
 
-    /// Whether the argument is a fixed value or a bound parameter.
     fn binds_argument(&self, arg: &Arg) -> bool
         ensures { result ≡ faults.is_bound_argument (binders self.now) arg.now }
     {
@@ -79,14 +76,12 @@ impl Scope<'_> {
     }
 }
 
-/// Whether the parameter is an argument of the atom.
 fn names_parameter(atom: &Atom, parameter: &Name) -> bool
     ensures { result ≡ faults.names_parameter parameter.now atom.now }
 {
     atom.args().iter().any(|arg| is_parameter(arg, parameter))
 }
 
-/// Whether the argument is the parameter.
 fn is_parameter(arg: &Arg, parameter: &Name) -> bool
     ensures { result ≡ faults.is_parameter parameter.now arg.now }
 {

@@ -26,8 +26,8 @@ const TOO_DEEP: u8 = 9;
 
 const TOO_MANY_QUANTIFIERS: u8 = 13;
 
-/// Walks over the nodes of `expr`, whose root has this depth, this scope and this number, to the first fault, or to the
-/// number behind the last node.
+/// Walks over the nodes of `expr`, whose root has this depth, this scope and this number, to the
+/// first fault, or to the number behind the last node.
 #[cycle(walk)]
 pub(crate) fn walk(
     expr: &Expr,
@@ -58,7 +58,6 @@ pub(crate) fn walk(
     }
 }
 
-/// Walks over an operator's node and its first operand.
 #[cycle(walk)]
 fn walk_one(operand: &Expr, depth: usize, scope: &Scope, number: usize) -> Result<usize, FormFault>
     requires shallow { depth ≤ 257 }
@@ -73,7 +72,6 @@ fn walk_one(operand: &Expr, depth: usize, scope: &Scope, number: usize) -> Resul
     }
 }
 
-/// Walks over a quantifier's node and its body.
 #[cycle(walk)]
 fn walk_inside(
     is_all: bool,
@@ -103,7 +101,6 @@ fn walk_inside(
     }
 }
 
-/// Visits an atom's node.
 fn visit_atom(atom: &Atom, depth: usize, scope: &Scope, number: usize) -> Result<usize, FormFault>
     requires shallow { depth ≤ 257 }
     requires few { number ≤ 512 }
@@ -133,7 +130,6 @@ fn operator_fault(depth: usize, number: usize) -> Option<u8>
     }
 }
 
-/// The code of a quantifier's fault.
 fn quantifier_fault(parameter: &Name, depth: usize, scope: &Scope, number: usize) -> Option<u8>
     requires shallow { depth ≤ 257 }
     requires few { number ≤ 512 }
@@ -153,7 +149,6 @@ fn quantifier_fault(parameter: &Name, depth: usize, scope: &Scope, number: usize
     }
 }
 
-/// The code of an atom's fault.
 fn atom_fault(atom: &Atom, depth: usize, scope: &Scope, number: usize) -> Option<u8>
     requires shallow { depth ≤ 257 }
     requires few { number ≤ 512 }

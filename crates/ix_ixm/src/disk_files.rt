@@ -9,14 +9,14 @@ use std::{fs, rt};
 
 /// Files of the disk, which tells nothing of its contents.
 #[derive(Drop)]
-pub struct DiskFiles<'a, R> {
+pub(crate) struct DiskFiles<'a, R> {
     rt: &'a R,
     faults: u64,
 }
 
 impl<'a, R: rt::Files> DiskFiles<'a, R> {
     /// The files that the runtime reaches.
-    pub fn new(rt: &'a R) -> Self {
+    pub(crate) fn new(rt: &'a R) -> Self {
         DiskFiles { rt, faults: 0 }
     }
 }
@@ -37,7 +37,6 @@ impl<R: rt::Files> Files for DiskFiles<'_, R> {
     }
 }
 
-// The bytes of a file, of which there may be so many.
 fn read_within<R: rt::Files>(
     alloc: Global,
     rt: &R,

@@ -5,7 +5,7 @@ use ix_outside::{DiskFailed, Event, Gone, Site, WireFailed};
 
 /// A site each of whose calls fails and is counted. So no file is ever attached.
 #[derive(Drop)]
-pub struct NoSite {
+pub(crate) struct NoSite {
     attached: bool,
     disk: u64,
     wire: u64,
@@ -15,8 +15,7 @@ pub struct NoSite {
 impl NoSite {
     ghost use Rattle.std.specs.Prelude.{◌≡◌, false};
 
-    /// No call has failed yet.
-    pub fn new() -> Self
+    pub(crate) fn new() -> Self
         ensures { result ≡ record { attached = false; disk = 0; wire = 0; send = 0 } }
     {
         NoSite {

@@ -7,14 +7,13 @@ use std::io::Write;
 
 /// A writer, which tells nothing of the bytes that it took.
 #[derive(Drop)]
-pub struct StandardOutput<W> {
+pub(crate) struct StandardOutput<W> {
     writer: W,
     faults: u64,
 }
 
 impl<W: Write> StandardOutput<W> {
-    /// Puts to this writer.
-    pub fn new(writer: W) -> Self {
+    pub(crate) fn new(writer: W) -> Self {
         StandardOutput { writer, faults: 0 }
     }
 }

@@ -37,7 +37,8 @@ pub enum TokenKind {
     Minus,
 }
 
-/// A token: the bytes of the text from `start` up to `end`. The text of a `Param` begins with its `$`.
+/// A token: the bytes of the text from `start` up to `end`. The text of a `Param`
+/// begins with its `$`.
 #[derive(Clone, Copy, Debug)]
 pub struct Token<'a> {
     pub kind: TokenKind,
@@ -46,15 +47,15 @@ pub struct Token<'a> {
     pub end: usize,
 }
 
-/// The place of the first byte that begins no token: neither a blank (bytes 10 and 32), nor a letter, a
-/// digit, `_` or one of the eleven signs, nor a `$` that a letter follows.
+/// The place of the first byte that begins no token: neither a blank (bytes 10 and 32), nor a
+/// letter, a digit, `_` or one of the eleven signs, nor a `$` that a letter follows.
 #[derive(Clone, Copy, Debug, PartialEq, Eq)]
 pub struct LexFault {
     pub at: usize,
 }
 
-/// The tokens of a text, from its begin to its end or to the first byte that begins no token. That byte's
-/// place is the last item. Nothing is copied, and no memory is taken.
+/// The tokens of a text, from its start to its end or to the first byte that begins no token. That
+/// byte's place is the last item. Nothing is copied, and no memory is taken.
 #[derive(Clone, Copy, Debug)]
 pub struct Tokens<'a> {
     text: &'a [u8],
@@ -103,21 +104,19 @@ fn begins_with_letter(bytes: &[u8]) -> bool
     }
 }
 
-// How many blanks a text begins with.
 fn blanks_len(bytes: &[u8]) -> usize
     ensures { result ≡ length (take_while is_blank bytes.now) }
 {
     bytes.iter().take_while(|byte| is_blank(**byte)).count()
 }
 
-// How many word bytes a text begins with.
 fn word_len(bytes: &[u8]) -> usize
     ensures { result ≡ length (take_while is_word_byte bytes.now) }
 {
     bytes.iter().take_while(|byte| is_word_byte(**byte)).count()
 }
 
-// The kind and the length of the token that a text begins with, if it begins with one.
+/// The kind and the length of the token that a text begins with, if it begins with one.
 fn first_token(first: u8, after: &[u8]) -> Option<(TokenKind, usize)>
     requires { is_blank first ≡ false }
     ensures { MatchOption result (BeginsNothing first after.now) (λ found. FirstToken found.0 found.1 (first ∷ after.now)) }
@@ -139,7 +138,7 @@ impl<'a> Tokens<'a> {
     ghost use Rattle.ix_lex.specs.inside.Items.{pieces_left};
     ghost use Rattle.ix_lex.specs.Lexing.{Pieces};
 
-    /// The tokens of a text.
+    /// All tokens of the text, none of them given yet.
     pub fn new(text: &'a [u8]) -> Tokens<'a>
         ensures { Pieces 0 text.now (pieces_left result) }
     {
@@ -189,7 +188,7 @@ mod tests {
     use super::*;
     use std::test::Fail;
 
-    // A token's kind and place, or the place of a bad byte.
+    /// A token's kind and place, or the place of a bad byte.
     #[derive(Clone, Copy, Debug, PartialEq, Eq)]
     enum Seen {
         Token(TokenKind, usize, usize),

@@ -7,7 +7,8 @@ pub fn cut_at_each_end()
     ensures { CutAtEachEnd }
 {}
 
-/// The items of a text and a piece are those of the text, and behind them those that the piece completes.
+/// The items of a text and a piece are those of the text, and behind them those that
+/// the piece completes.
 pub fn completes_the_rest()
     ensures { CompletesTheRest }
 {}

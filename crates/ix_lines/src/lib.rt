@@ -19,7 +19,8 @@ use std::marker::Model;
 /// The most bytes that a line has, without the byte 10 that ends it.
 pub const LINE_LIMIT: usize = 512;
 
-/// The unfinished line of a text that comes in pieces, or that the rest of a line which is too long is skipped.
+/// The unfinished line of a text that comes in pieces, or that the rest of a line is
+/// skipped which was too long.
 #[derive(Drop)]
 pub struct Lines {
     /// The unfinished line, or behind `open_len` bytes what is left of a line that was told.
@@ -47,7 +48,7 @@ impl Model for Lines {
 pub enum FedKind<'a> {
     /// A line of at most 512 bytes, without the byte 10 that ends it.
     Line(&'a [u8]),
-    /// A line has its 513th byte, and no byte 10 so far. The rest of it is skipped through its byte 10.
+    /// A line has its 513th byte, and no byte 10 so far. Its rest is skipped, through its byte 10.
     TooLong,
     /// The whole piece was taken, and completes no more.
     More,
@@ -83,8 +84,8 @@ impl Lines {
         self.skipping = false;
     }
 
-    /// Takes a piece up to the first item that it completes, and tells that item, or takes the whole piece.
-    /// The rest of the piece is to be fed again, until the answer is `More`.
+    /// Takes a piece up to the first item that it completes, and tells that item, or takes the
+    /// whole piece. The rest of the piece is to be fed again, until the answer is `More`.
     pub fn feed<'a>(&'a mut self, piece: &'a [u8]) -> Fed<'a>
         // The first item of those that the piece completes, at the very byte that completes it.
         ensures tells { Feeds self.old piece.now (told_item result.kind) result.used }
@@ -104,7 +105,7 @@ impl Lines {
         }
     }
 
-    /// Where the piece goes on with a line that isn't skipped, or nothing where all of it is skipped.
+    /// Where the piece goes on with a line that isn't skipped, or None where all of it is skipped.
     fn resume(&mut self, piece: &[u8]) -> Option<usize>
         ensures some { IfSome result (λ place. ResumesAt self.old piece.now place self.new) }
         ensures none { IfNone result (self.old ≡ skipping × HasNoEnd piece.now × (self.new ≡ skipping)) }

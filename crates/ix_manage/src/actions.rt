@@ -11,10 +11,9 @@ use ix_script::first_line;
 use ix_values::{Action, ActionFault};
 
 /// The most bytes of an actions file.
-pub const MOST_BYTES: usize = 67_108_864;
+pub(crate) const MOST_BYTES: usize = 67_108_864;
 
-/// The action whose text the line is.
-pub fn read_action(line: &[u8]) -> Action
+pub(crate) fn read_action(line: &[u8]) -> Action
     requires { IsActionText line.now }
     ensures valid { IsAction result }
     ensures same { text_of result ≡ line.now }
@@ -25,8 +24,9 @@ pub fn read_action(line: &[u8]) -> Action
     }
 }
 
-/// The fault of the first line that is no action's text, its place counted in the bytes, or None where there is none.
-pub fn first_fault(bytes: &[u8]) -> Option<ActionFault>
+/// The fault of the first line that is no action's text, or None where there is none. Its place is
+/// counted from the front of the bytes.
+pub(crate) fn first_fault(bytes: &[u8]) -> Option<ActionFault>
     ensures { MatchOption result (Each IsActionText (lines_of bytes.now)) (λ fault. IsFirstActionFault bytes.now fault.code fault.at) }
 {
     let mut rest = bytes;
@@ -40,7 +40,7 @@ pub fn first_fault(bytes: &[u8]) -> Option<ActionFault>
     None
 }
 
-// The fault, its place counted from the front of so many more bytes.
+/// The same fault in a text with `more` bytes in front.
 fn moved(fault: ActionFault, more: usize) -> ActionFault
     requires { more + fault.at < 2 ^ 64 }
     ensures code { result.code ≡ fault.code }

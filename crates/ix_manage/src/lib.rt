@@ -24,21 +24,25 @@ use std::alloc::Global;
 
 /// Runs the program on the words after its name, and gives its status.
 ///
-/// What is put, and with which status a run ends, says `Ends`. The words are those of a trace or of a replay:
+/// `Ends` says what is put, and with which status a run ends. The words are those of a
+/// trace or of a replay:
 ///
-/// - `trace EXPR ACTIONS` puts one line for each action of the file ACTIONS by the expression of the file EXPR, which is `no`,
-///   `full`, `large` or `yes`, and then `complete` or `partial`, with status 0.
-/// - `replay EXPR - SCRIPT` puts `history 0`, and then the replies of a run of the protocol machine over the events of the file
-///   SCRIPT, each behind its connection's number: to the script's end or `stop` with status 0, or to the number of turns with
-///   status 7 and a line that says so.
+/// - `trace EXPR ACTIONS` puts one line for each action of the file ACTIONS by the expression
+///   of the file EXPR, which is `no`, `full`, `large` or `yes`, and then `complete` or
+///   `partial`, with status 0.
+/// - `replay EXPR - SCRIPT` puts `history 0`, and then the replies of a run of the protocol machine
+///   over the events of the file SCRIPT, each behind its connection's number: to the script's end
+///   or `stop` with status 0, or to the number of turns with status 7 and a line that says so.
 ///
-/// Directly behind the command `--nodes N`, a limit of Size from 1 to 1,000,000 which is 100,000 otherwise, may stand, and in a
-/// replay then `--turns N`, the most events that are taken, from 1 to 1,000,000,000.
+/// Directly behind the command may stand `--nodes N`, the limit of Size from 1 to 1,000,000,
+/// which is 100,000 otherwise, and in a replay then `--turns N`, the most events that are taken,
+/// from 1 to 1,000,000,000.
 ///
-/// Else a run ends with a refusal as its last line. A text that stands for no expression is refused with its first fault, one
-/// whose initial tree is above the limit with 14, an actions file or a script with the first line that isn't in its grammar. A
-/// put that fails ends the run with status 10, a replay after the event in which it failed, and what went out by then is a front
-/// of such a text. A text that `files` doesn't tell may be any. The site isn't called.
+/// Otherwise a run ends with a refusal as its last line. A text that stands for no expression is
+/// refused with its first fault, one whose initial tree is above the limit with 14, an actions file
+/// or a script with the first line that isn't in its grammar. A put that fails ends the run with
+/// status 10, a replay after the event in which it failed; what went out by then is a front of such
+/// a text. A file that `files` doesn't tell may hold any text. The site isn't called.
 pub fn manage<F: Files, S: Site, K: Sink>(
     alloc: Global,
     words: &[String],

@@ -22,8 +22,7 @@ const MOST_BYTES: usize = 16384;
 /// The most bytes of a script.
 const MOST_SCRIPT_BYTES: usize = 67_108_864;
 
-/// The expression that the file of this name stands for.
-pub fn load_expression<F: Files>(
+pub(crate) fn load_expression<F: Files>(
     alloc: Global,
     files: &mut F,
     name: &str,
@@ -44,7 +43,6 @@ pub fn load_expression<F: Files>(
     }
 }
 
-// The expression that a text stands for.
 fn read_expression(alloc: Global, text: &[u8]) -> Result<Expression, Refusal>
     ensures ok { IfOk result (StandsFor text.now) }
     ensures err { IfErr result (RefusesText text.now) }
@@ -56,8 +54,12 @@ fn read_expression(alloc: Global, text: &[u8]) -> Result<Expression, Refusal>
     }
 }
 
-/// The bytes of the actions file of this name, each line an action's text.
-pub fn load_actions<F: Files>(alloc: Global, files: &mut F, name: &str) -> Result<Vec<u8>, Refusal>
+/// Every line of the bytes is an action's text.
+pub(crate) fn load_actions<F: Files>(
+    alloc: Global,
+    files: &mut F,
+    name: &str,
+) -> Result<Vec<u8>, Refusal>
     ensures file { IfOk result (λ bytes. HasFile (F.contents files.old) name.now bytes.items) }
     ensures short { IfOk result (λ bytes. length bytes.items ≤ 67108864) }
     ensures lines { IfOk result (λ bytes. Each IsActionText (lines_of bytes.items)) }
@@ -85,8 +87,12 @@ pub fn load_actions<F: Files>(alloc: Global, files: &mut F, name: &str) -> Resul
     }
 }
 
-/// The bytes of the script of this name, which aren't checked yet.
-pub fn load_script<F: Files>(alloc: Global, files: &mut F, name: &str) -> Result<Vec<u8>, Refusal>
+/// The lines of the script aren't checked yet.
+pub(crate) fn load_script<F: Files>(
+    alloc: Global,
+    files: &mut F,
+    name: &str,
+) -> Result<Vec<u8>, Refusal>
     ensures file { IfOk result (λ bytes. HasFile (F.contents files.old) name.now bytes.items) }
     ensures short { IfOk result (λ bytes. length bytes.items ≤ 67108864) }
     ensures err { IfErr result (RefusesScript (F.contents files.old) name.now) }

@@ -6,9 +6,9 @@ ghost use Rattle.ix_manage.specs.Trace.{fault_line, large_line};
 use arrayvec::ArrayVec;
 use itoa::Buffer;
 
-/// Why a run ends before it has its answer.
+/// Why a run ends before it has its answer. Each refusal has a line and a status.
 #[derive(Clone, Copy)]
-pub enum Refusal {
+pub(crate) enum Refusal {
     /// The words name no command.
     Words,
     /// The expression file has this fault.
@@ -34,8 +34,7 @@ pub enum Refusal {
 impl Refusal {
     ghost use Rattle.ix_manage.specs.inside.Refusal.{refusal_line, refusal_status};
 
-    /// The line that says why.
-    pub fn line(self) -> ArrayVec<u8, 64>
+    pub(crate) fn line(self) -> ArrayVec<u8, 64>
         ensures { result.items ≡ refusal_line self }
     {
         let mut line = ArrayVec::new();
@@ -54,8 +53,7 @@ impl Refusal {
         line
     }
 
-    /// The status of the run.
-    pub fn status(self) -> u8
+    pub(crate) fn status(self) -> u8
         ensures { result ≡ refusal_status self }
     {
         match self {
@@ -69,7 +67,6 @@ impl Refusal {
     }
 }
 
-// Writes the line of a fault of one of the files behind nothing.
 fn append_fault(line: &mut ArrayVec<u8, 64>, file: &[u8], code: u8, at: usize)
     requires empty { line.old.items ≡ [] }
     requires short { length file.now ≤ 10 }
@@ -84,7 +81,6 @@ fn append_fault(line: &mut ArrayVec<u8, 64>, file: &[u8], code: u8, at: usize)
     append(line, b"\n");
 }
 
-// Writes the line of an initial tree above the limit behind nothing.
 fn append_large(line: &mut ArrayVec<u8, 64>, limit: usize)
     requires { line.old.items ≡ [] }
     ensures { line.new.items ≡ large_line limit }
@@ -94,7 +90,6 @@ fn append_large(line: &mut ArrayVec<u8, 64>, limit: usize)
     append(line, b"\n");
 }
 
-// Writes bytes behind those that the line holds.
 fn append(line: &mut ArrayVec<u8, 64>, bytes: &[u8])
     requires { array_vec_len line.old + length bytes.now ≤ 64 }
     ensures { line.new.items ≡ line.old.items ++ bytes.now }

@@ -23,8 +23,8 @@ use ix_outside::{Files, Sink, Site};
 use ix_script::{Script, ScriptSite};
 use std::alloc::Global;
 
-/// Replays the script that the words name. A refusal's line isn't put yet.
-pub fn replay<F: Files, S: Site, K: Sink>(
+/// A refusal's line isn't put yet.
+pub(crate) fn replay<F: Files, S: Site, K: Sink>(
     alloc: Global,
     names: ReplayWords<'_>,
     files: &mut F,
@@ -79,7 +79,6 @@ pub fn replay<F: Files, S: Site, K: Sink>(
     }
 }
 
-// The script of these bytes.
 fn read_script(bytes: &[u8]) -> Result<Script<'_>, Refusal>
     ensures same { IfOk result (λ script. script.bytes.now ≡ bytes.now) }
     ensures events { IfOk result (λ script. (events : List GivenEvent) × HasEvents bytes.now events) }
@@ -94,7 +93,6 @@ fn read_script(bytes: &[u8]) -> Result<Script<'_>, Refusal>
     }
 }
 
-// Runs a script with the expression. A refusal's line isn't put yet.
 fn run_script<S: Site, K: Sink>(
     alloc: Global,
     expression: Expression,
@@ -134,7 +132,7 @@ fn run_script<S: Site, K: Sink>(
     run_manager(alloc, &mut manager, turns, script, site, out)
 }
 
-// Puts the line of the history, and runs a script with a manager that was just started. A refusal's line isn't put yet.
+/// Puts `history 0` in front: the manager was just started.
 fn run_manager<S: Site, K: Sink>(
     alloc: Global,
     manager: &mut Manager,
@@ -176,7 +174,6 @@ fn run_manager<S: Site, K: Sink>(
     }
 }
 
-// Takes the script's events, and puts the replies.
 fn play<S: Site, K: Sink>(
     alloc: Global,
     manager: &mut Manager,

@@ -9,16 +9,16 @@ const MOST_TURNS: usize = 1_000_000_000;
 
 /// The limit of Size, the most events and the two files that the words of a replay name.
 #[derive(Clone, Copy)]
-pub struct ReplayWords<'a> {
+pub(crate) struct ReplayWords<'a> {
     pub limit: usize,
     pub turns: usize,
     pub expression: &'a str,
     pub script: &'a str,
 }
 
-/// What the words name, where they are `replay EXPR - SCRIPT`, with `--nodes N` and then `--turns N` directly behind the
-/// command where they stand.
-pub fn replay_words(words: &[String]) -> Option<ReplayWords<'_>>
+/// What the words name, where they are `replay EXPR - SCRIPT`, with `--nodes N` and then
+/// `--turns N` directly behind the command where they stand.
+pub(crate) fn replay_words(words: &[String]) -> Option<ReplayWords<'_>>
     ensures { MatchOption result
         ((limit turns : ℕ) (expression script : List ℕ) → NamesReplay (map string_bytes words.now) limit turns expression script → ⊥)
         (λ names. NamesReplay (map string_bytes words.now) names.limit names.turns names.expression.now names.script.now) }
@@ -46,14 +46,15 @@ pub fn replay_words(words: &[String]) -> Option<ReplayWords<'_>>
     })
 }
 
-// The number that an option says, and the words behind it.
+/// The number that an option says, and the words behind it.
 #[derive(Clone, Copy)]
 struct Behind<'a> {
     number: usize,
     rest: &'a [String],
 }
 
-// The number that the option of this name says at the front of the words, or the usual one where it isn't there.
+/// The number that the option of this name says at the front of the words, or the usual one where
+/// the option isn't there.
 fn take_option<'a>(
     name: &str,
     usual: usize,
@@ -83,14 +84,13 @@ fn take_option<'a>(
     }
 }
 
-// The expression file and the script.
 #[derive(Clone, Copy)]
 struct NamedFiles<'a> {
     expression: &'a str,
     script: &'a str,
 }
 
-// The files of the words `EXPR - SCRIPT`.
+/// The files of the words `EXPR - SCRIPT`.
 fn named_files(words: &[String]) -> Option<NamedFiles<'_>>
     ensures { MatchOption result
         ((expression script : List ℕ) → NamesFiles (map string_bytes words.now) expression script → ⊥)

@@ -19,15 +19,15 @@ use std::alloc::Global;
 
 /// Why a run ends before it has its answer.
 #[derive(Clone, Copy)]
-pub enum Stop {
+pub(crate) enum Stop {
     /// A line is to be put that says why.
     Refused(Refusal),
     /// A put failed.
     Output,
 }
 
-/// Runs the command of the words. A refusal's line isn't put yet.
-pub fn run<F: Files, S: Site, K: Sink>(
+/// A refusal's line isn't put yet.
+pub(crate) fn run<F: Files, S: Site, K: Sink>(
     alloc: Global,
     words: &[String],
     files: &mut F,
@@ -63,7 +63,6 @@ pub fn run<F: Files, S: Site, K: Sink>(
     }
 }
 
-// Runs a trace of the files that the words name.
 fn run_trace<F: Files, K: Sink>(
     alloc: Global,
     names: TraceWords<'_>,

@@ -11,9 +11,7 @@ use ix_outside::Files;
 use ix_step::BuildFault;
 use std::alloc::Global;
 
-/// The engine, with an empty history, of the expression that the file of this name stands for, where the Size
-/// of its initial tree is at most the limit.
-pub fn start<F: Files>(
+pub(crate) fn start<F: Files>(
     alloc: Global,
     files: &mut F,
     name: &str,

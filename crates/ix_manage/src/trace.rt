@@ -20,7 +20,7 @@ use std::alloc::{AllocError, Global};
 
 /// Why not all lines of a trace were put.
 #[derive(Clone, Copy)]
-pub enum TraceFault {
+pub(crate) enum TraceFault {
     /// There was no memory for the history.
     Memory,
     /// A put failed.
@@ -28,7 +28,7 @@ pub enum TraceFault {
 }
 
 /// Puts a line for each action, and then whether the history of the `yes` actions is complete.
-pub fn trace<K: Sink>(
+pub(crate) fn trace<K: Sink>(
     alloc: Global,
     engine: &mut Engine,
     actions: &[u8],
@@ -65,7 +65,7 @@ pub fn trace<K: Sink>(
     }
 }
 
-// Puts the line for one action, which joins the history where it is a `yes`.
+/// The action joins the history where its line is `yes`.
 fn answer<K: Sink>(
     alloc: Global,
     engine: &mut Engine,
@@ -94,7 +94,6 @@ fn answer<K: Sink>(
     }
 }
 
-// The line for one action, which joins the history where it is a `yes`.
 fn answer_line(
     alloc: Global,
     engine: &mut Engine,
@@ -118,7 +117,6 @@ fn answer_line(
     }
 }
 
-// Whether the history is complete, as a line.
 fn last_line(engine: &Engine) -> &'static [u8]
     ensures { Verdict engine.now.form engine.now.history result.now }
 {

@@ -17,7 +17,7 @@ use std::alloc::Global;
 
 /// What became of a run by its events.
 #[derive(Clone, Copy)]
-pub enum Turn {
+pub(crate) enum Turn {
     /// It may go on.
     More,
     /// The last event was the end or brought `stop`.
@@ -27,7 +27,7 @@ pub enum Turn {
 }
 
 /// Hands the script's events to the manager, as many as `turns` at most, until the run ends.
-pub fn take_events<S: Site, K: Sink>(
+pub(crate) fn take_events<S: Site, K: Sink>(
     alloc: Global,
     manager: &mut Manager,
     turns: usize,
@@ -63,7 +63,6 @@ pub fn take_events<S: Site, K: Sink>(
     Turn::More
 }
 
-// Hands the next event to the manager.
 fn take_event<S: Site, K: Sink>(
     alloc: Global,
     manager: &mut Manager,
@@ -98,7 +97,6 @@ fn take_event<S: Site, K: Sink>(
     turn_of(site.sink_failed(), go, event.kind)
 }
 
-// What became of a run by an event, where a put failed or not.
 fn turn_of(failed: bool, go: Go, kind: EventKind) -> Turn
     ensures { IsTurn failed (ending_after go) kind result }
 {
@@ -111,7 +109,7 @@ fn turn_of(failed: bool, go: Go, kind: EventKind) -> Turn
     }
 }
 
-// The bytes of an event, which stand at the front of the buffer.
+/// The bytes of an event, which stand at the front of the buffer.
 fn piece(kind: EventKind, buffer: &[u8]) -> &[u8]
     requires { KindFits (length buffer.now) 0 kind }
     ensures { result.now ≡ piece_of kind buffer.now }
@@ -122,7 +120,6 @@ fn piece(kind: EventKind, buffer: &[u8]) -> &[u8]
     }
 }
 
-// Whether this is the end.
 fn is_end(kind: EventKind) -> bool
     ensures { MatchBool result (kind ≡ End) (kind ≢ End) }
 {

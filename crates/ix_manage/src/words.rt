@@ -5,21 +5,22 @@ ghost use Rattle.ix_manage.specs.Command.{NamesTrace, IsNumberUpTo};
 use itoa::Buffer;
 
 /// The limit of Size where the words don't say one.
-pub const USUAL_LIMIT: usize = 100_000;
+pub(crate) const USUAL_LIMIT: usize = 100_000;
 
 /// The greatest limit of Size that the words may say.
-pub const GREATEST_LIMIT: usize = 1_000_000;
+pub(crate) const GREATEST_LIMIT: usize = 1_000_000;
 
 /// The limit of Size and the two files that the words of a trace name.
 #[derive(Clone, Copy)]
-pub struct TraceWords<'a> {
+pub(crate) struct TraceWords<'a> {
     pub limit: usize,
     pub expression: &'a str,
     pub actions: &'a str,
 }
 
-/// The limit and the files, where the words are `trace EXPR ACTIONS` or `trace --nodes N EXPR ACTIONS`.
-pub fn trace_words(words: &[String]) -> Option<TraceWords<'_>>
+/// The limit and the files, where the words are `trace EXPR ACTIONS` or
+/// `trace --nodes N EXPR ACTIONS`.
+pub(crate) fn trace_words(words: &[String]) -> Option<TraceWords<'_>>
     ensures { MatchOption result
         ((limit : ℕ) (expression actions : List ℕ) → NamesTrace (map string_bytes words.now) limit expression actions → ⊥)
         (λ names. NamesTrace (map string_bytes words.now) names.limit names.expression.now names.actions.now) }
@@ -53,7 +54,7 @@ pub fn trace_words(words: &[String]) -> Option<TraceWords<'_>>
 }
 
 /// The number whose text this is, from 1 to a greatest one, in decimal without leading zeros.
-pub fn read_number(text: &str, greatest: usize) -> Option<usize>
+pub(crate) fn read_number(text: &str, greatest: usize) -> Option<usize>
     ensures { MatchOption result
         ((number : ℕ) → IsNumberUpTo greatest text.now number → ⊥)
         (λ number. IsNumberUpTo greatest text.now number) }

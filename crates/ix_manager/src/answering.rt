@@ -76,7 +76,6 @@ fn take_item<S: Site>(
     Some(Taken { used, go })
 }
 
-/// Answers what was fed, if anything.
 fn answer_fed<S: Site>(
     machine: &mut Machine,
     alloc: Global,
@@ -100,7 +99,6 @@ fn answer_fed<S: Site>(
     }
 }
 
-/// Answers a line.
 fn answer_line<S: Site>(
     machine: &mut Machine,
     alloc: Global,
@@ -126,7 +124,6 @@ fn answer_line<S: Site>(
     }
 }
 
-/// Whether the run goes on behind a request.
 fn go_behind(request: &Request<'_>) -> Go
     ensures { ending_after result ≡ request_ending request.now }
 {
@@ -137,7 +134,6 @@ fn go_behind(request: &Request<'_>) -> Go
     }
 }
 
-/// Answers a request.
 fn answer_request<S: Site>(
     machine: &mut Machine,
     alloc: Global,

@@ -16,7 +16,6 @@ impl Machine {
         Reply::May(self.engine.may(action))
     }
 
-    /// Whether the history is complete, its length, and the Size of its tree.
     pub(crate) fn status(&self) -> Reply
         ensures { Does self.now request.status result self.now }
     {

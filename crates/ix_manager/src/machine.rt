@@ -22,16 +22,15 @@ use std::marker::Model;
 
 /// What the machine answers to a request.
 #[derive(Clone, Copy)]
-pub enum Answer {
+pub(crate) enum Answer {
     /// One reply.
     One(Reply),
     /// The changes of this name are to be told, and then noted as told.
     Poll(Name),
 }
 
-/// The protocol machine.
 #[derive(Drop)]
-pub struct Machine {
+pub(crate) struct Machine {
     pub(crate) engine: Engine,
     /// The action that is reserved, prepared, where the slot is held.
     pub(crate) pending: Option<Next>,
@@ -73,8 +72,11 @@ impl Model for Machine {
 }
 
 impl Machine {
-    /// The machine of an expression with an empty history, under a limit of Size.
-    pub fn new(alloc: Global, expression: Expression, limit: usize) -> Result<Machine, BuildFault>
+    pub(crate) fn new(
+        alloc: Global,
+        expression: Expression,
+        limit: usize,
+    ) -> Result<Machine, BuildFault>
         requires least { 1 ≤ limit }
         requires most { limit ≤ 1000000 }
         ensures starts { IfOk result (λ m. m ≡ record { form = expression; limit = limit; state = start_of []; noted = [] }) }
@@ -94,15 +96,14 @@ impl Machine {
         }
     }
 
-    /// The moment is this one where it is greater.
-    pub fn raise(&mut self, moment: u64)
+    /// The moment never goes back.
+    pub(crate) fn raise(&mut self, moment: u64)
         ensures { self.new ≡ record self.old { state = raised moment self.old.state } }
     {
         self.moment = self.moment.max(moment);
     }
 
-    /// Answers a request that was read.
-    pub fn answer(&mut self, alloc: Global, request: &Request<'_>) -> Answer
+    pub(crate) fn answer(&mut self, alloc: Global, request: &Request<'_>) -> Answer
         requires read { (plain : PlainRequest) × IsRequest plain × Lends request.now plain }
         requires tickets { self.old.state.ticket < 2 ^ 64 - 1 }
         ensures answers { MachineAnswers self.old request.now result self.new }
@@ -131,7 +132,7 @@ impl Machine {
     }
 
     /// The actions of the name whose allowance isn't what was told, in order, with their allowance.
-    pub fn changes<'a>(&'a self, name: &'a Name) -> Changes<'a>
+    pub(crate) fn changes<'a>(&'a self, name: &'a Name) -> Changes<'a>
         ensures changes { result ≡ changes_of name.now self.now.noted }
         ensures few { length self.now.noted ≤ 4096 }
     {
@@ -140,7 +141,7 @@ impl Machine {
     }
 
     /// Notes that the changes of the name were told.
-    pub fn tell(&mut self, name: &Name)
+    pub(crate) fn tell(&mut self, name: &Name)
         requires { IsRefreshed self.old name.now }
         ensures { TellsPoll self.old name.now self.new }
     {
@@ -148,14 +149,14 @@ impl Machine {
     }
 
     /// The confirmed actions, the oldest first.
-    pub fn history(&self) -> &[Action]
+    pub(crate) fn history(&self) -> &[Action]
         ensures { result.now ≡ self.now.state.history }
     {
         self.engine.history()
     }
 
     /// The next ticket.
-    pub fn ticket(&self) -> u64
+    pub(crate) fn ticket(&self) -> u64
         ensures { result ≡ self.now.state.ticket }
     {
         self.ticket

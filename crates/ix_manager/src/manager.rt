@@ -23,9 +23,10 @@ use std::alloc::{AllocError, Global};
 use std::marker::Model;
 
 /// How many connections there are: 0 to 63.
-pub const CONNECTIONS: usize = 64;
+pub(crate) const CONNECTIONS: usize = 64;
 
-/// The protocol machine, and of each connection its unfinished line and whether it is marked as gone.
+/// The protocol machine, and of each connection its unfinished line and whether
+/// it is marked as gone.
 #[derive(Drop)]
 pub struct Manager {
     machine: Machine,
@@ -58,8 +59,9 @@ impl Model for Manager {
 }
 
 impl Manager {
-    /// The manager of an expression with an empty history. The limit, 1 to 1,000,000, is the most that the Size of a
-    /// granted action's tree may be. `Large` comes exactly where the initial tree is above it. Nothing is called of the site.
+    /// The manager of an expression with an empty history. The limit, 1 to 1,000,000, is the most
+    /// that the Size of a granted action's tree may be. `Large` comes exactly where the initial
+    /// tree is above it. No call of the site is made.
     pub fn start<S: Site>(
         alloc: Global,
         site: &mut S,
@@ -94,10 +96,11 @@ impl Manager {
         })
     }
 
-    /// Takes an event with its bytes: raises the moment, handles each line that the bytes complete, in order, and sends its
-    /// replies. After a line `stop` the rest of the bytes is dropped, and `Stopped` is the answer. Closing a connection
-    /// drops its unfinished line and its mark. A reply whose `send` answers Gone marks its connection; further lines of it
-    /// are handled, and their replies aren't sent, until it is closed. A reservation outlives its connection.
+    /// Takes an event with its bytes: raises the moment, handles each line that the bytes complete,
+    /// in order, and sends its replies. After a line `stop` the rest of the bytes is dropped, and
+    /// `Stopped` is the answer. Closing a connection drops its unfinished line and its mark. A
+    /// reply whose `send` answers Gone marks its connection; further lines of it are handled, and
+    /// their replies aren't sent, until it is closed. A reservation outlives its connection.
     pub fn handle<S: Site>(&mut self, alloc: Global, event: Event, bytes: &[u8], site: &mut S) -> Go
         requires going { self.old.ended ≡ false }
         requires tickets { self.old.machine.ticket < 2 ^ 63 }
@@ -126,7 +129,8 @@ impl Manager {
         }
     }
 
-    /// Takes bytes of a connection, to their end or through a line `stop`, and answers each item that they complete.
+    /// Takes bytes of a connection, to their end or through a line `stop`, and answers each
+    /// item that they complete.
     fn take_bytes<S: Site>(&mut self, alloc: Global, conn: u8, bytes: &[u8], site: &mut S) -> Go
         requires connection { conn < 64 }
         requires tickets { self.old.machine.ticket + length bytes.now < 2 ^ 64 - 1 }
@@ -152,7 +156,6 @@ impl Manager {
         go
     }
 
-    /// Drops a connection's unfinished line and its mark.
     fn close(&mut self, conn: u8)
         requires { conn < 64 }
         ensures { self.new ≡ record self.old { lines = set self.old.lines conn (unfinished []); marks = set self.old.marks conn false } }
@@ -184,7 +187,6 @@ impl Manager {
     }
 }
 
-/// Whether the run ended.
 fn has_ended(go: Go) -> bool
     ensures { result ≡ spec.has_ended (ending_after go) }
 {
@@ -194,7 +196,6 @@ fn has_ended(go: Go) -> bool
     }
 }
 
-/// No text so far on any connection.
 fn all_lines(alloc: Global) -> Result<Vec<Lines>, AllocError>
     ensures { IfOk result (λ lines. lines.items ≡ replicate 64 (unfinished [])) }
 {
@@ -205,7 +206,6 @@ fn all_lines(alloc: Global) -> Result<Vec<Lines>, AllocError>
     Ok(lines)
 }
 
-/// Why a manager wasn't started whose machine wasn't made.
 fn start_fault(fault: BuildFault) -> StartFault
     ensures { result ≡ start_fault_of fault }
 {

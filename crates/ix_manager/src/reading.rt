@@ -7,7 +7,6 @@ ghost use Rattle.ix_values.specs.Texts.{IsAction, IsName};
 
 use ix_values::{Action, Name};
 
-/// The action whose text this is.
 pub(crate) fn read_action(text: &[u8]) -> Action
     requires { IsActionText text.now }
     ensures valid { IsAction result }
@@ -19,7 +18,6 @@ pub(crate) fn read_action(text: &[u8]) -> Action
     }
 }
 
-/// The name whose bytes these are.
 pub(crate) fn read_name(bytes: &[u8]) -> Name
     requires { IsName bytes.now }
     ensures { result ≡ bytes.now }

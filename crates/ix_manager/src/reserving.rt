@@ -46,8 +46,8 @@ impl Machine {
         }
     }
 
-    /// Answers that the action of the ticket was done: it is appended to the history where its reservation is open.
-    /// Takes no memory.
+    /// Answers that the action of the ticket was done: it is appended to the history where its
+    /// reservation is open. Takes no memory.
     pub(crate) fn confirm(&mut self, ticket: u64) -> Reply
         ensures { Does self.old (request.confirm ticket) result self.new }
     {
@@ -79,7 +79,6 @@ impl Machine {
     }
 }
 
-/// The deadline of a reservation that is open at this moment.
 fn open_deadline(slot: &Slot, moment: u64) -> Option<u64>
     ensures up_to { IfSome result (λ deadline. IsOpenUpTo slot.now moment deadline) }
     ensures none { IfNone result (¬ IsOpenAt slot.now moment) }
@@ -96,7 +95,7 @@ fn open_deadline(slot: &Slot, moment: u64) -> Option<u64>
     }
 }
 
-/// Prepares an action, with the memory to commit it, or tells why not.
+/// Takes the memory to commit the action too, so that a confirm needs none.
 fn prepare(engine: &mut Engine, alloc: Global, action: &Action) -> Result<Next, Reply>
     ensures prepared { IfOk result (λ next. IsPrepared engine.new action.now next) }
     ensures permitted { OnOk result (Allows engine.old action.now) }

@@ -47,14 +47,12 @@ pub(crate) fn send_changes<S: Site>(
     send_each(site, conn, gone, machine.changes(name));
 }
 
-/// How many changes there are of a name.
 fn count_changes(machine: &Machine, name: &Name) -> u32
     ensures { result ≡ length (change_replies (changes_of name.now machine.now.noted)) }
 {
     machine.changes(name).count() as u32
 }
 
-/// Sends each change.
 fn send_each<S: Site>(site: &mut S, conn: u8, gone: &mut bool, changes: Changes<'_>)
     ensures { SendsAll conn (change_replies changes.entry)
         (wired gone.old (S.contents site.old) (S.counts site.old) (S.attached site.old) (S.held site.old))

@@ -26,7 +26,6 @@ impl Machine {
         }
     }
 
-    /// Watches an action under a name no longer.
     pub(crate) fn drop_watch(&mut self, name: &Name, action: &Action) -> Reply
         ensures { Does self.old (request.drop_watch name.now action.now) result self.new }
     {
@@ -49,8 +48,9 @@ impl Machine {
     }
 }
 
-/// Watches an action under a name in these watches, which are those of the engine, and tells whether it is permitted.
-/// Where the pair isn't there and the watches are full, or memory runs out, they are as before.
+/// Watches an action under a name in these watches, which are those of the engine, and tells
+/// whether it is permitted. Where the pair isn't there and the watches are full, or memory runs
+/// out, they are as before.
 fn add_watch(
     engine: &Engine,
     watches: &mut Watches,
@@ -73,8 +73,8 @@ fn add_watch(
     }
 }
 
-/// Notes of each watch of the name whether its action is permitted. Where memory runs out some aren't noted; nothing
-/// else changes.
+/// Notes for each watch of the name whether its action is permitted. Where memory runs out some
+/// aren't noted; nothing else changes.
 fn refresh(
     engine: &Engine,
     watches: &mut Watches,

@@ -6,7 +6,7 @@ use std::marker::Model;
 
 /// The number of the next call, and the numbers of those that are told to fail.
 #[derive(Drop)]
-pub struct Calls {
+pub(crate) struct Calls {
     fail: Vec<u64>,
     number: u64,
 }
@@ -20,22 +20,21 @@ impl Model for Calls {
 }
 
 impl Calls {
-    /// No call was made yet, and those of these numbers are to fail.
-    pub fn new(fail: Vec<u64>) -> Calls
+    pub(crate) fn new(fail: Vec<u64>) -> Calls
         ensures { result ≡ record { fail = fail.items; number = 0 } }
     {
         Calls { fail, number: 0 }
     }
 
     /// The number of the next call, which is how many were made, up to 2^64 - 1.
-    pub fn number(&self) -> u64
+    pub(crate) fn number(&self) -> u64
         ensures { result ≡ self.now.number }
     {
         self.number
     }
 
     /// Makes the next call: whether its number stands among those that fail.
-    pub fn make(&mut self) -> bool
+    pub(crate) fn make(&mut self) -> bool
         ensures told { result ≡ is_told self.old }
         ensures after { self.new ≡ next_call self.old }
     {

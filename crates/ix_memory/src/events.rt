@@ -14,14 +14,14 @@ use std::marker::Model;
 
 /// An event, and where its bytes begin in the bytes of all events.
 #[derive(Clone, Copy)]
-pub struct Piece {
+pub(crate) struct Piece {
     pub event: Event,
     pub start: usize,
 }
 
 /// The events in order, how many of them were given whole, and what was given.
 #[derive(Drop)]
-pub struct Events {
+pub(crate) struct Events {
     bytes: Vec<u8>,
     pieces: Vec<Piece>,
     at: usize,
@@ -47,8 +47,9 @@ impl Model for Events {
 }
 
 impl Events {
-    /// These events, each beside its bytes, none of them given yet, with the memory for so many events given.
-    pub fn new(
+    /// These events, each beside its bytes, none of them given yet. It takes the memory for
+    /// `records` given events.
+    pub(crate) fn new(
         alloc: Global,
         events: &[(Event, Vec<u8>)],
         records: usize,
@@ -75,9 +76,10 @@ impl Events {
         })
     }
 
-    /// Gives the next event through the buffer, and puts its bytes at the buffer's front: the front of the first event
-    /// to come, where the buffer is too short for the whole of it; the end, where none is to come.
-    pub fn next(&mut self, buf: &mut [u8]) -> Event
+    /// Gives the next event, with its bytes at the front of the buffer. Where the buffer is too
+    /// short for all of them, it gives a front of the event and keeps the rest; after the last
+    /// event it gives the end.
+    pub(crate) fn next(&mut self, buf: &mut [u8]) -> Event
         requires buf { 0 < length buf.old }
         requires spare { 1 ≤ self.old.spare }
         ensures event { record { event = result; bytes = piece_of result.kind buf.new }
@@ -96,7 +98,6 @@ impl Events {
     }
 }
 
-// Puts an event behind the pieces, and its bytes behind the bytes of all of them.
 fn add_piece(
     bytes: &mut Vec<u8>,
     pieces: &mut Vec<Piece>,
@@ -117,7 +118,8 @@ fn add_piece(
     }
 }
 
-// The next piece through a buffer of this length; what the buffer doesn't take stays as the first piece to come.
+/// Takes the next piece for a buffer of this length. What the buffer doesn't take stays as the
+/// first piece to come.
 fn take_piece(pieces: &mut Vec<Piece>, at: &mut usize, last: u64, room: usize) -> Piece
     requires at { at.old ≤ length pieces.old.items }
     requires room { 0 < room }
@@ -143,7 +145,6 @@ fn take_piece(pieces: &mut Vec<Piece>, at: &mut usize, last: u64, room: usize) -
     }
 }
 
-// The end, after the last event.
 fn end_piece(moment: u64) -> Piece
     ensures { result ≡ record { event = record { conn = 0; moment = moment; kind = EventKind.End }; start = 0 } }
 {
@@ -157,7 +158,6 @@ fn end_piece(moment: u64) -> Piece
     }
 }
 
-// The first bytes of a piece.
 fn front_piece(piece: Piece, room: usize) -> Piece
     ensures { result ≡ record piece { event = record piece.event { kind = EventKind.Bytes room } } }
 {
@@ -170,7 +170,6 @@ fn front_piece(piece: Piece, room: usize) -> Piece
     }
 }
 
-// The bytes of a piece behind the first ones.
 fn rest_piece(piece: Piece, count: usize, room: usize) -> Piece
     requires room { room < count }
     requires within { piece.start + count ≤ 2 ^ 64 - 1 }
@@ -186,7 +185,6 @@ fn rest_piece(piece: Piece, count: usize, room: usize) -> Piece
     }
 }
 
-// Puts the bytes of a piece at the front of the buffer.
 fn copy_front(bytes: &[u8], piece: Piece, buf: &mut [u8])
     requires kept { IsKept (length bytes.now) piece }
     requires fits { FitsBuffer (length buf.old) piece.event }

@@ -32,7 +32,8 @@ impl Model for MemoryFiles {
 }
 
 impl MemoryFiles {
-    /// These files; the calls whose numbers stand in `fail` are to fail, the first call being number 0.
+    /// These files. The calls whose numbers stand in `fail` are to fail, the first
+    /// call being number 0.
     pub fn new(files: Vec<(String, Vec<u8>)>, fail: Vec<u64>) -> MemoryFiles
         ensures files { result.files ≡ listing_of files.items }
         ensures calls { result.calls ≡ record { fail = fail.items; number = 0 } }
@@ -53,8 +54,9 @@ impl Files for MemoryFiles {
 
     ghost held = { λ _. free };
 
-    /// The bytes of the first file of this name. A call that is told to fail is `Failed`, and so is one with a name
-    /// that no file has; a file of more than `limit` bytes is `TooLong`; the copy that is given away may want memory.
+    /// The bytes of the first file of this name. `Failed` is a call that is told to fail, or a
+    /// name that no file has; `TooLong` a file of more than `limit` bytes; `Memory` want of
+    /// memory for the copy.
     fn load(&mut self, alloc: Global, name: &str, limit: usize) -> Result<Vec<u8>, LoadFault>
         ensures bytes { IfOk result (λ bytes. HasFile (Some self.old.files) name.now bytes.items) }
         ensures within { IfOk result (λ bytes. length bytes.items ≤ limit) }
@@ -77,7 +79,6 @@ impl Files for MemoryFiles {
     }
 }
 
-// The bytes of the first file of this name, at most `limit` of them, unless the call is told to fail.
 fn loaded(
     alloc: Global,
     files: &[(String, Vec<u8>)],
@@ -108,7 +109,6 @@ fn loaded(
     }
 }
 
-// The bytes of the first file of this name.
 fn bytes_of<'a>(files: &'a [(String, Vec<u8>)], name: &str) -> Option<&'a [u8]>
     ensures { MatchOption result
         (IsAbsent (listing_of files.entry.now) name.now)

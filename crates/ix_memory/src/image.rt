@@ -4,8 +4,8 @@ ghost use Rattle.ix_memory.specs.inside.SiteState.{written};
 
 use crate::room::copy_text;
 
-/// Reads the bytes from a place on into the front of the buffer, and says how many there were.
-pub fn read(image: &[u8], at: u64, buf: &mut [u8]) -> usize
+/// Reads the bytes from `at` on into the front of the buffer, and gives their number.
+pub(crate) fn read(image: &[u8], at: u64, buf: &mut [u8]) -> usize
     ensures count { result ≡ min (length buf.old) (length image.now - at) }
     ensures front { take result buf.new ≡ take result (drop at image.now) }
     ensures rest { drop result buf.new ≡ drop result buf.old }
@@ -19,8 +19,8 @@ pub fn read(image: &[u8], at: u64, buf: &mut [u8]) -> usize
     count
 }
 
-/// Writes the bytes at a place, over what is there and past the end, where there is room for them.
-pub fn write(image: &mut Vec<u8>, at: usize, bytes: &[u8])
+/// Writes the bytes at `at`, over what is there and past the end. It takes no memory.
+pub(crate) fn write(image: &mut Vec<u8>, at: usize, bytes: &[u8])
     requires at { at ≤ length image.old.items }
     requires room { vec_len image.old + length bytes.now ≤ vec_capacity image.old }
     ensures items { image.new.items ≡ written at bytes.now image.old.items }
@@ -33,7 +33,6 @@ pub fn write(image: &mut Vec<u8>, at: usize, bytes: &[u8])
     prove!(taken.is_ok());
 }
 
-// Writes the bytes at a place, over what is there.
 fn write_over(image: &mut [u8], at: usize, bytes: &[u8])
     requires { at + length bytes.now ≤ length image.old }
     ensures { image.new ≡ written at bytes.now image.old }

@@ -9,7 +9,7 @@ use std::marker::Model;
 
 /// How a call fares.
 #[derive(Clone, Copy)]
-pub enum Fate {
+pub(crate) enum Fate {
     /// It does what it is for.
     Works,
     /// It fails as it is told to.
@@ -18,10 +18,10 @@ pub enum Fate {
     Full,
 }
 
-/// The calls that fail by their number, the number from which on all fail, and the room that is left, none once it was
-/// passed.
+/// The calls that fail by their number, the number from which on all fail, and the room that is
+/// left, or None once it was passed.
 #[derive(Drop)]
-pub struct Plan {
+pub(crate) struct Plan {
     calls: Calls,
     fuse: Option<u64>,
     left: Option<usize>,
@@ -36,9 +36,9 @@ impl Model for Plan {
 }
 
 impl Plan {
-    /// No call was made yet. Those whose numbers stand in `fail` are to fail, those from the number `fuse` on, and those
-    /// whose cost with that of all before them is above `room`.
-    pub fn new(fail: Vec<u64>, fuse: Option<u64>, room: usize) -> Plan
+    /// No call was made yet. Those whose numbers stand in `fail` are to fail, those from the number
+    /// `fuse` on, and those whose cost with that of all before them is above `room`.
+    pub(crate) fn new(fail: Vec<u64>, fuse: Option<u64>, room: usize) -> Plan
         ensures { result ≡ fresh_plan fail.items fuse room }
     {
         Plan {
@@ -49,14 +49,13 @@ impl Plan {
     }
 
     /// How many calls were made, up to 2^64 - 1.
-    pub fn calls(&self) -> u64
+    pub(crate) fn calls(&self) -> u64
         ensures { result ≡ self.now.calls.number }
     {
         self.calls.number()
     }
 
-    /// Makes a call of this cost.
-    pub fn make(&mut self, cost: usize) -> Fate
+    pub(crate) fn make(&mut self, cost: usize) -> Fate
         ensures fate { result ≡ fate_of self.old cost }
         ensures after { self.new ≡ plan_after self.old cost }
         ensures room { TakesRoom result cost self.old self.new }
@@ -75,7 +74,6 @@ impl Plan {
     }
 }
 
-// Whether so many calls spent the fuse.
 fn is_spent(fuse: Option<u64>, number: u64) -> bool
     ensures { result ≡ is_spent_by fuse number }
 {
@@ -85,7 +83,6 @@ fn is_spent(fuse: Option<u64>, number: u64) -> bool
     }
 }
 
-// The room that is left behind a cost.
 fn room_behind(cost: usize, left: Option<usize>) -> Option<usize>
     ensures { result ≡ room_left_behind cost left }
 {

@@ -2,7 +2,7 @@
 ghost use Rattle.std.specs.Prelude.{◌≡◌, ◌<◌, ◌≤◌, ◌+◌, ◌++◌, [], ◌∷◌, length, take, drop, vec_len, vec_capacity};
 
 /// Puts an item behind the others, which takes no memory.
-pub fn put<T: Copy>(items: &mut Vec<T>, item: T)
+pub(crate) fn put<T: Copy>(items: &mut Vec<T>, item: T)
     requires { vec_len items.old < vec_capacity items.old }
     ensures items { items.new.items ≡ items.old.items ++ item ∷ [] }
     ensures len { vec_len items.new ≡ vec_len items.old + 1 }
@@ -12,8 +12,7 @@ pub fn put<T: Copy>(items: &mut Vec<T>, item: T)
     prove!(pushed.is_ok());
 }
 
-/// Puts so many bytes from a place on at the front of the buffer.
-pub fn copy_text(bytes: &[u8], start: usize, count: usize, buf: &mut [u8])
+pub(crate) fn copy_text(bytes: &[u8], start: usize, count: usize, buf: &mut [u8])
     requires within { start + count ≤ length bytes.now }
     requires fits { count ≤ length buf.old }
     ensures front { take count buf.new ≡ take count (drop start bytes.now) }

@@ -10,21 +10,21 @@ use std::marker::Model;
 
 /// A text by its two ends in the bytes of all texts.
 #[derive(Clone, Copy)]
-pub struct Span {
+pub(crate) struct Span {
     pub start: usize,
     pub end: usize,
 }
 
 /// What one send sent.
 #[derive(Clone, Copy)]
-pub struct Pair {
+pub(crate) struct Pair {
     pub conn: u8,
     pub span: Span,
 }
 
 /// The sends in order, those of them that answered Gone, and the names that were heard.
 #[derive(Drop)]
-pub struct Sent {
+pub(crate) struct Sent {
     bytes: Vec<u8>,
     pairs: Vec<Pair>,
     gone: Vec<usize>,
@@ -49,7 +49,7 @@ impl Model for Sent {
 
 impl Sent {
     /// No sends and no names, with the memory for so many bytes and so many records of each kind.
-    pub fn new(alloc: Global, bytes: usize, records: usize) -> Result<Sent, AllocError>
+    pub(crate) fn new(alloc: Global, bytes: usize, records: usize) -> Result<Sent, AllocError>
         ensures sends { IfOk result (λ s. s.sends ≡ no_sends) }
         ensures bytes { IfOk result (λ s. bytes ≤ s.spare_bytes) }
         ensures records { IfOk result (λ s. records ≤ s.spare_records) }
@@ -62,15 +62,13 @@ impl Sent {
         })
     }
 
-    /// How many sends there were.
-    pub fn len(&self) -> usize
+    pub(crate) fn len(&self) -> usize
         ensures { result ≡ length self.now.sends.sent }
     {
         self.pairs.len()
     }
 
-    /// The connection and the bytes of a send.
-    pub fn at(&self, index: usize) -> (u8, &[u8])
+    pub(crate) fn at(&self, index: usize) -> (u8, &[u8])
         requires { index < length self.now.sends.sent }
         ensures { slice_get self.now.sends.sent index ≡ Some (record { conn = result.0; bytes = result.1.now }) }
     {
@@ -78,8 +76,7 @@ impl Sent {
         (pair.conn, text(&self.bytes, pair.span))
     }
 
-    /// One more send.
-    pub fn send(&mut self, conn: u8, bytes: &[u8])
+    pub(crate) fn send(&mut self, conn: u8, bytes: &[u8])
         requires bytes { length bytes.now ≤ self.old.spare_bytes }
         requires records { 1 ≤ self.old.spare_records }
         ensures sends { self.new.sends ≡ with_pair conn bytes.now self.old.sends }
@@ -90,8 +87,7 @@ impl Sent {
         put(&mut self.pairs, Pair { conn, span });
     }
 
-    /// One more send, which answers Gone.
-    pub fn send_gone(&mut self, conn: u8, bytes: &[u8])
+    pub(crate) fn send_gone(&mut self, conn: u8, bytes: &[u8])
         requires bytes { length bytes.now ≤ self.old.spare_bytes }
         requires records { 1 ≤ self.old.spare_records }
         ensures sends { self.new.sends ≡ with_gone conn bytes.now self.old.sends }
@@ -104,8 +100,7 @@ impl Sent {
         put(&mut self.pairs, Pair { conn, span });
     }
 
-    /// One more name.
-    pub fn hear(&mut self, name: &[u8])
+    pub(crate) fn hear(&mut self, name: &[u8])
         requires bytes { length name.now ≤ self.old.spare_bytes }
         requires records { 1 ≤ self.old.spare_records }
         ensures sends { self.new.sends ≡ with_heard name.now self.old.sends }
@@ -117,7 +112,6 @@ impl Sent {
     }
 }
 
-// The text between the two ends.
 fn text(bytes: &[u8], span: Span) -> &[u8]
     requires in_order { span.start ≤ span.end }
     requires within { span.end ≤ length bytes.now }
@@ -126,7 +120,7 @@ fn text(bytes: &[u8], span: Span) -> &[u8]
     &bytes[span.start..span.end]
 }
 
-// Puts a text behind the bytes of all texts, for which there is room.
+/// There is room for the text, so no memory is taken.
 fn kept(bytes: &mut Vec<u8>, text: &[u8]) -> Span
     requires { vec_len bytes.old + length text.now ≤ vec_capacity bytes.old }
     ensures items { bytes.new.items ≡ bytes.old.items ++ text.now }

@@ -34,8 +34,8 @@ impl Model for MemorySink {
 }
 
 impl MemorySink {
-    /// No bytes went out yet, and at most `room` may. The calls whose numbers stand in `fail` are to fail, the first
-    /// call being number 0. It takes the memory for the whole room.
+    /// No bytes went out yet, and at most `room` may. The calls whose numbers stand in `fail` are
+    /// to fail, the first call being number 0. It takes the memory for the whole room.
     pub fn new(alloc: Global, room: usize, fail: Vec<u64>) -> Result<MemorySink, AllocError>
         ensures bytes { IfOk result (λ s. s.bytes ≡ []) }
         ensures room { IfOk result (λ s. s.room ≡ room) }
@@ -66,8 +66,8 @@ impl Sink for MemorySink {
 
     ghost held = { λ _. free };
 
-    /// Puts the bytes out. It fails exactly where it is told to, or where there would be more bytes than the room; then
-    /// none of its bytes go out.
+    /// Puts the bytes out. It fails exactly where it is told to, or where there would be more bytes
+    /// than the room; then none of its bytes go out.
     fn put(&mut self, bytes: &[u8]) -> Result<(), Failed>
         ensures whole { OnOk result (Some self.new.bytes ≡ append_known (Some self.old.bytes) bytes.now) }
         ensures part { OnErr result (AppendsPart (Some self.old.bytes) bytes.now (Some self.new.bytes)) }

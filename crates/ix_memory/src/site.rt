@@ -18,16 +18,17 @@ use ix_outside::{DiskFailed, Event, Gone, Site, WireFailed};
 use std::alloc::{AllocError, Global};
 use std::marker::Model;
 
-/// What a call costs at least.
+/// The cost of a call that carries no bytes and no name; their length is added to it.
 const LEAST_COST: usize = 16;
 
 /// Connections and one file in memory.
 ///
-/// Each call has a cost: `send` and `write_at` cost 16 and the number of their bytes, `listen` and `attach` 16 and the
-/// number of their name's bytes, and every other call 16. A call fails exactly where its number stands among those that
-/// are told to fail, where as many calls as the fuse says were made, or where its cost and that of all calls before it
-/// are together above the room. One that fails by the room changes nothing but its count of faults. `write_at` beyond
-/// the end and `cut` to more than the length fail too.
+/// Each call has a cost: `send` and `write_at` cost 16 and the number of their bytes, `listen` and
+/// `attach` 16 and the number of their name's bytes, and every other call 16. A call fails exactly
+/// where its number stands among those that are told to fail, where as many calls as the fuse says
+/// were made, or where its cost and that of all calls before it are together above the room. One
+/// that fails by the room changes nothing but its count of faults. `write_at` beyond the end and
+/// `cut` to more than the length fail too.
 #[derive(Drop)]
 pub struct MemorySite {
     plan: Plan,
@@ -66,9 +67,9 @@ impl Model for MemorySite {
 }
 
 impl MemorySite {
-    /// A site with this file, not attached yet, that gives these events, each beside its bytes. The calls whose numbers
-    /// stand in `fail` are to fail, the first call being number 0, those from the number `fuse` on, and those for which
-    /// there is no room. It takes all its memory.
+    /// A site with this file, not attached yet, that gives these events, each beside its bytes. The
+    /// calls whose numbers stand in `fail` are to fail, the first call being number 0, those from
+    /// the number `fuse` on, and those for which there is no room. It takes all its memory.
     pub fn new(
         alloc: Global,
         mut image: Vec<u8>,
@@ -158,8 +159,9 @@ impl Site for MemorySite {
         }
     }
 
-    /// The front of the next event to come, as much of its bytes as the buffer takes, with the rest of them left for
-    /// further calls; after the last event the end, at that event's moment, or 0 where there was none. It costs 16.
+    /// The front of the next event to come, as much of its bytes as the buffer takes, with the rest
+    /// of them left for further calls; after the last event the end, at that event's moment, or 0
+    /// where there was none. It costs 16.
     fn next(&mut self, buf: &mut [u8]) -> Result<Event, WireFailed>
         requires { 0 < length buf.old }
         ensures exactly { is_ok result ≡ not (fails_at self.old.plan 16) }
@@ -186,8 +188,9 @@ impl Site for MemorySite {
         }
     }
 
-    /// The bytes are sent. One that fails as it is told to sends the first half of them, rounded down; for one that
-    /// fails by the room the site tells no contents any more. It costs 16 and the number of its bytes.
+    /// The bytes are sent. One that fails as it is told to sends the first half of them, rounded
+    /// down; for one that fails by the room the site tells no contents any more. It costs 16 and
+    /// the number of its bytes.
     fn send(&mut self, conn: u8, bytes: &[u8]) -> Result<(), Gone>
         ensures exactly { is_ok result ≡ not (fails_at self.old.plan (16 + length bytes.now)) }
         ensures ok { OnOk result (self.new
@@ -284,8 +287,9 @@ impl Site for MemorySite {
         }
     }
 
-    /// The bytes are written. One that fails as it is told to writes the first half of them, rounded down; one beyond the
-    /// end fails and writes nothing. It costs 16 and the number of its bytes.
+    /// The bytes are written. One that fails as it is told to writes the first half of
+    /// them, rounded down; one beyond the end fails and writes nothing. It costs 16 and the
+    /// number of its bytes.
     fn write_at(&mut self, at: u64, bytes: &[u8]) -> Result<(), DiskFailed>
         requires { self.old.attached ≡ true }
         ensures exactly { is_ok result

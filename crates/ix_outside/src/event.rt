@@ -3,7 +3,7 @@
 /// What happened on a connection.
 #[derive(Clone, Copy, Debug, PartialEq, Eq)]
 pub enum EventKind {
-    /// So many bytes came.
+    /// This many bytes came.
     Bytes(usize),
     /// The connection was closed.
     Closed,
@@ -11,7 +11,8 @@ pub enum EventKind {
     End,
 }
 
-/// An event of a connection. `moment` is in milliseconds, and may go back from one event to the next.
+/// An event of a connection. `moment` is in milliseconds, and may go back from
+/// one event to the next.
 #[derive(Clone, Copy, Debug, PartialEq, Eq)]
 pub struct Event {
     pub conn: u8,

@@ -18,7 +18,7 @@ pub trait Files {
     /// The other objects that this one was lent. Every call keeps it.
     ghost held: { Self → Loans };
 
-    /// The bytes of the file of this name, at most `limit` of them. The files stay as they were, told or not.
+    /// The bytes of the file of this name, at most `limit` of them. The files stay as they were.
     fn load(&mut self, alloc: Global, name: &str, limit: usize) -> Result<Vec<u8>, LoadFault>
         ensures bytes { IfOk result (λ bytes. HasFile (contents self.old) name.now bytes.items) }
         ensures within { IfOk result (λ bytes. length bytes.items ≤ limit) }

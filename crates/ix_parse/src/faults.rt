@@ -2,16 +2,16 @@
 
 /// A syntax fault that is met at a token or at the end of the text.
 #[derive(Clone, Copy, Debug, PartialEq, Eq)]
-pub enum Fault {
+pub(crate) enum Fault {
     /// A byte that begins no token.
     NoToken,
-    /// In the place of an operand `times`, or a quantifier's word with no parameter behind it.
+    /// Where an operand is wanted: `times`, or a quantifier's word with no parameter behind it.
     Reserved,
     /// The comma after a fourth argument.
     FifthArgument,
     /// A token with which no text could go on.
     Unexpected,
-    /// A word or a parameter of more than 32 bytes.
+    /// A word, or a parameter without its `$`, of more than 32 bytes.
     LongName,
     /// A parenthesis, a prefix or a quantifier's word that opens the 65th level.
     TooDeep,

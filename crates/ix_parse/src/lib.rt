@@ -23,14 +23,14 @@ use crate::taking::read_operand;
 use ix_expr::Expression;
 use std::alloc::Global;
 
-/// Why a text is no expression: its first fault, by its code and the place where it is met, or want of memory.
+/// Why a text is no expression: its first fault, by its code and the place where it is
+/// met, or want of memory.
 #[derive(Clone, Copy, Debug, PartialEq, Eq)]
 pub enum TextFault {
     Bad { code: u8, at: usize },
     Memory,
 }
 
-// The code of a fault, at a place.
 fn fault_at(fault: Fault, at: usize) -> TextFault
     ensures { result ≡ TextFault.Bad (spec.code_of fault) at }
 {
@@ -60,9 +60,9 @@ fn fault_at(fault: Fault, at: usize) -> TextFault
 /// - 8: the token of the 513th node.
 /// - 4, at the text's end: the text isn't whole.
 ///
-/// Of these the one at the least place is given, and at one place the first of this list. Where none is met, the first
-/// form fault is given (5, 6, 7, 8, 9 and 13, as `ix_expr` tells them), at the start of its node's token: an atom's name,
-/// an operator, a prefix or a quantifier's word.
+/// Of these the one at the least place is given, and at one place the first of this list. Where
+/// none is met, the first form fault is given (5, 6, 7, 8, 9 and 13, as `ix_expr` tells them), at
+/// the start of its node's token: an atom's name, an operator, a prefix or a quantifier's word.
 pub fn read(alloc: Global, text: &[u8]) -> Result<Expression, TextFault>
     ensures ok { IfOk result (λ x. spec.StandsFor text.now x) }
     ensures fault { IfErr result (λ fault. IsFaultOf text.now fault) }
@@ -76,13 +76,13 @@ pub fn read(alloc: Global, text: &[u8]) -> Result<Expression, TextFault>
     }
 }
 
-/// Law: the canonical text of each well-formed expression stands for it, where the text is of at most 16,384 bytes and
-/// opens at most 64 levels.
+/// Law: the canonical text of each well-formed expression stands for it, where the text is of at
+/// most 16,384 bytes and opens at most 64 levels.
 pub fn canonical_text_reads_back()
     ensures { CanonicalTextReadsBack }
 {}
 
-// The expression of an operand, or its first form fault at its node's token.
+/// A form fault is told at the token of its node.
 fn checked(operand: Operand) -> Result<Expression, TextFault>
     requires { HasPlaces (meaning_of operand) }
     ensures { IsWellFormedOr (meaning_of operand) result }

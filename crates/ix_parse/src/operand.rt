@@ -10,7 +10,7 @@ use std::alloc::{AllocError, Global};
 
 /// An operand, and where the token of each of its nodes starts, the nodes in pre-order.
 #[derive(Drop)]
-pub struct Operand {
+pub(crate) struct Operand {
     pub expr: Expr,
     pub places: Vec<usize>,
 }
@@ -19,8 +19,12 @@ impl Operand {
     ghost use Rattle.ix_parse.specs.declared.signs.WordClass.TheVariants.{Names};
     ghost use Rattle.ix_parse.specs.inside.Operands.{meaning_of};
 
-    /// An atom.
-    pub fn atom(alloc: Global, at: usize, name: Name, args: &[Arg]) -> Result<Operand, AllocError>
+    pub(crate) fn atom(
+        alloc: Global,
+        at: usize,
+        name: Name,
+        args: &[Arg],
+    ) -> Result<Operand, AllocError>
         requires named { spec.class_of name ≡ Names }
         requires few { length args.now ≤ 4 }
         ensures { IfOk result (λ x. meaning_of x ≡ spec.named at name args.now) }
@@ -34,8 +38,12 @@ impl Operand {
         Ok(Operand { expr, places })
     }
 
-    /// A prefix in front of the operand.
-    pub fn prefixed(self, alloc: Global, prefix: Prefix, at: usize) -> Result<Operand, AllocError>
+    pub(crate) fn prefixed(
+        self,
+        alloc: Global,
+        prefix: Prefix,
+        at: usize,
+    ) -> Result<Operand, AllocError>
         ensures { IfOk result (λ x. meaning_of x ≡ spec.prefixed prefix at (meaning_of self)) }
     {
         let Operand { expr, mut places } = self;
@@ -49,8 +57,7 @@ impl Operand {
         Ok(Operand { expr, places })
     }
 
-    /// A quantifier in front of the operand.
-    pub fn quantified(
+    pub(crate) fn quantified(
         self,
         alloc: Global,
         quantifier: Quantifier,
@@ -71,8 +78,7 @@ impl Operand {
         Ok(Operand { expr, places })
     }
 
-    /// An operator between the operand and another.
-    pub fn joined(
+    pub(crate) fn joined(
         self,
         alloc: Global,
         operator: Operator,

@@ -20,33 +20,28 @@ use ix_expr::Arg;
 use ix_values::Name;
 use std::alloc::{AllocError, Global};
 
-/// What was read last.
+/// What was read last. Beside the name of an atom and the word of a quantifier stands its place.
 #[derive(Drop)]
-pub enum Mode {
+pub(crate) enum Mode {
     /// Nothing that an operand could follow: one is wanted.
     Wanted,
-    /// The name of an atom.
     NameRead(usize, Name),
     /// The parenthesis of an atom's arguments, or a comma in them.
     ArgumentWanted(usize, Name, Vec<Arg>),
-    /// An argument.
     ArgumentRead(usize, Name, Vec<Arg>),
-    /// The word of a quantifier.
     QuantifierRead(usize, Quantifier),
-    /// An operand.
     OperandRead(Operand),
 }
 
 /// What is open, and what was read last.
 #[derive(Drop)]
-pub struct Reader {
+pub(crate) struct Reader {
     pub stack: Vec<Entry>,
     pub mode: Mode,
 }
 
 impl Reader {
-    /// Nothing was read.
-    pub fn new(alloc: Global) -> Reader
+    pub(crate) fn new(alloc: Global) -> Reader
         ensures { config_of result ≡ machine.start }
     {
         Reader {
@@ -55,8 +50,10 @@ impl Reader {
         }
     }
 
-    /// The fault that the next token meets after so many nodes' tokens, by whether a parameter follows it.
-    pub fn fault_of(
+    /// The fault that the next token meets, if any, where `nodes` is how many tokens before it
+    /// were nodes'. `param_next` tells whether a parameter follows it: without one a
+    /// quantifier's word is reserved.
+    pub(crate) fn fault_of(
         &self,
         nodes: usize,
         at: usize,
@@ -82,8 +79,7 @@ impl Reader {
         }
     }
 
-    /// Whether an operand is wanted.
-    pub fn wants_operand(&self) -> bool
+    pub(crate) fn wants_operand(&self) -> bool
         ensures { result ≡ judging.is_wanted (mode_of self.now.mode) }
     {
         matches!(&self.mode, Mode::Wanted)
@@ -98,7 +94,7 @@ impl Reader {
         }
     }
 
-    // Whether some text goes on with the token.
+    /// Whether some text goes on with the token.
     fn may_come(&self, sign: Sign<'_>) -> bool
         ensures { (at : ℕ) → result ≡ judging.may_come (config_of self.now) (symbol_at at sign.entry) }
     {
@@ -200,8 +196,8 @@ fn is_quantifier(class: WordClass) -> bool
     }
 }
 
-/// Whether the token is a node's, by whether an operand is wanted.
-pub fn is_node(wants_operand: bool, sign: Sign<'_>) -> bool
+/// A word is a node's only where an operand is wanted: an argument is no node.
+pub(crate) fn is_node(wants_operand: bool, sign: Sign<'_>) -> bool
     ensures { (at : ℕ) → result ≡ judging.is_node wants_operand (symbol_at at sign.entry) }
 {
     match sign {

@@ -2,7 +2,7 @@
 
 /// A binary operator.
 #[derive(Clone, Copy, Debug, PartialEq, Eq)]
-pub enum Operator {
+pub(crate) enum Operator {
     Or,
     And,
     Couple,
@@ -12,15 +12,14 @@ pub enum Operator {
 
 /// A prefix of one byte.
 #[derive(Clone, Copy, Debug, PartialEq, Eq)]
-pub enum Prefix {
+pub(crate) enum Prefix {
     Opt,
     Star,
     ParStar,
 }
 
-/// A quantifier.
 #[derive(Clone, Copy, Debug, PartialEq, Eq)]
-pub enum Quantifier {
+pub(crate) enum Quantifier {
     Any,
     Every,
     Sync,
@@ -29,7 +28,7 @@ pub enum Quantifier {
 
 /// What a word is in the place of an operand.
 #[derive(Clone, Copy, Debug, PartialEq, Eq)]
-pub enum WordClass {
+pub(crate) enum WordClass {
     /// The word of a quantifier.
     Quantifies(Quantifier),
     /// The word `times`, which is reserved and begins nothing.

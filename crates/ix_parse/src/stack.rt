@@ -13,29 +13,29 @@ use std::alloc::{AllocError, Global};
 
 /// What stands in front of an operand and takes it alone.
 #[derive(Clone, Copy)]
-pub enum Taking {
+pub(crate) enum Taking {
     Sign(usize, Prefix),
     Binder(usize, Quantifier, Name),
 }
 
 /// An operator with its left operand.
 #[derive(Drop)]
-pub struct Left {
+pub(crate) struct Left {
     pub at: usize,
     pub operator: Operator,
     pub operand: Operand,
 }
 
-/// Something that is open.
+/// What is open: a group, a prefix or quantifier, or an operator with its left operand.
 #[derive(Drop)]
-pub enum Entry {
+pub(crate) enum Entry {
     Group,
     Taking(Taking),
     Left(Left),
 }
 
 /// How tightly an operator binds, the weakest first.
-pub fn level(operator: Operator) -> u8
+pub(crate) fn level(operator: Operator) -> u8
     ensures { result ≡ spec.level operator }
 {
     match operator {
@@ -47,7 +47,6 @@ pub fn level(operator: Operator) -> u8
     }
 }
 
-// The prefix or the quantifier that is inmost, if one is.
 fn taking_inmost(stack: &[Entry]) -> Option<Taking>
     ensures { MatchOption result
         (is_prefix_inmost (stack_of stack.now) ≡ false)
@@ -61,7 +60,7 @@ fn taking_inmost(stack: &[Entry]) -> Option<Taking>
     }
 }
 
-// Whether an operator is inmost that binds at least as tightly as the level.
+/// Whether the inmost is an operator that binds at least as tightly as the level.
 fn binds_inmost(stack: &[Entry], lowest: u8) -> bool
     ensures { result ≡ is_left_inmost lowest (stack_of stack.now) }
 {
@@ -73,7 +72,6 @@ fn binds_inmost(stack: &[Entry], lowest: u8) -> bool
     }
 }
 
-// Takes the operator that is inmost, if one is that binds at least as tightly as the level.
 fn pop_left(stack: &mut Vec<Entry>, lowest: u8) -> Option<Left>
     ensures { MatchOption result
         ((stack.new.items ≡ stack.old.items) × (is_left_inmost lowest (stack_of stack.old.items) ≡ false))
@@ -102,7 +100,7 @@ fn with_taking(alloc: Global, taking: Taking, operand: Operand) -> Result<Operan
 }
 
 /// The operand with the prefixes in front of it, which are open no more.
-pub fn closed(
+pub(crate) fn closed(
     alloc: Global,
     stack: &mut Vec<Entry>,
     operand: Operand,
@@ -119,7 +117,7 @@ pub fn closed(
 }
 
 /// The operand joined to the left operands of operators that bind at least as tightly as the level.
-pub fn reduced(
+pub(crate) fn reduced(
     alloc: Global,
     stack: &mut Vec<Entry>,
     lowest: u8,
@@ -140,21 +138,19 @@ pub fn reduced(
     Ok(operand)
 }
 
-/// How many levels are open.
-pub fn levels(stack: &[Entry]) -> usize
+pub(crate) fn levels(stack: &[Entry]) -> usize
     ensures { result ≡ machine.levels (stack_of stack.now) }
 {
     count_of(stack, true)
 }
 
-/// How many groups are open.
-pub fn groups(stack: &[Entry]) -> usize
+pub(crate) fn groups(stack: &[Entry]) -> usize
     ensures { result ≡ machine.groups (stack_of stack.now) }
 {
     count_of(stack, false)
 }
 
-// How many groups are open, and with them the prefixes and quantifiers if they are wanted.
+/// How many groups are open, and with `takings` the prefixes and quantifiers too.
 fn count_of(stack: &[Entry], takings: bool) -> usize
     ensures { result ≡ count_by (λ e. is_counted takings e) stack.now }
 {

@@ -21,7 +21,6 @@ use ix_expr::Arg;
 use ix_values::Name;
 use std::alloc::{AllocError, Global};
 
-// A token where an operand is wanted.
 #[tactic(auto, using(crate::proofs::Stacks::pushed))]
 fn step_wanted(stack: Vec<Entry>, at: usize, sign: Sign<'_>) -> Result<Reader, AllocError>
     requires may { IsSome (machine.step_wanted (stack_of stack.items) (symbol_at at sign)) }
@@ -55,7 +54,6 @@ fn step_wanted(stack: Vec<Entry>, at: usize, sign: Sign<'_>) -> Result<Reader, A
     }
 }
 
-// A word where an operand is wanted.
 fn word_mode(at: usize, word: &[u8]) -> Mode
     requires begins { judging.begins_operand (spec.class_of word.now) ≡ true }
     requires readable { IsValue word.now }
@@ -69,7 +67,6 @@ fn word_mode(at: usize, word: &[u8]) -> Mode
     }
 }
 
-// A token behind the name of an atom.
 fn step_name(
     alloc: Global,
     stack: Vec<Entry>,
@@ -105,7 +102,6 @@ fn step_name(
     }
 }
 
-// A token behind an operand.
 fn step_operand(
     alloc: Global,
     stack: Vec<Entry>,
@@ -127,7 +123,6 @@ fn step_operand(
     }
 }
 
-// An operator behind an operand.
 #[tactic(auto, using(crate::proofs::Stacks::pushed))]
 fn join(
     alloc: Global,
@@ -151,7 +146,7 @@ fn join(
     })
 }
 
-// A closing parenthesis behind an operand in a group.
+/// A closing parenthesis behind an operand in a group.
 fn leave(alloc: Global, stack: Vec<Entry>, operand: Operand) -> Result<Reader, AllocError>
     requires { IsSome (machine.step_operand (stack_of stack.items) (meaning_of operand) spec.closing) }
     ensures { IfOk result (λ r. machine.step_operand (stack_of stack.items) (meaning_of operand) spec.closing ≡ Some (config_of r)) }
@@ -172,7 +167,6 @@ fn leave(alloc: Global, stack: Vec<Entry>, operand: Operand) -> Result<Reader, A
     }
 }
 
-// A token where an argument is wanted.
 fn step_argument(
     stack: Vec<Entry>,
     name_at: usize,
@@ -209,7 +203,6 @@ fn step_argument(
     }
 }
 
-// A token behind an argument.
 fn step_behind_argument(
     alloc: Global,
     stack: Vec<Entry>,
@@ -246,7 +239,6 @@ fn step_behind_argument(
     }
 }
 
-// The parameter behind a quantifier's word.
 #[tactic(auto, using(crate::proofs::Stacks::pushed))]
 fn step_quantifier(
     stack: Vec<Entry>,
@@ -278,8 +270,12 @@ fn step_quantifier(
     }
 }
 
-/// The reader after a token that may come.
-pub fn step(alloc: Global, reader: Reader, at: usize, sign: Sign<'_>) -> Result<Reader, AllocError>
+pub(crate) fn step(
+    alloc: Global,
+    reader: Reader,
+    at: usize,
+    sign: Sign<'_>,
+) -> Result<Reader, AllocError>
     requires may { IsSome (machine.step (config_of reader) (symbol_at at sign)) }
     requires sound { IsSound (mode_of reader.mode) }
     requires readable { IsReadable (symbol_at at sign) }
@@ -302,8 +298,8 @@ pub fn step(alloc: Global, reader: Reader, at: usize, sign: Sign<'_>) -> Result<
     }
 }
 
-/// What was read, if it is whole.
-pub fn whole(alloc: Global, reader: Reader) -> Result<Option<Operand>, AllocError>
+/// The operand that was read, or None where the text isn't whole.
+pub(crate) fn whole(alloc: Global, reader: Reader) -> Result<Option<Operand>, AllocError>
     requires { IsSound (mode_of reader.mode) }
     ensures { IfOk result (λ x. option_map meaning_of x ≡ machine.whole (config_of reader)) }
 {
@@ -323,7 +319,6 @@ pub fn whole(alloc: Global, reader: Reader) -> Result<Option<Operand>, AllocErro
     }
 }
 
-// The operand, joined to the left ones, where nothing else is open.
 fn whole_operand(
     alloc: Global,
     stack: Vec<Entry>,

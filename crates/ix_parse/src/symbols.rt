@@ -7,7 +7,7 @@ use ix_lex::{Token, TokenKind};
 
 /// A token without its place: a word, the name of a parameter, or a sign by what it does.
 #[derive(Clone, Copy)]
-pub enum Sign<'a> {
+pub(crate) enum Sign<'a> {
     Word(&'a [u8]),
     Param(&'a [u8]),
     Opening,
@@ -21,8 +21,7 @@ ghost use Rattle.ix_lex.specs.inside.Items.{plain_token};
 ghost use Rattle.ix_parse.specs.Symbols.{symbol_of};
 ghost use Rattle.ix_parse.specs.inside.Views.{symbol_at};
 
-/// What the token is.
-pub fn sign_of<'a>(token: &Token<'a>) -> Sign<'a>
+pub(crate) fn sign_of<'a>(token: &Token<'a>) -> Sign<'a>
     ensures { symbol_at token.now.start result ≡ symbol_of (plain_token token.now) }
 {
     match token.kind {
@@ -42,7 +41,6 @@ pub fn sign_of<'a>(token: &Token<'a>) -> Sign<'a>
     }
 }
 
-// The name of a parameter, which stands behind its `$`.
 fn without_dollar(text: &[u8]) -> &[u8]
     ensures { result.now ≡ drop 1 text.now }
 {

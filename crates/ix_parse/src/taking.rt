@@ -20,12 +20,11 @@ use std::alloc::Global;
 
 /// What was read, and how many nodes' tokens came.
 #[derive(Drop)]
-pub struct Reading {
+pub(crate) struct Reading {
     pub reader: Reader,
     pub nodes: usize,
 }
 
-// Whether the next piece is a parameter.
 fn is_param(ahead: &Option<Result<Token<'_>, LexFault>>) -> bool
     ensures { result ≡ is_param_piece ahead.now }
 {
@@ -36,7 +35,6 @@ fn is_param(ahead: &Option<Result<Token<'_>, LexFault>>) -> bool
     }
 }
 
-// The reading after a token, or the fault that it meets.
 fn take(
     alloc: Global,
     reading: Reading,
@@ -67,7 +65,6 @@ fn take(
     }
 }
 
-// The number of nodes' tokens, with one more if the token is a node's.
 fn with_node(nodes: usize, is_one: bool) -> usize
     requires { nodes ≤ 512 }
     ensures { result ≡ (if is_one then nodes + 1 else nodes) }
@@ -75,8 +72,7 @@ fn with_node(nodes: usize, is_one: bool) -> usize
     if is_one { nodes + 1 } else { nodes }
 }
 
-/// The operand that a text is, with the places of its nodes.
-pub fn read_operand(alloc: Global, text: &[u8]) -> Result<Operand, TextFault>
+pub(crate) fn read_operand(alloc: Global, text: &[u8]) -> Result<Operand, TextFault>
     requires { length text.now ≤ 16384 }
     ensures { IsMeaning text.now result }
 {
@@ -100,7 +96,6 @@ pub fn read_operand(alloc: Global, text: &[u8]) -> Result<Operand, TextFault>
     finish(alloc, reading.reader, text.len())
 }
 
-// The operand that was read, if it is whole at the end.
 fn finish(alloc: Global, reader: Reader, end: usize) -> Result<Operand, TextFault>
     requires { IsSound (mode_of reader.mode) }
     ensures { MatchResult result

@@ -7,9 +7,8 @@ ghost use Rattle.ix_parse.specs.Symbols as spec;
 use crate::signs::{Quantifier, WordClass};
 use ix_values::{Name, Value};
 
-/// What the word is in the place of an operand.
 #[tactic(auto, unfolding(crate::specs::Symbols::class_of))]
-pub fn class_of(word: &[u8]) -> WordClass
+pub(crate) fn class_of(word: &[u8]) -> WordClass
     ensures { result ≡ spec.class_of word.now }
 {
     if word == b"any".as_slice() {
@@ -38,8 +37,7 @@ fn begins_with_letter(word: &[u8]) -> bool
     }
 }
 
-/// The name that the word spells.
-pub fn name_of(word: &[u8]) -> Name
+pub(crate) fn name_of(word: &[u8]) -> Name
     requires { IsName word.now }
     ensures { result ≡ word.now }
 {
@@ -49,8 +47,7 @@ pub fn name_of(word: &[u8]) -> Name
     }
 }
 
-/// The value that the word spells.
-pub fn value_of(word: &[u8]) -> Value
+pub(crate) fn value_of(word: &[u8]) -> Value
     requires { IsValue word.now }
     ensures { result ≡ word.now }
 {

@@ -6,8 +6,8 @@ ghost use Rattle.ix_proto.specs.Numbers.{IsNumber, IsNumberText};
 use itoa::Buffer;
 use std::str;
 
-/// The number whose text is `text`, or None where `text` isn't a decimal number without leading zeros from 0
-/// to 18446744073709551615.
+/// The number whose text is `text`, or None where `text` isn't a decimal number without leading
+/// zeros from 0 to 18446744073709551615.
 pub(crate) fn read_number(text: &[u8]) -> Option<u64>
     ensures { MatchOption result
         (¬ IsNumberText text.now)
@@ -23,7 +23,6 @@ pub(crate) fn read_number(text: &[u8]) -> Option<u64>
     }
 }
 
-/// The number that a text of digits stands for.
 fn parse(text: &[u8]) -> Option<u64>
     ensures { (number : ℕ) → IsNumber text.now number → result ≡ Some number }
 {

@@ -17,7 +17,6 @@ use ix_values::{Action, Name};
 /// The longest lease, in milliseconds.
 const LONGEST_LEASE: u64 = 86_400_000;
 
-/// No further word.
 pub(crate) fn no_words(rest: Option<&[u8]>) -> Result<(), RequestFault>
     ensures { MatchResult result
         (λ _. words_behind (option_copied rest.entry) ≡ [])
@@ -32,7 +31,6 @@ pub(crate) fn no_words(rest: Option<&[u8]>) -> Result<(), RequestFault>
     }
 }
 
-/// One further word.
 pub(crate) fn one_word(rest: Option<&[u8]>) -> Result<&[u8], RequestFault>
     ensures { MatchResult result
         (λ word. words_behind (option_copied rest.entry) ≡ word.now ∷ [])
@@ -46,7 +44,6 @@ pub(crate) fn one_word(rest: Option<&[u8]>) -> Result<&[u8], RequestFault>
     Ok(word)
 }
 
-/// Two further words.
 pub(crate) fn two_words(rest: Option<&[u8]>) -> Result<(&[u8], &[u8]), RequestFault>
     ensures { MatchResult result
         (λ words. words_behind (option_copied rest.entry) ≡ words.0.now ∷ words.1.now ∷ [])
@@ -60,7 +57,6 @@ pub(crate) fn two_words(rest: Option<&[u8]>) -> Result<(&[u8], &[u8]), RequestFa
     Ok((first, second))
 }
 
-/// The word, if it is an action's text.
 pub(crate) fn action_word(word: &[u8]) -> Result<&[u8], RequestFault>
     ensures { MatchResult result
         (λ text. (text.now ≡ word.now) × IsActionText word.now)
@@ -72,7 +68,6 @@ pub(crate) fn action_word(word: &[u8]) -> Result<&[u8], RequestFault>
     }
 }
 
-/// The word, if it is a name.
 pub(crate) fn name_word(word: &[u8]) -> Result<&[u8], RequestFault>
     ensures { MatchResult result
         (λ text. (text.now ≡ word.now) × IsName word.now)
@@ -84,7 +79,6 @@ pub(crate) fn name_word(word: &[u8]) -> Result<&[u8], RequestFault>
     }
 }
 
-/// The number, if the word is one's text.
 pub(crate) fn number_word(word: &[u8]) -> Result<u64, RequestFault>
     ensures { MatchResult result
         (λ number. IsNumber word.now number)
@@ -93,7 +87,7 @@ pub(crate) fn number_word(word: &[u8]) -> Result<u64, RequestFault>
     read_number(word).ok_or(RequestFault { code: 13 })
 }
 
-/// The lease in milliseconds, if the word is one's text.
+/// A lease in milliseconds, from 1 to `LONGEST_LEASE`.
 pub(crate) fn lease_word(word: &[u8]) -> Result<u32, RequestFault>
     ensures { MatchResult result
         (λ lease. IsNumber word.now lease × IsLease lease)

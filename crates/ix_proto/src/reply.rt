@@ -13,7 +13,8 @@ use arrayvec::ArrayVec;
 use itoa::Buffer;
 use ix_values::Action;
 
-/// A reply.
+/// What a manager answers on a connection, each as one line. A `Changes` is followed by as
+/// many lines of `Change`.
 #[derive(Clone, Copy, Debug, PartialEq, Eq)]
 pub enum Reply {
     /// The action is reserved under this ticket.
@@ -42,7 +43,8 @@ pub enum Reply {
     Entry(u64, Action),
     /// The run ends.
     Stopping,
-    /// A refusal. The number is the kept deadline for code 20, the node limit for code 22, and else 0.
+    /// A refusal. The number is the kept deadline for code 20, the node limit for
+    /// code 22, and else 0.
     Refused {
         code: u8,
         number: u64,
@@ -50,8 +52,9 @@ pub enum Reply {
 }
 
 impl Reply {
-    /// Writes the line of the reply with its byte 10, at most 256 bytes, into `out`, which is empty. The code of a
-    /// refusal is one of the table, and its number is 0 where the code is neither 20 nor 22. Takes no memory.
+    /// Writes the line of the reply with its byte 10, at most 256 bytes, into `out`, which is
+    /// empty. The code of a refusal is one of the table, and its number is 0 where the code is
+    /// neither 20 nor 22. Takes no memory.
     pub fn write(&self, out: &mut ArrayVec<u8, 256>)
         requires empty { out.old.items ≡ [] }
         requires told { CanBeTold self.now }
@@ -63,7 +66,6 @@ impl Reply {
         out.push(b'\n');
     }
 
-    /// Writes the text of the reply.
     fn write_text(&self, out: &mut ArrayVec<u8, 256>)
         requires empty { out.old.items ≡ [] }
         requires told { CanBeTold self.now }
@@ -92,7 +94,6 @@ impl Reply {
     }
 }
 
-/// Writes a word and a number.
 fn write_number(out: &mut ArrayVec<u8, 256>, word: &[u8], number: u64)
     requires empty { out.old.items ≡ [] }
     requires room { length word.now ≤ 16 }
@@ -162,7 +163,6 @@ fn write_refusal(out: &mut ArrayVec<u8, 256>, code: u8, number: u64)
     append_refusal(out, code, number);
 }
 
-/// Writes what stands behind a refusal's code.
 fn append_refusal(out: &mut ArrayVec<u8, 256>, code: u8, number: u64)
     requires room { array_vec_len out.old ≤ 36 }
     ensures items { out.new.items ≡ out.old.items ++ spec.with_number (spec.has_number code) (spec.refusal_text code) number }
@@ -207,7 +207,6 @@ pub(crate) fn refusal_text(code: u8) -> Option<&'static [u8]>
     }
 }
 
-/// Whether the text of a refusal's code ends in a number.
 pub(crate) fn has_number(code: u8) -> bool
     ensures { result ≡ spec.has_number code }
 {
@@ -228,7 +227,6 @@ fn complete_or_partial(complete: bool) -> &'static [u8]
     if complete { b"complete" } else { b"partial" }
 }
 
-/// Writes bytes behind those that `out` holds.
 fn append(out: &mut ArrayVec<u8, 256>, bytes: &[u8])
     requires { array_vec_len out.old + length bytes.now ≤ 256 }
     ensures items { out.new.items ≡ out.old.items ++ bytes.now }
@@ -237,7 +235,6 @@ fn append(out: &mut ArrayVec<u8, 256>, bytes: &[u8])
     let _ = out.try_extend_from_slice(bytes);
 }
 
-/// Writes a number.
 fn append_number(out: &mut ArrayVec<u8, 256>, number: u64)
     requires { array_vec_len out.old ≤ 236 }
     ensures items { out.new.items ≡ out.old.items ++ decimal number }
@@ -248,7 +245,6 @@ fn append_number(out: &mut ArrayVec<u8, 256>, number: u64)
     append(out, buffer.format(number).as_bytes());
 }
 
-/// Writes the text of an action.
 fn append_action(out: &mut ArrayVec<u8, 256>, action: &Action)
     requires { array_vec_len out.old ≤ 91 }
     ensures items { out.new.items ≡ out.old.items ++ text_of action.now }

@@ -29,8 +29,8 @@ pub(crate) enum Kind {
 }
 
 impl Reply {
-    /// The reply of a line, which is given without its byte 10, or None where it isn't a reply's text. There is at
-    /// most one. Takes no memory.
+    /// The reply of a line, which is given without its byte 10, or None where it isn't a reply's
+    /// text. There is at most one. Takes no memory.
     pub fn read(line: &[u8]) -> Option<Reply>
         ensures { MatchOption result
             (¬ IsReplyText line.now)
@@ -44,7 +44,6 @@ impl Reply {
     }
 }
 
-/// The first word, if it is a reply's.
 fn read_kind(word: &[u8]) -> Option<Kind>
     ensures { MatchOption result
         ((kind : Kind) → word.now ≢ kind_word kind)
@@ -67,7 +66,6 @@ fn read_kind(word: &[u8]) -> Option<Kind>
     }
 }
 
-/// The reply that begins with a word, by what stands behind it.
 fn read_behind(kind: Kind, rest: Option<&[u8]>) -> Option<Reply>
     ensures { MatchOption result
         ((reply : Reply) → ¬ StandsBehind kind (option_copied rest.entry) reply)
@@ -213,7 +211,6 @@ fn read_refused(rest: Option<&[u8]>) -> Option<Reply>
     Some(Reply::Refused { code, number })
 }
 
-/// A number, where nothing else stands there.
 fn number_alone(rest: Option<&[u8]>) -> Option<u64>
     ensures { MatchOption result
         ((number : ℕ) → number < 2 ^ 64 → option_copied rest.entry ≢ Some (decimal number))
@@ -234,7 +231,6 @@ fn number_and(text: &[u8]) -> Option<(u64, &[u8])>
     Some((number, tail))
 }
 
-/// The answer of a `yes` or a `no`.
 fn yes_or_no_text(text: &[u8]) -> Option<bool>
     ensures { MatchOption result
         ((answer : Bool) → text.now ≢ yes_or_no answer)
@@ -247,7 +243,6 @@ fn yes_or_no_text(text: &[u8]) -> Option<bool>
     }
 }
 
-/// Whether `complete` or `partial`, and the text behind the space that ends it.
 fn complete_or_partial_and(text: &[u8]) -> Option<(bool, &[u8])>
     ensures { MatchOption result
         ((complete : Bool) (tail : List ℕ) → text.now ≢ complete_or_partial complete ++ 32 ∷ tail)
@@ -262,7 +257,6 @@ fn complete_or_partial_and(text: &[u8]) -> Option<(bool, &[u8])>
     }
 }
 
-/// The number behind `nodes` and a space.
 fn nodes(text: &[u8]) -> Option<u64>
     ensures { MatchOption result
         ((number : ℕ) → number < 2 ^ 64 → text.now ≢ nodes_text number)
@@ -299,7 +293,6 @@ fn number_behind(text: &[u8]) -> Option<u64>
     }
 }
 
-/// What stands behind a front of the text.
 fn strip<'a>(text: &'a [u8], front: &[u8]) -> Option<&'a [u8]>
     ensures { MatchOption result
         ((tail : List ℕ) → text.now ≢ front.now ++ tail)

@@ -18,8 +18,8 @@ use crate::parts::{
 use crate::request_fault::RequestFault;
 use crate::words::split_word;
 
-/// A request. Its texts are words of the line that it was read from: each `action` is an action's text, and each
-/// `name` a name.
+/// A request. Its texts are words of the line that it was read from: each `action` is an action's
+/// text, and each `name` a name.
 #[derive(Clone, Copy, Debug, PartialEq, Eq)]
 pub enum Request<'a> {
     /// May this action be done? If so it is reserved for `lease` milliseconds, 1 to 86400000.
@@ -58,7 +58,8 @@ pub(crate) enum Verb {
 }
 
 impl<'a> Request<'a> {
-    /// The request of a line, which is given without its byte 10, or its first fault. Takes no memory.
+    /// The request of a line, which is given without its byte 10, or its first
+    /// fault. Takes no memory.
     pub fn read(line: &'a [u8]) -> Result<Request<'a>, RequestFault>
         ensures { MatchResult result
             (λ request. Reads (words_of line.now) request)
@@ -72,7 +73,6 @@ impl<'a> Request<'a> {
     }
 }
 
-/// The request that begins with a word, by what stands behind it.
 fn read_behind(verb: Verb, rest: Option<&[u8]>) -> Result<Request<'_>, RequestFault>
     ensures { MatchResult result
         (λ request. Reads (verb_word verb ∷ words_behind (option_copied rest.entry)) request)
@@ -92,7 +92,6 @@ fn read_behind(verb: Verb, rest: Option<&[u8]>) -> Result<Request<'_>, RequestFa
     }
 }
 
-/// The request that begins with this word, if there is one.
 fn read_verb(word: &[u8]) -> Option<Verb>
     ensures { MatchOption result
         ((verb : Verb) → word.now ≢ verb_word verb)

@@ -5,7 +5,8 @@ ghost use Rattle.std.specs.Option.{option_copied};
 ghost use Rattle.ix_proto.specs.Words.{words_of};
 ghost use Rattle.ix_proto.specs.inside.WordsBehind.{words_behind, behind_word, HasNoSpace};
 
-/// The first word of a text, and what stands behind the space that ends it, or None where no space does.
+/// The first word of a text, and what stands behind the space that ends it, or None
+/// where no space does.
 pub(crate) fn split_word(text: &[u8]) -> (&[u8], Option<&[u8]>)
     ensures words { words_of text.now ≡ result.0.now ∷ words_behind (option_copied result.1) }
     ensures bytes { text.now ≡ result.0.now ++ behind_word (option_copied result.1) }
@@ -17,7 +18,6 @@ pub(crate) fn split_word(text: &[u8]) -> (&[u8], Option<&[u8]>)
     }
 }
 
-/// The place of the first space.
 fn first_space(text: &[u8]) -> Option<usize>
     ensures { result ≡ position (λ byte. byte == 32) text.now }
 {

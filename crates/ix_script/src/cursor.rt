@@ -36,8 +36,7 @@ impl<'a> Cursor<'a> {
     ghost use Rattle.ix_script.specs.inside.NextPiece.{next_piece};
     ghost use Rattle.ix_script.specs.inside.Progress.{events_of};
 
-    /// The front of the script.
-    pub fn new(script: Script<'a>) -> Cursor<'a>
+    pub(crate) fn new(script: Script<'a>) -> Cursor<'a>
         ensures bytes { result.bytes.now ≡ script.entry.bytes.now }
         ensures left { left_of result ≡ events_of script.entry.bytes.now }
     {
@@ -52,7 +51,7 @@ impl<'a> Cursor<'a> {
     }
 
     /// The next event, or as much of it as fits the buffer.
-    pub fn next(&mut self, buf: &mut [u8]) -> Event
+    pub(crate) fn next(&mut self, buf: &mut [u8]) -> Event
         requires { 0 < length buf.old }
         ensures fits { FitsBuffer (length buf.old) result }
         ensures next { next_piece (length buf.old) (left_of self.old) ≡ Some (record { event = result; bytes = piece_of result.kind buf.new }) }
@@ -68,7 +67,8 @@ impl<'a> Cursor<'a> {
         }
     }
 
-    // Begins the next line where none is open. An event without bytes that comes next is the answer; else bytes are to come.
+    /// Begins the next line where none is open. An event without bytes is answered at once, and
+    /// None where bytes are to come.
     fn begin(&mut self) -> Option<Event>
         ensures begun { MatchOption result (IsBegun self.old self.new) (λ event. IsBare self.old event self.new) }
         ensures bytes { self.new.bytes ≡ self.old.bytes }
@@ -90,7 +90,6 @@ impl<'a> Cursor<'a> {
         }
     }
 
-    // An event of the line that was begun.
     fn event(&self, kind: EventKind) -> Event
         ensures { result ≡ record { conn = self.now.conn; moment = self.now.moment; kind = kind } }
     {
@@ -101,7 +100,7 @@ impl<'a> Cursor<'a> {
         }
     }
 
-    // Begins the next line, and says whether it has bytes to come; else it closes its connection.
+    /// Begins the next line, and says whether it has bytes to come; else it closes its connection.
     fn begin_line(&mut self) -> bool
         requires idle { open_bytes self.old ≡ [] }
         requires more { 0 < length self.old.rest.now }
@@ -124,7 +123,7 @@ impl<'a> Cursor<'a> {
         true
     }
 
-    // Moves bytes of the line that was begun into the front of the buffer, and says how many.
+    /// Moves bytes of the line that was begun into the front of the buffer, and gives their number.
     fn give(&mut self, buf: &mut [u8]) -> usize
         ensures count { result ≡ min (length (open_bytes self.old)) (length buf.old) }
         ensures given { take result buf.new ≡ take result (open_bytes self.old) }

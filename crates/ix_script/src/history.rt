@@ -16,15 +16,13 @@ impl<A> Model for History<A> {
 }
 
 impl<A> History<A> {
-    /// No items.
-    pub fn new() -> History<A>
+    pub(crate) fn new() -> History<A>
         ensures { result.items ≡ [] }
     {
         History { of: PhantomData }
     }
 
-    /// The same items, and one more at the end.
-    pub fn and(&self, item: &A) -> History<A>
+    pub(crate) fn and(&self, item: &A) -> History<A>
         ensures { result.items ≡ self.now.items ++ item.now ∷ [] }
     {
         History { of: PhantomData }

@@ -6,7 +6,6 @@ ghost use Rattle.ix_script.specs.inside.Progress.{end_bytes};
 
 use crate::number::number_and;
 
-/// The greatest connection.
 const LAST_CONNECTION: u64 = 63;
 
 /// The parts of a line: its moment in milliseconds, its connection from 0 to 63, and its text.
@@ -39,7 +38,6 @@ pub(crate) fn read_line(line: &[u8]) -> Result<ScriptLine<'_>, u8>
     })
 }
 
-/// The parts of a line that was checked.
 pub(crate) fn checked_line(line: &[u8]) -> ScriptLine<'_>
     requires { ∥ InGrammar line.now ∥₁ }
     ensures { IsScriptLine line.now result.moment result.conn result.text.now }
@@ -67,7 +65,6 @@ pub(crate) struct OpenText<'a> {
     pub line_end: bool,
 }
 
-/// The bytes that a line's text stands for.
 pub(crate) fn open_text(text: &[u8]) -> OpenText<'_>
     ensures { result.text.now ++ end_bytes result.line_end ≡ text_bytes text.now }
 {

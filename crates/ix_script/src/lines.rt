@@ -12,7 +12,8 @@ pub struct FirstLine<'a> {
     pub rest: &'a [u8],
 }
 
-/// The first line of bytes that have one, and what stands behind its byte 10, which the last line may lack. Takes no memory.
+/// The first line of bytes that have one, and what stands behind its byte 10, which the last line
+/// may lack. Takes no memory.
 pub fn first_line(bytes: &[u8]) -> FirstLine<'_>
     requires { 0 < length bytes.now }
     ensures lines { lines_of bytes.now ≡ result.line.now ∷ lines_of result.rest.now }

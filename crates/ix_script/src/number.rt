@@ -13,7 +13,8 @@ pub(crate) struct NumberAnd<'a> {
     pub rest: &'a [u8],
 }
 
-/// The number at the front of a text, at most `greatest`, and what stands behind the space that follows it.
+/// The number at the front of a text, at most `greatest`, and what stands behind the
+/// space that follows it.
 pub(crate) fn number_and(text: &[u8], greatest: u64) -> Option<NumberAnd<'_>>
     requires { greatest < 2 ^ 64 }
     ensures { MatchOption result
@@ -35,14 +36,13 @@ pub(crate) fn number_and(text: &[u8], greatest: u64) -> Option<NumberAnd<'_>>
     })
 }
 
-// The place of the first space.
 fn first_space(text: &[u8]) -> Option<usize>
     ensures { result ≡ position (λ byte. byte == 32) text.now }
 {
     text.iter().position(|byte| *byte == b' ')
 }
 
-// The number whose text this is, in decimal without leading zeros.
+/// The text is in decimal without leading zeros.
 fn read_number(text: &[u8]) -> Option<u64>
     ensures { MatchOption result
         ((number : ℕ) → ¬ IsNumber text.now number)
@@ -58,7 +58,6 @@ fn read_number(text: &[u8]) -> Option<u64>
     }
 }
 
-// The number that a text of digits stands for.
 fn parse(text: &[u8]) -> Option<u64>
     ensures { (number : ℕ) → IsNumber text.now number → result ≡ Some number }
 {

@@ -9,7 +9,8 @@ use arrayvec::ArrayVec;
 use itoa::Buffer;
 use ix_outside::{Failed, Sink};
 
-/// The longest text of a send that goes out in one put: a connection, a space, and the longest reply.
+/// The longest text of a send that goes out in one put: a connection, a space,
+/// and the longest reply.
 const ROOM: usize = 260;
 
 /// Puts the connection's number, a space and the bytes, in one put where they fit.
@@ -26,7 +27,6 @@ pub(crate) fn put_send<K: Sink>(sink: &mut K, conn: u8, bytes: &[u8]) -> Result<
     }
 }
 
-// The text of a send, where it goes out in one put.
 fn short_text(conn: u8, bytes: &[u8]) -> Option<ArrayVec<u8, ROOM>>
     ensures short { IfSome result (λ text. text.items ≡ send_text conn bytes.now) }
     ensures long { IfNone result (ROOM < length (send_text conn bytes.now)) }
@@ -43,7 +43,6 @@ fn short_text(conn: u8, bytes: &[u8]) -> Option<ArrayVec<u8, ROOM>>
     Some(text)
 }
 
-// Puts a long send in two puts.
 fn put_long<K: Sink>(sink: &mut K, conn: u8, bytes: &[u8]) -> Result<(), Failed>
     ensures whole { OnOk result (K.written sink.new ≡ append_known (K.written sink.old) (send_text conn bytes.now)) }
     ensures part { OnErr result (AppendsPart (K.written sink.old) (send_text conn bytes.now) (K.written sink.new)) }
@@ -58,7 +57,6 @@ fn put_long<K: Sink>(sink: &mut K, conn: u8, bytes: &[u8]) -> Result<(), Failed>
     }
 }
 
-// The connection's number and a space.
 fn front_text(conn: u8) -> ArrayVec<u8, 4>
     ensures { result.items ≡ decimal conn ++ 32 ∷ [] }
 {

@@ -8,8 +8,8 @@ ghost use Rattle.ix_script.specs.Lines.{lines_of};
 use crate::line::read_line;
 use crate::lines::first_line;
 
-/// Why a text is no script: the code 31, 32 or 33 of the first fault of its first line that has one, and the place of that line's first
-/// byte.
+/// Why a text is no script: the code 31, 32 or 33 of the first fault of its first line that has
+/// one, and the place of that line's first byte.
 #[derive(Clone, Copy, Debug, PartialEq, Eq)]
 pub struct ScriptFault {
     pub code: u8,
@@ -37,7 +37,6 @@ impl<'a> Script<'a> {
     }
 }
 
-// The fault of the first line that isn't in the grammar, or None where there is none.
 fn first_fault(bytes: &[u8]) -> Option<ScriptFault>
     ensures { MatchOption result (AllInGrammar (lines_of bytes.now)) (λ fault. IsFirstScriptFault bytes.now fault.code fault.at) }
 {

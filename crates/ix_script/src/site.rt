@@ -10,7 +10,7 @@ use crate::put::put_send;
 use crate::script::Script;
 use ix_outside::{DiskFailed, Event, Failed, Gone, Sink, Site, WireFailed};
 
-/// A site that gives the events of a script. What it sends goes to the sink that it was lent, each send as a line's worth of text: the
+/// A site that gives the events of a script. What it sends goes to the sink that it was lent: the
 /// connection's number, a space and the bytes. Its disk is that of the site that it was lent.
 #[derive(Drop)]
 pub struct ScriptSite<'a, S, K> {
@@ -56,8 +56,8 @@ impl<'a, S: Site, K: Sink> ScriptSite<'a, S, K> {
         self.sink_failed
     }
 
-    /// The script's next event, whose bytes stand at the front of `buf`. A piece that is longer than the buffer comes as several events.
-    /// Behind the last line the end comes, again and again.
+    /// The script's next event, whose bytes stand at the front of `buf`. A piece that is longer
+    /// than the buffer comes as several events. After the last line the end comes, again and again.
     pub fn next_event(&mut self, buf: &mut [u8]) -> Event
         requires { 0 < length buf.old }
         ensures fits { FitsBuffer (length buf.old) result }

@@ -28,6 +28,12 @@ use ix_values::Action;
 use std::alloc::Global;
 
 /// The moved tree, dead where the action may not come next.
+///
+/// `can` is asked anew at each node: that it holds of a node doesn't say that it holds of its
+/// parts, as of `y | z` one side may do. A part of which it doesn't hold is dead.
+///
+/// `#[tactic(none)]` stands here and in the files beside this one since the answers are written by
+/// hand: `auto` took minutes on the cycle.
 #[cycle(advance)]
 #[tactic(none)]
 pub(crate) fn advance(
@@ -61,7 +67,6 @@ pub(crate) fn advance(
     }
 }
 
-/// The moved tree of `?y`.
 #[cycle(advance)]
 #[tactic(none)]
 fn advance_opt(
@@ -83,7 +88,6 @@ fn advance_opt(
     opt_node(inner, alloc, limit)
 }
 
-/// The moved tree of `y | z`.
 #[cycle(advance)]
 #[tactic(none)]
 fn advance_or(
@@ -107,7 +111,6 @@ fn advance_or(
     or_node(left, right, alloc, limit)
 }
 
-/// The moved tree of `y & z`.
 #[cycle(advance)]
 #[tactic(none)]
 fn advance_and(
@@ -131,7 +134,6 @@ fn advance_and(
     and_node(left, right, alloc, limit)
 }
 
-/// The moved tree of `y @ z`.
 #[cycle(advance)]
 #[tactic(none)]
 fn advance_couple(
@@ -176,7 +178,6 @@ pub(crate) fn advance_inside(
     }
 }
 
-/// The moved tree of `y - z`.
 #[cycle(advance)]
 #[tactic(none)]
 fn advance_seq(
@@ -201,7 +202,6 @@ fn advance_seq(
     seq_node(y, z, first, moved, set, alloc, limit)
 }
 
-/// The moved tree of `*y`.
 #[cycle(advance)]
 #[tactic(none)]
 fn advance_star(
@@ -225,7 +225,6 @@ fn advance_star(
     star_node(y, moved, begun, set, limit)
 }
 
-/// Puts the moved trees that are live into the set.
 #[cycle(advance)]
 fn advance_each(
     expr: &Expr,
@@ -252,7 +251,7 @@ fn advance_each(
     Ok(())
 }
 
-/// The tree of the one action, where another run may begin.
+/// The tree of a run that begins with the action, dead where no further run may begin.
 #[cycle(advance)]
 #[tactic(none)]
 pub(crate) fn advance_again(

@@ -22,7 +22,6 @@ use ix_expr::Expr;
 use ix_tree::Tree;
 use std::alloc::Global;
 
-/// Puts the tree into the set, if it is live.
 #[tactic(none)]
 pub(crate) fn put_live(
     set: &mut AltSet<Tree>,
@@ -40,7 +39,6 @@ pub(crate) fn put_live(
     }
 }
 
-/// Puts the tree into the set, unless it is dead.
 #[tactic(none)]
 fn put_unless_dead(set: &mut AltSet<Tree>, tree: Tree) -> Result<(), BuildFault>
     requires { size_of (plain tree) ≤ 1000000 }
@@ -54,7 +52,6 @@ fn put_unless_dead(set: &mut AltSet<Tree>, tree: Tree) -> Result<(), BuildFault>
     }
 }
 
-/// Puts the tree of the empty word into the set, where it may begin.
 #[tactic(none)]
 fn put_first(
     set: &mut AltSet<Tree>,
@@ -75,7 +72,6 @@ fn put_first(
     }
 }
 
-/// Whether one of the trees is final.
 fn any_final(trees: &[Tree], expr: &Expr) -> bool
     ensures { result ≡ list_any (is_final_by (form_of expr.now)) (map plain trees.now) }
 {
@@ -87,7 +83,7 @@ fn any_final(trees: &[Tree], expr: &Expr) -> bool
     false
 }
 
-/// The node of `*y` after an action: the alternatives moved, and one that begins again.
+/// Beside the moved alternatives stands one more: the run that begins with the action.
 #[tactic(none)]
 pub(crate) fn star_node(
     y: &Expr,
@@ -112,7 +108,8 @@ pub(crate) fn star_node(
     }
 }
 
-/// The node of `*y` with these alternatives.
+/// The flag says whether the word is a concatenation of complete words, so that another run may
+/// begin. That is so where an alternative for the last run is final.
 #[tactic(none)]
 fn star_of_set(y: &Expr, set: AltSet<Tree>, limit: usize) -> Result<Tree, BuildFault>
     requires budget { set.budget ≡ limit }
@@ -128,8 +125,7 @@ fn star_of_set(y: &Expr, set: AltSet<Tree>, limit: usize) -> Result<Tree, BuildF
     Ok(Tree::Star(again, items))
 }
 
-/// The node of `y - z` after an action: the first part, the alternatives moved, and one that begins where the first part
-/// is final.
+/// Beside the moved alternatives for z stands one more where the first part is final: z may begin.
 #[tactic(none)]
 pub(crate) fn seq_node(
     y: &Expr,
@@ -156,7 +152,6 @@ pub(crate) fn seq_node(
     }
 }
 
-/// The node of `y - z` with this first part, these alternatives, and one that begins where the first part is final.
 #[tactic(none)]
 fn seq_begun(
     y: &Expr,
@@ -179,7 +174,6 @@ fn seq_begun(
     }
 }
 
-/// The node of `y - z` with this first part and these alternatives.
 #[tactic(none)]
 fn seq_of_set(
     first: Tree,

@@ -15,7 +15,7 @@ use ix_alts::AltSet;
 use ix_tree::{Bag, Tree, copy_trees};
 use std::alloc::{AllocError, Global};
 
-/// The place before the first of the trees that isn't below this one.
+/// The place that keeps the trees in ascending order: before the first that isn't below this one.
 fn place_of(tree: &Tree, others: &[Tree]) -> usize
     ensures within { result ≤ length others.now }
     ensures place { put_in (plain tree.now) (map plain others.now) ≡ insert (map plain others.now) result (plain tree.now) }
@@ -28,7 +28,6 @@ fn place_of(tree: &Tree, others: &[Tree]) -> usize
     others.len()
 }
 
-/// Copies of the trees but the one at the place.
 fn others_of(items: &[Tree], place: usize, alloc: Global) -> Result<Vec<Tree>, AllocError>
     requires { place < length items.now }
     ensures { IfOk result (λ v. map plain v.items ≡ remove (map plain items.now) place) }
@@ -38,7 +37,6 @@ fn others_of(items: &[Tree], place: usize, alloc: Global) -> Result<Vec<Tree>, A
     Ok(others)
 }
 
-/// Puts the bag of the others and the tree in its place into the set.
 #[tactic(none)]
 fn put_bag(set: &mut AltSet<Bag>, tree: Tree, others: Vec<Tree>) -> Result<(), BuildFault>
     requires { size_of (plain tree) + size_of (plain_trees others.items) ≤ 2000000 }
@@ -53,7 +51,7 @@ fn put_bag(set: &mut AltSet<Bag>, tree: Tree, others: Vec<Tree>) -> Result<(), B
     }
 }
 
-/// Puts into the set the bag of the items with the tree for the one at the place, if the tree is live.
+/// A dead tree gives no bag, and the set stays as it is.
 #[tactic(none)]
 pub(crate) fn put_moved(
     set: &mut AltSet<Bag>,
@@ -83,7 +81,6 @@ pub(crate) fn put_moved(
     }
 }
 
-/// Puts into the set the bag of the items and one more tree, if that one is live.
 #[tactic(none)]
 fn put_more(
     set: &mut AltSet<Bag>,
@@ -109,7 +106,8 @@ fn put_more(
     }
 }
 
-/// Puts into the set the bag of the items and the tree that begins, if that one is live.
+/// Puts the bag with one run more into the set: `first` is the tree of a run that
+/// begins with the action.
 #[tactic(none)]
 pub(crate) fn put_first(
     set: &mut AltSet<Bag>,
@@ -130,7 +128,6 @@ pub(crate) fn put_first(
     }
 }
 
-/// The node of `#y` after an action: the bags that were gathered.
 #[tactic(none)]
 pub(crate) fn par_star_node(
     gathered: Result<(), BuildFault>,

@@ -22,8 +22,8 @@ use ix_tree::Tree;
 use ix_values::Action;
 use std::alloc::Global;
 
-/// The tree of the empty word, if its Size is at most the limit. It is the same under every environment that the
-/// expression fits.
+/// The tree of the empty word, if its Size is at most the limit, and else `Over`. It is the same
+/// under every environment that the expression fits.
 #[tactic(none)]
 pub fn initial(alloc: Global, expr: &Expr, limit: usize) -> Result<Tree, BuildFault>
     requires fits { (e : Environment) × Fits (form_of expr.now) e }
@@ -36,8 +36,8 @@ pub fn initial(alloc: Global, expr: &Expr, limit: usize) -> Result<Tree, BuildFa
     }
 }
 
-/// The tree of the word with one more action, `tree` being that of the word, if its Size is at most the limit. The action
-/// may come next.
+/// The tree of the word with one more action, if its Size is at most the limit, and else `Over`.
+/// `tree` is that of the word before, and the action is one that may come next.
 #[tactic(none)]
 pub fn step(
     alloc: Global,
@@ -59,7 +59,6 @@ pub fn step(
     moved_within(expr, tree, env, action, alloc, limit)
 }
 
-/// The moved tree, if its Size is at most the limit, which may be 0.
 #[tactic(none)]
 fn moved_within(
     expr: &Expr,
@@ -82,7 +81,8 @@ fn moved_within(
     }
 }
 
-/// The limit, or 1 in place of 0.
+/// `advance` makes dead trees on its way, whose Size is 1, so it needs a limit of at least 1. A
+/// limit of 0, which no tree is within, is told by `within`.
 fn at_least_one(limit: usize) -> usize
     requires { limit ≤ 1000000 }
     ensures positive { 1 ≤ result }

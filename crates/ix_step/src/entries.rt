@@ -13,7 +13,8 @@ use ix_entries::put;
 use ix_tree::Tree;
 use ix_values::Value;
 
-/// Puts the value's tree among the entries, whose Sizes are `total` together, and tells their Sizes after that.
+/// Puts the value's tree among the entries. `total` is what the Sizes of the entries are together,
+/// and the answer what they are together afterwards.
 pub(crate) fn put_tree(
     entries: &mut Vec<(Value, Tree)>,
     total: usize,
@@ -44,7 +45,8 @@ pub(crate) fn put_tree(
     }
 }
 
-/// The Sizes together where there is one entry more, or no more than before.
+/// The Size counts only where there is an entry more: a tree that equals the common one leaves
+/// none, and a value that comes again keeps its entry.
 fn counted(total: usize, size: usize, is_more: bool, limit: usize) -> Result<usize, BuildFault>
     requires within { total ≤ limit }
     requires bounded { limit ≤ 1000000 }

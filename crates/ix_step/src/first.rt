@@ -12,7 +12,8 @@ use ix_expr::{Expr, accepts_empty};
 use ix_tree::{Bag, Map, Pair, Tree};
 use std::alloc::{AllocError, Global};
 
-/// The tree of the empty word, whatever its Size.
+/// The tree of the empty word, whatever its Size. The flag of `?y` says that nothing has happened,
+/// and that of `*y` that a run may begin.
 #[cycle(first)]
 #[tactic(auto, using(ix_tree::specs::lemmas::PlainParts::plain_parts))]
 pub(crate) fn first_tree(expr: &Expr, alloc: Global) -> Result<Tree, AllocError>
@@ -35,7 +36,6 @@ pub(crate) fn first_tree(expr: &Expr, alloc: Global) -> Result<Tree, AllocError>
     }
 }
 
-/// The tree of the empty word, in a box.
 #[cycle(first)]
 #[tactic(auto, using(ix_tree::specs::lemmas::PlainParts::plain_parts))]
 fn first_box(expr: &Expr, alloc: Global) -> Result<Box<Tree>, AllocError>
@@ -45,7 +45,7 @@ fn first_box(expr: &Expr, alloc: Global) -> Result<Box<Tree>, AllocError>
     Ok(Box::new(alloc, tree)?)
 }
 
-/// The tree of the empty word of `y - z`: where it is complete in y, z may begin.
+/// Where the empty word is complete in y, z may begin.
 #[cycle(first)]
 #[tactic(auto, using(ix_tree::specs::lemmas::PlainParts::plain_parts))]
 fn first_seq(y: &Expr, z: &Expr, alloc: Global) -> Result<Tree, AllocError>
@@ -56,7 +56,6 @@ fn first_seq(y: &Expr, z: &Expr, alloc: Global) -> Result<Tree, AllocError>
     Ok(Tree::Seq(first, rest))
 }
 
-/// The tree of the empty word, if it may begin.
 #[cycle(first)]
 #[tactic(auto, using(ix_tree::specs::lemmas::PlainParts::plain_parts))]
 fn first_rest(z: &Expr, begins: bool, alloc: Global) -> Result<Vec<Tree>, AllocError>
@@ -70,7 +69,6 @@ fn first_rest(z: &Expr, begins: bool, alloc: Global) -> Result<Vec<Tree>, AllocE
     Ok(rest)
 }
 
-/// Whether the empty word is complete in the expression.
 #[tactic(none)]
 fn is_complete(expr: &Expr) -> bool
     ensures { result ≡ accepts (form_of expr.now) }

@@ -26,7 +26,6 @@ use ix_tree::{Map, Tree, copy_entries};
 use ix_values::{Action, Name, Value};
 use std::alloc::{AllocError, Global};
 
-/// The moved tree of `all $p y`.
 #[cycle(advance)]
 #[tactic(none)]
 pub(crate) fn advance_all(
@@ -49,6 +48,8 @@ pub(crate) fn advance_all(
         Ok(first) => first,
         Err(_) => return Err(BuildFault::Memory),
     };
+    // A value's moved tree that equals the tree of the empty word leaves no entry, so its Size must
+    // not count. It is built all the same: within the larger of the limit and that tree's Size.
     let room = larger(limit, first.size());
     let mut set = AltSet::new(alloc, limit);
     let moved = advance_maps(
@@ -57,7 +58,6 @@ pub(crate) fn advance_all(
     all_node(moved, set, limit)
 }
 
-/// The larger of the two numbers.
 fn larger(a: usize, b: usize) -> usize
     ensures first { a ≤ result }
     ensures second { b ≤ result }
@@ -66,8 +66,8 @@ fn larger(a: usize, b: usize) -> usize
     if a < b { b } else { a }
 }
 
-/// Puts each map, with the tree of each of the action's values moved, into the set. No tree above the limit `room` is
-/// built, which is at least the set's budget and the Size of the initial tree.
+/// Each map gives one for each of the action's values, with the tree of that value moved. The trees
+/// are built within `room`, and the maps within `limit`.
 #[cycle(advance)]
 fn advance_maps(
     y: &Expr,
@@ -101,7 +101,6 @@ fn advance_maps(
     Ok(())
 }
 
-/// Puts the map, with the tree of each of the action's values moved, into the set.
 #[cycle(advance)]
 fn advance_map(
     y: &Expr,
@@ -134,7 +133,7 @@ fn advance_map(
     Ok(())
 }
 
-/// The tree of the value in the map after the action.
+/// A value that has no entry begins: it moves from the tree of the empty word.
 #[cycle(advance)]
 fn tree_begun(
     y: &Expr,
@@ -163,7 +162,6 @@ fn tree_begun(
     }
 }
 
-/// Puts the map in which the value has this tree into the set, if the tree is live.
 fn put_moved(
     set: &mut AltSet<Map>,
     state: &Map,
@@ -187,7 +185,8 @@ fn put_moved(
     }
 }
 
-/// The fault, told of this limit.
+/// A tree above `room` isn't that of the empty word, so it would leave an entry and the map would
+/// be above `limit`: the fault tells the limit that was asked for.
 fn retold(fault: BuildFault, limit: usize) -> BuildFault
     ensures { Retold limit fault result }
 {
@@ -197,7 +196,6 @@ fn retold(fault: BuildFault, limit: usize) -> BuildFault
     }
 }
 
-/// Puts the map in which the value has this tree into the set, if the tree is live.
 fn put_live(
     set: &mut AltSet<Map>,
     state: &Map,
@@ -221,7 +219,6 @@ fn put_live(
     }
 }
 
-/// A copy of the map in which the value has this tree.
 fn map_beside(
     state: &Map,
     first: &Tree,
@@ -242,7 +239,6 @@ fn map_beside(
     }
 }
 
-/// The node of `all $p y` with these maps.
 fn all_node(
     moved: Result<(), BuildFault>,
     set: AltSet<Map>,
@@ -258,7 +254,6 @@ fn all_node(
     }
 }
 
-/// The node of `all $p y` with the maps of the set.
 fn all_of_set(set: AltSet<Map>, limit: usize) -> Result<Tree, BuildFault>
     requires budget { set.budget ≡ limit }
     requires limit { limit ≤ 1000000 }

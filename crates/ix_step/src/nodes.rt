@@ -10,7 +10,6 @@ use crate::fault::BuildFault;
 use ix_tree::Tree;
 use std::alloc::Global;
 
-/// The tree, if it is within the limit.
 pub(crate) fn within(tree: Tree, limit: usize) -> Result<Tree, BuildFault>
     requires { size_of (plain tree) ≤ 2 ^ 32 }
     ensures { Builds limit (plain tree) result }
@@ -22,7 +21,6 @@ pub(crate) fn within(tree: Tree, limit: usize) -> Result<Tree, BuildFault>
     }
 }
 
-/// A copy of the tree, if it is within the limit.
 pub(crate) fn copied(tree: &Tree, alloc: Global, limit: usize) -> Result<Tree, BuildFault>
     requires { size_of (plain tree.now) ≤ 2 ^ 32 }
     ensures { Builds limit (plain tree.now) result }
@@ -33,7 +31,6 @@ pub(crate) fn copied(tree: &Tree, alloc: Global, limit: usize) -> Result<Tree, B
     }
 }
 
-/// The tree in a box.
 pub(crate) fn boxed(tree: Tree, alloc: Global) -> Result<Box<Tree>, BuildFault>
     ensures { MatchResult result (λ boxed. plain boxed.value ≡ plain tree) (λ fault. fault ≡ BuildFault.Memory) }
 {
@@ -43,7 +40,8 @@ pub(crate) fn boxed(tree: Tree, alloc: Global) -> Result<Box<Tree>, BuildFault>
     }
 }
 
-/// The tree in a box, if it was built.
+/// The result of a part is handed to its node unopened: a fault is told here, outside the cycle,
+/// and the functions of the cycle have no path of their own for it.
 #[tactic(none)]
 fn built_box(tree: Result<Tree, BuildFault>, alloc: Global) -> Result<Box<Tree>, BuildFault>
     requires { IsSmall tree }
@@ -56,7 +54,6 @@ fn built_box(tree: Result<Tree, BuildFault>, alloc: Global) -> Result<Box<Tree>,
     }
 }
 
-/// Both trees, each in a box.
 #[tactic(none)]
 fn both(
     left: Result<Tree, BuildFault>,
@@ -77,7 +74,7 @@ fn both(
     }
 }
 
-/// The node of `?y` after an action.
+/// The flag is false: after an action the word isn't empty.
 #[tactic(none)]
 pub(crate) fn opt_node(
     inner: Result<Tree, BuildFault>,
@@ -93,7 +90,6 @@ pub(crate) fn opt_node(
     }
 }
 
-/// The node of `y | z` after an action.
 #[tactic(none)]
 pub(crate) fn or_node(
     left: Result<Tree, BuildFault>,
@@ -111,7 +107,6 @@ pub(crate) fn or_node(
     }
 }
 
-/// The node of `y & z` after an action.
 #[tactic(none)]
 pub(crate) fn and_node(
     left: Result<Tree, BuildFault>,
@@ -129,7 +124,6 @@ pub(crate) fn and_node(
     }
 }
 
-/// The node of `y @ z` after an action.
 #[tactic(none)]
 pub(crate) fn couple_node(
     left: Result<Tree, BuildFault>,

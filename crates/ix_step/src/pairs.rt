@@ -14,7 +14,6 @@ use ix_alts::AltSet;
 use ix_tree::{Pair, Tree};
 use std::alloc::Global;
 
-/// Puts the pair of the two trees into the set, if the left one is live.
 #[tactic(none)]
 pub(crate) fn put_left(
     set: &mut AltSet<Pair>,
@@ -42,7 +41,6 @@ pub(crate) fn put_left(
     }
 }
 
-/// Puts the pair of the two trees into the set, if the right one is live.
 #[tactic(none)]
 pub(crate) fn put_right(
     set: &mut AltSet<Pair>,
@@ -70,7 +68,6 @@ pub(crate) fn put_right(
     }
 }
 
-/// The node of `y + z` after an action: the pairs that were gathered.
 #[tactic(none)]
 pub(crate) fn par_node(
     gathered: Result<(), BuildFault>,

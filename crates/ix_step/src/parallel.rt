@@ -24,7 +24,6 @@ use ix_tree::{Bag, Pair, Tree};
 use ix_values::Action;
 use std::alloc::Global;
 
-/// The moved tree of `y + z`.
 #[cycle(advance)]
 #[tactic(none)]
 pub(crate) fn advance_par(
@@ -48,7 +47,6 @@ pub(crate) fn advance_par(
     par_node(gathered, set, limit)
 }
 
-/// Puts into the set what each of the pairs gives.
 #[cycle(advance)]
 #[tactic(none)]
 fn gather_pairs(
@@ -74,7 +72,7 @@ fn gather_pairs(
     Ok(())
 }
 
-/// Puts into the set the pair with its left side moved, and the pair with its right side moved.
+/// The pair gives two: one with its left side moved, and one with its right side moved.
 #[cycle(advance)]
 #[tactic(none)]
 fn gather_pair(
@@ -100,7 +98,6 @@ fn gather_pair(
     put_right(set, &pair.first, right, alloc)
 }
 
-/// The moved tree of `#y`.
 #[cycle(advance)]
 #[tactic(none)]
 pub(crate) fn advance_par_star(
@@ -124,7 +121,6 @@ pub(crate) fn advance_par_star(
     par_star_node(gathered, set, limit)
 }
 
-/// Puts into the set what each of the bags gives.
 #[cycle(advance)]
 #[tactic(none)]
 fn gather_bags(
@@ -152,7 +148,7 @@ fn gather_bags(
     Ok(())
 }
 
-/// Puts into the set the bags with one tree moved, and the bag with one more.
+/// The bag gives one for each of its trees, with that one moved, and one with a run more.
 #[cycle(advance)]
 #[tactic(none)]
 fn gather_bag(
@@ -178,7 +174,7 @@ fn gather_bag(
     put_first(set, first, &bag.items, alloc)
 }
 
-/// Puts into the set, for each of the trees, the bag of all of them with this one moved.
+/// The bag of the trees gives one for each of them, with that one moved.
 #[cycle(advance)]
 #[tactic(none)]
 fn gather_picks(

@@ -25,7 +25,6 @@ use ix_tree::Tree;
 use ix_values::{Action, Name, Value};
 use std::alloc::Global;
 
-/// The moved tree of `any $p y`.
 #[cycle(advance)]
 #[tactic(none)]
 pub(crate) fn advance_any(
@@ -50,7 +49,6 @@ pub(crate) fn advance_any(
     any_node(parts, limit)
 }
 
-/// The moved tree of `every $p y`.
 #[cycle(advance)]
 #[tactic(none)]
 pub(crate) fn advance_every(
@@ -75,7 +73,6 @@ pub(crate) fn advance_every(
     every_node(parts, limit)
 }
 
-/// The moved tree of `sync $p y`.
 #[cycle(advance)]
 #[tactic(none)]
 pub(crate) fn advance_sync(
@@ -100,7 +97,8 @@ pub(crate) fn advance_sync(
     sync_node(parts, limit)
 }
 
-/// The moved common tree, and the entries beside it of the values that have entries and of the action's values.
+/// Only the values that have entries and the action's own are looked at: every other one moves as
+/// the common tree does.
 #[cycle(advance)]
 fn advance_parts(
     y: &Expr,
@@ -145,7 +143,6 @@ fn advance_parts(
     beside(next, moved, alloc)
 }
 
-/// The common tree in a box, and the entries beside it.
 fn beside(
     common: Tree,
     entries: Result<Vec<(Value, Tree)>, BuildFault>,
@@ -165,7 +162,7 @@ fn beside(
     }
 }
 
-/// The entries of the values after the action, beside the moved common tree `next`.
+/// `next` is the moved common tree: a tree that equals it leaves no entry.
 #[cycle(advance)]
 fn trees_after(
     y: &Expr,
@@ -209,7 +206,6 @@ fn trees_after(
     Ok(built)
 }
 
-/// The tree of the value after the action.
 #[cycle(advance)]
 fn value_tree(
     y: &Expr,
@@ -240,7 +236,7 @@ fn value_tree(
     )
 }
 
-/// The moved tree; where only what is inside moves, a copy of the tree where the action is outside the alphabet.
+/// With `only_inside`, as for `sync`, the tree stays where the action is outside the alphabet.
 #[cycle(advance)]
 fn advance_part(
     y: &Expr,
@@ -261,7 +257,7 @@ fn advance_part(
     }
 }
 
-/// The values that have entries, and those of the action.
+/// The values that have entries, and then the action's. A value may come twice.
 fn touched_values(
     entries: &[(Value, Tree)],
     action: &Action,
@@ -282,7 +278,6 @@ fn touched_values(
     }
 }
 
-/// The node of `any $p y` after an action.
 #[tactic(auto, using(ix_tree::specs::lemmas::PlainParts::plain_parts))]
 fn any_node(
     parts: Result<(Box<Tree>, Vec<(Value, Tree)>), BuildFault>,
@@ -299,7 +294,6 @@ fn any_node(
     }
 }
 
-/// The node of `every $p y` after an action.
 #[tactic(auto, using(ix_tree::specs::lemmas::PlainParts::plain_parts))]
 fn every_node(
     parts: Result<(Box<Tree>, Vec<(Value, Tree)>), BuildFault>,
@@ -316,7 +310,6 @@ fn every_node(
     }
 }
 
-/// The node of `sync $p y` after an action.
 #[tactic(auto, using(ix_tree::specs::lemmas::PlainParts::plain_parts))]
 fn sync_node(
     parts: Result<(Box<Tree>, Vec<(Value, Tree)>), BuildFault>,

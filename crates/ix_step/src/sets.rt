@@ -6,7 +6,6 @@ ghost use Rattle.ix_step.specs.inside.Builds.{Puts};
 use crate::fault::BuildFault;
 use ix_alts::{AltFault, AltSet, Weight};
 
-/// Puts the item into the set, if with it the set is within its budget.
 pub(crate) fn put<T: Ord + Weight + Drop>(set: &mut AltSet<T>, item: T) -> Result<(), BuildFault>
     requires { T.weight item ≤ 2 ^ 32 }
     ensures put { Puts T.Ord.cmp T.weight set.old set.new.items item result }

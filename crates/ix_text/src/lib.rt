@@ -11,8 +11,8 @@ use std::alloc::{AllocError, Global};
 
 /// The canonical text of the expression, which is shorter than 65,536 bytes.
 ///
-/// An operand stands in parentheses exactly where it is a left operand that binds weaker than its operator, a right
-/// operand that binds weaker or equally, or a binary operand of a prefix.
+/// An operand stands in parentheses exactly where it is a left operand that binds weaker than its
+/// operator, a right operand that binds weaker or equally, or a binary operand of a prefix.
 pub fn text(alloc: Global, expression: &Expression) -> Result<Vec<u8>, AllocError>
     ensures value { IfOk result (λ text. text.items ≡ spec.canonical_text expression.now) }
     ensures short { IfOk result (λ text. vec_len text < 65536) }
@@ -22,7 +22,6 @@ pub fn text(alloc: Global, expression: &Expression) -> Result<Vec<u8>, AllocErro
     Ok(text)
 }
 
-/// Appends the text of the expression.
 #[cycle(writer)]
 fn write(out: &mut Vec<u8>, expr: &Expr) -> Result<(), AllocError>
     ensures { OnOk result (out.new.items ≡ out.old.items ++ spec.canonical_text (form_of expr.now)) }
@@ -59,7 +58,6 @@ fn write(out: &mut Vec<u8>, expr: &Expr) -> Result<(), AllocError>
     }
 }
 
-/// Appends a prefix operator and its operand.
 #[cycle(writer)]
 fn write_prefix(out: &mut Vec<u8>, operator: u8, operand: &Expr) -> Result<(), AllocError>
     ensures { OnOk result (out.new.items ≡ out.old.items ++ (operator ∷ spec.operand_text (spec.binding (form_of operand.now), spec.canonical_text (form_of operand.now)))) }
@@ -68,7 +66,6 @@ fn write_prefix(out: &mut Vec<u8>, operator: u8, operand: &Expr) -> Result<(), A
     write_operand(out, operand, is_binary(operand))
 }
 
-/// Appends the left operand of an operator that binds as tightly as the level, and the operator between spaces.
 #[cycle(writer)]
 fn write_left(out: &mut Vec<u8>, operand: &Expr, level: u8, operator: u8) -> Result<(), AllocError>
     ensures { OnOk result (out.new.items ≡ out.old.items ++ (spec.enclosed (nat_lt (spec.binding (form_of operand.now)) level) (spec.canonical_text (form_of operand.now)) ++ (32 ∷ operator ∷ 32 ∷ []))) }
@@ -77,7 +74,6 @@ fn write_left(out: &mut Vec<u8>, operand: &Expr, level: u8, operator: u8) -> Res
     out.extend_from_slice(&[b' ', operator, b' '])
 }
 
-/// Appends a quantifier's word, its parameter and its operand.
 #[cycle(writer)]
 fn write_quantifier(
     out: &mut Vec<u8>,
@@ -94,7 +90,6 @@ fn write_quantifier(
     write_operand(out, operand, is_binary(operand))
 }
 
-/// Appends an operand, in parentheses where it is enclosed.
 #[cycle(writer)]
 fn write_operand(out: &mut Vec<u8>, operand: &Expr, is_enclosed: bool) -> Result<(), AllocError>
     ensures { OnOk result (out.new.items ≡ out.old.items ++ spec.enclosed is_enclosed (spec.canonical_text (form_of operand.now))) }
@@ -109,7 +104,8 @@ fn write_operand(out: &mut Vec<u8>, operand: &Expr, is_enclosed: bool) -> Result
     }
 }
 
-/// How tightly the expression binds: `|` 1, `&` 2, `@` 3, `+` 4, `-` 5, and 6 for a prefix or an atom.
+/// How tightly the expression binds: `|` 1, `&` 2, `@` 3, `+` 4, `-` 5, and 6 for
+/// a prefix or an atom.
 fn binding(expr: &Expr) -> u8
     ensures { result ≡ spec.binding (form_of expr.now) }
 {
@@ -123,14 +119,12 @@ fn binding(expr: &Expr) -> u8
     }
 }
 
-/// Whether the expression has an operator with two operands outermost.
 fn is_binary(expr: &Expr) -> bool
     ensures { result ≡ nat_le (spec.binding (form_of expr.now)) 5 }
 {
     binding(expr) <= 5
 }
 
-/// Appends an atom, which has no blanks.
 fn write_atom(out: &mut Vec<u8>, atom: &Atom) -> Result<(), AllocError>
     ensures { OnOk result (out.new.items ≡ out.old.items ++ spec.atom_text atom.now) }
 {
@@ -141,7 +135,6 @@ fn write_atom(out: &mut Vec<u8>, atom: &Atom) -> Result<(), AllocError>
     }
 }
 
-/// Appends arguments in parentheses, with commas between them.
 fn write_arguments(out: &mut Vec<u8>, first: &Arg, more: &[Arg]) -> Result<(), AllocError>
     ensures { OnOk result (out.new.items ≡ out.old.items ++ spec.arguments_text (first.now ∷ more.now)) }
 {
@@ -155,7 +148,6 @@ fn write_arguments(out: &mut Vec<u8>, first: &Arg, more: &[Arg]) -> Result<(), A
     Ok(())
 }
 
-/// Appends an argument: a value as it is, a parameter behind `$`.
 fn write_argument(out: &mut Vec<u8>, argument: &Arg) -> Result<(), AllocError>
     ensures { OnOk result (out.new.items ≡ out.old.items ++ spec.argument_text argument.now) }
 {

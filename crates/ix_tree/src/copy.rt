@@ -80,7 +80,6 @@ impl Map {
     }
 }
 
-/// An equal tree in a box of its own.
 #[cycle(copy)]
 fn copy_box(alloc: Global, tree: &Tree) -> Result<Box<Tree>, AllocError>
     ensures { IfOk result (λ t. plain t.value ≡ plain tree.now) }

@@ -68,10 +68,9 @@ impl Map {
     }
 }
 
-/// The Sizes of trees together.
 #[cycle(size)]
 #[tactic(auto, using(crate::specs::lemmas::PlainParts::plain_parts))]
-pub fn trees_size(trees: &[Tree]) -> usize
+pub(crate) fn trees_size(trees: &[Tree]) -> usize
     requires { size_of (plain_trees trees.now) ≤ 2 ^ 32 }
     ensures { result ≡ size_of (plain_trees trees.now) }
 {
@@ -82,10 +81,9 @@ pub fn trees_size(trees: &[Tree]) -> usize
     sum
 }
 
-/// The Sizes of pairs together.
 #[cycle(size)]
 #[tactic(auto, using(crate::specs::lemmas::PlainParts::plain_parts))]
-pub fn pairs_size(pairs: &[Pair]) -> usize
+pub(crate) fn pairs_size(pairs: &[Pair]) -> usize
     requires { size_of (plain_pairs pairs.now) ≤ 2 ^ 32 }
     ensures { result ≡ size_of (plain_pairs pairs.now) }
 {
@@ -96,10 +94,9 @@ pub fn pairs_size(pairs: &[Pair]) -> usize
     sum
 }
 
-/// The Sizes of bags together.
 #[cycle(size)]
 #[tactic(auto, using(crate::specs::lemmas::PlainParts::plain_parts))]
-pub fn bags_size(bags: &[Bag]) -> usize
+pub(crate) fn bags_size(bags: &[Bag]) -> usize
     requires { size_of (plain_bags bags.now) ≤ 2 ^ 32 }
     ensures { result ≡ size_of (plain_bags bags.now) }
 {
@@ -110,10 +107,9 @@ pub fn bags_size(bags: &[Bag]) -> usize
     sum
 }
 
-/// The Sizes of maps together.
 #[cycle(size)]
 #[tactic(auto, using(crate::specs::lemmas::PlainParts::plain_parts))]
-pub fn maps_size(maps: &[Map]) -> usize
+pub(crate) fn maps_size(maps: &[Map]) -> usize
     requires { size_of (plain_maps maps.now) ≤ 2 ^ 32 }
     ensures { result ≡ size_of (plain_maps maps.now) }
 {
@@ -124,10 +120,10 @@ pub fn maps_size(maps: &[Map]) -> usize
     sum
 }
 
-/// The Sizes of entries together: 1 and the Size of its tree for each.
+/// Each entry counts 1 and the Size of its tree.
 #[cycle(size)]
 #[tactic(auto, using(crate::specs::lemmas::PlainParts::plain_parts))]
-pub fn entries_size(entries: &[(Value, Tree)]) -> usize
+pub(crate) fn entries_size(entries: &[(Value, Tree)]) -> usize
     requires { size_of (plain_entries entries.now) ≤ 2 ^ 32 }
     ensures { result ≡ size_of (plain_entries entries.now) }
 {

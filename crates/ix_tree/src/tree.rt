@@ -20,7 +20,8 @@ pub enum Tree {
     Opt(bool, Box<Tree>),
     /// `y - z`: the state of y, and the alternatives for z.
     Seq(Box<Tree>, Vec<Tree>),
-    /// `*y`: whether the word is a concatenation of complete words, and the alternatives for the last part.
+    /// `*y`: whether the word is a concatenation of complete words, and the
+    /// alternatives for the last part.
     Star(bool, Vec<Tree>),
     /// `y + z`: the alternatives, one for each split.
     Par(Vec<Pair>),

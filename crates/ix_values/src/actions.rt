@@ -54,7 +54,6 @@ impl Action {
         }
     }
 
-    /// Puts one more value behind those of the action.
     pub(crate) fn push(&mut self, value: Value)
         requires { length self.old.values < 4 }
         ensures { self.new ≡ action_of self.old.name (self.old.values ++ value ∷ []) }
@@ -64,7 +63,7 @@ impl Action {
         self.count += 1;
     }
 
-    /// The name of the action.
+    /// The name, which stands in front of the values in the action's text.
     pub fn name(&self) -> &Name
         ensures value { result.now ≡ self.now.name }
         ensures valid { IsAction self.now }

@@ -7,13 +7,12 @@ ghost use Rattle.ix_values.specs.inside.Padding.{padded};
 ghost use Rattle.ix_values.specs.Texts.{IsName, IsValue};
 
 /// Whether `byte` is an ASCII letter, an ASCII digit or `_`.
-pub fn is_word_byte(byte: u8) -> bool
+pub(crate) fn is_word_byte(byte: u8) -> bool
     ensures { result ≡ spec.is_word_byte byte }
 {
     byte.is_ascii_alphanumeric() || byte == b'_'
 }
 
-/// Whether all bytes of `text` are word bytes.
 fn is_word(text: &[u8]) -> bool
     ensures { result ≡ list_all spec.is_word_byte text.now }
 {
@@ -21,14 +20,14 @@ fn is_word(text: &[u8]) -> bool
 }
 
 /// Whether `text` has 1 to 32 bytes, all of them word bytes.
-pub fn is_value(text: &[u8]) -> bool
+pub(crate) fn is_value(text: &[u8]) -> bool
     ensures { IsTrue result ↔ IsValue text.now }
 {
     !text.is_empty() && text.len() <= 32 && is_word(text)
 }
 
 /// Whether `text` has 1 to 32 bytes, all of them word bytes, the first of them a letter.
-pub fn is_name(text: &[u8]) -> bool
+pub(crate) fn is_name(text: &[u8]) -> bool
     ensures { IsTrue result ↔ IsName text.now }
 {
     match text.first() {
@@ -37,8 +36,7 @@ pub fn is_name(text: &[u8]) -> bool
     }
 }
 
-/// The bytes of `text`, and zeros behind them.
-pub fn zero_padded(text: &[u8]) -> [u8; 32]
+pub(crate) fn zero_padded(text: &[u8]) -> [u8; 32]
     requires { length text.now ≤ 32 }
     ensures { result ≡ padded 32 0 text.now }
 {

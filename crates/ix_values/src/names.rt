@@ -53,7 +53,7 @@ impl Name {
         }
     }
 
-    /// The bytes of the name.
+    /// The bytes of the name, 1 to 32 of them.
     pub fn bytes(&self) -> &[u8]
         ensures value { result.now ≡ self.now }
         ensures name { IsName self.now }

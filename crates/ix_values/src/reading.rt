@@ -13,7 +13,8 @@ use crate::names::Name;
 use crate::values::Value;
 
 impl Action {
-    /// The action whose text is `text`. There is at most one. Where no action has this text, its fault.
+    /// The action whose text is `text`. There is at most one. Where no action has
+    /// this text, its fault.
     pub fn read(text: &[u8]) -> Result<Action, ActionFault>
         ensures { MatchResult result
             (λ action. IsAction action × (text_of action ≡ text.now))
@@ -112,28 +113,24 @@ fn word_length(text: &[u8]) -> usize
         .count()
 }
 
-/// The byte at a place, or None behind the end.
 fn byte_at(text: &[u8], at: usize) -> Option<u8>
     ensures { result ≡ slice_get text.now at }
 {
     text.get(at).copied()
 }
 
-/// Whether what stands behind a value closes the values.
 fn closes(next: Option<u8>) -> bool
     ensures { IsTrue result ↔ (next ≡ Some 41) }
 {
     matches!(next, Some(b')'))
 }
 
-/// Whether one more value follows the `count` values so far.
 fn goes_on(next: Option<u8>, count: usize) -> bool
     ensures { IsTrue result ↔ ((next ≡ Some 44) × (count < 4)) }
 {
     matches!(next, Some(b',')) && count < 4
 }
 
-/// The code of a byte behind a name, where it isn't `(`.
 fn code_after_name(byte: u8) -> u8
     ensures { result ≡ spec.code_after_name byte }
 {
@@ -144,7 +141,6 @@ fn code_after_name(byte: u8) -> u8
     }
 }
 
-/// The code of what stands behind a value, where it is neither `)` nor a comma that may stand there.
 fn code_after_value(next: Option<u8>) -> u8
     ensures { result ≡ spec.code_after_value next }
 {

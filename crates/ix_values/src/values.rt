@@ -63,7 +63,7 @@ impl Value {
         }
     }
 
-    /// The bytes of the value.
+    /// The bytes of the value, 1 to 32 of them.
     pub fn bytes(&self) -> &[u8]
         ensures value { result.now ≡ self.now }
         ensures valid { IsValue self.now }

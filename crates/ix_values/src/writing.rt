@@ -27,7 +27,6 @@ impl Action {
     }
 }
 
-/// Writes `(`, the values with commas between them, and `)`.
 fn write_values(out: &mut ArrayVec<u8, 168>, front: &[Value], last: &Value)
     requires room { array_vec_len out.old ≤ 32 }
     requires few { length front.now < 4 }
@@ -43,7 +42,6 @@ fn write_values(out: &mut ArrayVec<u8, 168>, front: &[Value], last: &Value)
     out.push(b')');
 }
 
-/// Writes bytes behind those that `out` holds.
 fn append(out: &mut ArrayVec<u8, 168>, bytes: &[u8])
     requires { array_vec_len out.old + length bytes.now ≤ 168 }
     ensures { out.new.items ≡ out.old.items ++ bytes.now }
@@ -53,7 +51,8 @@ fn append(out: &mut ArrayVec<u8, 168>, bytes: &[u8])
     }
 }
 
-/// Two actions with one text are the same action, so a text that is printed reads back as its action.
+/// Two actions with one text are the same action, so a text that is printed
+/// reads back as its action.
 pub fn texts_tell_actions_apart()
     ensures { TextsTellActionsApart }
 {}

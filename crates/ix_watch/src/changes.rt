@@ -9,8 +9,8 @@ use crate::{Mark, Watches};
 use ix_values::{Action, Name};
 use std::marker::Model;
 
-/// The actions of a name of which what holds now isn't what was told, in order, with what holds now. Seen as the list
-/// of those that are left.
+/// The actions of a name of which what holds now isn't what was told, in order, with what holds
+/// now. Seen as the list of those that are left.
 #[derive(Drop)]
 pub struct Changes<'a> {
     pub(crate) watches: &'a Watches,
@@ -50,14 +50,12 @@ impl<'a> Iterator for Changes<'a> {
     }
 }
 
-/// Whether the watch is of this name, and what holds now isn't what was told.
 fn has_changed(name: &Name, pair: &Pair, mark: &Mark) -> bool
     ensures { result ≡ spec.has_changed name.now (watch_of (pair.now, mark.now)) }
 {
     *name == pair.name && differ(mark.told, mark.holds)
 }
 
-/// Whether two answers differ.
 fn differ(told: bool, now: bool) -> bool
     ensures { result ≡ spec.differ told now }
 {

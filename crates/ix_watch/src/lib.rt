@@ -71,7 +71,7 @@ pub enum WatchFault {
 impl Watches {
     ghost use Rattle.ix_watch.specs.inside.Kept.{watch_of};
 
-    /// No watches.
+    /// An empty list: no name watches an action.
     pub fn new(alloc: Global) -> Watches
         ensures { result ≡ [] }
     {
@@ -96,7 +96,6 @@ impl Watches {
         self.len() == 0
     }
 
-    /// Where the watch of the pair stands.
     fn index_of(&self, name: &Name, action: &Action) -> Option<usize>
         ensures found { is_some result ≡ is_watched name.now action.now self.now }
         ensures place { IfSome result (λ index. index ≡ position_or_len (is_of name.now action.now) self.now) }
@@ -117,7 +116,7 @@ impl Watches {
         self.index_of(name, action).is_some()
     }
 
-    /// The pair at an index.
+    /// The pair at an index below `len`.
     pub fn at(&self, index: usize) -> (&Name, &Action)
         requires { index < length self.now }
         ensures { IsSomeAnd (slice_get self.now index) (λ watch. (result.0.now ≡ watch.name) × (result.1.now ≡ watch.action)) }
@@ -140,7 +139,6 @@ impl Watches {
         self.append(Pair { name, action }, Mark { told, holds: told })
     }
 
-    /// Puts a new watch at the end.
     fn append(&mut self, pair: Pair, mark: Mark) -> Result<Added, WatchFault>
         requires new { is_watched pair.name pair.action self.old ≡ false }
         requires room { length self.old < 4096 }
@@ -175,7 +173,8 @@ impl Watches {
         self.mark(index, told, now);
     }
 
-    /// The actions of the name of which what holds now isn't what was told, in order, with what holds now.
+    /// The actions of the name of which what holds now isn't what was told, in order,
+    /// with what holds now.
     pub fn changes<'a>(&'a self, name: &'a Name) -> Changes<'a>
         ensures { result ≡ changes_of name.now self.now }
     {
@@ -186,7 +185,7 @@ impl Watches {
         }
     }
 
-    /// Of the name, what holds now is told.
+    /// Notes of each watch of the name that what holds now was told.
     pub fn tell(&mut self, name: &Name)
         ensures { self.new ≡ told_to name.now self.old }
     {
@@ -199,7 +198,6 @@ impl Watches {
         }
     }
 
-    /// The watch at an index.
     fn entry(&self, index: usize) -> (&Pair, &Mark)
         requires { index < length self.now }
         ensures { slice_get self.now index ≡ Some (watch_of (result.0.now, result.1.now)) }
@@ -207,7 +205,6 @@ impl Watches {
         self.marks.get_index(index).unwrap()
     }
 
-    /// Sets both flags of the watch at an index.
     fn mark(&mut self, index: usize, told: bool, now: bool)
         requires { index < length self.old }
         ensures { self.new ≡ marked self.old index told now }
