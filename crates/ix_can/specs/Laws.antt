@@ -1,4 +1,4 @@
--- The laws of the tests and of trees, as statements.
+-- The laws of the tests and of the trees of words, as statements.
 use Rattle.std.specs.Prelude.{◌≡◌, ◌≢◌, ◌↔◌, true, false, List, [], ◌∷◌}
 use Rattle.std.specs.Ordering.{is_gt}
 use Rattle.ix_words.specs.Each.{Each}

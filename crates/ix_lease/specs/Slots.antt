@@ -1,4 +1,4 @@
--- What a slot holds at a moment, and what taking it answers.
+-- When a reservation is open, and which ticket it has.
 use Rattle.std.specs.Prelude.{◌≡◌, ◌<◌, ℕ}
 use Rattle.ix_lease.specs.declared.Slot.{Slot}
 use Rattle.ix_lease.specs.declared.Slot.TheVariants.{Free, Held}

@@ -1,4 +1,4 @@
--- What a site tells of its connections, and what its calls make of it.
+-- What a site tells of its connections, and what its calls make of what it tells.
 use Rattle.std.specs.Prelude.{◌≡◌, ◌⊎◌, ℕ, List, [], ◌∷◌, ◌++◌, length, take, Bool, true, Option, None, Result, Ok, Err, decimal}
 use Rattle.std.specs.Io.KnownBytes.{append_known}
 use Rattle.std.specs.Option.{option_map}

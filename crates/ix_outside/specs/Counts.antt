@@ -1,4 +1,4 @@
--- Counts of faults. The greatest value is 2 ^ 64 - 1.
+-- Counts of faults, each up to 2 ^ 64 - 1, and which of them a call may raise.
 use Rattle.std.specs.Prelude.{◌≡◌, ℕ, ◌+◌, ◌-◌, ◌^◌, ◌≤◌, min}
 
 -- a count rose, or stands at its greatest value

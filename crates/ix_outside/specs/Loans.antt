@@ -1,4 +1,4 @@
--- What an object was lent.
+-- What an object was lent, so that its caller learns that it came back as it was.
 use Rattle.std.specs.Prelude.{ℕ, List}
 use Rattle.std.specs.Borrow.{GName}
 use Rattle.ix_outside.specs.Contents.{Contents}

@@ -1,4 +1,4 @@
--- How texts and actions are compared: by bytes, a proper prefix first; names before values.
+-- How texts are compared: byte by byte, a proper prefix first.
 use Rattle.std.specs.Prelude.{ℕ, Bool, ◌==◌, List}
 use Rattle.std.specs.declared.cmp.Ordering.{Ordering}
 use Rattle.std.specs.Cmp.Lexicographic.{pointwise, slice_cmp}

@@ -1,4 +1,4 @@
--- The laws, as statements: K is the type of owners, A that of items.
+-- The laws of words, as statements: K is the type of owners, A that of items.
 use Rattle.std.specs.Prelude.{◌≡◌, ◌≢◌, ◌<◌, ◌↔◌, ◌⊎◌, ◌+◌, Bool, true, not, cond, IsTrue, List, [], ◌∷◌, ◌++◌, map, flat_map, filter, length}
 use Rattle.std.specs.declared.cmp.Ordering.{Ordering}
 use Rattle.ix_words.specs.Each.{Each, Member, EachPair}
