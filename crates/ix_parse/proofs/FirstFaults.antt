@@ -24,6 +24,10 @@ fault_at-order faults.TooDeep = refl
 fault_at-order faults.TooManyNodes = refl
 fault_at-order faults.Ended = refl
 
+-- faults of one order are the same
+pub order-one : (f g : Fault) → order_of f ≡ order_of g → f ≡ g
+order-one f g e = sym (fault_at-order f) ∙ ap fault_at e ∙ fault_at-order g
+
 order-low : (f : Fault) → order_of f ≤ 8
 order-low faults.NoToken = omega arith
 order-low faults.Reserved = omega arith
@@ -56,7 +60,7 @@ none-more test f n is below none g low = by-test (eqb (order_of g) n) refl
   where
     by-test : (v : Bool) → eqb (order_of g) n ≡ v → test g ≡ false
     by-test true same =
-        let e : g ≡ f = sym (fault_at-order g) ∙ ap fault_at (eqb-true (order_of g) n same ∙ sym is) ∙ fault_at-order f in
+        let e : g ≡ f = order-one g f (eqb-true (order_of g) n same ∙ sym is) in
         ap test e ∙ none
     by-test false differs =
         below g (⊎_elim (λ lt. lt) (λ ge. absurd (let same : order_of g ≡ n = omega arith in let h : eqb (order_of g) n ≡ true = eq-eqb (order_of g) n same in cc)) (order (order_of g) n))

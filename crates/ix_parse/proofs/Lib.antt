@@ -17,3 +17,4 @@ pub mod InGrammar
 pub mod NodeCounts
 pub mod Printing
 pub mod ReadingBack
+pub mod OneMeaning

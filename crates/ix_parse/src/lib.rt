@@ -2,12 +2,12 @@
 #![tactic(auto)]
 
 ghost use Rattle.std.specs.Prelude.{◌≡◌, IfOk, IfErr};
-ghost use Rattle.ix_parse.specs.Canonical.{CanonicalTextReadsBack};
 ghost use Rattle.ix_parse.specs.Faults as spec;
 ghost use Rattle.ix_parse.specs.inside.Outcomes.{IsFaultOf, HasPlaces, IsWellFormedOr};
 ghost use Rattle.ix_parse.specs.inside.Operands.{meaning_of};
 
 mod faults;
+pub mod laws;
 mod operand;
 mod reader;
 mod signs;
@@ -75,12 +75,6 @@ pub fn read(alloc: Global, text: &[u8]) -> Result<Expression, TextFault>
         Err(fault) => Err(fault),
     }
 }
-
-/// Law: the canonical text of each well-formed expression stands for it, where the text is of at
-/// most 16,384 bytes and opens at most 64 levels.
-pub fn canonical_text_reads_back()
-    ensures { CanonicalTextReadsBack }
-{}
 
 /// A form fault is told at the token of its node.
 fn checked(operand: Operand) -> Result<Expression, TextFault>

@@ -1,0 +1,25 @@
+//! Laws of reading, each the contract of a function with an empty body.
+
+ghost use Rattle.ix_parse.specs.Canonical.{CanonicalTextReadsBack};
+ghost use Rattle.ix_parse.specs.Laws.{TextsStandForOneExpression, FaultyTextsStandForNone, TextsHaveOneFirstFault};
+
+/// A text stands for at most one expression.
+pub fn texts_stand_for_one_expression()
+    ensures { TextsStandForOneExpression }
+{}
+
+/// A text that has a first fault stands for no expression.
+pub fn faulty_texts_stand_for_none()
+    ensures { FaultyTextsStandForNone }
+{}
+
+/// A text has at most one first fault: one code, and one place.
+pub fn texts_have_one_first_fault()
+    ensures { TextsHaveOneFirstFault }
+{}
+
+/// The canonical text of each well-formed expression stands for it, where the text is of at most
+/// 16,384 bytes and opens at most 64 levels.
+pub fn canonical_text_reads_back()
+    ensures { CanonicalTextReadsBack }
+{}
