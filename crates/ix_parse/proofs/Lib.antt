@@ -15,6 +15,9 @@ pub mod Endings
 pub mod Cutting
 pub mod InGrammar
 pub mod NodeCounts
+pub mod Levels
 pub mod Printing
 pub mod ReadingBack
 pub mod OneMeaning
+pub mod SpelledForms
+pub mod FewLevels

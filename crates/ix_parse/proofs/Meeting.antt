@@ -77,7 +77,7 @@ Nodes-unique _ _ _ m (Nodes.other ts us t n not_one more) second = on-other m se
     on-other _ (Nodes.node _ _ _ k is others) same = absurd (not_one is)
     on-other _ (Nodes.other _ _ _ k not_one' others) same = same k others
 
-long-when : (u : Symbol) → is_long u ≡ true → IsLong u
+pub long-when : (u : Symbol) → is_long u ≡ true → IsLong u
 long-when (word at w) e = ltb-true 32 (length w) e
 long-when (param p) e = ltb-true 32 (length p) e
 long-when opening e = absurd cc

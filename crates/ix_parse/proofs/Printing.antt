@@ -1,5 +1,5 @@
 -- The canonical text of an expression is cut into tokens that stand for it.
-use Rattle.std.proofs.Common.{◌≡◌, ℕ, suc, ◌+◌, ◌<◌, ◌≤◌, Bool, true, false, leb, ltb, List, [], ◌∷◌, ◌++◌, length, codes, Some, refl, sym, ap, ◌∙◌, subst, arith, append_assoc, leb-false, ltb-false}
+use Rattle.std.proofs.Common.{◌≡◌, ℕ, suc, ◌+◌, ◌<◌, ◌≤◌, Bool, true, false, leb, ltb, List, [], ◌∷◌, ◌++◌, length, map, codes, Some, refl, sym, ap, ◌∙◌, subst, arith, append_assoc, leb-false, leb-true, ltb-false, ltb-true}
 use Rattle.std.specs.Prelude.{All}
 use Rattle.std.specs.List.{list_all}
 use Rattle.std.proofs.lemmas.List.{append-nil}
@@ -14,7 +14,7 @@ use Rattle.ix_expr.specs.CanonicalText.{binding, enclosed, argument_text, more_a
 use Rattle.ix_lex.specs.declared.TokenKind.{TokenKind}
 use Rattle.ix_lex.specs.declared.TokenKind.TheVariants as kinds
 use Rattle.ix_lex.specs.WordBytes.{is_letter, is_word_byte, sign_of, begins}
-use Rattle.ix_lex.specs.Lexing.{PlainToken}
+use Rattle.ix_lex.specs.Lexing.{PlainToken, token, Pieces}
 use Rattle.ix_parse.specs.declared.signs.Operator.{Operator}
 use Rattle.ix_parse.specs.declared.signs.Operator.TheVariants as operators
 use Rattle.ix_parse.specs.declared.signs.Prefix.{Prefix}
@@ -27,6 +27,7 @@ use Rattle.ix_parse.specs.Grammar.{Arguments, Stands}
 use Rattle.ix_parse.specs.Faults.{IsLong, symbols_of}
 use Rattle.ix_parse.proofs.Classes.{named-class}
 use Rattle.ix_parse.proofs.Cuts.{Stands-loosen}
+use Rattle.ix_parse.proofs.Levels.{opened, opened_at, opened_by-bare, opened_by-least, opened_by-enclosed, OpensWithin, opens-loosen, opens-binary, opens-prefixed, opens-quantified, opens-group, opens-bare, opens-applied}
 use Rattle.ix_parse.proofs.Cutting.{token_at, CutsEnded, any-ended, any-then, any-any, ended-any, ended-ended, cuts-blank, cuts-sign, cuts-word, cuts-param}
 
 abbrev pub meaning : Form → List ℕ → Meaning
@@ -45,13 +46,15 @@ symbols-append : (ts us : List PlainToken) → symbols_of (ts ++ us) ≡ symbols
 symbols-append [] us = refl
 symbols-append (t ∷ ts) us = ap (λ l. symbol_of t ∷ l) (symbols-append ts us)
 
--- the text at this place is cut into tokens that stand for the form at level n
+-- the text at this place is cut into tokens that stand for the form at level n, and open no more
+-- levels than it has
 pub record Printed (at : ℕ) (text : List ℕ) (n : ℕ) (x : Form) : Type 0 where
   pub tokens : List PlainToken
   pub places : List ℕ
   pub cuts : CutsEnded at text tokens
   pub short : NoneLong tokens
   pub stands : Stands n (symbols_of tokens) (meaning x places)
+  pub opens : OpensWithin n (symbols_of tokens) (opened_at n x)
 
 pub binding-some : (x : Form) → 1 ≤ binding x
 binding-some (forms.atom a) = omega arith
@@ -84,15 +87,34 @@ binding-low (forms.sync p y) = omega arith
 binding-low (forms.all p y) = omega arith
 
 -- an operand, in parentheses where it binds too weakly
-printed-enclosed : (test : Bool) (k : ℕ) (x : Form) (text : List ℕ) (at : ℕ) → k ≤ 6 → ((from : ℕ) → Printed from text (binding x) x) → (test ≡ false → k ≤ binding x) → Printed at (enclosed test text) k x
-printed-enclosed false k x text at low inner tight =
+printed-enclosed :
+    (test : Bool) (k : ℕ) (x : Form) (text : List ℕ) (at : ℕ) → k ≤ 6
+    → ((from : ℕ) → Printed from text (binding x) x) → (test ≡ false → k ≤ binding x)
+    → (test ≡ true → binding x < k) → Printed at (enclosed test text) k x
+printed-enclosed false k x text at low inner tight loose =
     let p = inner at in
-    record { tokens = p.tokens; places = p.places; cuts = p.cuts; short = p.short; stands = Stands-loosen (binding x) k (symbols_of p.tokens) (meaning x p.places) (tight refl) (binding-low x) p.stands }
-printed-enclosed true k x text at low inner tight =
+    let bare = opened_by-bare (binding x) (binding x) (opened x) (omega arith) in
+    let least = opened_by-least k (binding x) (opened x) in
+    record {
+      tokens = p.tokens;
+      places = p.places;
+      cuts = p.cuts;
+      short = p.short;
+      stands =
+          Stands-loosen (binding x) k (symbols_of p.tokens) (meaning x p.places) (tight refl)
+          (binding-low x) p.stands;
+      opens =
+          opens-loosen k (binding x) (opened_at (binding x) x) (opened_at k x) (symbols_of p.tokens)
+          (tight refl) (omega arith) p.opens;
+    }
+printed-enclosed true k x text at low inner tight loose =
     let p = inner (at + 1) in
     let open_token = token_at kinds.Open (40 ∷ []) at in
     let close_token = token_at kinds.Close (41 ∷ []) (at + length (40 ∷ text)) in
     let symbols : symbols_of (open_token ∷ p.tokens ++ close_token ∷ []) ≡ opening ∷ symbols_of p.tokens ++ closing ∷ [] = ap (λ l. opening ∷ l) (symbols-append p.tokens (close_token ∷ [])) in
+    let bare = opened_by-bare (binding x) (binding x) (opened x) (omega arith) in
+    let one_more = opened_by-enclosed k (binding x) (opened x) (loose refl) in
+    let some = binding-some x in
     record {
       tokens = open_token ∷ p.tokens ++ close_token ∷ [];
       places = p.places;
@@ -106,6 +128,13 @@ printed-enclosed true k x text at low inner tight =
           subst (λ l. Stands k l (meaning x p.places)) (sym symbols)
           (Stands-loosen 6 k _ (meaning x p.places) low (omega arith)
           (Stands.group (symbols_of p.tokens) (meaning x p.places) (Stands-loosen (binding x) 1 (symbols_of p.tokens) (meaning x p.places) (binding-some x) (binding-low x) p.stands)));
+      opens =
+          subst (λ l. OpensWithin k l (opened_at k x)) (sym symbols)
+          (opens-loosen k 6 (suc (opened x)) (opened_at k x)
+          (opening ∷ symbols_of p.tokens ++ closing ∷ []) low (omega arith)
+          (opens-group (symbols_of p.tokens) (opened x)
+          (opens-loosen 1 (binding x) (opened_at (binding x) x) (opened x)
+          (symbols_of p.tokens) some (omega arith) p.opens)));
     }
 
 -- an operator between two operands
@@ -132,6 +161,11 @@ printed-binary o b kind x y at t u is_sign is_between l right =
       stands =
           subst (λ s. Stands (level o) s (meaning (joined_form o x y) (place ∷ l.places ++ r.places))) (sym symbols)
           (Stands.binary place o (symbols_of l.tokens) (symbols_of r.tokens) (meaning x l.places) (meaning y r.places) l.stands r.stands);
+      opens =
+          subst (λ s. OpensWithin (level o) s (opened_at (level o) (joined_form o x y)))
+          (sym symbols)
+          (opens-binary place o (symbols_of l.tokens) (symbols_of r.tokens) (meaning x l.places) y
+          l.stands l.opens r.opens);
     }
 
 -- a prefix in front of an operand
@@ -147,6 +181,9 @@ printed-prefix sign b kind x at t is_sign is_before p =
       stands =
           subst (λ s. Stands 6 (s ∷ symbols_of p.tokens) (meaning (prefixed_form sign x) (at ∷ p.places))) (sym (is_before at))
           (Stands.prefixes at sign (symbols_of p.tokens) (meaning x p.places) p.stands);
+      opens =
+          subst (λ s. OpensWithin 6 (s ∷ symbols_of p.tokens) (opened_at 6 (prefixed_form sign x)))
+          (sym (is_before at)) (opens-prefixed at sign (symbols_of p.tokens) x p.opens);
     }
 
 not_long : (n : ℕ) → n ≤ 32 → ¬ (32 < n)
@@ -173,6 +210,7 @@ printed-quantifier q w p x at t is some all few name inner =
           (any-then from (32 ∷ []) t [] r.tokens (cuts-blank from) r.cuts);
       short = (not_long (length w) few, (not_long (length p) name.short, r.short));
       stands = Stands.quantifies at w q p (symbols_of r.tokens) (meaning x r.places) is r.stands;
+      opens = opens-quantified at w q p (symbols_of r.tokens) x is r.opens;
     }
 
 -- an argument
@@ -229,6 +267,7 @@ printed-atom at w [] a =
       cuts = subst (λ l. CutsEnded at l (name_token ∷ [])) (sym (append-nil w)) (cuts-word at w (letter-some w a.name.begins) a.name.word);
       short = (not_long (length w) a.name.short, tt);
       stands = Stands.bare at w (named-class w a.unreserved a.name.begins);
+      opens = opens-bare at w (named-class w a.unreserved a.name.begins);
     }
 printed-atom at w (b ∷ args) a =
     let name_token = token_at kinds.Word w at in
@@ -251,17 +290,27 @@ printed-atom at w (b ∷ args) a =
       stands =
           subst (λ l. Stands 6 l (meaning (forms.atom (atom_of w (b ∷ args))) (at ∷ []))) (sym symbols)
           (Stands.applied at w (symbols_of r.tokens) (b ∷ args) (named-class w a.unreserved a.name.begins) r.list a.few);
+      opens =
+          subst (λ l. OpensWithin 6 l 0) (sym symbols)
+          (opens-applied at w (symbols_of r.tokens) (b ∷ args)
+          (named-class w a.unreserved a.name.begins) r.list);
     }
 
 -- operands of an operator and of a prefix
 left-operand : (k : ℕ) (x : Form) (text : List ℕ) (at : ℕ) → k ≤ 5 → ((from : ℕ) → Printed from text (binding x) x) → Printed at (enclosed (ltb (binding x) k) text) k x
-left-operand k x text at low inner = printed-enclosed (ltb (binding x) k) k x text at (omega arith) inner (λ e. ltb-false (binding x) k e)
+left-operand k x text at low inner =
+    printed-enclosed (ltb (binding x) k) k x text at (omega arith) inner
+    (λ e. ltb-false (binding x) k e) (λ e. ltb-true (binding x) k e)
 
 right-operand : (k : ℕ) (x : Form) (text : List ℕ) (at : ℕ) → k ≤ 5 → ((from : ℕ) → Printed from text (binding x) x) → Printed at (enclosed (leb (binding x) k) text) (suc k) x
-right-operand k x text at low inner = printed-enclosed (leb (binding x) k) (suc k) x text at (omega arith) inner (λ e. leb-false (binding x) k e)
+right-operand k x text at low inner =
+    printed-enclosed (leb (binding x) k) (suc k) x text at (omega arith) inner
+    (λ e. leb-false (binding x) k e) (λ e. let low = leb-true (binding x) k e in omega arith)
 
 operand : (x : Form) (text : List ℕ) (at : ℕ) → ((from : ℕ) → Printed from text (binding x) x) → Printed at (operand_text (binding x, text)) 6 x
-operand x text at inner = printed-enclosed (leb (binding x) 5) 6 x text at (omega arith) inner (λ e. leb-false (binding x) 5 e)
+operand x text at inner =
+    printed-enclosed (leb (binding x) 5) 6 x text at (omega arith) inner
+    (λ e. leb-false (binding x) 5 e) (λ e. let low = leb-true (binding x) 5 e in omega arith)
 
 any_class : class_of (codes "any") ≡ Quantifies quantifiers.Any
 unfolding class_of
@@ -294,3 +343,14 @@ printed (forms.any p y) spelled at = printed-quantifier quantifiers.Any (codes "
 printed (forms.every p y) spelled at = printed-quantifier quantifiers.Every (codes "every") p y at _ every_class (omega arith) refl (omega arith) spelled.0 (λ from. operand y (canonical_text y) from (printed y spelled.1))
 printed (forms.sync p y) spelled at = printed-quantifier quantifiers.Sync (codes "sync") p y at _ sync_class (omega arith) refl (omega arith) spelled.0 (λ from. operand y (canonical_text y) from (printed y spelled.1))
 printed (forms.all p y) spelled at = printed-quantifier quantifiers.All (codes "all") p y at _ all_class (omega arith) refl (omega arith) spelled.0 (λ from. operand y (canonical_text y) from (printed y spelled.1))
+
+-- and of these tokens alone
+pub printed-pieces :
+    (x : Form) (spelled : IsSpelled x)
+    → Pieces 0 (canonical_text x) (map token (printed x spelled 0).tokens)
+printed-pieces x spelled =
+    let p = printed x spelled 0 in
+    let text = canonical_text x in
+    subst (λ l. Pieces 0 l (map token p.tokens)) (append-nil text)
+    (subst (Pieces 0 (text ++ [])) (append-nil (map token p.tokens))
+    (p.cuts [] [] refl (Pieces.done (0 + length text))))

@@ -1,7 +1,6 @@
 -- Canonical text reads back.
 use Rattle.std.proofs.Common.{◌≡◌, ℕ, suc, zero, ◌+◌, ◌<◌, ◌≤◌, List, [], ◌∷◌, ◌++◌, length, map, Some, None, refl, sym, ap, ◌∙◌, subst, arith, append_assoc, ⊎_elim}
 use Rattle.std.specs.Prelude.{slice_get}
-use Rattle.std.proofs.lemmas.List.{append-nil}
 use Rattle.std.proofs.str.Laws.{order}
 use Rattle.ix_lex.specs.Lexing.{PlainToken, token, Pieces}
 use Rattle.ix_expr.specs.Form.{Form}
@@ -14,7 +13,7 @@ use Rattle.ix_parse.proofs.Cuts.{Stands-loosen}
 use Rattle.ix_parse.proofs.Places.{Stands-places}
 use Rattle.ix_parse.proofs.NodeCounts.{Nodes-append, Nodes-front, text-nodes}
 use Rattle.ix_parse.proofs.InGrammar.{IsWithin, HasMeaning-within, map-split}
-use Rattle.ix_parse.proofs.Printing.{meaning, NoneLong, printed, binding-some, binding-low}
+use Rattle.ix_parse.proofs.Printing.{meaning, NoneLong, printed, printed-pieces, binding-some, binding-low}
 
 none-long : (us vs all : List PlainToken) (t : PlainToken) → NoneLong all → all ≡ us ++ t ∷ vs → ¬ IsLong (symbol_of t)
 none-long us vs all t none split = at us (subst NoneLong split none)
@@ -42,8 +41,7 @@ canonical-reads_back x spelled formed short shallow =
     let text = canonical_text x in
     let m = meaning x p.places in
     let stands = Stands-loosen (binding x) 1 (symbols_of p.tokens) m (binding-some x) (binding-low x) p.stands in
-    let cut : Pieces 0 text (map token p.tokens) =
-    subst (λ l. Pieces 0 l (map token p.tokens)) (append-nil text) (subst (Pieces 0 (text ++ [])) (append-nil (map token p.tokens)) (p.cuts [] [] refl (Pieces.done (0 + length text)))) in
+    let cut = printed-pieces x spelled in
     let counted = text-nodes (symbols_of p.tokens) m stands in
     let count = Stands-places (symbols_of p.tokens) m stands in
     let few = few-nodes x formed in

@@ -1,16 +1,27 @@
 -- Laws of reading, as statements over the definitions alone.
 use Rattle.std.specs.Prelude.{◌≡◌, ℕ, List}
 use Rattle.ix_expr.specs.Form.{Form}
+use Rattle.ix_expr.specs.CanonicalText.{canonical_text}
 use Rattle.ix_parse.specs.Faults.{StandsFor, IsFirstFault}
+use Rattle.ix_parse.specs.Canonical.{OpensAtMost}
 
 -- a text stands for at most one expression
 abbrev pub TextsStandForOneExpression : Type 0
-TextsStandForOneExpression = (text : List ℕ) (x y : Form) → StandsFor text x → StandsFor text y → x ≡ y
+TextsStandForOneExpression =
+    (text : List ℕ) (x y : Form) → StandsFor text x → StandsFor text y → x ≡ y
 
 -- a text that has a first fault stands for no expression
 abbrev pub FaultyTextsStandForNone : Type 0
-FaultyTextsStandForNone = (text : List ℕ) (code at : ℕ) (x : Form) → IsFirstFault text code at → ¬ StandsFor text x
+FaultyTextsStandForNone =
+    (text : List ℕ) (code at : ℕ) (x : Form) → IsFirstFault text code at → ¬ StandsFor text x
 
 -- a text has at most one first fault: one code, and one place
 abbrev pub TextsHaveOneFirstFault : Type 0
-TextsHaveOneFirstFault = (text : List ℕ) (c a d b : ℕ) → IsFirstFault text c a → IsFirstFault text d b → (c ≡ d) × (a ≡ b)
+TextsHaveOneFirstFault =
+    (text : List ℕ) (c a d b : ℕ) → IsFirstFault text c a → IsFirstFault text d b
+    → (c ≡ d) × (a ≡ b)
+
+-- the canonical text of an expression that was read opens at most 64 levels
+abbrev pub CanonicalTextsOpenFewLevels : Type 0
+CanonicalTextsOpenFewLevels =
+    (text : List ℕ) (x : Form) → StandsFor text x → OpensAtMost 64 (canonical_text x)

@@ -1,7 +1,7 @@
 //! Laws of reading, each the contract of a function with an empty body.
 
 ghost use Rattle.ix_parse.specs.Canonical.{CanonicalTextReadsBack};
-ghost use Rattle.ix_parse.specs.Laws.{TextsStandForOneExpression, FaultyTextsStandForNone, TextsHaveOneFirstFault};
+ghost use Rattle.ix_parse.specs.Laws.{TextsStandForOneExpression, FaultyTextsStandForNone, TextsHaveOneFirstFault, CanonicalTextsOpenFewLevels};
 
 /// A text stands for at most one expression.
 pub fn texts_stand_for_one_expression()
@@ -22,4 +22,9 @@ pub fn texts_have_one_first_fault()
 /// 16,384 bytes and opens at most 64 levels.
 pub fn canonical_text_reads_back()
     ensures { CanonicalTextReadsBack }
+{}
+
+/// The canonical text of an expression that was read opens at most 64 levels.
+pub fn canonical_texts_open_few_levels()
+    ensures { CanonicalTextsOpenFewLevels }
 {}

@@ -1,0 +1,89 @@
+-- The canonical text of what was read opens no more levels than the text that was read.
+use Rattle.std.proofs.Common.{◌≡◌, ℕ, ◌+◌, ◌≤◌, List, [], ◌∷◌, ◌++◌, map, refl, sym, ap, ◌∙◌, subst, arith}
+use Rattle.ix_lex.specs.Lexing.{PlainToken, token}
+use Rattle.ix_expr.specs.CanonicalText.{binding, canonical_text}
+use Rattle.ix_parse.specs.declared.faults.Fault.TheVariants as faults
+use Rattle.ix_parse.specs.Symbols.{Symbol, symbol_of, Meaning}
+use Rattle.ix_parse.specs.Grammar.{Wanted}
+use Rattle.ix_parse.specs.Faults.{OpensLevel, Met, symbols_of, HasMeaning}
+use Rattle.ix_parse.specs.Laws.{CanonicalTextsOpenFewLevels}
+use Rattle.ix_parse.specs.inside.StackMachine.{config, wanted, levels}
+use Rattle.ix_parse.proofs.Runs.{run-wanted}
+use Rattle.ix_parse.proofs.Meeting.{wanted-when}
+use Rattle.ix_parse.proofs.InGrammar.{map-split}
+use Rattle.ix_parse.proofs.Levels.{opened, opened_by-least, opened_by-bare, Shallow, stands-opened}
+use Rattle.ix_parse.proofs.Printing.{printed, printed-pieces, binding-some}
+use Rattle.ix_parse.proofs.OneMeaning.{pieces-one, tokens-one, nothing-at}
+use Rattle.ix_parse.proofs.SpelledForms.{meaning-spelled}
+
+-- where a symbol stands among the symbols of tokens, its token stands among them
+record TokenAt (tokens : List PlainToken) (us vs : List Symbol) (t : Symbol) : Type 0 where
+  before : List PlainToken
+  at : PlainToken
+  after : List PlainToken
+  split : tokens ≡ before ++ at ∷ after
+  fronts : symbols_of before ≡ us
+  here : symbol_of at ≡ t
+
+token-at :
+    (tokens : List PlainToken) (us vs : List Symbol) (t : Symbol) → symbols_of tokens ≡ us ++ t ∷ vs
+    → TokenAt tokens us vs t
+token-at [] [] vs t e = absurd cc
+token-at [] (u ∷ us) vs t e = absurd cc
+token-at (a ∷ tokens) [] vs t e =
+    let head : symbol_of a ≡ t = cc in
+    record { before = []; at = a; after = tokens; split = refl; fronts = refl; here = head }
+token-at (a ∷ tokens) (u ∷ us) vs t e =
+    let head : symbol_of a ≡ u = cc in
+    let tail : symbols_of tokens ≡ us ++ t ∷ vs = cc in
+    let r = token-at tokens us vs t tail in
+    record {
+      before = a ∷ r.before;
+      at = r.at;
+      after = r.after;
+      split = ap (λ l. a ∷ l) r.split;
+      fronts = ap (λ l. symbol_of a ∷ l) r.fronts ∙ ap (λ v. v ∷ us) head;
+      here = r.here;
+    }
+
+-- a text that has a meaning opens no level where 64 are open
+read-shallow :
+    (text : List ℕ) (x : Meaning) (means : HasMeaning text x)
+    → Shallow 64 [] (symbols_of means.tokens)
+read-shallow text x means us vs t s split ran opens full =
+    let r = token-at means.tokens us vs t split in
+    let wants : Wanted 64 us =
+    subst (λ d. Wanted d us) full (wanted-when us (config s wanted) ran refl) in
+    let P : Symbol → Type 0 = λ u. OpensLevel u in
+    nothing-at text x means r.before r.after r.at faults.TooDeep r.split
+    (Met.too_deep r.at (map token r.after) (subst (Wanted 64) (sym r.fronts) wants)
+    (subst P (sym r.here) opens))
+
+-- so its canonical text has at most 64 levels
+read-opened : (text : List ℕ) (x : Meaning) → HasMeaning text x → opened x.form ≤ 64
+read-opened text x means =
+    let low =
+    stands-opened 64 1 (symbols_of means.tokens) x means.stands [] (omega arith) (omega arith)
+    (read-shallow text x means) in
+    let least = opened_by-least 1 (binding x.form) (opened x.form) in
+    omega arith
+
+-- and opens no level where 64 are open
+pub canonical-opens_few : CanonicalTextsOpenFewLevels
+canonical-opens_few text x stands us vs t cut wants opens =
+    let m : Meaning = record { form = x; places = stands.places } in
+    let spelled = meaning-spelled text m stands.means in
+    let p = printed x spelled 0 in
+    let tokens : p.tokens ≡ us ++ t ∷ vs =
+    tokens-one p.tokens (us ++ t ∷ vs)
+    (pieces-one (canonical_text x) (map token p.tokens) (map token (us ++ t ∷ vs))
+    (printed-pieces x spelled) cut) in
+    let r = run-wanted 64 (symbols_of us) wants in
+    let some = binding-some x in
+    let low =
+    p.opens [] r.stack (symbols_of us) (symbols_of vs) (symbol_of t) some
+    (ap symbols_of tokens ∙ map-split us (t ∷ vs)) r.is opens in
+    let bare = opened_by-bare (binding x) (binding x) (opened x) (omega arith) in
+    let few : opened x ≤ 64 = read-opened text m stands.means in
+    let deep : levels r.stack ≡ levels [] + 64 = r.deeper in
+    omega arith
