@@ -1,18 +1,21 @@
 -- The canonical text of what was read opens no more levels than the text that was read.
 use Rattle.std.proofs.Common.{◌≡◌, ℕ, ◌+◌, ◌≤◌, List, [], ◌∷◌, ◌++◌, map, refl, sym, ap, ◌∙◌, subst, arith}
 use Rattle.ix_lex.specs.Lexing.{PlainToken, token}
+use Rattle.ix_expr.specs.Form.{Form}
+use Rattle.ix_expr.specs.Spelling.{IsSpelled}
 use Rattle.ix_expr.specs.CanonicalText.{binding, canonical_text}
 use Rattle.ix_parse.specs.declared.faults.Fault.TheVariants as faults
 use Rattle.ix_parse.specs.Symbols.{Symbol, symbol_of, Meaning}
 use Rattle.ix_parse.specs.Grammar.{Wanted}
-use Rattle.ix_parse.specs.Faults.{OpensLevel, Met, symbols_of, HasMeaning}
-use Rattle.ix_parse.specs.Laws.{CanonicalTextsOpenFewLevels}
+use Rattle.ix_parse.specs.Faults.{OpensLevel, Met, symbols_of, HasMeaning, StandsFor}
+use Rattle.ix_parse.specs.Laws.{CanonicalTextsOpenFewLevels, WhatWasReadReadsBack}
 use Rattle.ix_parse.specs.inside.StackMachine.{config, wanted, levels}
 use Rattle.ix_parse.proofs.Runs.{run-wanted}
 use Rattle.ix_parse.proofs.Meeting.{wanted-when}
 use Rattle.ix_parse.proofs.InGrammar.{map-split}
 use Rattle.ix_parse.proofs.Levels.{opened, opened_by-least, opened_by-bare, Shallow, stands-opened}
 use Rattle.ix_parse.proofs.Printing.{printed, printed-pieces, binding-some}
+use Rattle.ix_parse.proofs.ReadingBack.{canonical-reads_back}
 use Rattle.ix_parse.proofs.OneMeaning.{pieces-one, tokens-one, nothing-at}
 use Rattle.ix_parse.proofs.SpelledForms.{meaning-spelled}
 
@@ -41,8 +44,8 @@ token-at (a ∷ tokens) (u ∷ us) vs t e =
       before = a ∷ r.before;
       at = r.at;
       after = r.after;
-      split = ap (λ l. a ∷ l) r.split;
-      fronts = ap (λ l. symbol_of a ∷ l) r.fronts ∙ ap (λ v. v ∷ us) head;
+      split = (let split = r.split in cc);
+      fronts = (let front = r.fronts in cc);
       here = r.here;
     }
 
@@ -59,20 +62,27 @@ read-shallow text x means us vs t s split ran opens full =
     (Met.too_deep r.at (map token r.after) (subst (Wanted 64) (sym r.fronts) wants)
     (subst P (sym r.here) opens))
 
--- so its canonical text has at most 64 levels
-read-opened : (text : List ℕ) (x : Meaning) → HasMeaning text x → opened x.form ≤ 64
-read-opened text x means =
+-- what was read is spelled, and has at most 64 levels
+abbrev read_meaning : (text : List ℕ) (x : Form) → StandsFor text x → Meaning
+read_meaning text x stands = record { form = x; places = stands.places }
+
+read-spelled : (text : List ℕ) (x : Form) → StandsFor text x → IsSpelled x
+read-spelled text x stands = meaning-spelled text (read_meaning text x stands) stands.means
+
+read-opened : (text : List ℕ) (x : Form) → StandsFor text x → opened x ≤ 64
+read-opened text x stands =
+    let m = read_meaning text x stands in
+    let means = stands.means in
     let low =
-    stands-opened 64 1 (symbols_of means.tokens) x means.stands [] (omega arith) (omega arith)
-    (read-shallow text x means) in
-    let least = opened_by-least 1 (binding x.form) (opened x.form) in
+    stands-opened 64 1 (symbols_of means.tokens) m means.stands [] (omega arith) (omega arith)
+    (read-shallow text m means) in
+    let least = opened_by-least 1 (binding x) (opened x) in
     omega arith
 
--- and opens no level where 64 are open
+-- so its canonical text opens no level where 64 are open
 pub canonical-opens_few : CanonicalTextsOpenFewLevels
 canonical-opens_few text x stands us vs t cut wants opens =
-    let m : Meaning = record { form = x; places = stands.places } in
-    let spelled = meaning-spelled text m stands.means in
+    let spelled = read-spelled text x stands in
     let p = printed x spelled 0 in
     let tokens : p.tokens ≡ us ++ t ∷ vs =
     tokens-one p.tokens (us ++ t ∷ vs)
@@ -84,6 +94,12 @@ canonical-opens_few text x stands us vs t cut wants opens =
     p.opens [] r.stack (symbols_of us) (symbols_of vs) (symbol_of t) some
     (ap symbols_of tokens ∙ map-split us (t ∷ vs)) r.is opens in
     let bare = opened_by-bare (binding x) (binding x) (opened x) (omega arith) in
-    let few : opened x ≤ 64 = read-opened text m stands.means in
+    let few = read-opened text x stands in
     let deep : levels r.stack ≡ levels [] + 64 = r.deeper in
     omega arith
+
+-- and reads back
+pub read-reads_back : WhatWasReadReadsBack
+read-reads_back text x stands short =
+    canonical-reads_back x (read-spelled text x stands) stands.well_formed short
+    (canonical-opens_few text x stands)

@@ -1,5 +1,5 @@
 -- Laws of reading, as statements over the definitions alone.
-use Rattle.std.specs.Prelude.{◌≡◌, ℕ, List}
+use Rattle.std.specs.Prelude.{◌≡◌, ℕ, ◌≤◌, List, length}
 use Rattle.ix_expr.specs.Form.{Form}
 use Rattle.ix_expr.specs.CanonicalText.{canonical_text}
 use Rattle.ix_parse.specs.Faults.{StandsFor, IsFirstFault}
@@ -25,3 +25,9 @@ TextsHaveOneFirstFault =
 abbrev pub CanonicalTextsOpenFewLevels : Type 0
 CanonicalTextsOpenFewLevels =
     (text : List ℕ) (x : Form) → StandsFor text x → OpensAtMost 64 (canonical_text x)
+
+-- the canonical text of an expression that was read stands for it, if of at most 16,384 bytes
+abbrev pub WhatWasReadReadsBack : Type 0
+WhatWasReadReadsBack =
+    (text : List ℕ) (x : Form) → StandsFor text x → length (canonical_text x) ≤ 16384
+    → StandsFor (canonical_text x) x

@@ -1,7 +1,7 @@
 //! Laws of reading, each the contract of a function with an empty body.
 
 ghost use Rattle.ix_parse.specs.Canonical.{CanonicalTextReadsBack};
-ghost use Rattle.ix_parse.specs.Laws.{TextsStandForOneExpression, FaultyTextsStandForNone, TextsHaveOneFirstFault, CanonicalTextsOpenFewLevels};
+ghost use Rattle.ix_parse.specs.Laws.{TextsStandForOneExpression, FaultyTextsStandForNone, TextsHaveOneFirstFault, CanonicalTextsOpenFewLevels, WhatWasReadReadsBack};
 
 /// A text stands for at most one expression.
 pub fn texts_stand_for_one_expression()
@@ -27,4 +27,10 @@ pub fn canonical_text_reads_back()
 /// The canonical text of an expression that was read opens at most 64 levels.
 pub fn canonical_texts_open_few_levels()
     ensures { CanonicalTextsOpenFewLevels }
+{}
+
+/// The canonical text of an expression that was read stands for it, where the text is of at most
+/// 16,384 bytes.
+pub fn what_was_read_reads_back()
+    ensures { WhatWasReadReadsBack }
 {}
