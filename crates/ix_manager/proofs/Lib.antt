@@ -10,3 +10,4 @@ pub mod TakeLemmas
 pub mod AnswerLemmas
 pub mod HandleLemmas
 pub mod SendSteps
+pub mod TableLemmas

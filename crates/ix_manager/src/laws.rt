@@ -1,5 +1,23 @@
-//! Laws of runs of the protocol machine.
+//! Laws of the protocol machine's table and of its runs.
+ghost use Rattle.ix_manager.specs.MachineLaws.{OnlySomeWantMemory, OpenTicketsAreConfirmed, PollsTellWhatChanged};
 ghost use Rattle.ix_manager.specs.RunLaws.{AnyCuttingGivesTheSameRun, CallsMakeARun, SentRepliesAreTheWire, UnmarkedRepliesAreTheText};
+
+/// A confirm with the ticket of the open reservation is confirmed: its action joins the history,
+/// and the slot is free.
+pub fn open_tickets_are_confirmed()
+    ensures { OpenTicketsAreConfirmed }
+{}
+
+/// Only an ask, a watch or a poll is refused for want of memory.
+pub fn only_some_want_memory()
+    ensures { OnlySomeWantMemory }
+{}
+
+/// Unless memory runs out, a poll tells exactly the watches of its name for which whether the action
+/// is allowed isn't what was told, in order, behind their number.
+pub fn polls_tell_what_changed()
+    ensures { PollsTellWhatChanged }
+{}
 
 /// A manager that was just started follows the run without events. Where a manager follows a
 /// run, each event that it takes goes on that run, and the manager follows the longer run as
