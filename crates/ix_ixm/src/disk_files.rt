@@ -22,11 +22,7 @@ impl<'a, R: rt::Files> DiskFiles<'a, R> {
 }
 
 impl<R: rt::Files> Files for DiskFiles<'_, R> {
-    ghost contents = { λ _. None };
-
-    ghost faults = { λ files. files.faults };
-
-    ghost held = { λ _. free };
+    ghost state = { λ files. record { contents = None; faults = files.faults; held = free } };
 
     fn load(&mut self, alloc: Global, name: &str, limit: usize) -> Result<Vec<u8>, LoadFault> {
         let loaded = read_within(alloc, self.rt, name, limit);

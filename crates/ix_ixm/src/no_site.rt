@@ -1,5 +1,6 @@
 //! A site that isn't there.
 ghost use Rattle.ix_outside.specs.Loans.{free};
+ghost use Rattle.ix_outside.specs.inside.NothingTold.{nothing_told};
 
 use ix_outside::{DiskFailed, Event, Gone, Site, WireFailed};
 
@@ -28,11 +29,12 @@ impl NoSite {
 }
 
 impl Site for NoSite {
-    ghost counts = { λ site. record { disk = site.disk; wire = site.wire; send = site.send } };
-
-    ghost attached = { λ site. site.attached };
-
-    ghost held = { λ _. free };
+    ghost state = { λ site. record {
+      counts = record { disk = site.disk; wire = site.wire; send = site.send };
+      attached = site.attached;
+      contents = nothing_told;
+      held = free;
+    } };
 
     fn listen(&mut self, _name: &str) -> Result<(), WireFailed> {
         self.wire = self.wire.saturating_add(1);

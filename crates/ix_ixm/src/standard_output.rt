@@ -19,11 +19,7 @@ impl<W: Write> StandardOutput<W> {
 }
 
 impl<W: Write> Sink for StandardOutput<W> {
-    ghost written = { λ _. None };
-
-    ghost faults = { λ out. out.faults };
-
-    ghost held = { λ _. free };
+    ghost state = { λ out. record { written = None; faults = out.faults; held = free } };
 
     fn put(&mut self, bytes: &[u8]) -> Result<(), Failed> {
         match self.writer.write_all(bytes) {

@@ -2,6 +2,7 @@ pub mod KnownLengths
 pub mod NamedWords
 pub mod Answering
 pub mod Tracing
+pub mod Devices
 pub mod Ending
 pub mod BadLines
 pub mod ReplayNames

@@ -3,4 +3,5 @@ pub mod ActionLines
 pub mod Trace
 pub mod Replay
 pub mod Ends
+pub mod Puts
 pub mod inside

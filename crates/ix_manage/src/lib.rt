@@ -1,11 +1,12 @@
 //! The top call of the program: from the words of the command line to the bytes put.
 #![tactic(auto)]
 
-ghost use Rattle.std.specs.Prelude.{◌≡◌, ◌≢◌, ◌≤◌, ℕ, List, false, map, string_bytes};
-ghost use Rattle.std.specs.Io.KnownBytes.{append_known};
+ghost use Rattle.std.specs.Prelude.{◌≡◌, ◌≢◌, false, map, string_bytes};
 ghost use Rattle.ix_outside.specs.Counts.{Rose};
-ghost use Rattle.ix_outside.specs.Sink.{AppendsPart};
+ghost use Rattle.ix_outside.specs.FilesState.{OnlyFaults};
+ghost use Rattle.ix_outside.specs.SinkState.{OnlyPuts};
 ghost use Rattle.ix_manage.specs.Ends.{Ends};
+ghost use Rattle.ix_manage.specs.Puts.{PutsAll, PutsFront};
 
 mod actions;
 mod load;
@@ -50,31 +51,27 @@ pub fn manage<F: Files, S: Site, K: Sink>(
     site: &mut S,
     out: &mut K,
 ) -> u8
-    requires { S.attached site.old ≡ false }
+    requires { (S.state site.old).attached ≡ false }
 
     // All that is put, with each status but 10.
-    ensures output { result ≢ 10 → (text : List ℕ) × Ends (map string_bytes words.now) (F.contents files.old) result text
-        × (K.written out.new ≡ append_known (K.written out.old) text) }
+    ensures output { result ≢ 10 → PutsAll
+        (Ends (map string_bytes words.now) (F.state files.old).contents)
+        result (K.state out.old) (K.state out.new) }
 
     // With 10 a front of what is put with another status.
-    ensures cut_short { result ≡ 10 → (status : ℕ) × (text : List ℕ)
-        × Ends (map string_bytes words.now) (F.contents files.old) status text
-        × AppendsPart (K.written out.old) text (K.written out.new) }
+    ensures cut_short { result ≡ 10 → PutsFront
+        (Ends (map string_bytes words.now) (F.state files.old).contents)
+        (K.state out.old) (K.state out.new) }
 
     // A file is lost, and a put fails, only where the count rose.
-    ensures file_fault { result ≡ 4 → Rose (F.faults files.old) (F.faults files.new) }
-    ensures output_fault { result ≡ 10 → Rose (K.faults out.old) (K.faults out.new) }
+    ensures file_fault { result ≡ 4 → Rose (F.state files.old).faults (F.state files.new).faults }
+    ensures output_fault { result ≡ 10 → Rose (K.state out.old).faults (K.state out.new).faults }
 
-    // What stays.
-    ensures file_count { F.faults files.old ≤ F.faults files.new }
-    ensures files { F.contents files.new ≡ F.contents files.old }
-    ensures files_held { F.held files.new ≡ F.held files.old }
-    ensures site_counts { S.counts site.new ≡ S.counts site.old }
-    ensures site_attached { S.attached site.new ≡ S.attached site.old }
-    ensures site_contents { S.contents site.new ≡ S.contents site.old }
-    ensures site_held { S.held site.new ≡ S.held site.old }
-    ensures output_count { K.faults out.old ≤ K.faults out.new }
-    ensures output_held { K.held out.new ≡ K.held out.old }
+    // What stays: all of the files but their count of faults, all of the site, and of the output
+    // what it holds.
+    ensures files { OnlyFaults (F.state files.old) (F.state files.new) }
+    ensures site { S.state site.new ≡ S.state site.old }
+    ensures puts { OnlyPuts (K.state out.old) (K.state out.new) }
 {
     match run(alloc, words, files, site, out) {
         Ok(()) => 0,

@@ -4,6 +4,7 @@ ghost use Rattle.ix_words.specs.Each.{Each};
 ghost use Rattle.ix_values.specs.Faults.{IsActionText};
 ghost use Rattle.ix_parse.specs.Faults.{StandsFor};
 ghost use Rattle.ix_outside.specs.Counts.{Rose};
+ghost use Rattle.ix_outside.specs.FilesState.{OnlyFaults};
 ghost use Rattle.ix_outside.specs.Files.{HasFile};
 ghost use Rattle.ix_script.specs.Lines.{lines_of};
 ghost use Rattle.ix_manage.specs.inside.Refusal.{RefusesActions, RefusesExpression, RefusesScript, RefusesText};
@@ -27,13 +28,12 @@ pub(crate) fn load_expression<F: Files>(
     files: &mut F,
     name: &str,
 ) -> Result<Expression, Refusal>
-    ensures ok { IfOk result (λ x. ReadsForm (F.contents files.old) name.now x) }
-    ensures err { IfErr result (RefusesExpression (F.contents files.old) name.now) }
-    ensures lost { IsErrOf result Refusal.LostExpression → Rose (F.faults files.old) (F.faults files.new) }
+    ensures ok { IfOk result (λ x. ReadsForm (F.state files.old).contents name.now x) }
+    ensures err { IfErr result (RefusesExpression (F.state files.old).contents name.now) }
+    ensures lost { IsErrOf result Refusal.LostExpression
+        → Rose (F.state files.old).faults (F.state files.new).faults }
 
-    ensures count { F.faults files.old ≤ F.faults files.new }
-    ensures files { F.contents files.new ≡ F.contents files.old }
-    ensures held { F.held files.new ≡ F.held files.old }
+    ensures files { OnlyFaults (F.state files.old) (F.state files.new) }
 {
     match files.load(alloc, name, MOST_BYTES) {
         Ok(text) => read_expression(alloc, &text),
@@ -60,15 +60,15 @@ pub(crate) fn load_actions<F: Files>(
     files: &mut F,
     name: &str,
 ) -> Result<Vec<u8>, Refusal>
-    ensures file { IfOk result (λ bytes. HasFile (F.contents files.old) name.now bytes.items) }
+    ensures file { IfOk result
+        (λ bytes. HasFile (F.state files.old).contents name.now bytes.items) }
     ensures short { IfOk result (λ bytes. length bytes.items ≤ 67108864) }
     ensures lines { IfOk result (λ bytes. Each IsActionText (lines_of bytes.items)) }
-    ensures err { IfErr result (RefusesActions (F.contents files.old) name.now) }
-    ensures lost { IsErrOf result Refusal.LostActions → Rose (F.faults files.old) (F.faults files.new) }
+    ensures err { IfErr result (RefusesActions (F.state files.old).contents name.now) }
+    ensures lost { IsErrOf result Refusal.LostActions
+        → Rose (F.state files.old).faults (F.state files.new).faults }
 
-    ensures count { F.faults files.old ≤ F.faults files.new }
-    ensures files { F.contents files.new ≡ F.contents files.old }
-    ensures held { F.held files.new ≡ F.held files.old }
+    ensures files { OnlyFaults (F.state files.old) (F.state files.new) }
 {
     match files.load(alloc, name, actions::MOST_BYTES) {
         Ok(bytes) => match first_fault(&bytes) {
@@ -93,14 +93,14 @@ pub(crate) fn load_script<F: Files>(
     files: &mut F,
     name: &str,
 ) -> Result<Vec<u8>, Refusal>
-    ensures file { IfOk result (λ bytes. HasFile (F.contents files.old) name.now bytes.items) }
+    ensures file { IfOk result
+        (λ bytes. HasFile (F.state files.old).contents name.now bytes.items) }
     ensures short { IfOk result (λ bytes. length bytes.items ≤ 67108864) }
-    ensures err { IfErr result (RefusesScript (F.contents files.old) name.now) }
-    ensures lost { IsErrOf result Refusal.LostScript → Rose (F.faults files.old) (F.faults files.new) }
+    ensures err { IfErr result (RefusesScript (F.state files.old).contents name.now) }
+    ensures lost { IsErrOf result Refusal.LostScript
+        → Rose (F.state files.old).faults (F.state files.new).faults }
 
-    ensures count { F.faults files.old ≤ F.faults files.new }
-    ensures files { F.contents files.new ≡ F.contents files.old }
-    ensures held { F.held files.new ≡ F.held files.old }
+    ensures files { OnlyFaults (F.state files.old) (F.state files.new) }
 {
     match files.load(alloc, name, MOST_SCRIPT_BYTES) {
         Ok(bytes) => Ok(bytes),

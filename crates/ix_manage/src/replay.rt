@@ -1,15 +1,16 @@
 //! One replay, up to the last line that a refusal puts.
-ghost use Rattle.std.specs.Prelude.{◌≡◌, ◌≤◌, ◌++◌, ℕ, List, [], length, OnOk, IfOk, IfErr, IsErrOf};
-ghost use Rattle.std.specs.Io.KnownBytes.{append_known};
+ghost use Rattle.std.specs.Prelude.{◌≡◌, ◌≤◌, List, [], OnOk, IfOk, IfErr, IsErrOf};
 ghost use Rattle.ix_outside.specs.Counts.{Rose};
-ghost use Rattle.ix_outside.specs.Sink.{AppendsPart};
+ghost use Rattle.ix_outside.specs.FilesState.{OnlyFaults};
+ghost use Rattle.ix_outside.specs.SinkState.{OnlyPuts};
 ghost use Rattle.ix_manager.specs.Handled.{started};
 ghost use Rattle.ix_script.specs.Events.{HasEvents};
 ghost use Rattle.ix_outside.specs.Contents.{GivenEvent};
 ghost use Rattle.ix_manage.specs.inside.CommandEnds.{ReplayEnds};
 ghost use Rattle.ix_manage.specs.inside.Refusal.{IsBadScript};
 ghost use Rattle.ix_manage.specs.inside.ReplayProgress.{ScriptEnds, TakesTurns};
-ghost use Rattle.ix_manage.specs.Trace.{tree_size};
+ghost use Rattle.ix_can.specs.TreeOf.{tree_size};
+ghost use Rattle.ix_manage.specs.Puts.{PutsAll, PutsFront};
 ghost use Rattle.ix_manage.specs.inside.RefusedAfter.{IsNoLoss, RefusedAfter, LostWhere};
 
 use crate::load::{load_expression, load_script};
@@ -35,27 +36,25 @@ pub(crate) fn replay<F: Files, S: Site, K: Sink>(
     requires most { names.limit ≤ 1000000 }
     requires turns { names.turns ≤ 1000000000 }
 
-    ensures done { OnOk result ((text : List ℕ)
-        × ReplayEnds (F.contents files.old) names.entry.limit names.entry.turns names.entry.expression.now names.entry.script.now 0 text
-        × (K.written out.new ≡ append_known (K.written out.old) text)) }
+    ensures done { OnOk result (PutsAll
+        (ReplayEnds (F.state files.old).contents names.entry.limit names.entry.turns
+        names.entry.expression.now names.entry.script.now)
+        0 (K.state out.old) (K.state out.new)) }
     ensures refused { IfErr result (RefusedAfter
-        (ReplayEnds (F.contents files.old) names.entry.limit names.entry.turns names.entry.expression.now names.entry.script.now)
-        (K.written out.old) (K.written out.new)) }
-    ensures output { IsErrOf result Stop.Output → (status : ℕ) × (text : List ℕ)
-        × ReplayEnds (F.contents files.old) names.entry.limit names.entry.turns names.entry.expression.now names.entry.script.now status text
-        × AppendsPart (K.written out.old) text (K.written out.new) }
-    ensures lost { IfErr result (LostWhere (F.faults files.old) (F.faults files.new)) }
-    ensures failed { IsErrOf result Stop.Output → Rose (K.faults out.old) (K.faults out.new) }
+        (ReplayEnds (F.state files.old).contents names.entry.limit names.entry.turns
+        names.entry.expression.now names.entry.script.now)
+        (K.state out.old) (K.state out.new)) }
+    ensures output { IsErrOf result Stop.Output → PutsFront
+        (ReplayEnds (F.state files.old).contents names.entry.limit names.entry.turns
+        names.entry.expression.now names.entry.script.now)
+        (K.state out.old) (K.state out.new) }
+    ensures lost { IfErr result (LostWhere (F.state files.old) (F.state files.new)) }
+    ensures failed { IsErrOf result Stop.Output
+        → Rose (K.state out.old).faults (K.state out.new).faults }
 
-    ensures file_count { F.faults files.old ≤ F.faults files.new }
-    ensures files { F.contents files.new ≡ F.contents files.old }
-    ensures files_held { F.held files.new ≡ F.held files.old }
-    ensures site_counts { S.counts site.new ≡ S.counts site.old }
-    ensures site_attached { S.attached site.new ≡ S.attached site.old }
-    ensures site_contents { S.contents site.new ≡ S.contents site.old }
-    ensures site_held { S.held site.new ≡ S.held site.old }
-    ensures count { K.faults out.old ≤ K.faults out.new }
-    ensures held { K.held out.new ≡ K.held out.old }
+    ensures files { OnlyFaults (F.state files.old) (F.state files.new) }
+    ensures site { S.state site.new ≡ S.state site.old }
+    ensures puts { OnlyPuts (K.state out.old) (K.state out.new) }
 {
     let expression = match load_expression(alloc, files, names.expression) {
         Ok(expression) => expression,
@@ -106,23 +105,21 @@ fn run_script<S: Site, K: Sink>(
     requires most { limit ≤ 1000000 }
     requires turns { turns ≤ 1000000000 }
 
-    ensures done { OnOk result ((text : List ℕ)
-        × ScriptEnds expression limit turns script.entry.bytes.now 0 text
-        × (K.written out.new ≡ append_known (K.written out.old) text)) }
-    ensures refused { IfErr result (RefusedAfter (ScriptEnds expression limit turns script.entry.bytes.now)
-        (K.written out.old) (K.written out.new)) }
-    ensures output { IsErrOf result Stop.Output → (status : ℕ) × (text : List ℕ)
-        × ScriptEnds expression limit turns script.entry.bytes.now status text
-        × AppendsPart (K.written out.old) text (K.written out.new) }
+    ensures done { OnOk result (PutsAll
+        (ScriptEnds expression limit turns script.entry.bytes.now)
+        0 (K.state out.old) (K.state out.new)) }
+    ensures refused { IfErr result (RefusedAfter
+        (ScriptEnds expression limit turns script.entry.bytes.now)
+        (K.state out.old) (K.state out.new)) }
+    ensures output { IsErrOf result Stop.Output → PutsFront
+        (ScriptEnds expression limit turns script.entry.bytes.now)
+        (K.state out.old) (K.state out.new) }
     ensures lost { IfErr result IsNoLoss }
-    ensures failed { IsErrOf result Stop.Output → Rose (K.faults out.old) (K.faults out.new) }
+    ensures failed { IsErrOf result Stop.Output
+        → Rose (K.state out.old).faults (K.state out.new).faults }
 
-    ensures site_counts { S.counts site.new ≡ S.counts site.old }
-    ensures site_attached { S.attached site.new ≡ S.attached site.old }
-    ensures site_contents { S.contents site.new ≡ S.contents site.old }
-    ensures site_held { S.held site.new ≡ S.held site.old }
-    ensures count { K.faults out.old ≤ K.faults out.new }
-    ensures held { K.held out.new ≡ K.held out.old }
+    ensures site { S.state site.new ≡ S.state site.old }
+    ensures puts { OnlyPuts (K.state out.old) (K.state out.new) }
 {
     let mut manager = match Manager::start(alloc, site, expression, limit) {
         Ok(manager) => manager,
@@ -145,23 +142,21 @@ fn run_manager<S: Site, K: Sink>(
     requires manager { manager.old ≡ started manager.old.form manager.old.limit }
     requires small { tree_size manager.old.form [] ≤ manager.old.limit }
 
-    ensures done { OnOk result ((text : List ℕ)
-        × ScriptEnds manager.old.form manager.old.limit turns script.entry.bytes.now 0 text
-        × (K.written out.new ≡ append_known (K.written out.old) text)) }
-    ensures refused { IfErr result (RefusedAfter (ScriptEnds manager.old.form manager.old.limit turns script.entry.bytes.now)
-        (K.written out.old) (K.written out.new)) }
-    ensures output { IsErrOf result Stop.Output → (status : ℕ) × (text : List ℕ)
-        × ScriptEnds manager.old.form manager.old.limit turns script.entry.bytes.now status text
-        × AppendsPart (K.written out.old) text (K.written out.new) }
+    ensures done { OnOk result (PutsAll
+        (ScriptEnds manager.old.form manager.old.limit turns script.entry.bytes.now)
+        0 (K.state out.old) (K.state out.new)) }
+    ensures refused { IfErr result (RefusedAfter
+        (ScriptEnds manager.old.form manager.old.limit turns script.entry.bytes.now)
+        (K.state out.old) (K.state out.new)) }
+    ensures output { IsErrOf result Stop.Output → PutsFront
+        (ScriptEnds manager.old.form manager.old.limit turns script.entry.bytes.now)
+        (K.state out.old) (K.state out.new) }
     ensures lost { IfErr result IsNoLoss }
-    ensures failed { IsErrOf result Stop.Output → Rose (K.faults out.old) (K.faults out.new) }
+    ensures failed { IsErrOf result Stop.Output
+        → Rose (K.state out.old).faults (K.state out.new).faults }
 
-    ensures site_counts { S.counts site.new ≡ S.counts site.old }
-    ensures site_attached { S.attached site.new ≡ S.attached site.old }
-    ensures site_contents { S.contents site.new ≡ S.contents site.old }
-    ensures site_held { S.held site.new ≡ S.held site.old }
-    ensures count { K.faults out.old ≤ K.faults out.new }
-    ensures held { K.held out.new ≡ K.held out.old }
+    ensures site { S.state site.new ≡ S.state site.old }
+    ensures puts { OnlyPuts (K.state out.old) (K.state out.new) }
 {
     match out.put(b"history 0\n") {
         Ok(()) => {}
@@ -186,15 +181,11 @@ fn play<S: Site, K: Sink>(
     requires manager { manager.old ≡ started manager.old.form manager.old.limit }
 
     ensures ends { TakesTurns manager.old.form manager.old.limit turns script.entry.bytes.now
-        (K.written out.old) (K.written out.new) result }
-    ensures failed { result ≡ Turn.Cut → Rose (K.faults out.old) (K.faults out.new) }
+        (K.state out.old).written (K.state out.new).written result }
+    ensures failed { result ≡ Turn.Cut → Rose (K.state out.old).faults (K.state out.new).faults }
 
-    ensures site_counts { S.counts site.new ≡ S.counts site.old }
-    ensures site_attached { S.attached site.new ≡ S.attached site.old }
-    ensures site_contents { S.contents site.new ≡ S.contents site.old }
-    ensures site_held { S.held site.new ≡ S.held site.old }
-    ensures count { K.faults out.old ≤ K.faults out.new }
-    ensures held { K.held out.new ≡ K.held out.old }
+    ensures site { S.state site.new ≡ S.state site.old }
+    ensures puts { OnlyPuts (K.state out.old) (K.state out.new) }
 {
     let mut all = ScriptSite::new(script, site, out);
     take_events(alloc, manager, turns, &mut all)

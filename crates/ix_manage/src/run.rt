@@ -1,10 +1,11 @@
 //! One run of the program, up to the last line that a refusal puts.
-ghost use Rattle.std.specs.Prelude.{◌≡◌, ◌≤◌, ◌++◌, ℕ, List, OnOk, IfErr, IsErrOf, map, string_bytes};
-ghost use Rattle.std.specs.Io.KnownBytes.{append_known};
+ghost use Rattle.std.specs.Prelude.{◌≡◌, ◌≤◌, OnOk, IfErr, IsErrOf, map, string_bytes};
 ghost use Rattle.ix_outside.specs.Counts.{Rose};
-ghost use Rattle.ix_outside.specs.Sink.{AppendsPart};
+ghost use Rattle.ix_outside.specs.FilesState.{OnlyFaults};
+ghost use Rattle.ix_outside.specs.SinkState.{OnlyPuts};
 ghost use Rattle.ix_manage.specs.inside.RefusedAfter.{RefusedAfter, LostWhere};
 ghost use Rattle.ix_manage.specs.Ends.{Ends};
+ghost use Rattle.ix_manage.specs.Puts.{PutsAll, PutsFront};
 ghost use Rattle.ix_manage.specs.inside.CommandEnds.{TraceEnds};
 
 use crate::load::load_actions;
@@ -34,25 +35,22 @@ pub(crate) fn run<F: Files, S: Site, K: Sink>(
     site: &mut S,
     out: &mut K,
 ) -> Result<(), Stop>
-    ensures done { OnOk result ((text : List ℕ) × Ends (map string_bytes words.now) (F.contents files.old) 0 text
-        × (K.written out.new ≡ append_known (K.written out.old) text)) }
-    ensures refused { IfErr result (RefusedAfter (Ends (map string_bytes words.now) (F.contents files.old))
-        (K.written out.old) (K.written out.new)) }
-    ensures output { IsErrOf result Stop.Output → (status : ℕ) × (text : List ℕ)
-        × Ends (map string_bytes words.now) (F.contents files.old) status text
-        × AppendsPart (K.written out.old) text (K.written out.new) }
-    ensures lost { IfErr result (LostWhere (F.faults files.old) (F.faults files.new)) }
-    ensures failed { IsErrOf result Stop.Output → Rose (K.faults out.old) (K.faults out.new) }
+    ensures done { OnOk result (PutsAll
+        (Ends (map string_bytes words.now) (F.state files.old).contents)
+        0 (K.state out.old) (K.state out.new)) }
+    ensures refused { IfErr result (RefusedAfter
+        (Ends (map string_bytes words.now) (F.state files.old).contents)
+        (K.state out.old) (K.state out.new)) }
+    ensures output { IsErrOf result Stop.Output → PutsFront
+        (Ends (map string_bytes words.now) (F.state files.old).contents)
+        (K.state out.old) (K.state out.new) }
+    ensures lost { IfErr result (LostWhere (F.state files.old) (F.state files.new)) }
+    ensures failed { IsErrOf result Stop.Output
+        → Rose (K.state out.old).faults (K.state out.new).faults }
 
-    ensures file_count { F.faults files.old ≤ F.faults files.new }
-    ensures files { F.contents files.new ≡ F.contents files.old }
-    ensures files_held { F.held files.new ≡ F.held files.old }
-    ensures site_counts { S.counts site.new ≡ S.counts site.old }
-    ensures site_attached { S.attached site.new ≡ S.attached site.old }
-    ensures site_contents { S.contents site.new ≡ S.contents site.old }
-    ensures site_held { S.held site.new ≡ S.held site.old }
-    ensures count { K.faults out.old ≤ K.faults out.new }
-    ensures held { K.held out.new ≡ K.held out.old }
+    ensures files { OnlyFaults (F.state files.old) (F.state files.new) }
+    ensures site { S.state site.new ≡ S.state site.old }
+    ensures puts { OnlyPuts (K.state out.old) (K.state out.new) }
 {
     if let Some(names) = trace_words(words) {
         return run_trace(alloc, names, files, out);
@@ -72,23 +70,24 @@ fn run_trace<F: Files, K: Sink>(
     requires least { 1 ≤ names.limit }
     requires most { names.limit ≤ 1000000 }
 
-    ensures done { OnOk result ((text : List ℕ)
-        × TraceEnds (F.contents files.old) names.entry.limit names.entry.expression.now names.entry.actions.now 0 text
-        × (K.written out.new ≡ append_known (K.written out.old) text)) }
+    ensures done { OnOk result (PutsAll
+        (TraceEnds (F.state files.old).contents names.entry.limit
+        names.entry.expression.now names.entry.actions.now)
+        0 (K.state out.old) (K.state out.new)) }
     ensures refused { IfErr result (RefusedAfter
-        (TraceEnds (F.contents files.old) names.entry.limit names.entry.expression.now names.entry.actions.now)
-        (K.written out.old) (K.written out.new)) }
-    ensures output { IsErrOf result Stop.Output → (status : ℕ) × (text : List ℕ)
-        × TraceEnds (F.contents files.old) names.entry.limit names.entry.expression.now names.entry.actions.now status text
-        × AppendsPart (K.written out.old) text (K.written out.new) }
-    ensures lost { IfErr result (LostWhere (F.faults files.old) (F.faults files.new)) }
-    ensures failed { IsErrOf result Stop.Output → Rose (K.faults out.old) (K.faults out.new) }
+        (TraceEnds (F.state files.old).contents names.entry.limit
+        names.entry.expression.now names.entry.actions.now)
+        (K.state out.old) (K.state out.new)) }
+    ensures output { IsErrOf result Stop.Output → PutsFront
+        (TraceEnds (F.state files.old).contents names.entry.limit
+        names.entry.expression.now names.entry.actions.now)
+        (K.state out.old) (K.state out.new) }
+    ensures lost { IfErr result (LostWhere (F.state files.old) (F.state files.new)) }
+    ensures failed { IsErrOf result Stop.Output
+        → Rose (K.state out.old).faults (K.state out.new).faults }
 
-    ensures file_count { F.faults files.old ≤ F.faults files.new }
-    ensures files { F.contents files.new ≡ F.contents files.old }
-    ensures files_held { F.held files.new ≡ F.held files.old }
-    ensures count { K.faults out.old ≤ K.faults out.new }
-    ensures held { K.held out.new ≡ K.held out.old }
+    ensures files { OnlyFaults (F.state files.old) (F.state files.new) }
+    ensures puts { OnlyPuts (K.state out.old) (K.state out.new) }
 {
     let mut engine = match start(alloc, files, names.expression, names.limit) {
         Ok(engine) => engine,

@@ -1,6 +1,7 @@
 //! The engine that a trace begins with.
 ghost use Rattle.std.specs.Prelude.{◌≡◌, ◌≤◌, [], IfOk, IfErr, IsErrOf};
 ghost use Rattle.ix_outside.specs.Counts.{Rose};
+ghost use Rattle.ix_outside.specs.FilesState.{OnlyFaults};
 ghost use Rattle.ix_manage.specs.inside.Refusal.{RefusesStart};
 ghost use Rattle.ix_manage.specs.Trace.{Starts};
 
@@ -20,15 +21,15 @@ pub(crate) fn start<F: Files>(
     requires least { 1 ≤ limit }
     requires most { limit ≤ 1000000 }
 
-    ensures starts { IfOk result (λ engine. Starts (F.contents files.old) name.now limit engine.form) }
+    ensures starts { IfOk result
+        (λ engine. Starts (F.state files.old).contents name.now limit engine.form) }
     ensures limit { IfOk result (λ engine. engine.limit ≡ limit) }
     ensures history { IfOk result (λ engine. engine.history ≡ []) }
-    ensures err { IfErr result (RefusesStart (F.contents files.old) name.now limit) }
-    ensures lost { IsErrOf result Refusal.LostExpression → Rose (F.faults files.old) (F.faults files.new) }
+    ensures err { IfErr result (RefusesStart (F.state files.old).contents name.now limit) }
+    ensures lost { IsErrOf result Refusal.LostExpression
+        → Rose (F.state files.old).faults (F.state files.new).faults }
 
-    ensures count { F.faults files.old ≤ F.faults files.new }
-    ensures files { F.contents files.new ≡ F.contents files.old }
-    ensures held { F.held files.new ≡ F.held files.old }
+    ensures files { OnlyFaults (F.state files.old) (F.state files.new) }
 {
     let expression = match load_expression(alloc, files, name) {
         Ok(expression) => expression,

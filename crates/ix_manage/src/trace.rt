@@ -5,9 +5,11 @@ ghost use Rattle.ix_words.specs.Each.{Each};
 ghost use Rattle.ix_values.specs.Faults.{IsActionText};
 ghost use Rattle.ix_values.specs.PlainAction.{Word};
 ghost use Rattle.ix_outside.specs.Counts.{Rose};
+ghost use Rattle.ix_outside.specs.SinkState.{OnlyPuts};
 ghost use Rattle.ix_outside.specs.Sink.{AppendsPart};
 ghost use Rattle.ix_manage.specs.ActionLines.{line};
 ghost use Rattle.ix_script.specs.Lines.{lines_of};
+ghost use Rattle.ix_manage.specs.Puts.{PutsAll, PutsFront};
 ghost use Rattle.ix_manage.specs.Trace.{Answers, Verdict};
 ghost use Rattle.ix_manage.specs.inside.TracesLines.{TracesLines};
 
@@ -37,17 +39,18 @@ pub(crate) fn trace<K: Sink>(
     requires empty { engine.old.history ≡ [] }
     requires lines { Each IsActionText (lines_of actions.now) }
 
-    ensures whole { OnOk result ((text : List ℕ) × TracesLines engine.old.form engine.old.limit actions.now 0 text
-        × (K.written out.new ≡ append_known (K.written out.old) text)) }
+    ensures whole { OnOk result (PutsAll
+        (TracesLines engine.old.form engine.old.limit actions.now)
+        0 (K.state out.old) (K.state out.new)) }
     ensures memory { IsErrOf result TraceFault.Memory → (text : List ℕ)
         × TracesLines engine.old.form engine.old.limit actions.now 9 (text ++ line (codes "refused memory"))
-        × (K.written out.new ≡ append_known (K.written out.old) text) }
-    ensures output { IsErrOf result TraceFault.Output → (status : ℕ) × (text : List ℕ)
-        × TracesLines engine.old.form engine.old.limit actions.now status text
-        × AppendsPart (K.written out.old) text (K.written out.new) }
-    ensures failed { IsErrOf result TraceFault.Output → Rose (K.faults out.old) (K.faults out.new) }
-    ensures count { K.faults out.old ≤ K.faults out.new }
-    ensures held { K.held out.new ≡ K.held out.old }
+        × ((K.state out.new).written ≡ append_known (K.state out.old).written text) }
+    ensures output { IsErrOf result TraceFault.Output → PutsFront
+        (TracesLines engine.old.form engine.old.limit actions.now)
+        (K.state out.old) (K.state out.new) }
+    ensures failed { IsErrOf result TraceFault.Output
+        → Rose (K.state out.old).faults (K.state out.new).faults }
+    ensures puts { OnlyPuts (K.state out.old) (K.state out.new) }
 {
     let mut rest = actions;
     while !rest.is_empty() {
@@ -74,16 +77,17 @@ fn answer<K: Sink>(
 ) -> Result<(), TraceFault>
     ensures whole { OnOk result ((text : List ℕ)
         × Answers engine.old.form engine.old.limit engine.old.history (action.now ∷ []) text engine.new.history
-        × (K.written out.new ≡ append_known (K.written out.old) text)) }
-    ensures memory { IsErrOf result TraceFault.Memory → K.written out.new ≡ K.written out.old }
+        × ((K.state out.new).written ≡ append_known (K.state out.old).written text)) }
+    ensures memory { IsErrOf result TraceFault.Memory
+        → (K.state out.new).written ≡ (K.state out.old).written }
     ensures output { IsErrOf result TraceFault.Output → (text : List ℕ) × (after : Word)
         × Answers engine.old.form engine.old.limit engine.old.history (action.now ∷ []) text after
-        × AppendsPart (K.written out.old) text (K.written out.new) }
-    ensures failed { IsErrOf result TraceFault.Output → Rose (K.faults out.old) (K.faults out.new) }
+        × AppendsPart (K.state out.old).written text (K.state out.new).written }
+    ensures failed { IsErrOf result TraceFault.Output
+        → Rose (K.state out.old).faults (K.state out.new).faults }
     ensures form { engine.new.form ≡ engine.old.form }
     ensures limit { engine.new.limit ≡ engine.old.limit }
-    ensures count { K.faults out.old ≤ K.faults out.new }
-    ensures held { K.held out.new ≡ K.held out.old }
+    ensures puts { OnlyPuts (K.state out.old) (K.state out.new) }
 {
     match answer_line(alloc, engine, action) {
         Ok(text) => match out.put(text) {

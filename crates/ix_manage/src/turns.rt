@@ -2,6 +2,7 @@
 ghost use Rattle.std.specs.Prelude.{◌≡◌, ◌≢◌, ◌+◌, ◌^◌, ◌<◌, ◌≤◌, [], false, length, MatchBool};
 ghost use Rattle.ix_outside.specs.Contents.{piece_of};
 ghost use Rattle.ix_outside.specs.Counts.{Rose};
+ghost use Rattle.ix_outside.specs.SinkState.{OnlyPuts};
 ghost use Rattle.ix_outside.specs.Event.{KindFits};
 ghost use Rattle.ix_outside.specs.declared.event.EventKind.TheVariants.{End};
 ghost use Rattle.ix_manager.specs.inside.EndingAfter.{ending_after};
@@ -39,18 +40,15 @@ pub(crate) fn take_events<S: Site, K: Sink>(
     requires sink { site.old.sink_failed ≡ false }
 
     ensures ends { TakesTurns manager.old.form manager.old.limit turns site.old.cursor.bytes.now
-        (K.written site.old.sink.now) (K.written site.new.sink.now) result }
-    ensures failed { result ≡ Turn.Cut → Rose (K.faults site.old.sink.now) (K.faults site.new.sink.now) }
+        (K.state site.old.sink.now).written (K.state site.new.sink.now).written result }
+    ensures failed { result ≡ Turn.Cut
+        → Rose (K.state site.old.sink.now).faults (K.state site.new.sink.now).faults }
 
     // What stays of what the site was lent.
-    ensures count { K.faults site.old.sink.now ≤ K.faults site.new.sink.now }
-    ensures sink_held { K.held site.new.sink.now ≡ K.held site.old.sink.now }
+    ensures puts { OnlyPuts (K.state site.old.sink.now) (K.state site.new.sink.now) }
     ensures same_sink { site.new.sink.ghost_name ≡ site.old.sink.ghost_name }
     ensures same_site { site.new.site.ghost_name ≡ site.old.site.ghost_name }
-    ensures site_counts { S.counts site.new.site.now ≡ S.counts site.old.site.now }
-    ensures site_attached { S.attached site.new.site.now ≡ S.attached site.old.site.now }
-    ensures site_contents { S.contents site.new.site.now ≡ S.contents site.old.site.now }
-    ensures site_held { S.held site.new.site.now ≡ S.held site.old.site.now }
+    ensures site { S.state site.new.site.now ≡ S.state site.old.site.now }
 {
     let mut buffer = [0; 4096];
     for _turn in 0..turns {
@@ -75,22 +73,20 @@ fn take_event<S: Site, K: Sink>(
     requires tickets { manager.old.machine.ticket < 2 ^ 63 }
     requires sink { site.old.sink_failed ≡ false }
 
-    ensures turn { TakesTurn site.old.cursor.bytes.now (given_of site.old) manager.old (K.written site.old.sink.now)
-        (given_of site.new) manager.new (K.written site.new.sink.now) result }
+    ensures turn { TakesTurn site.old.cursor.bytes.now (given_of site.old) manager.old
+        (K.state site.old.sink.now).written
+        (given_of site.new) manager.new (K.state site.new.sink.now).written result }
     ensures given { length (given_of site.new) ≡ length (given_of site.old) + 1 }
     ensures sink { result ≡ Turn.More → site.new.sink_failed ≡ false }
-    ensures failed { result ≡ Turn.Cut → Rose (K.faults site.old.sink.now) (K.faults site.new.sink.now) }
+    ensures failed { result ≡ Turn.Cut
+        → Rose (K.state site.old.sink.now).faults (K.state site.new.sink.now).faults }
 
     // What stays of what the site was lent.
     ensures script { site.new.cursor.bytes.now ≡ site.old.cursor.bytes.now }
-    ensures count { K.faults site.old.sink.now ≤ K.faults site.new.sink.now }
-    ensures sink_held { K.held site.new.sink.now ≡ K.held site.old.sink.now }
+    ensures puts { OnlyPuts (K.state site.old.sink.now) (K.state site.new.sink.now) }
     ensures same_sink { site.new.sink.ghost_name ≡ site.old.sink.ghost_name }
     ensures same_site { site.new.site.ghost_name ≡ site.old.site.ghost_name }
-    ensures site_counts { S.counts site.new.site.now ≡ S.counts site.old.site.now }
-    ensures site_attached { S.attached site.new.site.now ≡ S.attached site.old.site.now }
-    ensures site_contents { S.contents site.new.site.now ≡ S.contents site.old.site.now }
-    ensures site_held { S.held site.new.site.now ≡ S.held site.old.site.now }
+    ensures site { S.state site.new.site.now ≡ S.state site.old.site.now }
 {
     let event = site.next_event(buffer);
     let go = manager.handle(alloc, event, piece(event.kind, buffer), site);

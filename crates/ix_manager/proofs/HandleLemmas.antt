@@ -19,7 +19,7 @@ at_moment moment old = record old { machine = raised moment old.machine }
 pub bytes_handled : (old between new : ManagerState) (event : Event) (n : ℕ) (bytes : List ℕ) (ending : Ending) (before after : WireState)
     → event.kind ≡ Bytes n → between ≡ at_moment event.moment old → before.gone ≡ get_or between.marks event.conn false
     → TakesBytes event.conn bytes ending between new before after
-    → Handles old event bytes ending new before.contents after.contents
+    → Handles old event bytes ending new before.site.contents after.site.contents
 bytes_handled old between new event n bytes ending before after is same gone_between takes =
     let taken : TakesBytes event.conn bytes ending (at_moment event.moment old) new before after =
     subst (λ m. TakesBytes event.conn bytes ending m new before after) same takes in

@@ -3,7 +3,8 @@ use Rattle.std.proofs.Common.{◌≡◌, ℕ, ◌≤◌, Bool, true, false, List
 use Rattle.std.proofs.lemmas.List.{length-map}
 use Rattle.std.proofs.lemmas.List.Sums.{length-filter, count_by-le-length}
 use Rattle.std.specs.Result.{is_err}
-use Rattle.ix_outside.specs.Counts.{Counts, Rose, OnlySend}
+use Rattle.ix_outside.specs.Counts.{Counts, Rose}
+use Rattle.ix_outside.specs.SiteState.{OnlySend}
 use Rattle.ix_outside.proofs.Counting.{Rose-later, Rose-earlier}
 use Rattle.ix_outside.specs.Contents.{Contents, SendsWhole, SendsPart, SendsBytes}
 use Rattle.ix_values.specs.PlainAction.{PlainAction}
@@ -54,23 +55,22 @@ pub nothing_sent : (conn : ℕ) (w : WireState) → SendsAll conn [] w w
 nothing_sent conn w = record {
   order = done;
   marks = λ e f. absurd (let h : false ≡ true = sym e ∙ f in cc);
-  counts = record { disk = refl; wire = refl; send = omega arith };
-  attached = refl;
-  held = refl;
+  site = record { disk = refl; wire = refl; send = omega arith; attached = refl; held = refl };
 }
 
 -- replies are sent, and then further ones
 pub sends-append : (conn : ℕ) (xs ys : List Reply) (a b c : WireState) → SendsAll conn xs a b → SendsAll conn ys b c → SendsAll conn (xs ++ ys) a c
 sends-append conn xs ys a b c first second = record {
   order = in_order-append (λ reply. SendsWhole conn (reply_line reply)) (λ reply. SendsPart conn (reply_line reply)) first.order second.order;
-  marks = marks-join a.counts b.counts c.counts a.gone b.gone c.gone first.marks second.marks first.counts.send second.counts.send;
-  counts = record {
-    disk = second.counts.disk ∙ first.counts.disk;
-    wire = second.counts.wire ∙ first.counts.wire;
-    send = omega (arith, first.counts.send, second.counts.send);
+  marks = marks-join a.site.counts b.site.counts c.site.counts a.gone b.gone c.gone
+      first.marks second.marks first.site.send second.site.send;
+  site = record {
+    disk = second.site.disk ∙ first.site.disk;
+    wire = second.site.wire ∙ first.site.wire;
+    send = omega (arith, first.site.send, second.site.send);
+    attached = second.site.attached ∙ first.site.attached;
+    held = second.site.held ∙ first.site.held;
   };
-  attached = second.attached ∙ first.attached;
-  held = second.held ∙ first.held;
 }
 
 -- on a marked connection nothing is sent
@@ -78,40 +78,41 @@ pub silent_sent : (conn : ℕ) (reply : Reply) (w : WireState) → w.gone ≡ tr
 silent_sent conn reply w e =
     let whole : Reply → Contents → Contents → Type 0 = λ reply. SendsWhole conn (reply_line reply) in
     let front : Reply → Contents → Contents → Type 0 = λ reply. SendsPart conn (reply_line reply) in
-    let P : Bool → Type 0 = λ m. SendsInOrder whole front (reply ∷ []) m w.contents m w.contents in
+    let told = w.site.contents in
+    let P : Bool → Type 0 = λ m. SendsInOrder whole front (reply ∷ []) m told m told in
     let nothing = nothing_sent conn w in
-    record { order = subst P (sym e) (silent done); marks = nothing.marks; counts = nothing.counts; attached = refl; held = refl }
+    record { order = subst P (sym e) (silent done); marks = nothing.marks; site = nothing.site }
 
 -- what a send made of the wire, by its answer
 pub one_sent : {T E : Type 0} (conn : ℕ) (reply : Reply) (bytes : List ℕ) (result : Result T E) (before after : WireState)
     → bytes ≡ reply_line reply → before.gone ≡ false → after.gone ≡ is_err result
-    → SendsBytes conn bytes result before.contents after.contents
-    → OnErr result (Rose before.counts.send after.counts.send)
-    → OnlySend before.counts after.counts → after.attached ≡ before.attached → after.held ≡ before.held
+    → SendsBytes conn bytes result before.site.contents after.site.contents
+    → OnErr result (Rose before.site.counts.send after.site.counts.send)
+    → OnlySend before.site after.site
     → SendsAll conn (reply ∷ []) before after
-one_sent conn reply bytes (Ok value) before after same unmarked_before gone sends failed counts attached held =
+one_sent conn reply bytes (Ok value) before after same unmarked_before gone sends failed rest =
     let whole : Reply → Contents → Contents → Type 0 = λ reply. SendsWhole conn (reply_line reply) in
     let front : Reply → Contents → Contents → Type 0 = λ reply. SendsPart conn (reply_line reply) in
-    let here : whole reply before.contents after.contents = subst (λ t. SendsWhole conn t before.contents after.contents) same sends in
-    let P : Bool → Bool → Type 0 = λ m n. SendsInOrder whole front (reply ∷ []) m before.contents n after.contents in
+    let told = before.site.contents in
+    let tells = after.site.contents in
+    let here : whole reply told tells = subst (λ t. SendsWhole conn t told tells) same sends in
+    let P : Bool → Bool → Type 0 = λ m n. SendsInOrder whole front (reply ∷ []) m told n tells in
     record {
       order = subst (λ m. P m after.gone) (sym unmarked_before) (subst (λ n. P false n) (sym gone) (sent here done));
       marks = λ e f. absurd (let h : false ≡ true = sym gone ∙ f in cc);
-      counts = counts;
-      attached = attached;
-      held = held;
+      site = rest;
     }
-one_sent conn reply bytes (Err fault) before after same unmarked_before gone sends failed counts attached held =
+one_sent conn reply bytes (Err fault) before after same unmarked_before gone sends failed rest =
     let whole : Reply → Contents → Contents → Type 0 = λ reply. SendsWhole conn (reply_line reply) in
     let front : Reply → Contents → Contents → Type 0 = λ reply. SendsPart conn (reply_line reply) in
-    let here : front reply before.contents after.contents = subst (λ t. SendsPart conn t before.contents after.contents) same sends in
-    let P : Bool → Bool → Type 0 = λ m n. SendsInOrder whole front (reply ∷ []) m before.contents n after.contents in
+    let told = before.site.contents in
+    let tells = after.site.contents in
+    let here : front reply told tells = subst (λ t. SendsPart conn t told tells) same sends in
+    let P : Bool → Bool → Type 0 = λ m n. SendsInOrder whole front (reply ∷ []) m told n tells in
     record {
       order = subst (λ m. P m after.gone) (sym unmarked_before) (subst (λ n. P false n) (sym gone) (lost here done));
       marks = λ e f. failed;
-      counts = counts;
-      attached = attached;
-      held = held;
+      site = rest;
     }
 
 -- there are no more changes than watches

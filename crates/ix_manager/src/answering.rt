@@ -39,8 +39,7 @@ pub(crate) fn take_piece<S: Site>(
     requires clean { IsClean lines.old }
     requires tickets { machine.old.state.ticket + length piece.now < 2 ^ 64 - 1 }
     ensures answers { AnswersItems conn (completes lines.old piece.now) (ending_after result) machine.old machine.new
-        (wired gone.old (S.contents site.old) (S.counts site.old) (S.attached site.old) (S.held site.old))
-        (wired gone.new (S.contents site.new) (S.counts site.new) (S.attached site.new) (S.held site.new)) }
+        (wired gone.old (S.state site.old)) (wired gone.new (S.state site.new)) }
     ensures lines { result ≡ Go.More → lines.new ≡ holds_after lines.old piece.now }
     ensures clean { IsClean lines.new }
     ensures tickets { machine.new.state.ticket ≤ machine.old.state.ticket + length piece.now }
@@ -67,8 +66,7 @@ fn take_item<S: Site>(
 ) -> Option<Taken>
     requires { machine.old.state.ticket < 2 ^ 64 - 1 }
     ensures { TakesItem conn lines.old piece.now result lines.new machine.old machine.new
-        (wired gone.old (S.contents site.old) (S.counts site.old) (S.attached site.old) (S.held site.old))
-        (wired gone.new (S.contents site.new) (S.counts site.new) (S.attached site.new) (S.held site.new)) }
+        (wired gone.old (S.state site.old)) (wired gone.new (S.state site.new)) }
 {
     let fed = lines.feed(piece);
     let used = fed.used;
@@ -86,8 +84,7 @@ fn answer_fed<S: Site>(
 ) -> Option<Go>
     requires { machine.old.state.ticket < 2 ^ 64 - 1 }
     ensures { AnswersFed conn (told_item kind.entry) result machine.old machine.new
-        (wired gone.old (S.contents site.old) (S.counts site.old) (S.attached site.old) (S.held site.old))
-        (wired gone.new (S.contents site.new) (S.counts site.new) (S.attached site.new) (S.held site.new)) }
+        (wired gone.old (S.state site.old)) (wired gone.new (S.state site.new)) }
 {
     match kind {
         FedKind::Line(line) => Some(answer_line(machine, alloc, conn, gone, line, site)),
@@ -109,8 +106,7 @@ fn answer_line<S: Site>(
 ) -> Go
     requires { machine.old.state.ticket < 2 ^ 64 - 1 }
     ensures { AnswersItem conn (line_item line.now) (ending_after result) machine.old machine.new
-        (wired gone.old (S.contents site.old) (S.counts site.old) (S.attached site.old) (S.held site.old))
-        (wired gone.new (S.contents site.new) (S.counts site.new) (S.attached site.new) (S.held site.new)) }
+        (wired gone.old (S.state site.old)) (wired gone.new (S.state site.new)) }
 {
     match Request::read(line) {
         Ok(request) => {
@@ -145,8 +141,7 @@ fn answer_request<S: Site>(
     requires tickets { machine.old.state.ticket < 2 ^ 64 - 1 }
     requires plain { IsPlain request.now }
     ensures { AnswersRequest conn request.now machine.old machine.new
-        (wired gone.old (S.contents site.old) (S.counts site.old) (S.attached site.old) (S.held site.old))
-        (wired gone.new (S.contents site.new) (S.counts site.new) (S.attached site.new) (S.held site.new)) }
+        (wired gone.old (S.state site.old)) (wired gone.new (S.state site.new)) }
 {
     match machine.answer(alloc, request) {
         Answer::One(reply) => send_reply(site, conn, gone, &reply),

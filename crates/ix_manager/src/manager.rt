@@ -1,7 +1,8 @@
 //! The manager of a site's connections.
 
 ghost use Rattle.std.specs.Prelude.{◌≡◌, ◌+◌, ◌-◌, ◌^◌, ◌<◌, ◌≤◌, ℕ, [], false, true, length, get_or, set, replicate, IfOk, OnOk};
-ghost use Rattle.ix_outside.specs.Counts.{Rose, OnlySend};
+ghost use Rattle.ix_outside.specs.Counts.{Rose};
+ghost use Rattle.ix_outside.specs.SiteState.{OnlySend};
 ghost use Rattle.ix_can.specs.TreeOf.{tree_size};
 ghost use Rattle.ix_lines.specs.Feeding.{unfinished};
 ghost use Rattle.ix_manager.specs.Handled as spec;
@@ -74,11 +75,7 @@ impl Manager {
         ensures within { OnOk result (tree_size expression [] ≤ limit) }
         ensures large { (l : ℕ) → result ≡ Err (StartFault.Large l) → (l ≡ limit) × (limit < tree_size expression []) }
 
-        // Nothing of the site changes.
-        ensures counts { S.counts site.new ≡ S.counts site.old }
-        ensures attached { S.attached site.new ≡ S.attached site.old }
-        ensures contents { S.contents site.new ≡ S.contents site.old }
-        ensures held { S.held site.new ≡ S.held site.old }
+        ensures site { S.state site.new ≡ S.state site.old }
     {
         let _ = site;
         let machine = match Machine::new(alloc, expression, limit) {
@@ -107,16 +104,14 @@ impl Manager {
         requires event { FitsEvent event bytes.now }
 
         // The machine takes the event, and its replies are sent.
-        ensures handles { Handles self.old event bytes.now (ending_after result) self.new (S.contents site.old) (S.contents site.new) }
+        ensures handles { Handles self.old event bytes.now (ending_after result) self.new
+            (S.state site.old).contents (S.state site.new).contents }
 
         // A connection is newly marked only where the count of sends rose.
         ensures marks { (conn : ℕ) → get_or self.old.marks conn false ≡ false → get_or self.new.marks conn false ≡ true
-            → Rose (S.counts site.old).send (S.counts site.new).send }
+            → Rose (S.state site.old).counts.send (S.state site.new).counts.send }
         ensures tickets { self.new.machine.ticket ≤ self.old.machine.ticket + length bytes.now }
-
-        ensures counts { OnlySend (S.counts site.old) (S.counts site.new) }
-        ensures attached { S.attached site.new ≡ S.attached site.old }
-        ensures held { S.held site.new ≡ S.held site.old }
+        ensures site { OnlySend (S.state site.old) (S.state site.new) }
     {
         self.machine.raise(event.moment);
         match event.kind {
@@ -135,8 +130,8 @@ impl Manager {
         requires connection { conn < 64 }
         requires tickets { self.old.machine.ticket + length bytes.now < 2 ^ 64 - 1 }
         ensures takes { TakesBytes conn bytes.now (ending_after result) self.old self.new
-            (wired (get_or self.old.marks conn false) (S.contents site.old) (S.counts site.old) (S.attached site.old) (S.held site.old))
-            (wired false (S.contents site.new) (S.counts site.new) (S.attached site.new) (S.held site.new)) }
+            (wired (get_or self.old.marks conn false) (S.state site.old))
+            (wired false (S.state site.new)) }
         ensures tickets { self.new.machine.ticket ≤ self.old.machine.ticket + length bytes.now }
     {
         let index = usize::from(conn);

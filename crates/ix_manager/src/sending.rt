@@ -17,8 +17,7 @@ use ix_watch::Changes;
 pub(crate) fn send_reply<S: Site>(site: &mut S, conn: u8, gone: &mut bool, reply: &Reply)
     requires { CanBeTold reply.now }
     ensures { SendsAll conn (reply.now ∷ [])
-        (wired gone.old (S.contents site.old) (S.counts site.old) (S.attached site.old) (S.held site.old))
-        (wired gone.new (S.contents site.new) (S.counts site.new) (S.attached site.new) (S.held site.new)) }
+        (wired gone.old (S.state site.old)) (wired gone.new (S.state site.new)) }
 {
     if *gone {
         return;
@@ -39,8 +38,7 @@ pub(crate) fn send_changes<S: Site>(
     name: &Name,
 )
     ensures { SendsAll conn (poll_replies (changes_of name.now machine.now.noted))
-        (wired gone.old (S.contents site.old) (S.counts site.old) (S.attached site.old) (S.held site.old))
-        (wired gone.new (S.contents site.new) (S.counts site.new) (S.attached site.new) (S.held site.new)) }
+        (wired gone.old (S.state site.old)) (wired gone.new (S.state site.new)) }
 {
     let count = count_changes(machine, name);
     send_reply(site, conn, gone, &Reply::Changes(count));
@@ -55,8 +53,7 @@ fn count_changes(machine: &Machine, name: &Name) -> u32
 
 fn send_each<S: Site>(site: &mut S, conn: u8, gone: &mut bool, changes: Changes<'_>)
     ensures { SendsAll conn (change_replies changes.entry)
-        (wired gone.old (S.contents site.old) (S.counts site.old) (S.attached site.old) (S.held site.old))
-        (wired gone.new (S.contents site.new) (S.counts site.new) (S.attached site.new) (S.held site.new)) }
+        (wired gone.old (S.state site.old)) (wired gone.new (S.state site.new)) }
 {
     for (action, answer) in changes {
         send_reply(site, conn, gone, &Reply::Change(answer, *action));

@@ -2,7 +2,7 @@
 use Rattle.std.proofs.Common.{◌≡◌, ◌≢◌, ◌<◌, ◌+◌, ℕ, List, [], ◌∷◌, length, map, drop, get_or, refl, inl, inr, sym, subst}
 use Rattle.std.proofs.lemmas.List.{drop_more}
 use Rattle.ix_outside.specs.Files.{Listing, Lists}
-use Rattle.ix_memory.specs.inside.FilesState.{IsAbsent}
+use Rattle.ix_memory.specs.inside.MemoryFilesState.{IsAbsent}
 
 -- what the rest of a listing says of a name, the whole one says
 pub record Leads (rest whole : Listing) (name : List ℕ) : Type 0 where

@@ -1,8 +1,9 @@
 -- What a send that failed leaves is a part of it.
 use Rattle.std.proofs.Common.{◌≡◌, ℕ, ◌/◌, Bool, true, false, List, [], length, drop, Some, inl, inr, refl, ap}
 use Rattle.std.proofs.lemmas.List.{take-append-drop}
-use Rattle.ix_outside.specs.Contents.{GivenEvent, Sends, SendsPart, with_gone, nothing_told}
-use Rattle.ix_memory.specs.inside.SiteState.{told_contents, half_of}
+use Rattle.ix_outside.specs.Contents.{GivenEvent, Sends, SendsPart, with_gone}
+use Rattle.ix_outside.specs.inside.NothingTold.{nothing_told}
+use Rattle.ix_memory.specs.inside.MemorySiteState.{told_contents, half_of}
 
 -- the first half was sent
 pub half_is_part : (told : Bool) (given : List GivenEvent) (sends sends' : Sends) (conn : ℕ) (bytes : List ℕ)

@@ -2,11 +2,11 @@
 pub mod CanCome
 pub mod EventsState
 pub mod Fate
-pub mod FilesState
+pub mod MemoryFilesState
+pub mod MemorySinkState
+pub mod MemorySiteState
 pub mod NextEvent
 pub mod NextPiece
 pub mod Room
 pub mod SentState
-pub mod SinkState
-pub mod SiteState
 pub mod Spans

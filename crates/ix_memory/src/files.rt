@@ -2,9 +2,10 @@
 ghost use Rattle.std.specs.Prelude.{◌≡◌, ◌≤◌, ◌<◌, ◌↔◌, ℕ, List, length, map, IfOk, IsErrOf, IsTrue, string_bytes, Some, MatchOption, true, ◌⊎◌};
 ghost use Rattle.ix_outside.specs.Counts.{Rose};
 ghost use Rattle.ix_outside.specs.Files.{HasFile, HasLonger, Lists};
-ghost use Rattle.ix_outside.specs.Loans.{free};
+ghost use Rattle.ix_outside.specs.FilesState.{OnlyFaults};
 ghost use Rattle.ix_memory.specs.Calls.{next_call, one_more};
-ghost use Rattle.ix_memory.specs.inside.FilesState.{FailsToLoad, IsAbsent, listing_of};
+ghost use Rattle.ix_memory.specs.inside.MemoryFilesState.{state_of, FailsToLoad, IsAbsent};
+ghost use Rattle.ix_memory.specs.inside.MemoryFilesState.{listing_of};
 
 use crate::calls::Calls;
 use ix_outside::{Files, LoadFault};
@@ -20,9 +21,9 @@ pub struct MemoryFiles {
 }
 
 impl Model for MemoryFiles {
-    ghost use Rattle.ix_memory.specs.inside.FilesState.{FilesState, listing_of};
+    ghost use Rattle.ix_memory.specs.inside.MemoryFilesState.{MemoryFilesState, listing_of};
 
-    ghost Value = { FilesState };
+    ghost Value = { MemoryFilesState };
 
     ghost view = { λ m. record {
       files = listing_of m.files.items;
@@ -48,11 +49,7 @@ impl MemoryFiles {
 }
 
 impl Files for MemoryFiles {
-    ghost contents = { λ files. Some files.files };
-
-    ghost faults = { λ files. files.faults };
-
-    ghost held = { λ _. free };
+    ghost state = { state_of };
 
     /// The bytes of the first file of this name. `Failed` is a call that is told to fail, or a
     /// name that no file has; `TooLong` a file of more than `limit` bytes; `Memory` want of
@@ -66,9 +63,7 @@ impl Files for MemoryFiles {
         ensures counted { IsErrOf result LoadFault.Failed → self.new.faults ≡ one_more self.old.faults }
         ensures not_counted { (result ≡ Err LoadFault.Failed → ⊥) → self.new.faults ≡ self.old.faults }
         ensures calls { self.new.calls ≡ next_call self.old.calls }
-
-        ensures count { self.old.faults ≤ self.new.faults }
-        ensures files { Some self.new.files ≡ Some self.old.files }
+        ensures rest { OnlyFaults (state_of self.old) (state_of self.new) }
     {
         let is_told = self.calls.make();
         let loaded = loaded(alloc, &self.files, is_told, name, limit);

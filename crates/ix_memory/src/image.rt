@@ -1,6 +1,6 @@
 //! The bytes of a file.
 ghost use Rattle.std.specs.Prelude.{◌≡◌, ◌≤◌, ◌+◌, ◌-◌, min, length, take, drop, vec_len, vec_capacity};
-ghost use Rattle.ix_memory.specs.inside.SiteState.{written};
+ghost use Rattle.ix_memory.specs.inside.MemorySiteState.{written};
 
 use crate::room::copy_text;
 

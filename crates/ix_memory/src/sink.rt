@@ -2,10 +2,10 @@
 ghost use Rattle.std.specs.Prelude.{◌≡◌, ◌≤◌, ◌++◌, [], length, not, is_ok, IfOk, OnOk, OnErr, Some};
 ghost use Rattle.std.specs.Io.KnownBytes.{append_known};
 ghost use Rattle.ix_outside.specs.Counts.{Rose};
-ghost use Rattle.ix_outside.specs.Loans.{free};
 ghost use Rattle.ix_outside.specs.Sink.{AppendsPart};
+ghost use Rattle.ix_outside.specs.SinkState.{OnlyPuts};
 ghost use Rattle.ix_memory.specs.Calls.{next_call, one_more};
-ghost use Rattle.ix_memory.specs.inside.SinkState.{fails_to_put};
+ghost use Rattle.ix_memory.specs.inside.MemorySinkState.{fails_to_put, state_of};
 
 use crate::calls::Calls;
 use ix_outside::{Failed, Sink};
@@ -23,9 +23,9 @@ pub struct MemorySink {
 
 impl Model for MemorySink {
     ghost use Rattle.std.specs.Prelude.{◌≤◌, vec_capacity, vec_len};
-    ghost use Rattle.ix_memory.specs.inside.SinkState.{SinkState};
+    ghost use Rattle.ix_memory.specs.inside.MemorySinkState.{MemorySinkState};
 
-    ghost Value = { SinkState };
+    ghost Value = { MemorySinkState };
 
     ghost view = { λ s. record { bytes = s.bytes.items; room = s.room; calls = s.calls; faults = s.faults } };
 
@@ -60,11 +60,7 @@ impl MemorySink {
 }
 
 impl Sink for MemorySink {
-    ghost written = { λ s. Some s.bytes };
-
-    ghost faults = { λ s. s.faults };
-
-    ghost held = { λ _. free };
+    ghost state = { state_of };
 
     /// Puts the bytes out. It fails exactly where it is told to, or where there would be more bytes
     /// than the room; then none of its bytes go out.
@@ -78,7 +74,7 @@ impl Sink for MemorySink {
         ensures err { OnErr result (self.new
             ≡ record self.old { calls = next_call self.old.calls; faults = one_more self.old.faults }) }
 
-        ensures count { self.old.faults ≤ self.new.faults }
+        ensures rest { OnlyPuts (state_of self.old) (state_of self.new) }
     {
         let is_told = self.calls.make();
         if is_told || self.room - self.bytes.len() < bytes.len() {

@@ -1,13 +1,15 @@
 //! A site in memory.
 ghost use Rattle.std.specs.Prelude.{◌≡◌, ◌≤◌, ◌<◌, ◌+◌, ◌-◌, ◌*◌, ◌&&◌, ◌++◌, [], ◌∷◌, length as list_length, nat_le, true, false, min, length, take, drop, not, is_ok, slice_get, Some, IfOk, OnOk, OnErr};
 ghost use Rattle.ix_outside.specs.Contents.{piece_of, with_pair, Listens, Gives, SendsBytes};
-ghost use Rattle.ix_outside.specs.Counts.{Rose, OnlyDisk, OnlyWire, OnlySend};
+ghost use Rattle.ix_outside.specs.Counts.{Rose};
 ghost use Rattle.ix_outside.specs.Event.{FitsBuffer};
-ghost use Rattle.ix_outside.specs.Loans.{free};
+ghost use Rattle.ix_outside.specs.SiteState.{OnlyDisk, OnlyWire, OnlySend};
 ghost use Rattle.ix_memory.specs.inside.NextEvent.{next_event, then_coming};
 ghost use Rattle.ix_memory.specs.Plan.{fails_at, is_full};
 ghost use Rattle.ix_memory.specs.inside.SentState.{with_heard};
-ghost use Rattle.ix_memory.specs.inside.SiteState.{fresh_site, contents_of, called, wire_failed, disk_failed, send_failed, half_sent, half_written, written};
+ghost use Rattle.ix_memory.specs.inside.MemorySiteState.{fresh_site, state_of, called};
+ghost use Rattle.ix_memory.specs.inside.MemorySiteState.{wire_failed, disk_failed, send_failed};
+ghost use Rattle.ix_memory.specs.inside.MemorySiteState.{half_sent, half_written, written};
 ghost use Rattle.ix_memory.specs.inside.CanCome.{CanAllCome, events_beside};
 
 use crate::events::Events;
@@ -46,9 +48,9 @@ impl Model for MemorySite {
     ghost use Rattle.std.specs.Prelude.{◌-◌, vec_capacity, vec_len};
     ghost use Rattle.ix_memory.specs.inside.Fate.{room_of};
     ghost use Rattle.ix_memory.specs.inside.Room.{HasRoom};
-    ghost use Rattle.ix_memory.specs.inside.SiteState.{SiteState};
+    ghost use Rattle.ix_memory.specs.inside.MemorySiteState.{MemorySiteState};
 
-    ghost Value = { SiteState };
+    ghost Value = { MemorySiteState };
 
     ghost view = { λ s. record {
       plan = s.plan;
@@ -127,13 +129,7 @@ impl MemorySite {
 }
 
 impl Site for MemorySite {
-    ghost counts = { λ s. s.counts };
-
-    ghost attached = { λ s. s.attached };
-
-    ghost held = { λ _. free };
-
-    ghost contents = { contents_of };
+    ghost state = { state_of };
 
     /// The name is heard. It costs 16 and the number of its bytes.
     fn listen(&mut self, name: &str) -> Result<(), WireFailed>
@@ -143,9 +139,9 @@ impl Site for MemorySite {
         ensures err { OnErr result (self.new ≡ wire_failed (called (16 + length name.now) self.old)) }
 
         ensures failed { OnErr result (Rose self.old.counts.wire self.new.counts.wire) }
-        ensures counts { OnlyWire self.old.counts self.new.counts }
-        ensures attached { self.new.attached ≡ self.old.attached }
-        ensures contents { Listens name.now result (contents_of self.old) (contents_of self.new) }
+        ensures contents { Listens name.now result
+            (state_of self.old).contents (state_of self.new).contents }
+        ensures rest { OnlyWire (state_of self.old) (state_of self.new) }
     {
         match self.plan.make(LEAST_COST + name.len()) {
             Fate::Works => {
@@ -175,9 +171,9 @@ impl Site for MemorySite {
 
         ensures event { IfOk result (FitsBuffer (length buf.old)) }
         ensures failed { OnErr result (Rose self.old.counts.wire self.new.counts.wire) }
-        ensures counts { OnlyWire self.old.counts self.new.counts }
-        ensures attached { self.new.attached ≡ self.old.attached }
-        ensures contents { Gives buf.new result (contents_of self.old) (contents_of self.new) }
+        ensures contents { Gives buf.new result
+            (state_of self.old).contents (state_of self.new).contents }
+        ensures rest { OnlyWire (state_of self.old) (state_of self.new) }
     {
         match self.plan.make(LEAST_COST) {
             Fate::Works => Ok(self.events.next(buf)),
@@ -199,9 +195,9 @@ impl Site for MemorySite {
             conn bytes.now (called (16 + length bytes.now) self.old))) }
 
         ensures failed { OnErr result (Rose self.old.counts.send self.new.counts.send) }
-        ensures counts { OnlySend self.old.counts self.new.counts }
-        ensures attached { self.new.attached ≡ self.old.attached }
-        ensures contents { SendsBytes conn bytes.now result (contents_of self.old) (contents_of self.new) }
+        ensures contents { SendsBytes conn bytes.now result
+            (state_of self.old).contents (state_of self.new).contents }
+        ensures rest { OnlySend (state_of self.old) (state_of self.new) }
     {
         match self.plan.make(LEAST_COST + bytes.len()) {
             Fate::Works => {
@@ -223,10 +219,8 @@ impl Site for MemorySite {
         ensures err { OnErr result (self.new ≡ disk_failed (called (16 + length name.now) self.old)) }
 
         ensures failed { OnErr result (Rose self.old.counts.disk self.new.counts.disk) }
-        ensures counts { OnlyDisk self.old.counts self.new.counts }
-        ensures attached { OnOk result (self.new.attached ≡ true) }
-        ensures not_attached { OnErr result (self.new.attached ≡ false) }
-        ensures contents { contents_of self.new ≡ contents_of self.old }
+        ensures attached { self.new.attached ≡ is_ok result }
+        ensures rest { OnlyDisk (state_of self.old) (state_of self.new) }
     {
         match self.plan.make(LEAST_COST + name.len()) {
             Fate::Works => {
@@ -249,9 +243,8 @@ impl Site for MemorySite {
         ensures err { OnErr result (self.new ≡ disk_failed (called 16 self.old)) }
 
         ensures failed { OnErr result (Rose self.old.counts.disk self.new.counts.disk) }
-        ensures counts { OnlyDisk self.old.counts self.new.counts }
-        ensures attached { self.new.attached ≡ self.old.attached }
-        ensures contents { contents_of self.new ≡ contents_of self.old }
+        ensures attached { self.new.attached ≡ true }
+        ensures rest { OnlyDisk (state_of self.old) (state_of self.new) }
     {
         match self.plan.make(LEAST_COST) {
             Fate::Works => Ok(self.image.len() as u64),
@@ -268,15 +261,14 @@ impl Site for MemorySite {
         ensures exactly { is_ok result ≡ not (fails_at self.old.plan 16) }
         ensures value { IfOk result (λ count. count ≡ min (length buf.old) (length self.old.image - at)) }
         ensures read { IfOk result (λ count. take count buf.new ≡ take count (drop at self.old.image)) }
-        ensures rest { IfOk result (λ count. drop count buf.new ≡ drop count buf.old) }
+        ensures behind { IfOk result (λ count. drop count buf.new ≡ drop count buf.old) }
         ensures ok { OnOk result (self.new ≡ called 16 self.old) }
         ensures err { OnErr result (self.new ≡ disk_failed (called 16 self.old)) }
 
         ensures within { IfOk result (λ count. count ≤ length buf.old) }
         ensures failed { OnErr result (Rose self.old.counts.disk self.new.counts.disk) }
-        ensures counts { OnlyDisk self.old.counts self.new.counts }
-        ensures attached { self.new.attached ≡ self.old.attached }
-        ensures contents { contents_of self.new ≡ contents_of self.old }
+        ensures attached { self.new.attached ≡ true }
+        ensures rest { OnlyDisk (state_of self.old) (state_of self.new) }
     {
         match self.plan.make(LEAST_COST) {
             Fate::Works => Ok(image::read(&self.image, at, buf)),
@@ -300,9 +292,8 @@ impl Site for MemorySite {
             at bytes.now (called (16 + length bytes.now) self.old))) }
 
         ensures failed { OnErr result (Rose self.old.counts.disk self.new.counts.disk) }
-        ensures counts { OnlyDisk self.old.counts self.new.counts }
-        ensures attached { self.new.attached ≡ self.old.attached }
-        ensures contents { contents_of self.new ≡ contents_of self.old }
+        ensures attached { self.new.attached ≡ true }
+        ensures rest { OnlyDisk (state_of self.old) (state_of self.new) }
     {
         let fate = self.plan.make(LEAST_COST + bytes.len());
         let start = at as usize;
@@ -328,9 +319,8 @@ impl Site for MemorySite {
         ensures err { OnErr result (self.new ≡ disk_failed (called 16 self.old)) }
 
         ensures failed { OnErr result (Rose self.old.counts.disk self.new.counts.disk) }
-        ensures counts { OnlyDisk self.old.counts self.new.counts }
-        ensures attached { self.new.attached ≡ self.old.attached }
-        ensures contents { contents_of self.new ≡ contents_of self.old }
+        ensures attached { self.new.attached ≡ true }
+        ensures rest { OnlyDisk (state_of self.old) (state_of self.new) }
     {
         let fate = self.plan.make(LEAST_COST);
         let end = length as usize;
@@ -354,9 +344,8 @@ impl Site for MemorySite {
         ensures err { OnErr result (self.new ≡ disk_failed (called 16 self.old)) }
 
         ensures failed { OnErr result (Rose self.old.counts.disk self.new.counts.disk) }
-        ensures counts { OnlyDisk self.old.counts self.new.counts }
-        ensures attached { self.new.attached ≡ self.old.attached }
-        ensures contents { contents_of self.new ≡ contents_of self.old }
+        ensures attached { self.new.attached ≡ true }
+        ensures rest { OnlyDisk (state_of self.old) (state_of self.new) }
     {
         match self.plan.make(LEAST_COST) {
             Fate::Works => Ok(()),

@@ -1,6 +1,7 @@
 -- How counts go on from one call to the next.
 use Rattle.std.proofs.Common.{ℕ, ◌≤◌, arith}
-use Rattle.ix_outside.specs.Counts.{Rose, Counts, OnlyDisk, OnlyWire, OnlySend}
+use Rattle.ix_outside.specs.Counts.{Rose, Counts}
+use Rattle.ix_outside.specs.SiteState.{SiteState, OnlyDisk, OnlyWire, OnlySend}
 use Rattle.ix_outside.specs.inside.NoFewer.{NoFewer}
 
 -- what rose before has risen by now
@@ -17,11 +18,17 @@ NoFewer-still now = record { disk = omega arith; wire = omega arith; send = omeg
 pub NoFewer-join : (before then now : Counts) → NoFewer before then → NoFewer then now → NoFewer before now
 NoFewer-join before then now first second = record { disk = omega arith; wire = omega arith; send = omega arith }
 
-pub NoFewer-disk : (before now : Counts) → OnlyDisk before now → NoFewer before now
-NoFewer-disk before now only = record { disk = only.disk; wire = omega arith; send = omega arith }
+pub NoFewer-disk : (old new : SiteState) → OnlyDisk old new → NoFewer old.counts new.counts
+NoFewer-disk old new only =
+    let wire = only.wire in
+    let send = only.send in record { disk = only.disk; wire = omega arith; send = omega arith }
 
-pub NoFewer-wire : (before now : Counts) → OnlyWire before now → NoFewer before now
-NoFewer-wire before now only = record { disk = omega arith; wire = only.wire; send = omega arith }
+pub NoFewer-wire : (old new : SiteState) → OnlyWire old new → NoFewer old.counts new.counts
+NoFewer-wire old new only =
+    let disk = only.disk in
+    let send = only.send in record { disk = omega arith; wire = only.wire; send = omega arith }
 
-pub NoFewer-send : (before now : Counts) → OnlySend before now → NoFewer before now
-NoFewer-send before now only = record { disk = omega arith; wire = omega arith; send = only.send }
+pub NoFewer-send : (old new : SiteState) → OnlySend old new → NoFewer old.counts new.counts
+NoFewer-send old new only =
+    let disk = only.disk in
+    let wire = only.wire in record { disk = omega arith; wire = omega arith; send = only.send }

@@ -32,10 +32,6 @@ pub record Contents : Type 0 where
   pub text : Option (List ℕ)
   pub lost : Option Bool
 
--- a site that tells nothing
-abbrev pub nothing_told : Contents
-nothing_told = record { given = None; sends = None; text = None; lost = None }
-
 -- the bytes of an event stand at the front of the buffer
 abbrev pub piece_of : EventKind → List ℕ → List ℕ
 piece_of (Bytes n) buf = take n buf

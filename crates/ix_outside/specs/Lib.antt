@@ -2,6 +2,9 @@ pub mod Contents
 pub mod Counts
 pub mod Event
 pub mod Files
+pub mod FilesState
 pub mod Loans
 pub mod Sink
+pub mod SinkState
+pub mod SiteState
 pub mod inside

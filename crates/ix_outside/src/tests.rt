@@ -1,6 +1,7 @@
 //! Small objects of the three traits, which show that the contracts can be met.
 ghost use Rattle.std.specs.Prelude.{◌≡◌, [], ◌∷◌, false, Some};
 ghost use Rattle.ix_outside.specs.Loans.{free};
+ghost use Rattle.ix_outside.specs.inside.NothingTold.{nothing_told};
 
 use super::*;
 use std::alloc::{AllocError, Global};
@@ -15,11 +16,11 @@ struct OneFile<'a> {
 }
 
 impl Files for OneFile<'_> {
-    ghost contents = { λ file. Some ((file.name.now, file.bytes.now) ∷ []) };
-
-    ghost faults = { λ file. file.faults };
-
-    ghost held = { λ _. free };
+    ghost state = { λ file. record {
+      contents = Some ((file.name.now, file.bytes.now) ∷ []);
+      faults = file.faults;
+      held = free;
+    } };
 
     fn load(&mut self, alloc: Global, name: &str, limit: usize) -> Result<Vec<u8>, LoadFault> {
         if name != self.name {
@@ -41,11 +42,11 @@ struct Page {
 }
 
 impl Sink for Page {
-    ghost written = { λ page. Some page.bytes.items };
-
-    ghost faults = { λ page. page.faults };
-
-    ghost held = { λ _. free };
+    ghost state = { λ page. record {
+      written = Some page.bytes.items;
+      faults = page.faults;
+      held = free;
+    } };
 
     fn put(&mut self, bytes: &[u8]) -> Result<(), Failed> {
         match self.bytes.extend_from_slice(bytes) {
@@ -68,11 +69,12 @@ struct Idle {
 }
 
 impl Site for Idle {
-    ghost counts = { λ site. record { disk = site.disk; wire = site.wire; send = site.send } };
-
-    ghost attached = { λ site. site.attached };
-
-    ghost held = { λ _. free };
+    ghost state = { λ site. record {
+      counts = record { disk = site.disk; wire = site.wire; send = site.send };
+      attached = site.attached;
+      contents = nothing_told;
+      held = free;
+    } };
 
     fn listen(&mut self, _name: &str) -> Result<(), WireFailed> {
         self.wire = self.wire.saturating_add(1);
@@ -154,7 +156,7 @@ fn a_file_goes_out_through_the_traits(rt: HostRuntime) -> Result<(), Fail> {
 
 // One call of each kind, through the trait alone.
 fn try_site<S: Site>(site: &mut S) -> bool
-    requires { S.attached site.old ≡ false }
+    requires { (S.state site.old).attached ≡ false }
 {
     let mut buf = [0; 4];
     let wire = site.listen("socket").is_err() && site.next(&mut buf).is_ok();

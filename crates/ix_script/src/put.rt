@@ -4,6 +4,7 @@ ghost use Rattle.std.specs.Io.KnownBytes.{append_known};
 ghost use Rattle.ix_outside.specs.Contents.{send_text};
 ghost use Rattle.ix_outside.specs.Counts.{Rose};
 ghost use Rattle.ix_outside.specs.Sink.{AppendsPart};
+ghost use Rattle.ix_outside.specs.SinkState.{OnlyPuts};
 
 use arrayvec::ArrayVec;
 use itoa::Buffer;
@@ -15,11 +16,13 @@ const ROOM: usize = 260;
 
 /// Puts the connection's number, a space and the bytes, in one put where they fit.
 pub(crate) fn put_send<K: Sink>(sink: &mut K, conn: u8, bytes: &[u8]) -> Result<(), Failed>
-    ensures whole { OnOk result (K.written sink.new ≡ append_known (K.written sink.old) (send_text conn bytes.now)) }
-    ensures part { OnErr result (AppendsPart (K.written sink.old) (send_text conn bytes.now) (K.written sink.new)) }
-    ensures failed { OnErr result (Rose (K.faults sink.old) (K.faults sink.new)) }
-    ensures count { K.faults sink.old ≤ K.faults sink.new }
-    ensures held { K.held sink.new ≡ K.held sink.old }
+    ensures whole { OnOk result ((K.state sink.new).written
+        ≡ append_known (K.state sink.old).written (send_text conn bytes.now)) }
+    ensures part { OnErr result
+        (AppendsPart (K.state sink.old).written (send_text conn bytes.now)
+        (K.state sink.new).written) }
+    ensures failed { OnErr result (Rose (K.state sink.old).faults (K.state sink.new).faults) }
+    ensures rest { OnlyPuts (K.state sink.old) (K.state sink.new) }
 {
     match short_text(conn, bytes) {
         Some(text) => sink.put(text.as_slice()),
@@ -44,11 +47,13 @@ fn short_text(conn: u8, bytes: &[u8]) -> Option<ArrayVec<u8, ROOM>>
 }
 
 fn put_long<K: Sink>(sink: &mut K, conn: u8, bytes: &[u8]) -> Result<(), Failed>
-    ensures whole { OnOk result (K.written sink.new ≡ append_known (K.written sink.old) (send_text conn bytes.now)) }
-    ensures part { OnErr result (AppendsPart (K.written sink.old) (send_text conn bytes.now) (K.written sink.new)) }
-    ensures failed { OnErr result (Rose (K.faults sink.old) (K.faults sink.new)) }
-    ensures count { K.faults sink.old ≤ K.faults sink.new }
-    ensures held { K.held sink.new ≡ K.held sink.old }
+    ensures whole { OnOk result ((K.state sink.new).written
+        ≡ append_known (K.state sink.old).written (send_text conn bytes.now)) }
+    ensures part { OnErr result
+        (AppendsPart (K.state sink.old).written (send_text conn bytes.now)
+        (K.state sink.new).written) }
+    ensures failed { OnErr result (Rose (K.state sink.old).faults (K.state sink.new).faults) }
+    ensures rest { OnlyPuts (K.state sink.old) (K.state sink.new) }
 {
     let front = front_text(conn);
     match sink.put(front.as_slice()) {

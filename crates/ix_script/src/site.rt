@@ -77,19 +77,29 @@ impl<'a, S: Site, K: Sink> ScriptSite<'a, S, K> {
 
 impl<'a, S: Site, K: Sink> Site for ScriptSite<'a, S, K> {
     ghost use Rattle.std.specs.Prelude.{Some, None};
-    ghost use Rattle.ix_outside.specs.Contents.{Contents};
-    ghost use Rattle.ix_outside.specs.Counts.{Counts};
     ghost use Rattle.ix_outside.specs.Loans.{free, lent, reads, unused_wire};
     ghost use Rattle.ix_script.specs.inside.Site.{given_of};
 
-    ghost counts = { λ it. record { disk = (S.counts it.site.now).disk; wire = 0; send = K.faults it.sink.now } };
-
-    ghost attached = { λ it. S.attached it.site.now };
-
-    ghost held = { λ it. reads it.cursor.bytes.now (unused_wire (S.counts it.site.now).wire (S.counts it.site.now).send (S.contents it.site.now)
-        (lent it.site.ghost_name (S.held it.site.now) (lent it.sink.ghost_name (K.held it.sink.now) free))) };
-
-    ghost contents = { λ it. record { given = Some (given_of it); sends = None; text = K.written it.sink.now; lost = Some it.sink_failed } };
+    // The disk is that of the lent site, the wire is the script, and the sends are the sink's puts.
+    ghost state = { λ it. record {
+      counts = record {
+        disk = (S.state it.site.now).counts.disk;
+        wire = 0;
+        send = (K.state it.sink.now).faults;
+      };
+      attached = (S.state it.site.now).attached;
+      contents = record {
+        given = Some (given_of it);
+        sends = None;
+        text = (K.state it.sink.now).written;
+        lost = Some it.sink_failed;
+      };
+      held = reads it.cursor.bytes.now
+          (unused_wire (S.state it.site.now).counts.wire (S.state it.site.now).counts.send
+          (S.state it.site.now).contents
+          (lent it.site.ghost_name (S.state it.site.now).held
+          (lent it.sink.ghost_name (K.state it.sink.now).held free)));
+    } };
 
     fn listen(&mut self, _name: &str) -> Result<(), WireFailed> {
         Ok(())

@@ -2,6 +2,8 @@
 ghost use Rattle.std.specs.Prelude.{◌≡◌, ◌<◌, ◌≤◌, ◌⊎◌, List, [], false, Some, None};
 ghost use Rattle.ix_outside.specs.Contents.{GivenEvent};
 ghost use Rattle.ix_outside.specs.Loans.{free};
+ghost use Rattle.ix_outside.specs.SinkState.{OnlyPuts};
+ghost use Rattle.ix_outside.specs.inside.NothingTold.{nothing_told};
 ghost use Rattle.ix_script.specs.Events.{HasEvents};
 ghost use Rattle.ix_script.specs.Pieces.{pieces_of};
 ghost use Rattle.ix_script.specs.inside.Site.{given_of};
@@ -19,11 +21,11 @@ struct Page {
 }
 
 impl Sink for Page {
-    ghost written = { λ page. Some page.bytes.items };
-
-    ghost faults = { λ page. page.faults };
-
-    ghost held = { λ _. free };
+    ghost state = { λ page. record {
+      written = Some page.bytes.items;
+      faults = page.faults;
+      held = free;
+    } };
 
     fn put(&mut self, bytes: &[u8]) -> Result<(), Failed> {
         if !self.broken {
@@ -46,11 +48,12 @@ struct Idle {
 }
 
 impl Site for Idle {
-    ghost counts = { λ site. record { disk = site.disk; wire = site.wire; send = site.send } };
-
-    ghost attached = { λ site. site.attached };
-
-    ghost held = { λ _. free };
+    ghost state = { λ site. record {
+      counts = record { disk = site.disk; wire = site.wire; send = site.send };
+      attached = site.attached;
+      contents = nothing_told;
+      held = free;
+    } };
 
     fn listen(&mut self, _name: &str) -> Result<(), WireFailed> {
         self.wire = self.wire.saturating_add(1);
@@ -108,19 +111,18 @@ fn make_idle() -> Idle
 
 // What any user of a site may do with one.
 fn use_site<S: Site>(site: &mut S) -> bool
-    ensures held { S.held site.new ≡ S.held site.old }
-    ensures counts { (S.counts site.old).send ≤ (S.counts site.new).send }
+    ensures held { (S.state site.new).held ≡ (S.state site.old).held }
+    ensures counts { (S.state site.old).counts.send ≤ (S.state site.new).counts.send }
 {
     site.listen("socket").is_ok() && site.send(7, b"granted 1\n").is_ok()
 }
 
 // What the caller of a script's site learns of what it lent.
 fn play<S: Site, K: Sink>(script: Script<'_>, site: &mut S, sink: &mut K) -> bool
-    ensures faults { K.faults sink.old ≤ K.faults sink.new }
-    ensures sink_held { K.held sink.new ≡ K.held sink.old }
-    ensures site_held { S.held site.new ≡ S.held site.old }
-    ensures contents { S.contents site.new ≡ S.contents site.old }
-    ensures wire { (S.counts site.new).wire ≡ (S.counts site.old).wire }
+    ensures sink { OnlyPuts (K.state sink.old) (K.state sink.new) }
+    ensures held { (S.state site.new).held ≡ (S.state site.old).held }
+    ensures contents { (S.state site.new).contents ≡ (S.state site.old).contents }
+    ensures wire { (S.state site.new).counts.wire ≡ (S.state site.old).counts.wire }
 {
     let mut all = ScriptSite::new(script, site, sink);
     use_site(&mut all)
@@ -303,8 +305,8 @@ fn sends_go_to_the_sink(rt: HostRuntime) {
 
 // One call of each kind of the disk, and of the wire.
 fn try_disk<S: Site>(site: &mut S) -> bool
-    requires { S.attached site.old ≡ false }
-    ensures held { S.held site.new ≡ S.held site.old }
+    requires { (S.state site.old).attached ≡ false }
+    ensures held { (S.state site.new).held ≡ (S.state site.old).held }
 {
     let mut buf = [0; 4];
     match site.attach("journal") {
@@ -352,8 +354,9 @@ fn play_none(page: &mut Page) -> bool {
 
 // Any user of a site, which sends.
 fn answer<S: Site>(site: &mut S)
-    ensures held { S.held site.new ≡ S.held site.old }
-    ensures given { ((S.contents site.new).given ≡ (S.contents site.old).given) ⊎ ((S.contents site.new).given ≡ None) }
+    ensures held { (S.state site.new).held ≡ (S.state site.old).held }
+    ensures given { ((S.state site.new).contents.given ≡ (S.state site.old).contents.given)
+        ⊎ ((S.state site.new).contents.given ≡ None) }
 {
     let _ = site.send(0, b"yes\n");
 }

@@ -9,12 +9,17 @@ use Rattle.ix_manage.proofs.manage.Goals as goal
 pub returns-in-Err-clause-cut_short : goal.returns-in-Err-clause-cut_short
 returns-in-Err-clause-cut_short g c is =
     let refusal = c.in-Err-Refused.refusal in
+    let ends = Ends (map string_bytes c.args.words.now) (g.F.Files.state c.args.files.now).contents in
+    let old = g.K.Sink.state c.args.out.now in
+    let between = g.K.Sink.state c.run.new.out in
+    let new = g.K.Sink.state c.put.new.self in
     let before =
-    subst (RefusedAfter (Ends (map string_bytes c.args.words.now) (g.F.Files.contents c.args.files.now)) (g.K.Sink.written c.args.out.now) (g.K.Sink.written c.run.new.out))
-    c.in-Err-Refused.field-0-is c.in-Err-Refused.ensures.refused in (
+    subst (RefusedAfter ends old between) c.in-Err-Refused.field-0-is c.in-Err-Refused.ensures.refused
+    in (
       refusal_status refusal,
       before.0 ++ refusal_line refusal,
       before.1,
       part_last _ _ _ before.0 (refusal_line refusal) before.2
-          (subst (λ bytes. AppendsPart (g.K.Sink.written c.run.new.out) bytes (g.K.Sink.written c.put.new.self)) (c.deref.ensures.0 ∙ c.line.ensures) c.in-Err.ensures.part),
+          (subst (λ bytes. AppendsPart between.written bytes new.written)
+          (c.deref.ensures.0 ∙ c.line.ensures) c.in-Err.ensures.part),
     )

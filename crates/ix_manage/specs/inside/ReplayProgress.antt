@@ -15,7 +15,8 @@ use Rattle.ix_manager.specs.Wire.{run_text, unmarked}
 use Rattle.ix_script.specs.Events.{HasEvents}
 use Rattle.ix_manage.specs.ActionLines.{line}
 use Rattle.ix_manage.specs.Replay.{AreFirst, IsNoEnd, Replays, history_line}
-use Rattle.ix_manage.specs.Trace.{large_line, tree_size}
+use Rattle.ix_can.specs.TreeOf.{tree_size}
+use Rattle.ix_manage.specs.Trace.{large_line}
 use Rattle.ix_manage.specs.declared.turns.Turn.{Turn}
 use Rattle.ix_manage.specs.declared.turns.Turn.TheVariants.{More, Done, Cut}
 

@@ -2,9 +2,9 @@
 use Rattle.std.specs.Prelude.{◌≡◌, ℕ, ◌+◌, ◌≤◌, Bool, true, false, List, ◌∷◌, length, Option, Some, None}
 use Rattle.ix_values.specs.PlainAction.{PlainAction}
 use Rattle.ix_lines.specs.Items.{Item}
-use Rattle.ix_outside.specs.Contents.{Contents, SendsWhole, SendsPart}
-use Rattle.ix_outside.specs.Counts.{Counts, Rose, OnlySend}
-use Rattle.ix_outside.specs.Loans.{Loans}
+use Rattle.ix_outside.specs.Contents.{SendsWhole, SendsPart}
+use Rattle.ix_outside.specs.Counts.{Rose}
+use Rattle.ix_outside.specs.SiteState.{SiteState, OnlySend}
 use Rattle.ix_proto.specs.declared.reply.Reply.{Reply}
 use Rattle.ix_proto.specs.declared.reply.Reply.TheVariants as reply
 use Rattle.ix_proto.specs.Requests.{PlainRequest, IsRequest}
@@ -18,27 +18,21 @@ use Rattle.ix_manager.specs.Wire.{SendsInOrder, reply_line, all_replies}
 use Rattle.ix_manager.specs.inside.EndingAfter.{ending_after}
 use Rattle.ix_manager.specs.inside.Core.{Core, change_replies}
 
--- whether the connection is marked as gone, and what the site tells
+-- whether the connection is marked as gone, and the site
 pub record WireState : Type 0 where
   pub gone : Bool
-  pub contents : Contents
-  pub counts : Counts
-  pub attached : Bool
-  pub held : Loans
+  pub site : SiteState
 
 -- the same, part by part
-abbrev pub wired : Bool → Contents → Counts → Bool → Loans → WireState
-wired gone contents counts attached held =
-    record { gone = gone; contents = contents; counts = counts; attached = attached; held = held }
+abbrev pub wired : Bool → SiteState → WireState
+wired gone site = record { gone = gone; site = site }
 
 -- replies are sent in order on a connection; it is newly marked only where the count of sends rose
 pub record SendsAll (conn : ℕ) (replies : List Reply) (old new : WireState) : Type 0 where
   pub order : SendsInOrder (λ reply. SendsWhole conn (reply_line reply)) (λ reply. SendsPart conn (reply_line reply))
-      replies old.gone old.contents new.gone new.contents
-  pub marks : old.gone ≡ false → new.gone ≡ true → Rose old.counts.send new.counts.send
-  pub counts : OnlySend old.counts new.counts
-  pub attached : new.attached ≡ old.attached
-  pub held : new.held ≡ old.held
+      replies old.gone old.site.contents new.gone new.site.contents
+  pub marks : old.gone ≡ false → new.gone ≡ true → Rose old.site.counts.send new.site.counts.send
+  pub site : OnlySend old.site new.site
 
 -- the replies that tell a poll's changes, behind their number
 abbrev pub poll_replies : List (PlainAction × Bool) → List Reply

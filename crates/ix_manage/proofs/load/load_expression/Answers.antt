@@ -5,12 +5,14 @@ use Rattle.ix_manage.proofs.load.load_expression.Goals as goal
 
 pub returns-in-Ok-clause-ok : goal.returns-in-Ok-clause-ok
 returns-in-Ok-clause-ok g c =
-    read_ok (g.F.Files.contents c.args.files.now) c.args.name.now c.in-Ok.text.items c.deref.result.now c.deref.ensures.value
+    read_ok (g.F.Files.state c.args.files.now).contents c.args.name.now
+    c.in-Ok.text.items c.deref.result.now c.deref.ensures.value
     c.in-Ok.ensures.bytes c.read_expression.result c.read_expression.ensures.ok
 
 pub returns-in-Ok-clause-err : goal.returns-in-Ok-clause-err
 returns-in-Ok-clause-err g c =
-    read_err (g.F.Files.contents c.args.files.now) c.args.name.now c.in-Ok.text.items c.deref.result.now c.deref.ensures.value
+    read_err (g.F.Files.state c.args.files.now).contents c.args.name.now
+    c.in-Ok.text.items c.deref.result.now c.deref.ensures.value
     c.in-Ok.ensures.bytes c.read_expression.result c.read_expression.ensures.err
 
 pub returns-in-Ok-clause-lost : goal.returns-in-Ok-clause-lost

@@ -7,17 +7,27 @@ use Rattle.ix_manage.proofs.run.run.Goals as goal
 
 pub returns-in-Some-clause-done : goal.returns-in-Some-clause-done
 returns-in-Some-clause-done g c =
-    let ends : (status : ℕ) (text : List ℕ) → TraceEnds (g.F.Files.contents c.args.files.now) c.in-Some.names.limit c.in-Some.names.expression.now c.in-Some.names.actions.now status text
-    → Ends (map string_bytes c.args.words.now) (g.F.Files.contents c.args.files.now) status text =
-    λ status text part. part (map string_bytes c.args.words.now) c.in-Some.ensures in
-    done_on ends (g.K.Sink.written c.args.out.now) (g.K.Sink.written c.run_trace.new.out) c.run_trace.result c.run_trace.ensures.done
+    let words = map string_bytes c.args.words.now in
+    let files = (g.F.Files.state c.args.files.now).contents in
+    let names = c.in-Some.names in
+    let ends : (status : ℕ) (text : List ℕ)
+    → TraceEnds files names.limit names.expression.now names.actions.now status text
+    → Ends words files status text =
+    λ status text part. part words c.in-Some.ensures in
+    done_on ends (g.K.Sink.state c.args.out.now) (g.K.Sink.state c.run_trace.new.out)
+    c.run_trace.result c.run_trace.ensures.done
 
 pub returns-in-Some-clause-refused : goal.returns-in-Some-clause-refused
 returns-in-Some-clause-refused g c =
-    let ends : (status : ℕ) (text : List ℕ) → TraceEnds (g.F.Files.contents c.args.files.now) c.in-Some.names.limit c.in-Some.names.expression.now c.in-Some.names.actions.now status text
-    → Ends (map string_bytes c.args.words.now) (g.F.Files.contents c.args.files.now) status text =
-    λ status text part. part (map string_bytes c.args.words.now) c.in-Some.ensures in
-    refused_on ends (g.K.Sink.written c.args.out.now) (g.K.Sink.written c.run_trace.new.out) c.run_trace.result c.run_trace.ensures.refused
+    let words = map string_bytes c.args.words.now in
+    let files = (g.F.Files.state c.args.files.now).contents in
+    let names = c.in-Some.names in
+    let ends : (status : ℕ) (text : List ℕ)
+    → TraceEnds files names.limit names.expression.now names.actions.now status text
+    → Ends words files status text =
+    λ status text part. part words c.in-Some.ensures in
+    refused_on ends (g.K.Sink.state c.args.out.now) (g.K.Sink.state c.run_trace.new.out)
+    c.run_trace.result c.run_trace.ensures.refused
 
 pub returns-in-Some-clause-output : goal.returns-in-Some-clause-output
 returns-in-Some-clause-output g c is =
@@ -26,18 +36,26 @@ returns-in-Some-clause-output g c is =
 pub returns-in-Some-replay_words-clause-done : goal.returns-in-Some-replay_words-clause-done
 returns-in-Some-replay_words-clause-done g c =
     let names = c.in-Some-replay_words.names in
-    let ends : (status : ℕ) (text : List ℕ) → ReplayEnds (g.F.Files.contents c.args.files.now) names.limit names.turns names.expression.now names.script.now status text
-    → Ends (map string_bytes c.args.words.now) (g.F.Files.contents c.args.files.now) status text =
-    λ status text part. part (map string_bytes c.args.words.now) c.in-Some-replay_words.ensures in
-    done_on ends (g.K.Sink.written c.args.out.now) (g.K.Sink.written c.replay.new.out) c.replay.result c.replay.ensures.done
+    let words = map string_bytes c.args.words.now in
+    let files = (g.F.Files.state c.args.files.now).contents in
+    let ends : (status : ℕ) (text : List ℕ)
+    → ReplayEnds files names.limit names.turns names.expression.now names.script.now status text
+    → Ends words files status text =
+    λ status text part. part words c.in-Some-replay_words.ensures in
+    done_on ends (g.K.Sink.state c.args.out.now) (g.K.Sink.state c.replay.new.out)
+    c.replay.result c.replay.ensures.done
 
 pub returns-in-Some-replay_words-clause-refused : goal.returns-in-Some-replay_words-clause-refused
 returns-in-Some-replay_words-clause-refused g c =
     let names = c.in-Some-replay_words.names in
-    let ends : (status : ℕ) (text : List ℕ) → ReplayEnds (g.F.Files.contents c.args.files.now) names.limit names.turns names.expression.now names.script.now status text
-    → Ends (map string_bytes c.args.words.now) (g.F.Files.contents c.args.files.now) status text =
-    λ status text part. part (map string_bytes c.args.words.now) c.in-Some-replay_words.ensures in
-    refused_on ends (g.K.Sink.written c.args.out.now) (g.K.Sink.written c.replay.new.out) c.replay.result c.replay.ensures.refused
+    let words = map string_bytes c.args.words.now in
+    let files = (g.F.Files.state c.args.files.now).contents in
+    let ends : (status : ℕ) (text : List ℕ)
+    → ReplayEnds files names.limit names.turns names.expression.now names.script.now status text
+    → Ends words files status text =
+    λ status text part. part words c.in-Some-replay_words.ensures in
+    refused_on ends (g.K.Sink.state c.args.out.now) (g.K.Sink.state c.replay.new.out)
+    c.replay.result c.replay.ensures.refused
 
 pub returns-in-Some-replay_words-clause-output : goal.returns-in-Some-replay_words-clause-output
 returns-in-Some-replay_words-clause-output g c is =

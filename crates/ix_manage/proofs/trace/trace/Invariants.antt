@@ -1,8 +1,9 @@
-use Rattle.std.proofs.Common.{◌≡◌, ◌≤◌, ℕ, List, [], length}
+use Rattle.std.proofs.Common.{◌≡◌, ℕ, List, [], length}
 use Rattle.std.specs.Io.KnownBytes.{append_known}
 use Rattle.ix_words.specs.Each.{Each}
 use Rattle.ix_values.specs.Faults.{IsActionText}
 use Rattle.ix_values.specs.PlainAction.{Word}
+use Rattle.ix_outside.specs.SinkState.{OnlyPuts}
 use Rattle.ix_script.specs.Lines.{lines_of}
 use Rattle.ix_manage.specs.Trace.{Answers}
 use Rattle.ix_manage.proofs.Tracing.{StandBefore}
@@ -12,13 +13,12 @@ use Rattle.ix_manage.proofs.trace.trace.Given as goal
 abbrev pub invariant-loop-rest : goal.invariant-loop-rest
 invariant-loop-rest g l =
     Each IsActionText (lines_of l.rest)
-    × (g.K.Sink.faults l.fn.out ≤ g.K.Sink.faults l.out)
-    × (g.K.Sink.held l.out ≡ g.K.Sink.held l.fn.out)
+    × OnlyPuts (g.K.Sink.state l.fn.out) (g.K.Sink.state l.out)
     × (l.engine.form ≡ l.fn.engine.form)
     × (l.engine.limit ≡ l.fn.engine.limit)
     × ((front : Word) × StandBefore l.actions l.rest front
     × ((text : List ℕ) × Answers l.fn.engine.form l.fn.engine.limit [] front text l.engine.history
-    × (g.K.Sink.written l.out ≡ append_known (g.K.Sink.written l.fn.out) text)))
+    × ((g.K.Sink.state l.out).written ≡ append_known (g.K.Sink.state l.fn.out).written text)))
 
 abbrev pub decreases-loop-rest : goal.decreases-loop-rest
 decreases-loop-rest g l = length l.rest

@@ -8,30 +8,30 @@ use Rattle.ix_manager.proofs.answering.take_piece.Goals as goal
 -- all items are left
 pub loop-taken-init : goal.loop-taken-init
 loop-taken-init g c =
-    let start = wired c.args.gone.now (g.S.Site.contents c.args.site.now) (g.S.Site.counts c.args.site.now) (g.S.Site.attached c.args.site.now) (g.S.Site.held c.args.site.now) in
+    let start = wired c.args.gone.now (g.S.Site.state c.args.site.now) in
     (progress_begins c.args.conn (completes c.args.lines.now c.args.piece.now) c.args.machine.now start, refl, c.requires.clean, omega arith)
 
 -- `stop` was taken
 pub returns-in-Stopped-clause-answers : goal.returns-in-Stopped-clause-answers
 returns-in-Stopped-clause-answers g c =
-    let start = wired c.args.gone.now (g.S.Site.contents c.args.site.now) (g.S.Site.counts c.args.site.now) (g.S.Site.attached c.args.site.now) (g.S.Site.held c.args.site.now) in
-    let here = wired c.loop-taken.gone (g.S.Site.contents c.loop-taken.site) (g.S.Site.counts c.loop-taken.site) (g.S.Site.attached c.loop-taken.site) (g.S.Site.held c.loop-taken.site) in
-    let there = wired c.take_item.new.gone (g.S.Site.contents c.take_item.new.site) (g.S.Site.counts c.take_item.new.site) (g.S.Site.attached c.take_item.new.site) (g.S.Site.held c.take_item.new.site) in
+    let start = wired c.args.gone.now (g.S.Site.state c.args.site.now) in
+    let here = wired c.loop-taken.gone (g.S.Site.state c.loop-taken.site) in
+    let there = wired c.take_item.new.gone (g.S.Site.state c.take_item.new.site) in
     taken_stops c.args.conn (completes c.args.lines.now c.args.piece.now) c.args.machine.now start c.loop-taken.lines c.loop-taken.rest.now c.in-Some.taken
     c.take_item.new.lines c.loop-taken.machine c.take_item.new.machine here there c.loop-taken.invariant.0 c.in-Some.ensures c.in-Stopped.is
 
 pub returns-in-Stopped-clause-clean : goal.returns-in-Stopped-clause-clean
 returns-in-Stopped-clause-clean g c =
-    let here = wired c.loop-taken.gone (g.S.Site.contents c.loop-taken.site) (g.S.Site.counts c.loop-taken.site) (g.S.Site.attached c.loop-taken.site) (g.S.Site.held c.loop-taken.site) in
-    let there = wired c.take_item.new.gone (g.S.Site.contents c.take_item.new.site) (g.S.Site.counts c.take_item.new.site) (g.S.Site.attached c.take_item.new.site) (g.S.Site.held c.take_item.new.site) in
+    let here = wired c.loop-taken.gone (g.S.Site.state c.loop-taken.site) in
+    let there = wired c.take_item.new.gone (g.S.Site.state c.take_item.new.site) in
     taken_clean c.args.conn c.loop-taken.lines c.loop-taken.rest.now c.in-Some.taken c.take_item.new.lines c.loop-taken.machine c.take_item.new.machine here there c.in-Some.ensures
 
 -- an item was taken
 pub loop-taken-preserved : goal.loop-taken-preserved
 loop-taken-preserved g c =
-    let start = wired c.args.gone.now (g.S.Site.contents c.args.site.now) (g.S.Site.counts c.args.site.now) (g.S.Site.attached c.args.site.now) (g.S.Site.held c.args.site.now) in
-    let here = wired c.loop-taken.gone (g.S.Site.contents c.loop-taken.site) (g.S.Site.counts c.loop-taken.site) (g.S.Site.attached c.loop-taken.site) (g.S.Site.held c.loop-taken.site) in
-    let there = wired c.take_item.new.gone (g.S.Site.contents c.take_item.new.site) (g.S.Site.counts c.take_item.new.site) (g.S.Site.attached c.take_item.new.site) (g.S.Site.held c.take_item.new.site) in
+    let start = wired c.args.gone.now (g.S.Site.state c.args.site.now) in
+    let here = wired c.loop-taken.gone (g.S.Site.state c.loop-taken.site) in
+    let there = wired c.take_item.new.gone (g.S.Site.state c.take_item.new.site) in
     let lines = c.loop-taken.lines in
     let rest = c.loop-taken.rest.now in
     let taken = c.in-Some.taken in
@@ -48,9 +48,9 @@ loop-taken-preserved g c =
 -- the piece was taken to its end
 pub returns-clause-answers : goal.returns-clause-answers
 returns-clause-answers g c =
-    let start = wired c.args.gone.now (g.S.Site.contents c.args.site.now) (g.S.Site.counts c.args.site.now) (g.S.Site.attached c.args.site.now) (g.S.Site.held c.args.site.now) in
-    let here = wired c.loop-taken.gone (g.S.Site.contents c.loop-taken.site) (g.S.Site.counts c.loop-taken.site) (g.S.Site.attached c.loop-taken.site) (g.S.Site.held c.loop-taken.site) in
-    let there = wired c.take_item.new.gone (g.S.Site.contents c.take_item.new.site) (g.S.Site.counts c.take_item.new.site) (g.S.Site.attached c.take_item.new.site) (g.S.Site.held c.take_item.new.site) in
+    let start = wired c.args.gone.now (g.S.Site.state c.args.site.now) in
+    let here = wired c.loop-taken.gone (g.S.Site.state c.loop-taken.site) in
+    let there = wired c.take_item.new.gone (g.S.Site.state c.take_item.new.site) in
     taken_ends c.args.conn (completes c.args.lines.now c.args.piece.now) c.args.machine.now start c.loop-taken.lines c.loop-taken.rest.now
     c.take_item.new.lines c.loop-taken.machine c.take_item.new.machine here there c.loop-taken.invariant.0 c.in_default.ensures
 

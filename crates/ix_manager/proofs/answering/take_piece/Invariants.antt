@@ -9,9 +9,9 @@ use Rattle.ix_manager.proofs.answering.take_piece.Given as goal
 abbrev pub invariant-loop-taken : goal.invariant-loop-taken
 invariant-loop-taken g l =
     Progress l.conn (completes l.fn.lines l.fn.piece) l.fn.machine
-    (wired l.fn.gone (g.S.Site.contents l.fn.site) (g.S.Site.counts l.fn.site) (g.S.Site.attached l.fn.site) (g.S.Site.held l.fn.site))
+    (wired l.fn.gone (g.S.Site.state l.fn.site))
     (completes l.lines l.rest) l.machine
-    (wired l.gone (g.S.Site.contents l.site) (g.S.Site.counts l.site) (g.S.Site.attached l.site) (g.S.Site.held l.site))
+    (wired l.gone (g.S.Site.state l.site))
     × (holds_after l.fn.lines l.fn.piece ≡ holds_after l.lines l.rest)
     × IsClean l.lines
     × (l.machine.state.ticket + length l.rest ≤ l.fn.machine.state.ticket + length l.fn.piece)

@@ -11,5 +11,5 @@ loop-action-preserved g c = λ end later.
 -- all changes were sent
 pub returns : goal.returns
 returns g c =
-    let now = wired c.loop-action.gone (g.S.Site.contents c.loop-action.site) (g.S.Site.counts c.loop-action.site) (g.S.Site.attached c.loop-action.site) (g.S.Site.held c.loop-action.site) in
+    let now = wired c.loop-action.gone (g.S.Site.state c.loop-action.site) in
     c.loop-action.invariant now (none_left c.args.conn c.loop-action.action-iterator now c.in-None.ensures.steps.0)

@@ -6,6 +6,6 @@ use Rattle.ix_manager.proofs.sending.send_each.Given as goal
 abbrev pub invariant-loop-action : goal.invariant-loop-action
 invariant-loop-action g l = (end : WireState)
     → SendsAll l.conn (change_replies l.action-iterator)
-    (wired l.gone (g.S.Site.contents l.site) (g.S.Site.counts l.site) (g.S.Site.attached l.site) (g.S.Site.held l.site)) end
+    (wired l.gone (g.S.Site.state l.site)) end
     → SendsAll l.conn (change_replies l.fn.changes)
-    (wired l.fn.gone (g.S.Site.contents l.fn.site) (g.S.Site.counts l.fn.site) (g.S.Site.attached l.fn.site) (g.S.Site.held l.fn.site)) end
+    (wired l.fn.gone (g.S.Site.state l.fn.site)) end

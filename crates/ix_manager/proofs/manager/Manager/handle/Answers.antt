@@ -20,8 +20,9 @@ returns-in-Bytes-clause-handles g c =
     } in
     let between = with_core c.raise.new.self in
     let same : between ≡ at_moment c.args.event.moment c.args.self.now = ap with_core c.raise.ensures ∙ ap (at_moment c.args.event.moment) c.self.view_is in
-    let before = wired (get_or c.self.inside.marks c.args.event.conn false) (g.S.Site.contents c.args.site.now) (g.S.Site.counts c.args.site.now) (g.S.Site.attached c.args.site.now) (g.S.Site.held c.args.site.now) in
-    let after = wired false (g.S.Site.contents c.take_bytes.new.site) (g.S.Site.counts c.take_bytes.new.site) (g.S.Site.attached c.take_bytes.new.site) (g.S.Site.held c.take_bytes.new.site) in
+    let marked = get_or c.self.inside.marks c.args.event.conn false in
+    let before = wired marked (g.S.Site.state c.args.site.now) in
+    let after = wired false (g.S.Site.state c.take_bytes.new.site) in
     bytes_handled c.args.self.now between c.take_bytes.new.self c.args.event c.in-Bytes.field-0 c.args.bytes.now (ending_after c.take_bytes.result) before after
     c.in-Bytes.is same refl c.take_bytes.ensures.takes
 
@@ -38,8 +39,8 @@ returns-in-Closed-clause-handles g c =
     } in
     let between = with_core c.raise.new.self in
     let same : between ≡ at_moment c.args.event.moment c.args.self.now = ap with_core c.raise.ensures ∙ ap (at_moment c.args.event.moment) c.self.view_is in
-    closed_handled c.args.self.now between c.close.new.self c.args.event c.args.bytes.now (g.S.Site.contents c.args.site.now)
-    c.in-Closed.is c.requires.going same c.close.ensures
+    closed_handled c.args.self.now between c.close.new.self c.args.event c.args.bytes.now
+    (g.S.Site.state c.args.site.now).contents c.in-Closed.is c.requires.going same c.close.ensures
 
 -- the end came
 pub returns-in-End-clause-handles : goal.returns-in-End-clause-handles
@@ -54,4 +55,5 @@ returns-in-End-clause-handles g c =
     } in
     let between = with_core c.raise.new.self in
     let same : between ≡ at_moment c.args.event.moment c.args.self.now = ap with_core c.raise.ensures ∙ ap (at_moment c.args.event.moment) c.self.view_is in
-    end_handled c.args.self.now between c.args.event c.args.bytes.now (g.S.Site.contents c.args.site.now) c.in-End.is c.requires.going same
+    end_handled c.args.self.now between c.args.event c.args.bytes.now
+    (g.S.Site.state c.args.site.now).contents c.in-End.is c.requires.going same

@@ -1,7 +1,10 @@
 -- A site in memory as contracts see it, and what its calls make of it.
 use Rattle.std.specs.Prelude.{ℕ, ◌+◌, ◌/◌, nat_le, if◌then◌else◌, Bool, true, false, List, [], ◌++◌, length, take, drop, Option, None, Some}
-use Rattle.ix_outside.specs.Contents.{GivenEvent, Sends, Contents, nothing_told, with_gone}
+use Rattle.ix_outside.specs.Contents.{GivenEvent, Sends, Contents, with_gone}
 use Rattle.ix_outside.specs.Counts.{Counts}
+use Rattle.ix_outside.specs.Loans.{free}
+use Rattle.ix_outside.specs.SiteState.{SiteState}
+use Rattle.ix_outside.specs.inside.NothingTold.{nothing_told}
 use Rattle.ix_memory.specs.Calls.{one_more}
 use Rattle.ix_memory.specs.PlanState.{PlanState, fresh_plan}
 use Rattle.ix_memory.specs.Plan.{plan_after}
@@ -10,7 +13,7 @@ use Rattle.ix_memory.specs.inside.CanCome.{last_moment}
 
 -- which calls fail; the events to come, the moment of the last one and the events given; the sends and the names heard; the
 -- file, and whether it is attached; whether the site still tells its contents; and its counts of faults
-pub record SiteState : Type 0 where
+pub record MemorySiteState : Type 0 where
   pub plan : PlanState
   pub coming : List GivenEvent
   pub last : ℕ
@@ -22,7 +25,7 @@ pub record SiteState : Type 0 where
   pub counts : Counts
 
 -- a site that was just made
-abbrev pub fresh_site : List ℕ → List GivenEvent → ℕ → List ℕ → Option ℕ → SiteState
+abbrev pub fresh_site : List ℕ → List GivenEvent → ℕ → List ℕ → Option ℕ → MemorySiteState
 fresh_site image events room fail fuse = record {
   plan = fresh_plan fail fuse room;
   coming = events;
@@ -40,24 +43,29 @@ abbrev pub told_contents : Bool → List GivenEvent → Sends → Contents
 told_contents true given sends = record { given = Some given; sends = Some sends; text = None; lost = None }
 told_contents false given sends = nothing_told
 
--- what the site tells of its connections
-abbrev pub contents_of : SiteState → Contents
-contents_of site = told_contents site.told site.given site.sends
+-- the site as every contract of its trait sees it; it was lent nothing
+abbrev pub state_of : MemorySiteState → SiteState
+state_of site = record {
+  counts = site.counts;
+  attached = site.attached;
+  contents = told_contents site.told site.given site.sends;
+  held = free;
+}
 
 -- after a call of this cost
-abbrev pub called : ℕ → SiteState → SiteState
+abbrev pub called : ℕ → MemorySiteState → MemorySiteState
 called cost site = record site { plan = plan_after site.plan cost }
 
 -- with one more fault of the wire
-abbrev pub wire_failed : SiteState → SiteState
+abbrev pub wire_failed : MemorySiteState → MemorySiteState
 wire_failed site = record site { counts = record site.counts { wire = one_more site.counts.wire } }
 
 -- with one more fault of the disk
-abbrev pub disk_failed : SiteState → SiteState
+abbrev pub disk_failed : MemorySiteState → MemorySiteState
 disk_failed site = record site { counts = record site.counts { disk = one_more site.counts.disk } }
 
 -- with one more fault of `send`
-abbrev pub send_failed : SiteState → SiteState
+abbrev pub send_failed : MemorySiteState → MemorySiteState
 send_failed site = record site { counts = record site.counts { send = one_more site.counts.send } }
 
 -- the first half of the bytes, rounded down
@@ -65,7 +73,7 @@ abbrev pub half_of : List ℕ → List ℕ
 half_of bytes = take (length bytes / 2) bytes
 
 -- what a send that fails leaves: no contents are told where there is no room for it, and else the first half is sent
-abbrev pub half_sent : Bool → ℕ → List ℕ → SiteState → SiteState
+abbrev pub half_sent : Bool → ℕ → List ℕ → MemorySiteState → MemorySiteState
 half_sent true conn bytes site = record site { told = false }
 half_sent false conn bytes site = record site { sends = with_gone conn (half_of bytes) site.sends }
 
@@ -75,7 +83,7 @@ written at bytes image = take at image ++ (bytes ++ drop (at + length bytes) ima
 
 -- what a write that fails leaves: the first half is written, unless there is no room for the call or the place is beyond the
 -- end
-abbrev pub half_written : Bool → ℕ → List ℕ → SiteState → SiteState
+abbrev pub half_written : Bool → ℕ → List ℕ → MemorySiteState → MemorySiteState
 half_written true at bytes site = site
 half_written false at bytes site =
     if nat_le at (length site.image) then record site { image = written at (half_of bytes) site.image } else site
