@@ -1,0 +1,13 @@
+pub mod TextFronts
+pub mod HeaderFronts
+pub mod KindLemmas
+pub mod RecordFronts
+pub mod HoldsLemmas
+pub mod Following
+pub mod KindLaws
+pub mod EndLemmas
+pub mod OutcomeLaws
+pub mod SameFronts
+pub mod WritingLaws
+pub mod LentTexts
+pub mod EnoughLemmas

@@ -1,0 +1,5 @@
+use Rattle.ix_journal.proofs.WritingLaws as lemmas
+use Rattle.ix_journal.proofs.laws.appended.Goals as goal
+
+pub returns : goal.returns
+returns c = lemmas.appended

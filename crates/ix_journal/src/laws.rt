@@ -1,0 +1,75 @@
+//! Laws of journals.
+
+ghost use Rattle.ix_journal.specs.Laws.{OneKind, OneJournal, OneHistory, OneOutcome};
+ghost use Rattle.ix_journal.specs.Laws.{HoldsNone, HoldsMore, LendsTheHistory};
+ghost use Rattle.ix_journal.specs.Laws.{Opened, Begun, GateIsNear, IgnoresTheRest, Appended};
+ghost use Rattle.ix_journal.specs.Laws.{EnoughBytes};
+
+/// A file has one kind at most, with one text and one first gate.
+pub fn one_kind()
+    ensures { OneKind }
+{}
+
+/// A journal has one text, one history and one first closed gate.
+pub fn one_journal()
+    ensures { OneJournal }
+{}
+
+/// A file recovers one history at most.
+pub fn one_history()
+    ensures { OneHistory }
+{}
+
+/// A file that recovers a history is neither damaged nor of too many records, and one that is
+/// damaged is so at one place, and isn't of too many records.
+pub fn one_outcome()
+    ensures { OneOutcome }
+{}
+
+/// No records stand in front of the first gate.
+pub fn holds_none()
+    ensures { HoldsNone }
+{}
+
+/// An open gate and the whole record behind it make one record more.
+pub fn holds_more()
+    ensures { HoldsMore }
+{}
+
+/// The texts that are lent from the first gate of a ready file on are those of the history that it
+/// recovers.
+pub fn lends_the_history()
+    ensures { LendsTheHistory }
+{}
+
+/// A header and a closed gate are a journal without records once the head gate is open.
+pub fn opened()
+    ensures { Opened }
+{}
+
+/// Whatever its head gate holds, a header and one closed gate are an unfinished or unopened
+/// journal, or one without records.
+pub fn begun()
+    ensures { Begun }
+{}
+
+/// The first closed gate stands at most 65,542 bytes and 168 for each record from the begin.
+pub fn gate_is_near()
+    ensures { GateIsNear }
+{}
+
+/// What stands behind the first closed gate means nothing.
+pub fn ignores_the_rest()
+    ensures { IgnoresTheRest }
+{}
+
+/// A record and one closed gate are the next action of the history once the gate in front of them
+/// is open.
+pub fn appended()
+    ensures { Appended }
+{}
+
+/// The first 168,065,543 bytes of a file tell what it is.
+pub fn enough_bytes()
+    ensures { EnoughBytes }
+{}

@@ -1,0 +1,24 @@
+//! What reading a journal comes to.
+
+/// What a journal holds.
+#[derive(Clone, Copy, Debug)]
+pub struct Scan<'a> {
+    /// The text of the header, or None where the journal is unfinished.
+    pub text: Option<&'a [u8]>,
+    /// How many records are open: 0 for an unfinished or unopened journal.
+    pub count: usize,
+    /// The place of the first closed gate: 0 for an unfinished or unopened journal.
+    pub gate: usize,
+}
+
+/// Why a file can't be read as a journal.
+#[derive(Clone, Copy, Debug, PartialEq, Eq)]
+pub enum JournalFault {
+    /// The file is no journal.
+    NotJournal,
+    /// The open gate in front of this place isn't followed by a whole record of an action and a
+    /// further gate.
+    Damaged { at: usize },
+    /// A million records are open, and so is the gate behind them.
+    Many,
+}
