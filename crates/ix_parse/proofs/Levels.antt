@@ -122,7 +122,7 @@ not-opening : (u t : Symbol) → u ≡ t → ¬ OpensLevel u → ¬ OpensLevel t
 not-opening u t same none opens =
     let P : Symbol → Type 0 = λ v. OpensLevel v in none (subst P (sym same) opens)
 
--- of a list `ts ++ u ∷ us` that is cut at a symbol t: t stands ahead of u, is u, or stands behind it
+-- a list `ts ++ u ∷ us` is cut at a symbol t: t stands ahead of u, is u, or stands behind it
 data CutAt (ts : List Symbol) (u : Symbol) (us front : List Symbol) (t : Symbol)
     (back : List Symbol) : Type 0 where
   ahead : (rest : List Symbol) → ts ≡ front ++ t ∷ rest → CutAt ts u us front t back
@@ -169,7 +169,8 @@ opens-binary at o ts us x y stands first second s s' front back t fits split ran
         CutAt ts (between at o) us front t back
         → levels s' < levels s + opened_at (level o) (joined_form o x.form y)
     by-cut (CutAt.ahead rest is) =
-        let low = first s s' front rest t fits is ran opens in omega (arith, opened-joined o x.form y)
+        let low = first s s' front rest t fits is ran opens in
+        omega (arith, opened-joined o x.form y)
     by-cut (CutAt.here is) = absurd (not-opening (between at o) t is (λ none. none) opens)
     by-cut (CutAt.behind more fronts backs) =
         let went = run-left at o ts more x s fits (run-stands (level o) ts x stands s fits) in

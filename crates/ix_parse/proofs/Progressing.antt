@@ -31,7 +31,9 @@ pub record SameCut (us ws : List PlainToken) (vs zs : List Piece) : Type 0 where
   pub fronts : us ≡ ws
   pub backs : vs ≡ zs
 
-pub same-cut : (us ws : List PlainToken) (vs zs : List Piece) → map token us ++ vs ≡ map token ws ++ zs → length us ≡ length ws → SameCut us ws vs zs
+pub same-cut :
+    (us ws : List PlainToken) (vs zs : List Piece) → map token us ++ vs ≡ map token ws ++ zs
+    → length us ≡ length ws → SameCut us ws vs zs
 same-cut [] [] vs zs e n = record { fronts = refl; backs = e }
 same-cut [] (w ∷ ws) vs zs e n = absurd (omega arith)
 same-cut (u ∷ us) [] vs zs e n = absurd (omega arith)

@@ -1,7 +1,9 @@
 //! Laws of reading, each the contract of a function with an empty body.
 
 ghost use Rattle.ix_parse.specs.Canonical.{CanonicalTextReadsBack};
-ghost use Rattle.ix_parse.specs.Laws.{TextsStandForOneExpression, FaultyTextsStandForNone, TextsHaveOneFirstFault, CanonicalTextsOpenFewLevels, WhatWasReadReadsBack};
+ghost use Rattle.ix_parse.specs.Laws.{TextsStandForOneExpression, FaultyTextsStandForNone};
+ghost use Rattle.ix_parse.specs.Laws.{TextsHaveOneFirstFault};
+ghost use Rattle.ix_parse.specs.Laws.{CanonicalTextsOpenFewLevels, WhatWasReadReadsBack};
 
 /// A text stands for at most one expression.
 pub fn texts_stand_for_one_expression()
