@@ -26,7 +26,8 @@ holds script name site sink_name sink rest =
 
 module _ {script script' : List ℕ} {name name' sink_name sink_name' : GName}
     {old new : SiteState} {sink sink' rest rest' : Loans}
-    (same : holds script' name' new sink_name' sink' rest' ≡ holds script name old sink_name sink rest)
+    (same : holds script' name' new sink_name' sink' rest'
+    ≡ holds script name old sink_name sink rest)
   where
     -- a site of which a script's site holds the same is as it was, but for its disk
     pub site_same : new.counts.disk ≡ old.counts.disk → new.attached ≡ old.attached → new ≡ old

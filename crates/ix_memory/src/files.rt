@@ -1,6 +1,5 @@
 //! Files in memory.
 ghost use Rattle.std.specs.Prelude.{◌≡◌, ◌≤◌, ◌<◌, ◌↔◌, ℕ, List, length, map, IfOk, IsErrOf, IsTrue, string_bytes, Some, MatchOption, true, ◌⊎◌};
-ghost use Rattle.ix_outside.specs.Counts.{Rose};
 ghost use Rattle.ix_outside.specs.Files.{HasFile, HasLonger, Lists};
 ghost use Rattle.ix_outside.specs.FilesState.{OnlyFaults};
 ghost use Rattle.ix_memory.specs.Calls.{next_call, one_more};
@@ -58,7 +57,6 @@ impl Files for MemoryFiles {
         ensures bytes { IfOk result (λ bytes. HasFile (Some self.old.files) name.now bytes.items) }
         ensures within { IfOk result (λ bytes. length bytes.items ≤ limit) }
         ensures too_long { IsErrOf result LoadFault.TooLong → HasLonger (Some self.old.files) name.now limit }
-        ensures failed { IsErrOf result LoadFault.Failed → Rose self.old.faults self.new.faults }
         ensures exactly { (result ≡ Err LoadFault.Failed) ↔ FailsToLoad self.old name.now }
         ensures counted { IsErrOf result LoadFault.Failed → self.new.faults ≡ one_more self.old.faults }
         ensures not_counted { (result ≡ Err LoadFault.Failed → ⊥) → self.new.faults ≡ self.old.faults }

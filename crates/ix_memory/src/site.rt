@@ -265,7 +265,6 @@ impl Site for MemorySite {
         ensures ok { OnOk result (self.new ≡ called 16 self.old) }
         ensures err { OnErr result (self.new ≡ disk_failed (called 16 self.old)) }
 
-        ensures within { IfOk result (λ count. count ≤ length buf.old) }
         ensures failed { OnErr result (Rose self.old.counts.disk self.new.counts.disk) }
         ensures attached { self.new.attached ≡ true }
         ensures rest { OnlyDisk (state_of self.old) (state_of self.new) }

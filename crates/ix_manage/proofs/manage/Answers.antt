@@ -9,13 +9,14 @@ use Rattle.ix_manage.proofs.manage.Goals as goal
 pub returns-in-Err-clause-cut_short : goal.returns-in-Err-clause-cut_short
 returns-in-Err-clause-cut_short g c is =
     let refusal = c.in-Err-Refused.refusal in
-    let ends = Ends (map string_bytes c.args.words.now) (g.F.Files.state c.args.files.now).contents in
+    let words = map string_bytes c.args.words.now in
+    let ends = Ends words (g.F.Files.state c.args.files.now).contents in
     let old = g.K.Sink.state c.args.out.now in
     let between = g.K.Sink.state c.run.new.out in
     let new = g.K.Sink.state c.put.new.self in
     let before =
-    subst (RefusedAfter ends old between) c.in-Err-Refused.field-0-is c.in-Err-Refused.ensures.refused
-    in (
+    subst (RefusedAfter ends old between) c.in-Err-Refused.field-0-is
+    c.in-Err-Refused.ensures.refused in (
       refusal_status refusal,
       before.0 ++ refusal_line refusal,
       before.1,

@@ -15,8 +15,8 @@ returns-in-Err-clause-refused g c =
     let names = c.args.names in (
       [],
       λ words named.
-          replay_expression words files names.limit names.turns names.expression.now names.script.now named
-          c.in-Err.refusal c.in-Err.ensures.err,
+          replay_expression words files names.limit names.turns names.expression.now
+          names.script.now named c.in-Err.refusal c.in-Err.ensures.err,
       append_nothing _,
     )
 
@@ -27,10 +27,10 @@ returns-in-Err-load_script-clause-refused g c =
     let refusal = c.in-Err-load_script.refusal in (
       [],
       λ words named.
-          replay_refused words files names.limit names.turns names.expression.now names.script.now named
-          c.in-Ok.expression c.in-Ok.ensures.ok refusal
-          (subst (λ files. RefusesScript files names.script.now refusal) c.in-Ok.ensures.files.contents
-          c.in-Err-load_script.ensures.err),
+          replay_refused words files names.limit names.turns names.expression.now
+          names.script.now named c.in-Ok.expression c.in-Ok.ensures.ok refusal
+          (subst (λ files. RefusesScript files names.script.now refusal)
+          c.in-Ok.ensures.files.contents c.in-Err-load_script.ensures.err),
       append_nothing _,
     )
 
@@ -50,7 +50,8 @@ returns-in-Ok-read_script-clause-done g c =
     (subst (λ files. HasFile files names.script.now bytes) c.in-Ok.ensures.files.contents
     c.in-Ok-load_script.ensures.file)
     c.in-Ok-load_script.ensures.short (read.same ∙ c.deref.ensures.value)
-    (read.events.0, subst (λ bytes. HasEvents bytes read.events.0) (sym read.same) read.events.1) part in
+    (read.events.0, subst (λ bytes. HasEvents bytes read.events.0) (sym read.same) read.events.1)
+    part in
     done_on ends (g.K.Sink.state c.args.out.now) (g.K.Sink.state c.run_script.new.out)
     c.run_script.result c.run_script.ensures.done
 
@@ -70,7 +71,8 @@ returns-in-Ok-read_script-clause-refused g c =
     (subst (λ files. HasFile files names.script.now bytes) c.in-Ok.ensures.files.contents
     c.in-Ok-load_script.ensures.file)
     c.in-Ok-load_script.ensures.short (read.same ∙ c.deref.ensures.value)
-    (read.events.0, subst (λ bytes. HasEvents bytes read.events.0) (sym read.same) read.events.1) part in
+    (read.events.0, subst (λ bytes. HasEvents bytes read.events.0) (sym read.same) read.events.1)
+    part in
     refused_on ends (g.K.Sink.state c.args.out.now) (g.K.Sink.state c.run_script.new.out)
     c.run_script.result c.run_script.ensures.refused
 
@@ -90,7 +92,8 @@ returns-in-Ok-read_script-clause-output g c is =
     (subst (λ files. HasFile files names.script.now bytes) c.in-Ok.ensures.files.contents
     c.in-Ok-load_script.ensures.file)
     c.in-Ok-load_script.ensures.short (read.same ∙ c.deref.ensures.value)
-    (read.events.0, subst (λ bytes. HasEvents bytes read.events.0) (sym read.same) read.events.1) part in
+    (read.events.0, subst (λ bytes. HasEvents bytes read.events.0) (sym read.same) read.events.1)
+    part in
     let put = c.run_script.ensures.output is in
     (put.0, put.1, ends put.0 put.1 put.2, put.3)
 
@@ -102,11 +105,12 @@ returns-in-Err-read_script-clause-refused g c =
     let refusal = c.in-Err-read_script.refusal in (
       [],
       λ words named.
-          replay_refused words files names.limit names.turns names.expression.now names.script.now named
-          c.in-Ok.expression c.in-Ok.ensures.ok refusal
+          replay_refused words files names.limit names.turns names.expression.now
+          names.script.now named c.in-Ok.expression c.in-Ok.ensures.ok refusal
           (script_refused files names.script.now bytes c.deref.result.now
           (subst (λ files. HasFile files names.script.now bytes) c.in-Ok.ensures.files.contents
           c.in-Ok-load_script.ensures.file)
-          c.in-Ok-load_script.ensures.short c.deref.ensures.value refusal c.in-Err-read_script.ensures.err),
+          c.in-Ok-load_script.ensures.short c.deref.ensures.value refusal
+          c.in-Err-read_script.ensures.err),
       append_nothing _,
     )

@@ -26,8 +26,8 @@ returns-in-Err-load_actions-clause-refused g c =
       λ words named.
           refused_actions words files names.limit names.expression.now names.actions.now named
           c.in-Ok.engine.form c.in-Ok.ensures.starts refusal
-          (subst (λ files. RefusesActions files names.actions.now refusal) c.in-Ok.ensures.files.contents
-          c.in-Err-load_actions.ensures.err),
+          (subst (λ files. RefusesActions files names.actions.now refusal)
+          c.in-Ok.ensures.files.contents c.in-Err-load_actions.ensures.err),
       append_nothing _,
     )
 

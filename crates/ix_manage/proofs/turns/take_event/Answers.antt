@@ -13,10 +13,10 @@ returns-clause-turn g c =
     let next = c.next_event-event in
     let between = next.new.self in
     let go = c.handle-go in
-    let took = took_of (length c.args.buffer.now) old.cursor.bytes.now (given_of old) (given_of between)
-    c.args.manager.now go.new.self
-    (g.K.Sink.state old.sink.now).written (g.K.Sink.state between.sink.now).written between.sink_failed
-    next.new.buf c.piece.result.now next.result (ending_after go.result)
+    let took = took_of (length c.args.buffer.now) old.cursor.bytes.now (given_of old)
+    (given_of between) c.args.manager.now go.new.self
+    (g.K.Sink.state old.sink.now).written (g.K.Sink.state between.sink.now).written
+    between.sink_failed next.new.buf c.piece.result.now next.result (ending_after go.result)
     (given_of go.new.site) (g.K.Sink.state go.new.site.sink.now).written go.new.site.sink_failed
     c.requires.buffer next.ensures.given
     (ap (λ (sink : MutBor _). (g.K.Sink.state sink.now).written) next.ensures.sink)
@@ -33,10 +33,10 @@ returns-clause-given g c =
     let next = c.next_event-event in
     let between = next.new.self in
     let go = c.handle-go in
-    let took = took_of (length c.args.buffer.now) old.cursor.bytes.now (given_of old) (given_of between)
-    c.args.manager.now go.new.self
-    (g.K.Sink.state old.sink.now).written (g.K.Sink.state between.sink.now).written between.sink_failed
-    next.new.buf c.piece.result.now next.result (ending_after go.result)
+    let took = took_of (length c.args.buffer.now) old.cursor.bytes.now (given_of old)
+    (given_of between) c.args.manager.now go.new.self
+    (g.K.Sink.state old.sink.now).written (g.K.Sink.state between.sink.now).written
+    between.sink_failed next.new.buf c.piece.result.now next.result (ending_after go.result)
     (given_of go.new.site) (g.K.Sink.state go.new.site.sink.now).written go.new.site.sink_failed
     c.requires.buffer next.ensures.given
     (ap (λ (sink : MutBor _). (g.K.Sink.state sink.now).written) next.ensures.sink)
@@ -54,10 +54,10 @@ returns-clause-failed g c is =
     let next = c.next_event-event in
     let between = next.new.self in
     let go = c.handle-go in
-    let took = took_of (length c.args.buffer.now) old.cursor.bytes.now (given_of old) (given_of between)
-    c.args.manager.now go.new.self
-    (g.K.Sink.state old.sink.now).written (g.K.Sink.state between.sink.now).written between.sink_failed
-    next.new.buf c.piece.result.now next.result (ending_after go.result)
+    let took = took_of (length c.args.buffer.now) old.cursor.bytes.now (given_of old)
+    (given_of between) c.args.manager.now go.new.self
+    (g.K.Sink.state old.sink.now).written (g.K.Sink.state between.sink.now).written
+    between.sink_failed next.new.buf c.piece.result.now next.result (ending_after go.result)
     (given_of go.new.site) (g.K.Sink.state go.new.site.sink.now).written go.new.site.sink_failed
     c.requires.buffer next.ensures.given
     (ap (λ (sink : MutBor _). (g.K.Sink.state sink.now).written) next.ensures.sink)
