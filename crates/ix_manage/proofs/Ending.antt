@@ -6,8 +6,8 @@ use Rattle.ix_outside.specs.Contents.{GivenEvent}
 use Rattle.ix_outside.specs.Files.{Listing, HasFile}
 use Rattle.ix_script.specs.Events.{HasEvents}
 use Rattle.ix_script.specs.Grammar.{IsFirstScriptFault}
-use Rattle.ix_manage.specs.Command.{NamesTrace, NamesReplay, in_trace, in_replay}
-use Rattle.ix_manage.specs.Ends.{Ends, bad_text, bad_actions, large_start, lost_expression, lost_actions, no_memory, traced, bad_script, lost_script, large_replay, replayed}
+use Rattle.ix_manage.specs.Command.{trace, replay}
+use Rattle.ix_manage.specs.Ends.{JobEnds, bad_text, bad_actions, large_start, lost_expression, lost_actions, no_memory, traced, bad_script, lost_script, large_replay, replayed}
 use Rattle.ix_manage.specs.inside.Refusal.{refusal_line, refusal_status, RefusesExpression, RefusesActions, RefusesScript, RefusesStart, RefusesText, IsBadScript}
 use Rattle.ix_manage.specs.Replay.{bad_line}
 use Rattle.ix_manage.specs.inside.ReplayProgress.{ScriptEnds, large, memory, played}
@@ -55,12 +55,16 @@ start_refused files name limit (BadScript code at) why = absurd why
 start_refused files name limit LostScript why = absurd why
 start_refused files name limit Turns why = absurd why
 
-module _ (words : List (List ℕ)) (files : Option Listing) (limit : ℕ) (expression actions : List ℕ) (names : NamesTrace words limit expression actions) where
-  pub refused_start : (refusal : Refusal) → RefusesStart files expression limit refusal → Ends words files (refusal_status refusal) (refusal_line refusal)
-  refused_start (BadText code at) why = bad_text (in_trace names) why
-  refused_start (Large most) why = subst (λ l. Ends words files 3 (large_line l)) (sym why.0) (large_start names why.1)
-  refused_start LostExpression why = lost_expression (in_trace names)
-  refused_start Memory why = no_memory (in_trace names)
+-- how a trace ends, by what its parts say
+module _ (files : Option Listing) (limit : ℕ) (expression actions : List ℕ) where
+  abbrev EndsTrace : ℕ → List ℕ → Type 0
+  EndsTrace = JobEnds files (trace limit expression actions)
+
+  pub refused_start : (refusal : Refusal) → RefusesStart files expression limit refusal → EndsTrace (refusal_status refusal) (refusal_line refusal)
+  refused_start (BadText code at) why = bad_text why
+  refused_start (Large most) why = subst (λ l. EndsTrace 3 (large_line l)) (sym why.0) (large_start why.1)
+  refused_start LostExpression why = lost_expression
+  refused_start Memory why = no_memory
   refused_start Words why = absurd why
   refused_start (BadActions code at) why = absurd why
   refused_start LostActions why = absurd why
@@ -68,10 +72,10 @@ module _ (words : List (List ℕ)) (files : Option Listing) (limit : ℕ) (expre
   refused_start LostScript why = absurd why
   refused_start Turns why = absurd why
 
-  pub refused_actions : (x : Form) → Starts files expression limit x → (refusal : Refusal) → RefusesActions files actions refusal → Ends words files (refusal_status refusal) (refusal_line refusal)
-  refused_actions x starts (BadActions code at) why = bad_actions names starts why
-  refused_actions x starts LostActions why = lost_actions names starts
-  refused_actions x starts Memory why = no_memory (in_trace names)
+  pub refused_actions : (x : Form) → Starts files expression limit x → (refusal : Refusal) → RefusesActions files actions refusal → EndsTrace (refusal_status refusal) (refusal_line refusal)
+  refused_actions x starts (BadActions code at) why = bad_actions starts why
+  refused_actions x starts LostActions why = lost_actions starts
+  refused_actions x starts Memory why = no_memory
   refused_actions x starts Words why = absurd why
   refused_actions x starts (BadText code at) why = absurd why
   refused_actions x starts (Large most) why = absurd why
@@ -81,18 +85,21 @@ module _ (words : List (List ℕ)) (files : Option Listing) (limit : ℕ) (expre
   refused_actions x starts Turns why = absurd why
 
   pub trace_ends_run : (x : Form) (most : ℕ) (then : Option Listing) (bytes passed : List ℕ) (status : ℕ) (text : List ℕ) → Starts files expression limit x
-      → most ≡ limit → then ≡ files → HasFile then actions bytes → length bytes ≤ 67108864 → passed ≡ bytes → TracesLines x most passed status text → Ends words files status text
-  trace_ends_run x most then bytes passed status text starts same_limit same file short is trace =
-      let read = subst (λ b. TracesLines x most b status text) is trace in
-      traced names starts (record { bytes = bytes; file = subst (λ f. HasFile f actions bytes) same file; short = short; has = read.has })
+      → most ≡ limit → then ≡ files → HasFile then actions bytes → length bytes ≤ 67108864 → passed ≡ bytes → TracesLines x most passed status text → EndsTrace status text
+  trace_ends_run x most then bytes passed status text starts same_limit same file short is put =
+      let read = subst (λ b. TracesLines x most b status text) is put in
+      traced starts (record { bytes = bytes; file = subst (λ f. HasFile f actions bytes) same file; short = short; has = read.has })
       (subst (λ l. Traces x l read.actions status text) same_limit read.traces)
 
 -- how a replay ends, by what its parts say
-module _ (words : List (List ℕ)) (files : Option Listing) (limit turns : ℕ) (expression script : List ℕ) (names : NamesReplay words limit turns expression script) where
-  pub replay_expression : (refusal : Refusal) → RefusesExpression files expression refusal → Ends words files (refusal_status refusal) (refusal_line refusal)
-  replay_expression (BadText code at) why = bad_text (in_replay names) why
-  replay_expression LostExpression why = lost_expression (in_replay names)
-  replay_expression Memory why = no_memory (in_replay names)
+module _ (files : Option Listing) (limit turns : ℕ) (expression script : List ℕ) where
+  abbrev EndsReplay : ℕ → List ℕ → Type 0
+  EndsReplay = JobEnds files (replay limit turns expression script)
+
+  pub replay_expression : (refusal : Refusal) → RefusesExpression files expression refusal → EndsReplay (refusal_status refusal) (refusal_line refusal)
+  replay_expression (BadText code at) why = bad_text why
+  replay_expression LostExpression why = lost_expression
+  replay_expression Memory why = no_memory
   replay_expression Words why = absurd why
   replay_expression (Large most) why = absurd why
   replay_expression (BadActions code at) why = absurd why
@@ -101,10 +108,10 @@ module _ (words : List (List ℕ)) (files : Option Listing) (limit turns : ℕ) 
   replay_expression LostScript why = absurd why
   replay_expression Turns why = absurd why
 
-  pub replay_refused : (x : Form) → ReadsForm files expression x → (refusal : Refusal) → RefusesScript files script refusal → Ends words files (refusal_status refusal) (refusal_line refusal)
-  replay_refused x reads (BadScript code at) why = bad_script names reads why
-  replay_refused x reads LostScript why = lost_script names reads
-  replay_refused x reads Memory why = no_memory (in_replay names)
+  pub replay_refused : (x : Form) → ReadsForm files expression x → (refusal : Refusal) → RefusesScript files script refusal → EndsReplay (refusal_status refusal) (refusal_line refusal)
+  replay_refused x reads (BadScript code at) why = bad_script reads why
+  replay_refused x reads LostScript why = lost_script reads
+  replay_refused x reads Memory why = no_memory
   replay_refused x reads Words why = absurd why
   replay_refused x reads (BadText code at) why = absurd why
   replay_refused x reads (Large most) why = absurd why
@@ -114,12 +121,12 @@ module _ (words : List (List ℕ)) (files : Option Listing) (limit turns : ℕ) 
   replay_refused x reads Turns why = absurd why
 
   pub replay_ends : (x : Form) → ReadsForm files expression x → (bytes passed : List ℕ) → HasFile files script bytes → length bytes ≤ 67108864 → passed ≡ bytes
-      → (events : List GivenEvent) × HasEvents passed events → {status : ℕ} {text : List ℕ} → ScriptEnds x limit turns passed status text → Ends words files status text
+      → (events : List GivenEvent) × HasEvents passed events → {status : ℕ} {text : List ℕ} → ScriptEnds x limit turns passed status text → EndsReplay status text
   replay_ends x reads bytes passed file short same has (large above) =
-      large_replay names (record { bytes = bytes; file = file; short = short; has = subst (λ b. HasEvents b has.0) same has.1 }) (record { form = x; reads = reads; above = above })
-  replay_ends x reads bytes passed file short same has memory = no_memory (in_replay names)
+      large_replay (record { bytes = bytes; file = file; short = short; has = subst (λ b. HasEvents b has.0) same has.1 }) (record { form = x; reads = reads; above = above })
+  replay_ends x reads bytes passed file short same has memory = no_memory
   replay_ends x reads bytes passed file short same has (played small replays) =
-      replayed names (record { reads = reads; small = small }) (record { bytes = bytes; file = file; short = short; has = subst (λ b. HasEvents b has.0) same has.1 }) (replays has.0 has.1)
+      replayed (record { reads = reads; small = small }) (record { bytes = bytes; file = file; short = short; has = subst (λ b. HasEvents b has.0) same has.1 }) (replays has.0 has.1)
 
 -- a script's fault is one of its file
 pub script_refused : (files : Option Listing) (name bytes passed : List ℕ) → HasFile files name bytes → length bytes ≤ 67108864 → passed ≡ bytes

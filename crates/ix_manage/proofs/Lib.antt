@@ -5,7 +5,6 @@ pub mod Tracing
 pub mod Devices
 pub mod Ending
 pub mod BadLines
-pub mod ReplayNames
 pub mod ScriptFronts
 pub mod Replaying
 pub mod Stops

@@ -1,10 +1,15 @@
--- What words that name a trace are, by how many they are.
-use Rattle.std.proofs.Common.{◌≡◌, ◌≢◌, ℕ, Bool, true, false, not, List, [], ◌∷◌, length, get_or, refl, sym, ap, ◌∙◌, arith}
+-- What words that name a job are, part by part.
+use Rattle.std.proofs.Common.{◌≡◌, ◌≢◌, ℕ, ◌<◌, ◌≤◌, ◌^◌, Bool, true, false, not, List, [], ◌∷◌, length, map, get_or, drop, refl, sym, ap, subst, ◌∙◌, arith}
 use Rattle.std.specs.Prelude.{codes}
 use Rattle.std.proofs.lemmas.Bool.{false≢true}
 use Rattle.ix_values.specs.Order.{text_eq}
 use Rattle.ix_values.specs.lemmas.Order.{text_eq-decides}
-use Rattle.ix_manage.specs.Command.{IsLimitText, NamesTrace, usual, limited}
+use Rattle.ix_manage.specs.declared.job.Job.{Job as ReadJob}
+use Rattle.ix_manage.specs.declared.job.Job.TheVariants.{Trace, Replay}
+use Rattle.ix_manage.specs.declared.job.TraceWords.{TraceWords}
+use Rattle.ix_manage.specs.declared.job.ReplayWords.{ReplayWords}
+use Rattle.ix_manage.specs.inside.Jobs.{job_of, trace_of, replay_of}
+use Rattle.ix_manage.specs.Command.{IsNumberUpTo, TakesOption, absent, present, NamesFiles, Job, Names, of_trace, of_replay, trace, replay}
 
 not_false : (b : Bool) → not b ≡ false → b ≡ true
 not_false true h = refl
@@ -24,33 +29,122 @@ module _ (x y : List ℕ) (said : Bool) where
   pub differing : said ≡ not (text_eq x y) → said ≡ true → x ≢ y
   differing is told = λ same. false≢true (sym (ap not ((text_eq-decides x y).1 same)) ∙ sym is ∙ told)
 
--- three words: the command and two files
+-- the words `EXPR - SCRIPT`
 module _ {words : List (List ℕ)} {a b c : List ℕ} (all : words ≡ a ∷ b ∷ c ∷ []) where
-  pub command_of_three : {limit : ℕ} {expression actions : List ℕ} → NamesTrace words limit expression actions → a ≡ codes "trace"
-  command_of_three (usual is _) = ap (λ ws. get_or ws 0 []) (sym all ∙ is)
-  command_of_three (limited is _) = let long = ap length (sym all ∙ is) in absurd (omega (arith, long))
+  pub file_of : {expression script : List ℕ} → NamesFiles words expression script → expression ≡ a
+  file_of names = ap (λ ws. get_or ws 0 []) (sym names.same ∙ all)
 
-  pub no_option_of_three : {limit : ℕ} {expression actions : List ℕ} → NamesTrace words limit expression actions → b ≢ codes "--nodes"
-  no_option_of_three (usual is other) = λ h. other (sym (ap (λ ws. get_or ws 1 []) (sym all ∙ is)) ∙ h)
-  no_option_of_three (limited is _) = let long = ap length (sym all ∙ is) in absurd (omega (arith, long))
+  pub journal_of : {expression script : List ℕ} → NamesFiles words expression script → b ≡ codes "-"
+  journal_of names = ap (λ ws. get_or ws 1 []) (sym all ∙ names.same)
 
-  pub three_name : {expression actions : List ℕ} → a ≡ codes "trace" → expression ≡ b → actions ≡ c → b ≢ codes "--nodes" → NamesTrace words 100000 expression actions
-  three_name command first second other = usual (all ∙ (λ i. command i ∷ sym first i ∷ sym second i ∷ [])) (λ h. other (sym first ∙ h))
+  pub files_named : {expression script : List ℕ} → expression ≡ a → b ≡ codes "-" → script ≡ c → a ≢ codes "--nodes" → a ≢ codes "--turns" → NamesFiles words expression script
+  files_named first journal last no_nodes no_turns = record {
+    same = all ∙ (λ i. sym first i ∷ journal i ∷ sym last i ∷ []);
+    no_nodes = λ h. no_nodes (sym first ∙ h);
+    no_turns = λ h. no_turns (sym first ∙ h);
+  }
 
--- five words: the command, the option, a limit and two files
-module _ {words : List (List ℕ)} {a b c d e : List ℕ} (all : words ≡ a ∷ b ∷ c ∷ d ∷ e ∷ []) where
-  pub command_of_five : {limit : ℕ} {expression actions : List ℕ} → NamesTrace words limit expression actions → a ≡ codes "trace"
-  command_of_five (usual is _) = let long = ap length (sym all ∙ is) in absurd (omega (arith, long))
-  command_of_five (limited is _) = ap (λ ws. get_or ws 0 []) (sym all ∙ is)
+pub empty_behind : {A : Type 0} (items : List A) → length items ≡ 0 → items ≡ []
+empty_behind [] none = refl
+empty_behind (item ∷ items) none = absurd (omega (arith, none))
 
-  pub option_of_five : {limit : ℕ} {expression actions : List ℕ} → NamesTrace words limit expression actions → b ≡ codes "--nodes"
-  option_of_five (usual is _) = let long = ap length (sym all ∙ is) in absurd (omega (arith, long))
-  option_of_five (limited is _) = ap (λ ws. get_or ws 1 []) (sym all ∙ is)
+-- no words begin with a name
+pub no_first : {A : Type 0} (f : A → List ℕ) (items : List A) {name : List ℕ} → length items ≡ 0 → (rest : List (List ℕ)) → map f items ≢ name ∷ rest
+no_first f [] none rest = λ is. let long = ap length is in omega (arith, long)
+no_first f (item ∷ items) none rest = absurd (omega (arith, none))
 
-  pub limit_of_five : {limit : ℕ} {expression actions : List ℕ} → NamesTrace words limit expression actions → IsLimitText c limit
-  limit_of_five (usual is _) = let long = ap length (sym all ∙ is) in absurd (omega (arith, long))
-  limit_of_five (limited is text) = record { same = ap (λ ws. get_or ws 2 []) (sym all ∙ is) ∙ text.same; least = text.least; most = text.most }
+pub other_first : {words behind : List (List ℕ)} {first name : List ℕ} → words ≡ first ∷ behind → first ≢ name → (rest : List (List ℕ)) → words ≢ name ∷ rest
+other_first all other rest = λ is. other (ap (λ ws. get_or ws 0 []) (sym all ∙ is))
 
-  pub five_name : {text expression actions : List ℕ} {limit : ℕ} → a ≡ codes "trace" → b ≡ codes "--nodes" → text ≡ c → expression ≡ d → actions ≡ e → IsLimitText text limit
-      → NamesTrace words limit expression actions
-  five_name command option third fourth fifth limit = limited (all ∙ (λ i. command i ∷ option i ∷ sym third i ∷ sym fourth i ∷ sym fifth i ∷ [])) limit
+module _ {name : List ℕ} {usual greatest : ℕ} where
+  pub not_alone : {words rest : List (List ℕ)} {number : ℕ} → TakesOption name usual greatest words number rest → words ≡ name ∷ [] → ⊥
+  not_alone (absent none) is = none [] is
+  not_alone (present text) is = let long = ap length is in absurd (omega (arith, long))
+
+  pub takes_present : {words rest : List (List ℕ)} {text : List ℕ} {number : ℕ} → words ≡ name ∷ text ∷ rest → IsNumberUpTo greatest text number → TakesOption name usual greatest words number rest
+  takes_present {rest = rest} {number = number} all text = subst (λ ws. TakesOption name usual greatest ws number rest) (sym all) (present text)
+
+  pub number_behind : (later : List (List ℕ)) (text : List ℕ) {words rest : List (List ℕ)} {number : ℕ} → TakesOption name usual greatest words number rest → words ≡ name ∷ text ∷ later → IsNumberUpTo greatest text number
+  number_behind later text (absent none) is = absurd (none (text ∷ later) is)
+  number_behind later text {number = number} (present said) is = subst (λ t. IsNumberUpTo greatest t number) (ap (λ ws. get_or ws 1 []) is) said
+
+  pub takes_same : greatest < 2 ^ 64 → {words other rest last : List (List ℕ)} {m n : ℕ} → TakesOption name usual greatest words m rest → TakesOption name usual greatest other n last → words ≡ other → rest ≡ last
+  takes_same small (absent none) (absent nothing) is = is
+  takes_same small (absent none) (present {text} {rest} said) is = absurd (none (text ∷ rest) is)
+  takes_same small (present {text} {rest} said) (absent none) is = absurd (none (text ∷ rest) (sym is))
+  takes_same small (present said) (present told) is = ap (λ ws. drop 2 ws) is
+
+-- the number of an option lies in its range
+pub number_within : {name : List ℕ} {usual greatest : ℕ} → 1 ≤ usual → usual ≤ greatest → {words rest : List (List ℕ)} {number : ℕ}
+    → TakesOption name usual greatest words number rest → (1 ≤ number) × (number ≤ greatest)
+number_within least most (absent none) = (least, most)
+number_within least most (present text) = (text.least, text.most)
+
+-- the words of a trace
+pub trace_behind : {words behind : List (List ℕ)} → words ≡ codes "trace" ∷ behind → {job : Job} → Names words job
+    → (limit : ℕ) × (expression : List ℕ) × (actions : List ℕ) × TakesOption (codes "--nodes") 100000 1000000 behind limit (expression ∷ actions ∷ [])
+trace_behind is (of_trace {limit = limit} {expression = expression} {actions = actions} nodes) =
+    (limit, expression, actions, subst (λ ws. TakesOption (codes "--nodes") 100000 1000000 ws limit (expression ∷ actions ∷ [])) (ap (λ ws. drop 1 ws) is) nodes)
+trace_behind is (of_replay nodes turns files) = let long : 6 ≡ 5 = ap (λ ws. length (get_or ws 0 [])) is in absurd (omega (arith, long))
+
+-- the words of a replay, as far as they were read
+pub record BehindReplay (behind : List (List ℕ)) : Type 0 where
+  pub limit : ℕ
+  pub turns : ℕ
+  pub expression : List ℕ
+  pub script : List ℕ
+  pub later : List (List ℕ)
+  pub last : List (List ℕ)
+  pub nodes_option : TakesOption (codes "--nodes") 100000 1000000 behind limit later
+  pub turns_option : TakesOption (codes "--turns") 1000000000 1000000000 later turns last
+  pub files : NamesFiles last expression script
+
+pub replay_behind : {words behind : List (List ℕ)} → words ≡ codes "replay" ∷ behind → {job : Job} → Names words job → BehindReplay behind
+replay_behind is (of_trace nodes) = let long : 5 ≡ 6 = ap (λ ws. length (get_or ws 0 [])) is in absurd (omega (arith, long))
+replay_behind is (of_replay {later = later} {last = last} {limit = limit} {turns = turns} {expression = expression} {script = script} nodes turn files) = record {
+  limit = limit;
+  turns = turns;
+  expression = expression;
+  script = script;
+  later = later;
+  last = last;
+  nodes_option = subst (λ ws. TakesOption (codes "--nodes") 100000 1000000 ws limit later) (ap (λ ws. drop 1 ws) is) nodes;
+  turns_option = turn;
+  files = files;
+}
+
+module _ {behind : List (List ℕ)} (read : BehindReplay behind) {later : List (List ℕ)} {number : ℕ}
+    (nodes : TakesOption (codes "--nodes") 100000 1000000 behind number later)
+  where
+    later_same : read.later ≡ later
+    later_same = takes_same (omega arith) read.nodes_option nodes refl
+
+    pub turns_named : TakesOption (codes "--turns") 1000000000 1000000000 later read.turns read.last
+    turns_named = subst (λ ws. TakesOption (codes "--turns") 1000000000 1000000000 ws read.turns read.last) later_same read.turns_option
+
+    pub files_named_behind : {last : List (List ℕ)} {count : ℕ}
+        → TakesOption (codes "--turns") 1000000000 1000000000 later count last
+        → NamesFiles last read.expression read.script
+    files_named_behind turns =
+        subst (λ ws. NamesFiles ws read.expression read.script) (takes_same (omega arith) read.turns_option turns later_same) read.files
+
+-- the job that was read, by its command
+pub trace_named : {words : List (List ℕ)} {job : ReadJob} {names : TraceWords} → job ≡ Trace names
+    → Names words (job_of job) → Names words (trace_of names)
+trace_named {words = words} is named = subst (λ job. Names words (job_of job)) is named
+
+pub replay_named : {words : List (List ℕ)} {job : ReadJob} {names : ReplayWords} → job ≡ Replay names
+    → Names words (job_of job) → Names words (replay_of names)
+replay_named {words = words} is named = subst (λ job. Names words (job_of job)) is named
+
+-- a limit of Size that words name, and turns
+pub trace_within : {words : List (List ℕ)} {limit : ℕ} {expression actions : List ℕ}
+    → Names words (trace limit expression actions) → (1 ≤ limit) × (limit ≤ 1000000)
+trace_within (of_trace nodes) = number_within (omega arith) (omega arith) nodes
+
+pub replay_within : {words : List (List ℕ)} {limit turns : ℕ} {expression script : List ℕ}
+    → Names words (replay limit turns expression script)
+    → (1 ≤ limit) × (limit ≤ 1000000) × (turns ≤ 1000000000)
+replay_within (of_replay nodes turns files) =
+    let size = number_within (omega arith) (omega arith) nodes in
+    (size.0, size.1, (number_within (omega arith) (omega arith) turns).1)

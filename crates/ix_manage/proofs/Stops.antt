@@ -1,24 +1,19 @@
 -- From how a part of a run may end to how the run may.
-use Rattle.std.proofs.Common.{ℕ, List, Result, Ok, Err, IfErr, OnOk}
+use Rattle.std.proofs.Common.{ℕ, List, Result, Ok, Err, IfErr}
 use Rattle.ix_outside.specs.FilesState.{FilesState}
 use Rattle.ix_outside.specs.SinkState.{SinkState}
 use Rattle.ix_manage.specs.declared.run.Stop.{Stop}
 use Rattle.ix_manage.specs.declared.run.Stop.TheVariants.{Refused, Output}
-use Rattle.ix_manage.specs.Puts.{PutsAll}
-use Rattle.ix_manage.specs.inside.RefusedAfter.{IsNoLoss, LostWhere, RefusedAfter}
+use Rattle.ix_manage.specs.inside.Leaves.{IsNoLoss, Leaves, LostWhere}
 
-module _ {Part Whole : ℕ → List ℕ → Type 0}
-    (ends : (status : ℕ) (text : List ℕ) → Part status text → Whole status text)
-    (old new : SinkState) where
-  pub done_on : {T : Type 0} (r : Result T Stop)
-      → OnOk r (PutsAll Part 0 old new) → OnOk r (PutsAll Whole 0 old new)
-  done_on (Ok done) put = (put.0, ends 0 put.0 put.1, put.2)
-  done_on (Err stop) put = tt
-
-  pub refused_on : {T : Type 0} (r : Result T Stop) → IfErr r (RefusedAfter Part old new) → IfErr r (RefusedAfter Whole old new)
-  refused_on (Ok done) put = tt
-  refused_on (Err (Refused refusal)) put = (put.0, ends _ _ put.1, put.2)
-  refused_on (Err Output) put = put
+pub leaves_on : {Part Whole : ℕ → List ℕ → Type 0}
+    → ((status : ℕ) (text : List ℕ) → Part status text → Whole status text)
+    → (old new : SinkState) {T : Type 0} (r : Result T Stop)
+    → Leaves Part old new r → Leaves Whole old new r
+leaves_on ends old new (Ok done) put = (put.0, ends 0 put.0 put.1, put.2)
+leaves_on ends old new (Err (Refused refusal)) put = (put.0, ends _ _ put.1, put.2)
+leaves_on ends old new (Err Output) put =
+    let front = put.0 in ((front.0, front.1, ends front.0 front.1 front.2, front.3), put.1)
 
 -- a part that loses no file
 pub nothing_lost : {T : Type 0} (before now : FilesState) (r : Result T Stop)

@@ -9,10 +9,10 @@ ghost use Rattle.ix_manage.specs.Ends.{Ends};
 ghost use Rattle.ix_manage.specs.Puts.{PutsAll, PutsFront};
 
 mod actions;
+mod job;
 mod load;
 mod refusal;
 mod replay;
-mod replay_words;
 mod run;
 mod start;
 mod trace;

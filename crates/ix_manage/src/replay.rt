@@ -1,21 +1,21 @@
 //! One replay, up to the last line that a refusal puts.
-ghost use Rattle.std.specs.Prelude.{◌≡◌, ◌≤◌, List, [], OnOk, IfOk, IfErr, IsErrOf};
+ghost use Rattle.std.specs.Prelude.{◌≡◌, ◌≤◌, List, [], IfOk, IfErr};
 ghost use Rattle.ix_outside.specs.Counts.{Rose};
 ghost use Rattle.ix_outside.specs.FilesState.{OnlyFaults};
 ghost use Rattle.ix_outside.specs.SinkState.{OnlyPuts};
 ghost use Rattle.ix_manager.specs.Handled.{started};
 ghost use Rattle.ix_script.specs.Events.{HasEvents};
 ghost use Rattle.ix_outside.specs.Contents.{GivenEvent};
-ghost use Rattle.ix_manage.specs.inside.CommandEnds.{ReplayEnds};
+ghost use Rattle.ix_manage.specs.Ends.{JobEnds};
+ghost use Rattle.ix_manage.specs.inside.Jobs.{replay_of};
+ghost use Rattle.ix_manage.specs.inside.Leaves.{IsNoLoss, Leaves, LostWhere};
 ghost use Rattle.ix_manage.specs.inside.Refusal.{IsBadScript};
 ghost use Rattle.ix_manage.specs.inside.ReplayProgress.{ScriptEnds, TakesTurns};
 ghost use Rattle.ix_can.specs.TreeOf.{tree_size};
-ghost use Rattle.ix_manage.specs.Puts.{PutsAll, PutsFront};
-ghost use Rattle.ix_manage.specs.inside.RefusedAfter.{IsNoLoss, RefusedAfter, LostWhere};
 
+use crate::job::ReplayWords;
 use crate::load::{load_expression, load_script};
 use crate::refusal::Refusal;
-use crate::replay_words::ReplayWords;
 use crate::run::Stop;
 use crate::turns::{Turn, take_events};
 use ix_expr::Expression;
@@ -36,21 +36,10 @@ pub(crate) fn replay<F: Files, S: Site, K: Sink>(
     requires most { names.limit ≤ 1000000 }
     requires turns { names.turns ≤ 1000000000 }
 
-    ensures done { OnOk result (PutsAll
-        (ReplayEnds (F.state files.old).contents names.entry.limit names.entry.turns
-        names.entry.expression.now names.entry.script.now)
-        0 (K.state out.old) (K.state out.new)) }
-    ensures refused { IfErr result (RefusedAfter
-        (ReplayEnds (F.state files.old).contents names.entry.limit names.entry.turns
-        names.entry.expression.now names.entry.script.now)
-        (K.state out.old) (K.state out.new)) }
-    ensures output { IsErrOf result Stop.Output → PutsFront
-        (ReplayEnds (F.state files.old).contents names.entry.limit names.entry.turns
-        names.entry.expression.now names.entry.script.now)
-        (K.state out.old) (K.state out.new) }
+    ensures leaves { Leaves
+        (JobEnds (F.state files.old).contents (replay_of names.entry))
+        (K.state out.old) (K.state out.new) result }
     ensures lost { IfErr result (LostWhere (F.state files.old) (F.state files.new)) }
-    ensures failed { IsErrOf result Stop.Output
-        → Rose (K.state out.old).faults (K.state out.new).faults }
 
     ensures files { OnlyFaults (F.state files.old) (F.state files.new) }
     ensures site { S.state site.new ≡ S.state site.old }
@@ -105,18 +94,10 @@ fn run_script<S: Site, K: Sink>(
     requires most { limit ≤ 1000000 }
     requires turns { turns ≤ 1000000000 }
 
-    ensures done { OnOk result (PutsAll
+    ensures leaves { Leaves
         (ScriptEnds expression limit turns script.entry.bytes.now)
-        0 (K.state out.old) (K.state out.new)) }
-    ensures refused { IfErr result (RefusedAfter
-        (ScriptEnds expression limit turns script.entry.bytes.now)
-        (K.state out.old) (K.state out.new)) }
-    ensures output { IsErrOf result Stop.Output → PutsFront
-        (ScriptEnds expression limit turns script.entry.bytes.now)
-        (K.state out.old) (K.state out.new) }
+        (K.state out.old) (K.state out.new) result }
     ensures lost { IfErr result IsNoLoss }
-    ensures failed { IsErrOf result Stop.Output
-        → Rose (K.state out.old).faults (K.state out.new).faults }
 
     ensures site { S.state site.new ≡ S.state site.old }
     ensures puts { OnlyPuts (K.state out.old) (K.state out.new) }
@@ -142,18 +123,10 @@ fn run_manager<S: Site, K: Sink>(
     requires manager { manager.old ≡ started manager.old.form manager.old.limit }
     requires small { tree_size manager.old.form [] ≤ manager.old.limit }
 
-    ensures done { OnOk result (PutsAll
+    ensures leaves { Leaves
         (ScriptEnds manager.old.form manager.old.limit turns script.entry.bytes.now)
-        0 (K.state out.old) (K.state out.new)) }
-    ensures refused { IfErr result (RefusedAfter
-        (ScriptEnds manager.old.form manager.old.limit turns script.entry.bytes.now)
-        (K.state out.old) (K.state out.new)) }
-    ensures output { IsErrOf result Stop.Output → PutsFront
-        (ScriptEnds manager.old.form manager.old.limit turns script.entry.bytes.now)
-        (K.state out.old) (K.state out.new) }
+        (K.state out.old) (K.state out.new) result }
     ensures lost { IfErr result IsNoLoss }
-    ensures failed { IsErrOf result Stop.Output
-        → Rose (K.state out.old).faults (K.state out.new).faults }
 
     ensures site { S.state site.new ≡ S.state site.old }
     ensures puts { OnlyPuts (K.state out.old) (K.state out.new) }

@@ -1,20 +1,17 @@
 //! One run of the program, up to the last line that a refusal puts.
-ghost use Rattle.std.specs.Prelude.{◌≡◌, ◌≤◌, OnOk, IfErr, IsErrOf, map, string_bytes};
-ghost use Rattle.ix_outside.specs.Counts.{Rose};
+ghost use Rattle.std.specs.Prelude.{◌≡◌, ◌≤◌, IfErr, map, string_bytes};
 ghost use Rattle.ix_outside.specs.FilesState.{OnlyFaults};
 ghost use Rattle.ix_outside.specs.SinkState.{OnlyPuts};
-ghost use Rattle.ix_manage.specs.inside.RefusedAfter.{RefusedAfter, LostWhere};
-ghost use Rattle.ix_manage.specs.Ends.{Ends};
-ghost use Rattle.ix_manage.specs.Puts.{PutsAll, PutsFront};
-ghost use Rattle.ix_manage.specs.inside.CommandEnds.{TraceEnds};
+ghost use Rattle.ix_manage.specs.Ends.{Ends, JobEnds};
+ghost use Rattle.ix_manage.specs.inside.Jobs.{trace_of};
+ghost use Rattle.ix_manage.specs.inside.Leaves.{Leaves, LostWhere};
 
+use crate::job::{Job, TraceWords, read_words};
 use crate::load::load_actions;
 use crate::refusal::Refusal;
 use crate::replay::replay;
-use crate::replay_words::replay_words;
 use crate::start::start;
 use crate::trace::{TraceFault, trace};
-use crate::words::{TraceWords, trace_words};
 use ix_outside::{Files, Sink, Site};
 use std::alloc::Global;
 
@@ -35,28 +32,18 @@ pub(crate) fn run<F: Files, S: Site, K: Sink>(
     site: &mut S,
     out: &mut K,
 ) -> Result<(), Stop>
-    ensures done { OnOk result (PutsAll
+    ensures leaves { Leaves
         (Ends (map string_bytes words.now) (F.state files.old).contents)
-        0 (K.state out.old) (K.state out.new)) }
-    ensures refused { IfErr result (RefusedAfter
-        (Ends (map string_bytes words.now) (F.state files.old).contents)
-        (K.state out.old) (K.state out.new)) }
-    ensures output { IsErrOf result Stop.Output → PutsFront
-        (Ends (map string_bytes words.now) (F.state files.old).contents)
-        (K.state out.old) (K.state out.new) }
+        (K.state out.old) (K.state out.new) result }
     ensures lost { IfErr result (LostWhere (F.state files.old) (F.state files.new)) }
-    ensures failed { IsErrOf result Stop.Output
-        → Rose (K.state out.old).faults (K.state out.new).faults }
 
     ensures files { OnlyFaults (F.state files.old) (F.state files.new) }
     ensures site { S.state site.new ≡ S.state site.old }
     ensures puts { OnlyPuts (K.state out.old) (K.state out.new) }
 {
-    if let Some(names) = trace_words(words) {
-        return run_trace(alloc, names, files, out);
-    }
-    match replay_words(words) {
-        Some(names) => replay(alloc, names, files, site, out),
+    match read_words(words) {
+        Some(Job::Trace(names)) => run_trace(alloc, names, files, out),
+        Some(Job::Replay(names)) => replay(alloc, names, files, site, out),
         None => Err(Stop::Refused(Refusal::Words)),
     }
 }
@@ -70,21 +57,10 @@ fn run_trace<F: Files, K: Sink>(
     requires least { 1 ≤ names.limit }
     requires most { names.limit ≤ 1000000 }
 
-    ensures done { OnOk result (PutsAll
-        (TraceEnds (F.state files.old).contents names.entry.limit
-        names.entry.expression.now names.entry.actions.now)
-        0 (K.state out.old) (K.state out.new)) }
-    ensures refused { IfErr result (RefusedAfter
-        (TraceEnds (F.state files.old).contents names.entry.limit
-        names.entry.expression.now names.entry.actions.now)
-        (K.state out.old) (K.state out.new)) }
-    ensures output { IsErrOf result Stop.Output → PutsFront
-        (TraceEnds (F.state files.old).contents names.entry.limit
-        names.entry.expression.now names.entry.actions.now)
-        (K.state out.old) (K.state out.new) }
+    ensures leaves { Leaves
+        (JobEnds (F.state files.old).contents (trace_of names.entry))
+        (K.state out.old) (K.state out.new) result }
     ensures lost { IfErr result (LostWhere (F.state files.old) (F.state files.new)) }
-    ensures failed { IsErrOf result Stop.Output
-        → Rose (K.state out.old).faults (K.state out.new).faults }
 
     ensures files { OnlyFaults (F.state files.old) (F.state files.new) }
     ensures puts { OnlyPuts (K.state out.old) (K.state out.new) }

@@ -1,65 +1,48 @@
 use Rattle.std.proofs.Common.{ℕ, List, [], map, string_bytes}
-use Rattle.ix_manage.specs.Ends.{Ends, other_words}
-use Rattle.ix_manage.specs.inside.CommandEnds.{TraceEnds, ReplayEnds}
-use Rattle.ix_manage.proofs.Stops.{done_on, refused_on}
+use Rattle.ix_manage.specs.Ends.{Ends, JobEnds, other_words, named}
+use Rattle.ix_manage.specs.inside.Jobs.{trace_of, replay_of}
+use Rattle.ix_manage.proofs.NamedWords.{trace_named, replay_named, trace_within, replay_within}
+use Rattle.ix_manage.proofs.Stops.{leaves_on}
 use Rattle.ix_manage.proofs.Tracing.{append_nothing}
 use Rattle.ix_manage.proofs.run.run.Goals as goal
 
-pub returns-in-Some-clause-done : goal.returns-in-Some-clause-done
-returns-in-Some-clause-done g c =
-    let words = map string_bytes c.args.words.now in
+pub run_trace-requires-clause-least : goal.run_trace-requires-clause-least
+run_trace-requires-clause-least g c =
+    (trace_within (trace_named c.in-Some-Trace.field-0-is c.in-Some-Trace.ensures)).0
+
+pub run_trace-requires-clause-most : goal.run_trace-requires-clause-most
+run_trace-requires-clause-most g c =
+    (trace_within (trace_named c.in-Some-Trace.field-0-is c.in-Some-Trace.ensures)).1
+
+pub replay-requires-clause-least : goal.replay-requires-clause-least
+replay-requires-clause-least g c =
+    (replay_within (replay_named c.in-Some-Replay.field-0-is c.in-Some-Replay.ensures)).0
+
+pub replay-requires-clause-most : goal.replay-requires-clause-most
+replay-requires-clause-most g c =
+    (replay_within (replay_named c.in-Some-Replay.field-0-is c.in-Some-Replay.ensures)).1
+
+pub replay-requires-clause-turns : goal.replay-requires-clause-turns
+replay-requires-clause-turns g c =
+    (replay_within (replay_named c.in-Some-Replay.field-0-is c.in-Some-Replay.ensures)).2
+
+pub returns-in-Some-Trace-clause-leaves : goal.returns-in-Some-Trace-clause-leaves
+returns-in-Some-Trace-clause-leaves g c =
     let files = (g.F.Files.state c.args.files.now).contents in
-    let names = c.in-Some.names in
-    let ends : (status : ℕ) (text : List ℕ)
-    → TraceEnds files names.limit names.expression.now names.actions.now status text
-    → Ends words files status text =
-    λ status text part. part words c.in-Some.ensures in
-    done_on ends (g.K.Sink.state c.args.out.now) (g.K.Sink.state c.run_trace.new.out)
-    c.run_trace.result c.run_trace.ensures.done
+    let ends : (status : ℕ) (text : List ℕ) → JobEnds files (trace_of c.in-Some-Trace.names) status text
+    → Ends (map string_bytes c.args.words.now) files status text =
+    λ status text end. named (trace_named c.in-Some-Trace.field-0-is c.in-Some-Trace.ensures) end in
+    leaves_on ends (g.K.Sink.state c.args.out.now) (g.K.Sink.state c.run_trace.new.out)
+    c.run_trace.result c.run_trace.ensures.leaves
 
-pub returns-in-Some-clause-refused : goal.returns-in-Some-clause-refused
-returns-in-Some-clause-refused g c =
-    let words = map string_bytes c.args.words.now in
+pub returns-in-Some-Replay-clause-leaves : goal.returns-in-Some-Replay-clause-leaves
+returns-in-Some-Replay-clause-leaves g c =
     let files = (g.F.Files.state c.args.files.now).contents in
-    let names = c.in-Some.names in
-    let ends : (status : ℕ) (text : List ℕ)
-    → TraceEnds files names.limit names.expression.now names.actions.now status text
-    → Ends words files status text =
-    λ status text part. part words c.in-Some.ensures in
-    refused_on ends (g.K.Sink.state c.args.out.now) (g.K.Sink.state c.run_trace.new.out)
-    c.run_trace.result c.run_trace.ensures.refused
+    let ends : (status : ℕ) (text : List ℕ) → JobEnds files (replay_of c.in-Some-Replay.names) status text
+    → Ends (map string_bytes c.args.words.now) files status text =
+    λ status text end. named (replay_named c.in-Some-Replay.field-0-is c.in-Some-Replay.ensures) end in
+    leaves_on ends (g.K.Sink.state c.args.out.now) (g.K.Sink.state c.replay.new.out)
+    c.replay.result c.replay.ensures.leaves
 
-pub returns-in-Some-clause-output : goal.returns-in-Some-clause-output
-returns-in-Some-clause-output g c is =
-    let put = c.run_trace.ensures.output is in (put.0, put.1, put.2 (map string_bytes c.args.words.now) c.in-Some.ensures, put.3)
-
-pub returns-in-Some-replay_words-clause-done : goal.returns-in-Some-replay_words-clause-done
-returns-in-Some-replay_words-clause-done g c =
-    let names = c.in-Some-replay_words.names in
-    let words = map string_bytes c.args.words.now in
-    let files = (g.F.Files.state c.args.files.now).contents in
-    let ends : (status : ℕ) (text : List ℕ)
-    → ReplayEnds files names.limit names.turns names.expression.now names.script.now status text
-    → Ends words files status text =
-    λ status text part. part words c.in-Some-replay_words.ensures in
-    done_on ends (g.K.Sink.state c.args.out.now) (g.K.Sink.state c.replay.new.out)
-    c.replay.result c.replay.ensures.done
-
-pub returns-in-Some-replay_words-clause-refused : goal.returns-in-Some-replay_words-clause-refused
-returns-in-Some-replay_words-clause-refused g c =
-    let names = c.in-Some-replay_words.names in
-    let words = map string_bytes c.args.words.now in
-    let files = (g.F.Files.state c.args.files.now).contents in
-    let ends : (status : ℕ) (text : List ℕ)
-    → ReplayEnds files names.limit names.turns names.expression.now names.script.now status text
-    → Ends words files status text =
-    λ status text part. part words c.in-Some-replay_words.ensures in
-    refused_on ends (g.K.Sink.state c.args.out.now) (g.K.Sink.state c.replay.new.out)
-    c.replay.result c.replay.ensures.refused
-
-pub returns-in-Some-replay_words-clause-output : goal.returns-in-Some-replay_words-clause-output
-returns-in-Some-replay_words-clause-output g c is =
-    let put = c.replay.ensures.output is in (put.0, put.1, put.2 (map string_bytes c.args.words.now) c.in-Some-replay_words.ensures, put.3)
-
-pub returns-in-None-clause-refused : goal.returns-in-None-clause-refused
-returns-in-None-clause-refused g c = ([], other_words c.in_default.ensures c.in-None.ensures, append_nothing _)
+pub returns-in-None-clause-leaves : goal.returns-in-None-clause-leaves
+returns-in-None-clause-leaves g c = ([], other_words c.in-None.ensures, append_nothing _)

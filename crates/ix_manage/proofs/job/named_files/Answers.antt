@@ -2,8 +2,8 @@ use Rattle.std.proofs.Common.{ap, sym, ◌∙◌, map, string_bytes}
 use Rattle.std.specs.Prelude.{codes}
 use Rattle.ix_manage.proofs.KnownLengths.{three_items}
 use Rattle.ix_manage.proofs.NamedWords.{equal, unequal, differing, not_differing}
-use Rattle.ix_manage.proofs.ReplayNames.{file_of, journal_of, files_named}
-use Rattle.ix_manage.proofs.replay_words.named_files.Goals as goal
+use Rattle.ix_manage.proofs.NamedWords.{file_of, journal_of, files_named}
+use Rattle.ix_manage.proofs.job.named_files.Goals as goal
 
 pub returns-then-ne : goal.returns-then-ne
 returns-then-ne c = λ expression script names.

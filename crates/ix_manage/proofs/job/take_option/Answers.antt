@@ -1,8 +1,8 @@
 use Rattle.std.proofs.Common.{ap, sym, ◌∙◌, ◌∷◌, map, string_bytes}
 use Rattle.ix_manage.specs.Command.{absent}
 use Rattle.ix_manage.proofs.NamedWords.{differing, not_differing}
-use Rattle.ix_manage.proofs.ReplayNames.{empty_behind, no_first, other_first, not_alone, takes_present, number_behind}
-use Rattle.ix_manage.proofs.replay_words.take_option.Goals as goal
+use Rattle.ix_manage.proofs.NamedWords.{empty_behind, no_first, other_first, not_alone, takes_present, number_behind}
+use Rattle.ix_manage.proofs.job.take_option.Goals as goal
 
 pub returns-in_default : goal.returns-in_default
 returns-in_default c = absent (no_first string_bytes c.args.words.now c.in_default.ensures.cases)
