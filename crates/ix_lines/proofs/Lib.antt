@@ -3,3 +3,7 @@ pub mod OneCutLemmas
 pub mod FeedLemmas
 pub mod WindowLemmas
 pub mod ResumeLemmas
+pub mod LineLists
+pub mod WordLemmas
+pub mod NumberCuts
+pub mod FirstFaults

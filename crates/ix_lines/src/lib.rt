@@ -1,7 +1,9 @@
-//! Lines from pieces.
+//! Lines, words and numbers of texts.
 //!
-//! A text comes in pieces of any lengths. `Lines` keeps the unfinished line between them, and gives each line of at
-//! most 512 bytes whole, and each longer one as a single notice.
+//! A text comes in pieces of any lengths. `Lines` keeps the unfinished line between them, and gives
+//! each line of at most 512 bytes whole, and each longer one as a single notice. Of a text that is
+//! there as a whole, `first_line` gives the first line, `split_word` the first word, `read_number`
+//! the decimal number that it is, and `first_fault` the first line that isn't in a grammar.
 #![tactic(auto)]
 
 ghost use Rattle.std.specs.Prelude.{◌≡◌, ◌+◌, ◌-◌, ◌<◌, ◌≤◌, ◌↔◌, ℕ, [], length, take, IsNone, IfNone, IfSome};
@@ -9,6 +11,16 @@ ghost use Rattle.std.specs.Borrow.{sem};
 ghost use Rattle.ix_lines.specs.Feeding.{unfinished, skipping, completes, holds_after, Feeds};
 
 pub mod laws;
+mod line_faults;
+mod number;
+mod text_lines;
+mod words;
+
+pub use line_faults::{LineFault, LineGrammar, first_fault};
+pub use number::{NumberAnd, number_and, read_number};
+pub use text_lines::{FirstLine, first_line};
+pub use words::split_word;
+
 #[cfg(test)]
 mod tests;
 

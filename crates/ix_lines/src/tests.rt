@@ -79,3 +79,102 @@ fn lines_and_their_bytes(rt: HostRuntime) {
     let fed = lines.feed(b"\n");
     assert!(rt; matches!(fed.kind, FedKind::Line(b"")));
 }
+
+#[test]
+fn numbers(rt: HostRuntime) {
+    let texts: [(&[u8], u64, Option<u64>); 11] = [
+        (b"0", 0, Some(0)),
+        (b"1", 0, None),
+        (b"63", 63, Some(63)),
+        (b"64", 63, None),
+        (b"018", 63, None),
+        (b"+1", 63, None),
+        (b"1 ", 63, None),
+        (b"", 63, None),
+        (b"\xff", 63, None),
+        (b"18446744073709551615", u64::MAX, Some(u64::MAX)),
+        (b"18446744073709551616", u64::MAX, None),
+    ];
+    for (text, greatest, number) in texts {
+        assert_eq!(rt; read_number(text, greatest), number);
+    }
+}
+
+#[test]
+fn numbers_at_the_front(rt: HostRuntime) {
+    let found = number_and(b"63  a b", 63);
+    assert!(rt;
+        matches!(
+            found,
+            Some(NumberAnd {
+                number: 63,
+                rest: b" a b"
+            })
+        )
+    );
+    for text in [b"64 a".as_slice(), b"63", b" 63", b"063 a", b""] {
+        assert!(rt; matches!(number_and(text, 63), None));
+    }
+}
+
+#[test]
+fn first_words(rt: HostRuntime) {
+    let texts: [(&[u8], &[u8], Option<&[u8]>); 4] = [
+        (b"", b"", None),
+        (b"ab", b"ab", None),
+        (b"ab c d", b"ab", Some(b"c d")),
+        (b" ", b"", Some(b"")),
+    ];
+    for (text, word, rest) in texts {
+        assert_eq!(rt; split_word(text), (word, rest));
+    }
+}
+
+#[test]
+fn first_lines(rt: HostRuntime) {
+    let texts: [(&[u8], &[u8], &[u8]); 4] = [
+        (b"ab", b"ab", b""),
+        (b"ab\n", b"ab", b""),
+        (b"\nab", b"", b"ab"),
+        (b"ab\nc\nd", b"ab", b"c\nd"),
+    ];
+    for (text, line, rest) in texts {
+        let first = first_line(text);
+        assert_eq!(rt; first.line, line);
+        assert_eq!(rt; first.rest, rest);
+    }
+}
+
+/// Lines of at most 3 bytes.
+struct Short;
+
+impl LineGrammar for Short {
+    ghost use Rattle.std.specs.Prelude.{◌≡◌, ◌≤◌, ◌<◌, length};
+
+    ghost holds = { λ line. length line ≤ 3 };
+
+    ghost fails = { λ line code at. (3 < length line) × (code ≡ 7) × (at ≡ 3) };
+
+    fn fault(line: &[u8]) -> Option<LineFault> {
+        if line.len() <= 3 {
+            None
+        } else {
+            Some(LineFault { code: 7, at: 3 })
+        }
+    }
+}
+
+#[test]
+fn first_faults(rt: HostRuntime) {
+    let texts: [(&[u8], Option<usize>); 5] = [
+        (b"", None),
+        (b"abc\n\na", None),
+        (b"abcd", Some(3)),
+        (b"a\n\nabcd\nabcd\n", Some(6)),
+        (b"ab\nabcd\nc", Some(6)),
+    ];
+    for (text, at) in texts {
+        let fault = at.map(|at| LineFault { code: 7, at });
+        assert_eq!(rt; first_fault::<Short>(text), fault);
+    }
+}

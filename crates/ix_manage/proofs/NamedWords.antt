@@ -78,7 +78,7 @@ module _ {name : List ℕ} {usual greatest : ℕ} where
 pub number_within : {name : List ℕ} {usual greatest : ℕ} → 1 ≤ usual → usual ≤ greatest → {words rest : List (List ℕ)} {number : ℕ}
     → TakesOption name usual greatest words number rest → (1 ≤ number) × (number ≤ greatest)
 number_within least most (absent none) = (least, most)
-number_within least most (present text) = (text.least, text.most)
+number_within least most (present text) = (text.least, omega (arith, text.reads.fits))
 
 -- the words of a trace
 pub trace_behind : {words behind : List (List ℕ)} → words ≡ codes "trace" ∷ behind → {job : Job} → Names words job

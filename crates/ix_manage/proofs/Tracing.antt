@@ -11,10 +11,10 @@ use Rattle.ix_values.specs.Texts.{IsAction}
 use Rattle.ix_expr.specs.Form.{Form}
 use Rattle.ix_outside.specs.Sink.{AppendsPart}
 use Rattle.ix_manage.specs.ActionLines.{HasActions, line}
-use Rattle.ix_script.specs.Lines.{lines_of}
+use Rattle.ix_lines.specs.TextLines.{lines_of}
 use Rattle.ix_manage.specs.Trace.{Answers, Verdict, whole, short}
 use Rattle.ix_manage.specs.inside.TracesLines.{TracesLines}
-use Rattle.ix_script.proofs.LineLists.{lines_of-none}
+use Rattle.ix_lines.proofs.LineLists.{lines_of-none}
 
 pub append_nothing : (known : Option (List ℕ)) → known ≡ append_known known []
 append_nothing None = refl

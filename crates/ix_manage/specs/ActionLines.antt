@@ -1,7 +1,8 @@
 -- The lines of an actions file.
-use Rattle.std.specs.Prelude.{◌≡◌, ℕ, ◌+◌, List, [], ◌∷◌, ◌++◌, map}
+use Rattle.std.specs.Prelude.{◌≡◌, ℕ, List, [], ◌∷◌, ◌++◌, map}
 use Rattle.ix_words.specs.Each.{Each}
-use Rattle.ix_script.specs.Lines.{lines_of, bytes_of}
+use Rattle.ix_lines.specs.LineFaults.{IsFirstFault}
+use Rattle.ix_lines.specs.TextLines.{lines_of}
 use Rattle.ix_values.specs.Faults.{IsActionText, IsFault}
 use Rattle.ix_values.specs.PlainAction.{Word, text_of}
 use Rattle.ix_values.specs.Texts.{IsAction}
@@ -16,12 +17,5 @@ pub record HasActions (bytes : List ℕ) (actions : Word) : Type 0 where
   pub lines : lines_of bytes ≡ map text_of actions
 
 -- the first line that is no action's text has this fault, whose place is counted in the bytes
-pub record IsFirstActionFault (bytes : List ℕ) (code at : ℕ) : Type 0 where
-  pub before : List (List ℕ)
-  pub bad : List ℕ
-  pub behind : List (List ℕ)
-  pub within : ℕ
-  pub split : lines_of bytes ≡ before ++ bad ∷ behind
-  pub good : Each IsActionText before
-  pub fault : IsFault bad code within
-  pub place : at ≡ bytes_of before + within
+abbrev pub IsFirstActionFault : List ℕ → ℕ → ℕ → Type 0
+IsFirstActionFault bytes code at = IsFirstFault IsActionText IsFault bytes code at

@@ -1,11 +1,11 @@
 -- The words of the command line, and the job that they name.
-use Rattle.std.specs.Prelude.{◌≡◌, ◌≢◌, ℕ, ◌≤◌, List, [], ◌∷◌, codes, decimal}
+use Rattle.std.specs.Prelude.{◌≡◌, ◌≢◌, ℕ, ◌+◌, ◌≤◌, List, [], ◌∷◌, codes}
+use Rattle.ix_lines.specs.Numbers.{IsNumber}
 
 -- the text of a number from 1 to a greatest one, in decimal without leading zeros
 pub record IsNumberUpTo (greatest : ℕ) (text : List ℕ) (number : ℕ) : Type 0 where
-  pub same : text ≡ decimal number
   pub least : 1 ≤ number
-  pub most : number ≤ greatest
+  pub reads : IsNumber (greatest + 1) text number
 
 -- Words that begin with an option of this name and its number, from 1 to the greatest, and what
 -- stands behind them. Where the first word isn't this name, the number is the usual one, and nothing

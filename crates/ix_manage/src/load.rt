@@ -6,13 +6,14 @@ ghost use Rattle.ix_parse.specs.Faults.{StandsFor};
 ghost use Rattle.ix_outside.specs.Counts.{Rose};
 ghost use Rattle.ix_outside.specs.FilesState.{OnlyFaults};
 ghost use Rattle.ix_outside.specs.Files.{HasFile};
-ghost use Rattle.ix_script.specs.Lines.{lines_of};
+ghost use Rattle.ix_lines.specs.TextLines.{lines_of};
 ghost use Rattle.ix_manage.specs.inside.Refusal.{RefusesActions, RefusesExpression, RefusesScript, RefusesText};
 ghost use Rattle.ix_manage.specs.Trace.{ReadsForm};
 
-use crate::actions::{self, first_fault};
+use crate::actions::{ActionLines, MOST_BYTES as MOST_ACTIONS_BYTES};
 use crate::refusal::Refusal;
 use ix_expr::Expression;
+use ix_lines::first_fault;
 use ix_outside::{Files, LoadFault};
 use ix_parse::TextFault;
 use std::alloc::Global;
@@ -70,8 +71,8 @@ pub(crate) fn load_actions<F: Files>(
 
     ensures files { OnlyFaults (F.state files.old) (F.state files.new) }
 {
-    match files.load(alloc, name, actions::MOST_BYTES) {
-        Ok(bytes) => match first_fault(&bytes) {
+    match files.load(alloc, name, MOST_ACTIONS_BYTES) {
+        Ok(bytes) => match first_fault::<ActionLines>(&bytes) {
             None => Ok(bytes),
             Some(fault) => Err(Refusal::BadActions {
                 code: fault.code,

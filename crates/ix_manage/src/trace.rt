@@ -8,15 +8,14 @@ ghost use Rattle.ix_outside.specs.Counts.{Rose};
 ghost use Rattle.ix_outside.specs.SinkState.{OnlyPuts};
 ghost use Rattle.ix_outside.specs.Sink.{AppendsPart};
 ghost use Rattle.ix_manage.specs.ActionLines.{line};
-ghost use Rattle.ix_script.specs.Lines.{lines_of};
+ghost use Rattle.ix_lines.specs.TextLines.{lines_of};
 ghost use Rattle.ix_manage.specs.Puts.{PutsAll, PutsFront};
 ghost use Rattle.ix_manage.specs.Trace.{Answers, Verdict};
 ghost use Rattle.ix_manage.specs.inside.TracesLines.{TracesLines};
 
-use crate::actions::read_action;
 use ix_engine::{Engine, PrepareFault};
+use ix_lines::first_line;
 use ix_outside::Sink;
-use ix_script::first_line;
 use ix_values::Action;
 use std::alloc::{AllocError, Global};
 
@@ -55,7 +54,7 @@ pub(crate) fn trace<K: Sink>(
     let mut rest = actions;
     while !rest.is_empty() {
         let first = first_line(rest);
-        let action = read_action(first.line);
+        let action = Action::of_text(first.line);
         match answer(alloc, engine, &action, out) {
             Ok(()) => {}
             Err(fault) => return Err(fault),

@@ -5,7 +5,7 @@ use Rattle.ix_watch.specs.inside.Watches.{changes_of}
 use Rattle.ix_proto.specs.Requests.{PlainRequest, ask, confirm, cancel, may, watch, drop_watch, poll, status, log, stop}
 use Rattle.ix_proto.specs.inside.Lends.{Lends, Reads}
 use Rattle.ix_proto.specs.RequestFaults.{IsRequestFault}
-use Rattle.ix_proto.specs.Words.{words_of}
+use Rattle.ix_lines.specs.Words.{words_of}
 use Rattle.ix_proto.specs.declared.reply.Reply.{Reply}
 use Rattle.ix_proto.specs.declared.reply.Reply.TheVariants as reply
 use Rattle.ix_proto.specs.declared.request.Request.{Request}

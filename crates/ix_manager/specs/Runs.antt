@@ -9,7 +9,7 @@ use Rattle.ix_outside.specs.declared.event.EventKind.TheVariants.{Bytes, Closed,
 use Rattle.ix_proto.specs.Requests as request
 use Rattle.ix_proto.specs.Requests.{PlainRequest, IsRequest, request_words}
 use Rattle.ix_proto.specs.RequestFaults.{IsRequestFault}
-use Rattle.ix_proto.specs.Words.{words_of}
+use Rattle.ix_lines.specs.Words.{words_of}
 use Rattle.ix_proto.specs.declared.reply.Reply.{Reply}
 use Rattle.ix_proto.specs.declared.reply.Reply.TheVariants as reply
 use Rattle.ix_manager.specs.Machine.{MachineState, Step, start_of}

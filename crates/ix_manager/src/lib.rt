@@ -10,7 +10,6 @@ mod faults;
 pub mod laws;
 mod machine;
 mod manager;
-mod reading;
 mod refusals;
 mod reserving;
 mod sending;

@@ -9,7 +9,6 @@ ghost use Rattle.ix_manager.specs.inside.Core.{MachineAnswers, IsRefreshed, Tell
 ghost use Rattle.ix_proto.specs.Requests.{PlainRequest, IsRequest};
 ghost use Rattle.ix_proto.specs.inside.Lends.{Lends};
 
-use crate::reading::{read_action, read_name};
 use ix_engine::{Engine, Next};
 use ix_expr::Expression;
 use ix_lease::Slot;
@@ -113,18 +112,18 @@ impl Machine {
     {
         match *request {
             Request::Ask { action, lease } => {
-                Answer::One(self.ask(alloc, read_action(action), lease))
+                Answer::One(self.ask(alloc, Action::of_text(action), lease))
             }
             Request::Confirm(ticket) => Answer::One(self.confirm(ticket)),
             Request::Cancel(ticket) => Answer::One(self.cancel(ticket)),
-            Request::May(action) => Answer::One(self.may(&read_action(action))),
+            Request::May(action) => Answer::One(self.may(&Action::of_text(action))),
             Request::Watch { name, action } => {
-                Answer::One(self.watch(alloc, read_name(name), read_action(action)))
+                Answer::One(self.watch(alloc, Name::of_text(name), Action::of_text(action)))
             }
             Request::Drop { name, action } => {
-                Answer::One(self.drop_watch(&read_name(name), &read_action(action)))
+                Answer::One(self.drop_watch(&Name::of_text(name), &Action::of_text(action)))
             }
-            Request::Poll(name) => self.poll(alloc, read_name(name)),
+            Request::Poll(name) => self.poll(alloc, Name::of_text(name)),
             Request::Status => Answer::One(self.status()),
             Request::Log(number) => Answer::One(self.log(number)),
             Request::Stop => Answer::One(Reply::Stopping),

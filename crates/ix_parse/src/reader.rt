@@ -15,7 +15,7 @@ use crate::operand::Operand;
 use crate::signs::{Quantifier, WordClass};
 use crate::stack::{Entry, Left, Taking, closed, groups, level, levels, reduced};
 use crate::symbols::Sign;
-use crate::words::{class_of, name_of, value_of};
+use crate::words::class_of;
 use ix_expr::Arg;
 use ix_values::Name;
 use std::alloc::{AllocError, Global};

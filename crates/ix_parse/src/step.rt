@@ -16,9 +16,9 @@ use crate::reader::{Mode, Reader};
 use crate::signs::{Operator, Quantifier, WordClass};
 use crate::stack::{Entry, Left, Taking, closed, level, reduced};
 use crate::symbols::Sign;
-use crate::words::{class_of, name_of, value_of};
+use crate::words::class_of;
 use ix_expr::Arg;
-use ix_values::Name;
+use ix_values::{Name, Value};
 use std::alloc::{AllocError, Global};
 
 #[tactic(auto, using(crate::proofs::Stacks::pushed))]
@@ -61,7 +61,7 @@ fn word_mode(at: usize, word: &[u8]) -> Mode
 {
     match class_of(word) {
         WordClass::Quantifies(quantifier) => Mode::QuantifierRead(at, quantifier),
-        WordClass::Names => Mode::NameRead(at, name_of(word)),
+        WordClass::Names => Mode::NameRead(at, Name::of_text(word)),
         WordClass::Withheld => unreachable!(),
         WordClass::Other => unreachable!(),
     }
@@ -182,14 +182,14 @@ fn step_argument(
     let mut args = args;
     match sign {
         Sign::Word(word) => {
-            args.push(Arg::Fixed(value_of(word)))?;
+            args.push(Arg::Fixed(Value::of_text(word)))?;
             Ok(Reader {
                 stack,
                 mode: Mode::ArgumentRead(name_at, name, args),
             })
         }
         Sign::Param(param) => {
-            args.push(Arg::Param(name_of(param)))?;
+            args.push(Arg::Param(Name::of_text(param)))?;
             Ok(Reader {
                 stack,
                 mode: Mode::ArgumentRead(name_at, name, args),
@@ -254,7 +254,7 @@ fn step_quantifier(
     let mut stack = stack;
     match sign {
         Sign::Param(param) => {
-            let taking = Taking::Binder(word_at, quantifier, name_of(param));
+            let taking = Taking::Binder(word_at, quantifier, Name::of_text(param));
             stack.push(Entry::Taking(taking))?;
             Ok(Reader {
                 stack,

@@ -1,11 +1,10 @@
-//! Words in the place of an operand, and the names and values that words spell.
+//! Words in the place of an operand.
 
 ghost use Rattle.std.specs.Prelude.{◌≡◌};
-ghost use Rattle.ix_values.specs.Texts.{IsName, IsValue, begins_with_letter};
+ghost use Rattle.ix_values.specs.Texts.{begins_with_letter};
 ghost use Rattle.ix_parse.specs.Symbols as spec;
 
 use crate::signs::{Quantifier, WordClass};
-use ix_values::{Name, Value};
 
 #[tactic(auto, unfolding(crate::specs::Symbols::class_of))]
 pub(crate) fn class_of(word: &[u8]) -> WordClass
@@ -34,25 +33,5 @@ fn begins_with_letter(word: &[u8]) -> bool
     match word {
         [first, ..] => first.is_ascii_alphabetic(),
         [] => false,
-    }
-}
-
-pub(crate) fn name_of(word: &[u8]) -> Name
-    requires { IsName word.now }
-    ensures { result ≡ word.now }
-{
-    match Name::read(word) {
-        Some(name) => name,
-        None => unreachable!(),
-    }
-}
-
-pub(crate) fn value_of(word: &[u8]) -> Value
-    requires { IsValue word.now }
-    ensures { result ≡ word.now }
-{
-    match Value::read(word) {
-        Some(value) => value,
-        None => unreachable!(),
     }
 }

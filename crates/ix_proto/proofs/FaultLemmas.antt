@@ -4,9 +4,8 @@ use Rattle.std.specs.Fmt.{decimal}
 use Rattle.ix_values.specs.Faults.{IsActionText}
 use Rattle.ix_values.specs.PlainAction.{PlainAction, text_of}
 use Rattle.ix_values.specs.Texts.{IsAction}
-use Rattle.ix_proto.specs.Numbers.{IsNumberText}
 use Rattle.ix_proto.specs.Requests.{ask, confirm, cancel, may, watch, drop_watch, poll, status, log, stop, IsLease}
-use Rattle.ix_proto.specs.RequestFaults.{Part, an_action, a_name, a_number, a_lease, IsPart, IsPartFault, IsFirstFault, IsFaultBehind, verb_word, parts_of, IsLeaseText, IsRequestFault}
+use Rattle.ix_proto.specs.RequestFaults.{Part, an_action, a_name, a_number, a_lease, IsPart, IsPartFault, IsFirstFault, IsFaultBehind, verb_word, parts_of, IsNumberText, IsLeaseText, IsRequestFault}
 use Rattle.ix_proto.specs.RequestLaws.{FaultsTellNoRequest}
 use Rattle.ix_proto.specs.declared.request.Verb.{Verb}
 use Rattle.ix_proto.specs.declared.request.Verb.TheVariants as verb

@@ -7,7 +7,7 @@ use Rattle.ix_values.specs.PlainAction.{text_of}
 use Rattle.ix_values.proofs.TextsApart.{texts_apart}
 use Rattle.ix_proto.specs.Replies.{IsReply, IsRefusal, TextsTellRepliesApart, yes_or_no, complete_or_partial, with_number, has_number, refusal_text}
 use Rattle.ix_proto.specs.inside.ReplyParts.{kind_word, kind_of, behind, nodes_text}
-use Rattle.ix_proto.proofs.CutLemmas.{cut_same, number_same, some_same}
+use Rattle.ix_lines.proofs.NumberCuts.{cut_same, number_same, some_same}
 use Rattle.ix_proto.proofs.ReplyKinds as only
 use Rattle.ix_proto.proofs.ReplyLemmas.{parts_of_text, kind-plain, same_kind, complete_same}
 use Rattle.ix_proto.specs.declared.reply.Reply.{Reply}

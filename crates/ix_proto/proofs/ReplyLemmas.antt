@@ -4,11 +4,12 @@ use Rattle.std.specs.Fmt.{decimal}
 use Rattle.std.proofs.lemmas.Fmt.{decimal_injective}
 use Rattle.ix_values.specs.Faults.{IsActionText}
 use Rattle.ix_values.specs.PlainAction.{text_of}
-use Rattle.ix_proto.specs.inside.WordsBehind.{behind_word, HasNoSpace}
+use Rattle.ix_lines.specs.inside.WordsBehind.{behind_word, HasNoSpace}
 use Rattle.ix_proto.specs.Replies.{IsReply, reply_text, complete_or_partial, with_number, has_number, refusal_text}
 use Rattle.ix_proto.specs.inside.ReplyTexts.{IsReplyText}
-use Rattle.ix_proto.specs.inside.ReplyParts.{kind_word, kind_of, behind, nodes_text, StandsBehind, IsNumberAnd, IsRefusalBehind}
-use Rattle.ix_proto.proofs.CutLemmas.{cut_same, number_same, some_same}
+use Rattle.ix_proto.specs.inside.ReplyParts.{kind_word, kind_of, behind, nodes_text, StandsBehind, IsRefusalBehind}
+use Rattle.ix_lines.specs.Numbers.{BeginsWith}
+use Rattle.ix_lines.proofs.NumberCuts.{cut_same, number_same, some_same}
 use Rattle.ix_proto.proofs.ReplyKinds.{only_changes, only_refused, only_status, only_entry}
 use Rattle.ix_proto.specs.declared.reply.Reply.{Reply}
 use Rattle.ix_proto.specs.declared.reply.Reply.TheVariants.{Granted, Confirmed, Cancelled, May, Watching, Dropped, Changes, Change, Status, Entry, Stopping, Refused}
@@ -124,33 +125,21 @@ no_changes rest n fits is large r h =
     (λ k g. above k n (decimal_injective k n (omega (arith, g.valid)) fits (some_same (g.rest_is ∙ is))) g.valid large)
     r h.kind_is h
 
-pub no_entry : (rest : Option (List ℕ)) (text tail : List ℕ) (n : ℕ) → rest ≡ Some text → IsNumberAnd text n tail → ¬ IsActionText tail
+pub no_entry : (rest : Option (List ℕ)) (text tail : List ℕ) (n : ℕ) → rest ≡ Some text → BeginsWith (2 ^ 64) text n tail → ¬ IsActionText tail
     → (r : Reply) → ¬ StandsBehind kind.Entry rest r
 no_entry rest text tail n is number none r h =
     only_entry (λ r. StandsBehind kind.Entry rest r → ⊥)
     (λ place action g.
-    let same = number_same place n (text_of action) tail g.valid.0 number.fits (some_same (g.rest_is ∙ is) ∙ number.same) in
+    let same = number_same place n (text_of action) tail g.valid.0 number.fits (some_same (g.rest_is ∙ is) ∙ number.split) in
     none (record { action = action; valid = g.valid.1; same = sym same.1 }))
     r h.kind_is h
 
-no_small : (c n : ℕ) → c ≡ n → c < 2 ^ 8 → 2 ^ 8 ≤ n → ⊥
-no_small c n e l h = omega arith
-
-pub no_code : (rest : Option (List ℕ)) (text tail : List ℕ) (n : ℕ) → rest ≡ Some text → IsNumberAnd text n tail → 2 ^ 8 ≤ n
-    → (r : Reply) → ¬ StandsBehind kind.Refused rest r
-no_code rest text tail n is number large r h =
-    only_refused (λ r. StandsBehind kind.Refused rest r → ⊥)
-    (λ code told g.
-    let same = number_same code n _ tail (omega (arith, g.valid.0)) number.fits (some_same (g.rest_is ∙ is) ∙ number.same) in
-    no_small code n same.0 g.valid.0 large)
-    r h.kind_is h
-
-pub no_refused : (rest : Option (List ℕ)) (text tail : List ℕ) (n : ℕ) → rest ≡ Some text → IsNumberAnd text n tail
+pub no_refused : (rest : Option (List ℕ)) (text tail : List ℕ) (n : ℕ) → rest ≡ Some text → BeginsWith (2 ^ 8) text n tail
     → ((told : ℕ) → ¬ IsRefusalBehind n tail told) → (r : Reply) → ¬ StandsBehind kind.Refused rest r
 no_refused rest text tail n is number none r h =
     only_refused (λ r. StandsBehind kind.Refused rest r → ⊥)
     (λ code told g.
-    let same = number_same code n _ tail (omega (arith, g.valid.0)) number.fits (some_same (g.rest_is ∙ is) ∙ number.same) in
+    let same = number_same code n _ tail (omega (arith, g.valid.0)) (omega (arith, number.fits)) (some_same (g.rest_is ∙ is) ∙ number.split) in
     none told (subst (λ z. IsRefusalBehind z tail told) same.0 (record { fits = g.valid.1; told = g.valid.2; same = sym same.1 })))
     r h.kind_is h
 
@@ -176,12 +165,12 @@ complete_same b d x y e =
     (cut.0, some_same cut.1)
 
 pub no_status : (rest : Option (List ℕ)) (text middle tail : List ℕ) (b : Bool) (n : ℕ) → rest ≡ Some text
-    → text ≡ complete_or_partial b ++ 32 ∷ middle → IsNumberAnd middle n tail
+    → text ≡ complete_or_partial b ++ 32 ∷ middle → BeginsWith (2 ^ 64) middle n tail
     → ((s : ℕ) → s < 2 ^ 64 → tail ≢ nodes_text s) → (r : Reply) → ¬ StandsBehind kind.Status rest r
 no_status rest text middle tail b n is front number none r h =
     only_status (λ r. StandsBehind kind.Status rest r → ⊥)
     (λ complete count nodes g.
     let behind_front = (complete_same complete b (decimal count ++ 32 ∷ nodes_text nodes) middle (some_same (g.rest_is ∙ is) ∙ front)).1 in
-    let same = number_same count n (nodes_text nodes) tail g.valid.0 number.fits (behind_front ∙ number.same) in
+    let same = number_same count n (nodes_text nodes) tail g.valid.0 number.fits (behind_front ∙ number.split) in
     none nodes g.valid.1 (sym same.1))
     r h.kind_is h

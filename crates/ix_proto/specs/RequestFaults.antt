@@ -1,8 +1,8 @@
 -- The faults of lines that aren't requests: the first that applies.
-use Rattle.std.specs.Prelude.{◌≡◌, ◌≢◌, ℕ, ◌⊎◌, List, [], ◌∷◌, length, codes}
+use Rattle.std.specs.Prelude.{◌≡◌, ◌≢◌, ℕ, ◌^◌, ◌⊎◌, List, [], ◌∷◌, length, codes}
 use Rattle.ix_values.specs.Faults.{IsActionText}
 use Rattle.ix_values.specs.Texts.{IsName}
-use Rattle.ix_proto.specs.Numbers.{IsNumber, IsNumberText}
+use Rattle.ix_lines.specs.Numbers.{IsNumber}
 use Rattle.ix_proto.specs.Requests.{IsLease}
 use Rattle.ix_proto.specs.declared.request.Verb.{Verb}
 use Rattle.ix_proto.specs.declared.request.Verb.TheVariants.{Ask, Confirm, Cancel, May, Watch, Drop, Poll, Status, Log, Stop}
@@ -40,9 +40,13 @@ parts_of Status = []
 parts_of Log = a_number ∷ []
 parts_of Stop = []
 
+-- the text is a number's, at most 18446744073709551615
+abbrev pub IsNumberText : List ℕ → Type 0
+IsNumberText text = (number : ℕ) × IsNumber (2 ^ 64) text number
+
 -- the text is a lease's
 abbrev pub IsLeaseText : List ℕ → Type 0
-IsLeaseText word = (number : ℕ) × IsNumber word number × IsLease number
+IsLeaseText word = (number : ℕ) × IsNumber (2 ^ 64) word number × IsLease number
 
 -- the word is what it has to be
 abbrev pub IsPart : Part → List ℕ → Type 0

@@ -2,4 +2,3 @@
 pub mod Lends
 pub mod ReplyParts
 pub mod ReplyTexts
-pub mod WordsBehind

@@ -2,13 +2,11 @@
 #![tactic(auto)]
 
 pub mod laws;
-mod number;
 mod parts;
 mod reply;
 mod reply_read;
 mod request;
 mod request_fault;
-mod words;
 
 pub use reply::Reply;
 pub use request::Request;

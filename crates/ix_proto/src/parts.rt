@@ -1,17 +1,16 @@
 //! The words behind a request's first word.
 
-ghost use Rattle.std.specs.Prelude.{◌≡◌, ◌≢◌, [], ◌∷◌, length, MatchResult};
+ghost use Rattle.std.specs.Prelude.{◌≡◌, ◌≢◌, ◌^◌, [], ◌∷◌, length, MatchResult};
 ghost use Rattle.std.specs.Option.{option_copied};
 ghost use Rattle.ix_values.specs.Faults.{IsActionText};
 ghost use Rattle.ix_values.specs.Texts.{IsName};
-ghost use Rattle.ix_proto.specs.Numbers.{IsNumber};
+ghost use Rattle.ix_lines.specs.Numbers.{IsNumber};
 ghost use Rattle.ix_proto.specs.Requests.{IsLease};
 ghost use Rattle.ix_proto.specs.RequestFaults.{an_action, a_name, a_number, a_lease, IsPartFault};
-ghost use Rattle.ix_proto.specs.inside.WordsBehind.{words_behind};
+ghost use Rattle.ix_lines.specs.inside.WordsBehind.{words_behind};
 
-use crate::number::read_number;
 use crate::request_fault::RequestFault;
-use crate::words::split_word;
+use ix_lines::{read_number, split_word};
 use ix_values::{Action, Name};
 
 /// The longest lease, in milliseconds.
@@ -81,16 +80,16 @@ pub(crate) fn name_word(word: &[u8]) -> Result<&[u8], RequestFault>
 
 pub(crate) fn number_word(word: &[u8]) -> Result<u64, RequestFault>
     ensures { MatchResult result
-        (λ number. IsNumber word.now number)
+        (λ number. IsNumber (2 ^ 64) word.now number)
         (λ fault. IsPartFault a_number word.now fault.code) }
 {
-    read_number(word).ok_or(RequestFault { code: 13 })
+    read_number(word, u64::MAX).ok_or(RequestFault { code: 13 })
 }
 
 /// A lease in milliseconds, from 1 to `LONGEST_LEASE`.
 pub(crate) fn lease_word(word: &[u8]) -> Result<u32, RequestFault>
     ensures { MatchResult result
-        (λ lease. IsNumber word.now lease × IsLease lease)
+        (λ lease. IsNumber (2 ^ 64) word.now lease × IsLease lease)
         (λ fault. IsPartFault a_lease word.now fault.code) }
 {
     let lease = number_word(word)?;

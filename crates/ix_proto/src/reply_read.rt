@@ -5,12 +5,14 @@ ghost use Rattle.std.specs.Fmt.{decimal};
 ghost use Rattle.std.specs.Option.{option_copied};
 ghost use Rattle.ix_proto.specs.Replies.{IsReply, reply_text, yes_or_no, complete_or_partial};
 ghost use Rattle.ix_proto.specs.inside.ReplyTexts.{IsReplyText};
-ghost use Rattle.ix_proto.specs.inside.ReplyParts.{kind_word, StandsBehind, IsNumberAnd, IsRefusalBehind, nodes_text};
+ghost use Rattle.ix_proto.specs.inside.ReplyParts.{kind_word, StandsBehind, IsRefusalBehind, nodes_text};
 
-use crate::number::read_number;
 use crate::reply::{Reply, has_number, refusal_text};
-use crate::words::split_word;
+use ix_lines::{number_and, read_number, split_word};
 use ix_values::Action;
+
+/// The greatest number that a code has.
+const GREATEST_CODE: u64 = 255;
 
 /// The first word of a reply.
 #[derive(Clone, Copy)]
@@ -176,11 +178,11 @@ fn read_status(rest: Option<&[u8]>) -> Option<Reply>
         (StandsBehind Kind.Status (option_copied rest.entry)) }
 {
     let (complete, text) = complete_or_partial_and(rest?)?;
-    let (length, text) = number_and(text)?;
-    let nodes = nodes(text)?;
+    let length = number_and(text, u64::MAX)?;
+    let nodes = nodes(length.rest)?;
     Some(Reply::Status {
         complete,
-        length,
+        length: length.number,
         nodes,
     })
 }
@@ -190,9 +192,9 @@ fn read_entry(rest: Option<&[u8]>) -> Option<Reply>
         ((reply : Reply) → ¬ StandsBehind Kind.Entry (option_copied rest.entry) reply)
         (StandsBehind Kind.Entry (option_copied rest.entry)) }
 {
-    let (place, text) = number_and(rest?)?;
-    match Action::read(text) {
-        Ok(action) => Some(Reply::Entry(place, action)),
+    let place = number_and(rest?, u64::MAX)?;
+    match Action::read(place.rest) {
+        Ok(action) => Some(Reply::Entry(place.number, action)),
         Err(_) => None,
     }
 }
@@ -202,12 +204,9 @@ fn read_refused(rest: Option<&[u8]>) -> Option<Reply>
         ((reply : Reply) → ¬ StandsBehind Kind.Refused (option_copied rest.entry) reply)
         (StandsBehind Kind.Refused (option_copied rest.entry)) }
 {
-    let (code, text) = number_and(rest?)?;
-    if code > u64::from(u8::MAX) {
-        return None;
-    }
-    let code = code as u8;
-    let number = refusal_number(code, text)?;
+    let refusal = number_and(rest?, GREATEST_CODE)?;
+    let code = refusal.number as u8;
+    let number = refusal_number(code, refusal.rest)?;
     Some(Reply::Refused { code, number })
 }
 
@@ -216,19 +215,7 @@ fn number_alone(rest: Option<&[u8]>) -> Option<u64>
         ((number : ℕ) → number < 2 ^ 64 → option_copied rest.entry ≢ Some (decimal number))
         (λ number. (number < 2 ^ 64) × (option_copied rest.entry ≡ Some (decimal number))) }
 {
-    read_number(rest?)
-}
-
-/// A number, and the text behind the space that ends it.
-fn number_and(text: &[u8]) -> Option<(u64, &[u8])>
-    ensures { MatchOption result
-        ((number : ℕ) (tail : List ℕ) → ¬ IsNumberAnd text.now number tail)
-        (λ read. IsNumberAnd text.now read.0 read.1.now) }
-{
-    let (word, rest) = split_word(text);
-    let number = read_number(word)?;
-    let tail = rest?;
-    Some((number, tail))
+    read_number(rest?, u64::MAX)
 }
 
 fn yes_or_no_text(text: &[u8]) -> Option<bool>
@@ -262,7 +249,7 @@ fn nodes(text: &[u8]) -> Option<u64>
         ((number : ℕ) → number < 2 ^ 64 → text.now ≢ nodes_text number)
         (λ number. (number < 2 ^ 64) × (text.now ≡ nodes_text number)) }
 {
-    read_number(strip(text, b"nodes ")?)
+    read_number(strip(text, b"nodes ")?, u64::MAX)
 }
 
 /// The number of a refusal of this code, 0 where its text has none.
@@ -288,7 +275,7 @@ fn number_behind(text: &[u8]) -> Option<u64>
         (λ number. (number < 2 ^ 64) × (text.now ≡ 32 ∷ decimal number)) }
 {
     match text {
-        [b' ', number @ ..] => read_number(number),
+        [b' ', number @ ..] => read_number(number, u64::MAX),
         _ => None,
     }
 }

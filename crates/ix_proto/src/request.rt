@@ -5,18 +5,18 @@ ghost use Rattle.std.specs.Fmt.{decimal};
 ghost use Rattle.std.specs.Option.{option_copied};
 ghost use Rattle.ix_values.specs.Faults.{IsActionText};
 ghost use Rattle.ix_values.specs.Texts.{IsName};
-ghost use Rattle.ix_proto.specs.Numbers.{IsNumber};
+ghost use Rattle.ix_lines.specs.Numbers.{IsNumber};
 ghost use Rattle.ix_proto.specs.inside.Lends.{Reads};
 ghost use Rattle.ix_proto.specs.Requests.{IsLease};
 ghost use Rattle.ix_proto.specs.RequestFaults.{an_action, a_name, a_number, a_lease, verb_word, parts_of, IsPartFault, IsFaultBehind, IsRequestFault};
-ghost use Rattle.ix_proto.specs.Words.{words_of};
-ghost use Rattle.ix_proto.specs.inside.WordsBehind.{words_behind};
+ghost use Rattle.ix_lines.specs.Words.{words_of};
+ghost use Rattle.ix_lines.specs.inside.WordsBehind.{words_behind};
 
 use crate::parts::{
     action_word, lease_word, name_word, no_words, number_word, one_word, two_words,
 };
 use crate::request_fault::RequestFault;
-use crate::words::split_word;
+use ix_lines::split_word;
 
 /// A request. Its texts are words of the line that it was read from: each `action` is an action's
 /// text, and each `name` a name.

@@ -6,10 +6,10 @@ use Rattle.ix_script.specs.inside.Cursor.{IsBare, IsBegun, left_of, open_bytes, 
 use Rattle.ix_script.specs.declared.cursor.Cursor.{Cursor}
 use Rattle.ix_script.specs.Events.{bytes_event, closed_event, end_event, is_close, text_bytes, line_event}
 use Rattle.ix_script.specs.Grammar.{IsScriptLine}
-use Rattle.ix_script.specs.Lines.{lines_of}
+use Rattle.ix_lines.specs.TextLines.{lines_of}
 use Rattle.ix_script.specs.Pieces.{left_after}
 use Rattle.ix_script.specs.inside.Progress.{events_at, with_bytes}
-use Rattle.ix_script.proofs.LineLists.{lines_of-none}
+use Rattle.ix_lines.proofs.LineLists.{lines_of-none}
 use Rattle.ix_script.proofs.LineParts.{events_step, some_bytes}
 use Rattle.ix_script.proofs.LeftEvents.{with_bytes-some, with_bytes-none, with_bytes-more, events_some, bare_next, bare_left, left_open}
 

@@ -4,7 +4,7 @@ use Rattle.std.proofs.lemmas.Bool.{leb-true, leb-false}
 use Rattle.std.proofs.lemmas.List.{length-take-le}
 use Rattle.ix_outside.specs.Contents.{GivenEvent}
 use Rattle.ix_script.specs.Events.{HasEvents}
-use Rattle.ix_script.specs.Lines.{lines_of}
+use Rattle.ix_lines.specs.TextLines.{lines_of}
 use Rattle.ix_script.specs.Pieces.{fitting, left_after, pieces_of}
 use Rattle.ix_script.specs.inside.NextPiece.{next_piece, left_behind, IsNextPiece}
 use Rattle.ix_script.specs.inside.Progress.{events_of, given_by, left_by}

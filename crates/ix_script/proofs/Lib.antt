@@ -1,7 +1,4 @@
 pub mod Walks
-pub mod LineLists
-pub mod NumberCuts
-pub mod BadLines
 pub mod EventLists
 pub mod LineParts
 pub mod LeftEvents

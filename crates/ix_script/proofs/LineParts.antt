@@ -4,9 +4,12 @@ use Rattle.std.specs.List.{list_any}
 use Rattle.std.proofs.lemmas.Fmt.{decimal_by_steps}
 use Rattle.ix_outside.specs.Contents.{GivenEvent}
 use Rattle.ix_script.specs.Events.{text_bytes, line_event, AreEvents}
-use Rattle.ix_script.specs.Grammar.{BeginsWith, IsScriptLine, InGrammar, IsLineFault, no_moment, no_connection, no_text}
+use Rattle.ix_script.specs.Grammar.{IsScriptLine, InGrammar, IsLineFault, no_moment, no_connection, no_text}
 use Rattle.ix_script.specs.inside.Progress.{before_space, behind_space, number_from, moment_of, conn_of, text_of, events_at}
-use Rattle.ix_script.proofs.NumberCuts.{is_space, HasNoSpace, or_false, decimal-plain, begins_same}
+use Rattle.ix_lines.specs.Numbers.{BeginsWith}
+use Rattle.ix_lines.specs.inside.WordsBehind.{HasNoSpace}
+use Rattle.ix_lines.proofs.WordLemmas.{is_space}
+use Rattle.ix_lines.proofs.NumberCuts.{or_false, decimal-plain, begins_same}
 
 before-at : (word rest : List ℕ) → HasNoSpace word → before_space (word ++ 32 ∷ rest) ≡ word
 before-at [] rest plain = refl

@@ -2,7 +2,7 @@
 use Rattle.std.specs.Prelude.{◌≡◌, ℕ, Bool, false, ◌==◌, if◌then◌else◌, List, [], ◌∷◌, length}
 use Rattle.ix_outside.specs.Contents.{GivenEvent}
 use Rattle.ix_outside.specs.declared.event.EventKind.TheVariants.{Bytes, Closed, End}
-use Rattle.ix_script.specs.Lines.{lines_of}
+use Rattle.ix_lines.specs.TextLines.{lines_of}
 use Rattle.ix_script.specs.Grammar.{IsScriptLine}
 
 -- these bytes come on a connection

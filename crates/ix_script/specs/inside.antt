@@ -1,6 +1,5 @@
 -- What contracts between crates and private ones cite, and no claim of the program or law reaches.
 pub mod Cursor
 pub mod NextPiece
-pub mod Numbers
 pub mod Progress
 pub mod Site

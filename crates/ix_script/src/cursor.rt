@@ -1,11 +1,12 @@
 //! A place in a script.
 ghost use Rattle.std.specs.Prelude.{◌≡◌, ◌<◌};
-ghost use Rattle.ix_script.specs.Grammar.{AllInGrammar};
-ghost use Rattle.ix_script.specs.Lines.{lines_of};
+ghost use Rattle.std.specs.List.{AllByRecursion};
+ghost use Rattle.ix_script.specs.Grammar.{InGrammar};
+ghost use Rattle.ix_lines.specs.TextLines.{lines_of};
 
 use crate::line::{checked_line, is_close, open_text};
-use crate::lines::first_line;
 use crate::script::Script;
+use ix_lines::first_line;
 use ix_outside::{Event, EventKind};
 
 /// A place in a script: what is left of the line that was begun, and the lines behind it.
@@ -22,7 +23,7 @@ pub(crate) struct Cursor<'a> {
     pub text: &'a [u8],
     /// Whether a byte 10 follows the text.
     pub line_end: bool,
-    ghost valid: { ∥ AllInGrammar (lines_of rest.now) ∥₁ },
+    ghost valid: { ∥ AllByRecursion InGrammar (lines_of rest.now) ∥₁ },
     ghost in_range: { conn < 64 },
 }
 

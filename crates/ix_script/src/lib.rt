@@ -7,13 +7,10 @@
 mod cursor;
 mod history;
 mod line;
-mod lines;
-mod number;
 mod put;
 mod script;
 mod site;
 
-pub use lines::{FirstLine, first_line};
 pub use script::{Script, ScriptFault};
 pub use site::ScriptSite;
 

@@ -4,7 +4,7 @@ ghost use Rattle.ix_script.specs.Events.{is_close as tells_close, text_bytes};
 ghost use Rattle.ix_script.specs.Grammar.{InGrammar, IsScriptLine, IsLineFault};
 ghost use Rattle.ix_script.specs.inside.Progress.{end_bytes};
 
-use crate::number::number_and;
+use ix_lines::number_and;
 
 const LAST_CONNECTION: u64 = 63;
 

@@ -1,12 +1,13 @@
 //! A script that was checked.
-ghost use Rattle.std.specs.Prelude.{◌≡◌, ◌+◌, ◌^◌, ◌<◌, ◌≤◌, List, length, MatchOption, IfOk, IfErr};
+ghost use Rattle.std.specs.Prelude.{◌≡◌, List, IfOk, IfErr};
+ghost use Rattle.std.specs.List.{AllByRecursion};
 ghost use Rattle.ix_outside.specs.Contents.{GivenEvent};
+ghost use Rattle.ix_lines.specs.TextLines.{lines_of};
 ghost use Rattle.ix_script.specs.Events.{HasEvents};
-ghost use Rattle.ix_script.specs.Grammar.{AllInGrammar, IsFirstScriptFault};
-ghost use Rattle.ix_script.specs.Lines.{lines_of};
+ghost use Rattle.ix_script.specs.Grammar.{InGrammar, IsFaultAtFront, IsFirstScriptFault};
 
 use crate::line::read_line;
-use crate::lines::first_line;
+use ix_lines::{LineFault, LineGrammar, first_fault};
 
 /// Why a text is no script: the code 31, 32 or 33 of the first fault of its first line that has
 /// one, and the place of that line's first byte.
@@ -20,7 +21,7 @@ pub struct ScriptFault {
 #[derive(Clone, Copy)]
 pub struct Script<'a> {
     pub(crate) bytes: &'a [u8],
-    ghost valid: { ∥ AllInGrammar (lines_of bytes.now) ∥₁ },
+    ghost valid: { ∥ AllByRecursion InGrammar (lines_of bytes.now) ∥₁ },
 }
 
 impl<'a> Script<'a> {
@@ -30,26 +31,28 @@ impl<'a> Script<'a> {
         ensures events { IfOk result (λ script. (events : List GivenEvent) × HasEvents bytes.now events) }
         ensures fault { IfErr result (λ fault. IsFirstScriptFault bytes.now fault.code fault.at) }
     {
-        match first_fault(bytes) {
+        match first_fault::<ScriptLines>(bytes) {
             None => Ok(Script { bytes }),
-            Some(fault) => Err(fault),
+            Some(fault) => Err(ScriptFault {
+                code: fault.code,
+                at: fault.at,
+            }),
         }
     }
 }
 
-fn first_fault(bytes: &[u8]) -> Option<ScriptFault>
-    ensures { MatchOption result (AllInGrammar (lines_of bytes.now)) (λ fault. IsFirstScriptFault bytes.now fault.code fault.at) }
-{
-    let mut rest = bytes;
-    while !rest.is_empty() {
-        let first = first_line(rest);
-        if let Err(code) = read_line(first.line) {
-            return Some(ScriptFault {
-                code,
-                at: bytes.len() - rest.len(),
-            });
+/// The grammar of a script's lines. A fault of a line is told at its first byte.
+struct ScriptLines;
+
+impl LineGrammar for ScriptLines {
+    ghost holds = { InGrammar };
+
+    ghost fails = { IsFaultAtFront };
+
+    fn fault(line: &[u8]) -> Option<LineFault> {
+        match read_line(line) {
+            Ok(_) => None,
+            Err(code) => Some(LineFault { code, at: 0 }),
         }
-        rest = first.rest;
     }
-    None
 }

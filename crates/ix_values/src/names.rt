@@ -53,6 +53,17 @@ impl Name {
         }
     }
 
+    /// The name whose bytes these are.
+    pub fn of_text(text: &[u8]) -> Name
+        requires { IsName text.now }
+        ensures { result ≡ text.now }
+    {
+        match Name::read(text) {
+            Some(name) => name,
+            None => unreachable!(),
+        }
+    }
+
     /// The bytes of the name, 1 to 32 of them.
     pub fn bytes(&self) -> &[u8]
         ensures value { result.now ≡ self.now }

@@ -1,7 +1,7 @@
 //! The reader of actions.
 
 ghost use Rattle.std.specs.Prelude.{◌≡◌, ◌<◌, ◌≤◌, ◌↔◌, IsTrue, false, length, take, slice_get, MatchOption, MatchResult};
-ghost use Rattle.ix_values.specs.Faults.{IsFault};
+ghost use Rattle.ix_values.specs.Faults.{IsActionText, IsFault};
 ghost use Rattle.ix_values.specs.PlainAction.{text_of};
 ghost use Rattle.ix_values.specs.inside.FirstWord as spec;
 ghost use Rattle.ix_values.specs.Texts.{IsAction, IsName, IsValue, begins_with_letter};
@@ -33,6 +33,20 @@ impl Action {
                 code: code_after_name(byte),
                 at,
             }),
+        }
+    }
+}
+
+impl Action {
+    /// The action whose text this is.
+    pub fn of_text(text: &[u8]) -> Action
+        requires { IsActionText text.now }
+        ensures valid { IsAction result }
+        ensures same { text_of result ≡ text.now }
+    {
+        match Action::read(text) {
+            Ok(action) => action,
+            Err(_) => unreachable!(),
         }
     }
 }

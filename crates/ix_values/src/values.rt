@@ -63,6 +63,17 @@ impl Value {
         }
     }
 
+    /// The value whose bytes these are.
+    pub fn of_text(text: &[u8]) -> Value
+        requires { IsValue text.now }
+        ensures { result ≡ text.now }
+    {
+        match Value::read(text) {
+            Some(value) => value,
+            None => unreachable!(),
+        }
+    }
+
     /// The bytes of the value, 1 to 32 of them.
     pub fn bytes(&self) -> &[u8]
         ensures value { result.now ≡ self.now }

@@ -62,11 +62,6 @@ pub record StandsBehind (kind : Kind) (rest : Option (List ℕ)) (reply : Reply)
   pub kind_is : kind_of reply ≡ kind
   pub rest_is : behind reply ≡ rest
 
--- a number, a space and a text
-pub record IsNumberAnd (text : List ℕ) (number : ℕ) (tail : List ℕ) : Type 0 where
-  pub fits : number < 2 ^ 64
-  pub same : text ≡ decimal number ++ 32 ∷ tail
-
 -- the text is that of the code, with the number where it has one
 pub record IsRefusalBehind (code : ℕ) (text : List ℕ) (number : ℕ) : Type 0 where
   pub fits : number < 2 ^ 64

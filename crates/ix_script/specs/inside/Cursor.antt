@@ -3,7 +3,7 @@ use Rattle.std.specs.Prelude.{◌≡◌, ℕ, ◌<◌, List, [], ◌++◌, lengt
 use Rattle.ix_outside.specs.Contents.{GivenEvent, piece_of}
 use Rattle.ix_outside.specs.Event.{FitsBuffer}
 use Rattle.ix_outside.specs.declared.event.Event.{Event}
-use Rattle.ix_script.specs.Lines.{lines_of}
+use Rattle.ix_lines.specs.TextLines.{lines_of}
 use Rattle.ix_script.specs.Pieces.{left_after}
 use Rattle.ix_script.specs.inside.NextPiece.{next_piece}
 use Rattle.ix_script.specs.inside.Progress.{events_at, end_bytes, with_bytes}

@@ -2,7 +2,7 @@
 use Rattle.std.specs.Prelude.{ℕ, ◌+◌, ◌-◌, ◌*◌, Bool, true, false, ◌==◌, if◌then◌else◌, List, [], ◌∷◌}
 use Rattle.ix_outside.specs.Contents.{GivenEvent}
 use Rattle.ix_script.specs.Events.{bytes_event, end_event, line_event}
-use Rattle.ix_script.specs.Lines.{lines_of}
+use Rattle.ix_lines.specs.TextLines.{lines_of}
 use Rattle.ix_script.specs.Pieces.{fitting, left_after}
 
 -- what stands before the first space

@@ -1,7 +1,16 @@
 use Rattle.std.proofs.Common.{Err, ap, subst}
+use Rattle.std.specs.List.{AllByRecursion}
+use Rattle.ix_lines.specs.TextLines.{lines_of}
+use Rattle.ix_manage.proofs.BadLines.{each_line}
+use Rattle.ix_values.specs.Faults.{IsActionText}
 use Rattle.ix_manage.specs.ActionLines.{IsFirstActionFault}
 use Rattle.ix_manage.specs.Trace.{too_long, bad_line}
 use Rattle.ix_manage.proofs.load.load_actions.Goals as goal
+
+pub returns-in-None-clause-lines : goal.returns-in-None-clause-lines
+returns-in-None-clause-lines g c =
+    let good = subst (λ bytes. AllByRecursion IsActionText (lines_of bytes)) c.deref.ensures.value c.in-None.ensures in
+    each_line _ good
 
 pub returns-in-Some-clause-err : goal.returns-in-Some-clause-err
 returns-in-Some-clause-err g c =

@@ -20,8 +20,8 @@ loop-rest-init g c =
       ([], front_start c.args.actions.now, ([], subst (Answers engine.form engine.limit [] [] []) (sym c.requires.empty) done, append_nothing _)),
     )
 
-pub read_action-action-requires : goal.read_action-action-requires
-read_action-action-requires g c = Each-head (subst (Each IsActionText) c.first_line-first.ensures.lines c.loop-rest.invariant.0)
+pub of_text-action-requires : goal.of_text-action-requires
+of_text-action-requires g c = Each-head (subst (Each IsActionText) c.first_line-first.ensures.lines c.loop-rest.invariant.0)
 
 pub returns-in-Err-clause-memory : goal.returns-in-Err-clause-memory
 returns-in-Err-clause-memory g c is =
@@ -39,9 +39,9 @@ returns-in-Err-clause-output g c is =
     let more = c.in-Err.ensures.output is in (
       9,
       (so_far.2.0 ++ more.0) ++ line (codes "refused memory"),
-      trace_short engine.form engine.limit c.args.actions.now c.first_line-first.result.rest.now (so_far.0 ++ c.read_action-action.result ∷ []) more.1 (so_far.2.0 ++ more.0)
-          (front_step c.args.actions.now c.loop-rest.rest.now c.first_line-first.result.rest.now c.first_line-first.result.line.now so_far.0 c.read_action-action.result
-          c.first_line-first.ensures.lines c.read_action-action.ensures.valid c.read_action-action.ensures.same so_far.1)
+      trace_short engine.form engine.limit c.args.actions.now c.first_line-first.result.rest.now (so_far.0 ++ c.of_text-action.result ∷ []) more.1 (so_far.2.0 ++ more.0)
+          (front_step c.args.actions.now c.loop-rest.rest.now c.first_line-first.result.rest.now c.first_line-first.result.line.now so_far.0 c.of_text-action.result
+          c.first_line-first.ensures.lines c.of_text-action.ensures.valid c.of_text-action.ensures.same so_far.1)
           (Each-tail (subst (Each IsActionText) c.first_line-first.ensures.lines c.loop-rest.invariant.0))
           (answers_join so_far.2.1
           (answers_same c.loop-rest.invariant.2 c.loop-rest.invariant.3 more.2)),
@@ -57,9 +57,9 @@ loop-rest-preserved g c =
       c.in-Ok.ensures.form ∙ c.loop-rest.invariant.2,
       c.in-Ok.ensures.limit ∙ c.loop-rest.invariant.3,
       (
-        so_far.0 ++ c.read_action-action.result ∷ [],
-        front_step c.args.actions.now c.loop-rest.rest.now c.first_line-first.result.rest.now c.first_line-first.result.line.now so_far.0 c.read_action-action.result
-            c.first_line-first.ensures.lines c.read_action-action.ensures.valid c.read_action-action.ensures.same so_far.1,
+        so_far.0 ++ c.of_text-action.result ∷ [],
+        front_step c.args.actions.now c.loop-rest.rest.now c.first_line-first.result.rest.now c.first_line-first.result.line.now so_far.0 c.of_text-action.result
+            c.first_line-first.ensures.lines c.of_text-action.ensures.valid c.of_text-action.ensures.same so_far.1,
         (
           so_far.2.0 ++ more.0,
           answers_join so_far.2.1

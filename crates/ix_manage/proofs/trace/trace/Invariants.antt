@@ -4,7 +4,7 @@ use Rattle.ix_words.specs.Each.{Each}
 use Rattle.ix_values.specs.Faults.{IsActionText}
 use Rattle.ix_values.specs.PlainAction.{Word}
 use Rattle.ix_outside.specs.SinkState.{OnlyPuts}
-use Rattle.ix_script.specs.Lines.{lines_of}
+use Rattle.ix_lines.specs.TextLines.{lines_of}
 use Rattle.ix_manage.specs.Trace.{Answers}
 use Rattle.ix_manage.proofs.Tracing.{StandBefore}
 use Rattle.ix_manage.proofs.trace.trace.Given as goal

@@ -1,4 +1,4 @@
-use Rattle.ix_proto.proofs.CutLemmas.{stripped}
+use Rattle.ix_proto.proofs.StripLemmas.{stripped}
 use Rattle.ix_proto.proofs.reply_read.strip.Goals as goal
 
 pub returns : goal.returns

@@ -1,5 +1,6 @@
 use Rattle.std.proofs.Common.{◌≡◌, [], ◌∷◌, subst, rules}
-use Rattle.ix_script.specs.Grammar.{BeginsWith, no_moment, no_connection, no_text}
+use Rattle.ix_lines.specs.Numbers.{BeginsWith}
+use Rattle.ix_script.specs.Grammar.{no_moment, no_connection, no_text}
 use Rattle.ix_script.proofs.line.read_line.Goals as goal
 
 pub returns-in_default : goal.returns-in_default

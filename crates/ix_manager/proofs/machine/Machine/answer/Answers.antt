@@ -16,14 +16,14 @@ pub returns-in-Ask-clause-answers : goal.returns-in-Ask-clause-answers
 returns-in-Ask-clause-answers c =
     let P = StepsTo c.args.self.now c.ask.result c.ask.new.self in (
       subst (λ (r : Request). OfEach r P) (sym c.in-Ask.is)
-          (ask_is P c.in-Ask.action c.in-Ask.lease c.read_action.result c.read_action.ensures.valid c.read_action.ensures.same c.ask.ensures.step),
+          (ask_is P c.in-Ask.action c.in-Ask.lease c.of_text.result c.of_text.ensures.valid c.of_text.ensures.same c.ask.ensures.step),
       c.ask.ensures.told,
     )
 
 pub returns-in-May-clause-answers : goal.returns-in-May-clause-answers
 returns-in-May-clause-answers c =
     let P = StepsTo c.args.self.now c.may.result c.args.self.now in
-    let read = c.read_action-in-May in (
+    let read = c.of_text-in-May in (
       subst (λ (r : Request). OfEach r P) (sym c.in-May.is)
           (may_is P c.in-May.action read.result read.ensures.valid read.ensures.same c.may.ensures.step),
       c.may.ensures.told,
@@ -32,18 +32,18 @@ returns-in-May-clause-answers c =
 pub returns-in-Watch-clause-answers : goal.returns-in-Watch-clause-answers
 returns-in-Watch-clause-answers c =
     let P = StepsTo c.args.self.now c.watch.result c.watch.new.self in
-    let read = c.read_action-in-Watch in (
+    let read = c.of_text-in-Watch-2 in (
       subst (λ (r : Request). OfEach r P) (sym c.in-Watch.is)
-          (watch_is P c.in-Watch.name c.in-Watch.action c.read_name.result read.result c.read_name.ensures read.ensures.valid read.ensures.same c.watch.ensures.step),
+          (watch_is P c.in-Watch.name c.in-Watch.action c.of_text-in-Watch.result read.result c.of_text-in-Watch.ensures read.ensures.valid read.ensures.same c.watch.ensures.step),
       c.watch.ensures.told,
     )
 
 pub returns-in-Drop-clause-answers : goal.returns-in-Drop-clause-answers
 returns-in-Drop-clause-answers c =
     let P = StepsTo c.args.self.now c.drop_watch.result c.drop_watch.new.self in
-    let read = c.read_action-in-Drop in (
+    let read = c.of_text-in-Drop-2 in (
       subst (λ (r : Request). OfEach r P) (sym c.in-Drop.is)
-          (drop_is P c.in-Drop.name c.in-Drop.action c.read_name-in-Drop.result read.result c.read_name-in-Drop.ensures read.ensures.valid read.ensures.same c.drop_watch.ensures.step),
+          (drop_is P c.in-Drop.name c.in-Drop.action c.of_text-in-Drop.result read.result c.of_text-in-Drop.ensures read.ensures.valid read.ensures.same c.drop_watch.ensures.step),
       c.drop_watch.ensures.told,
     )
 

@@ -1,4 +1,4 @@
-use Rattle.ix_script.specs.Lines.{lines_of}
+use Rattle.ix_lines.specs.TextLines.{lines_of}
 use Rattle.ix_script.proofs.EventLists.{some_events}
 use Rattle.ix_script.proofs.script.Script.read.Goals as goal
 
