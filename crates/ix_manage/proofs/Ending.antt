@@ -1,16 +1,17 @@
 -- How a run ends, by what its parts say.
-use Rattle.std.proofs.Common.{◌≡◌, ℕ, ◌≤◌, List, Option, Result, Ok, Err, IfOk, IfErr, IsErrOf, length, sym, subst}
+use Rattle.std.proofs.Common.{◌≡◌, ℕ, ◌<◌, ◌≤◌, List, [], Option, Result, Ok, Err, IfOk, IfErr, IsErrOf, length, sym, subst}
 use Rattle.ix_expr.specs.Form.{Form}
 use Rattle.ix_parse.specs.Faults.{StandsFor, IsFirstFault}
 use Rattle.ix_outside.specs.Contents.{GivenEvent}
 use Rattle.ix_outside.specs.Files.{Listing, HasFile}
+use Rattle.ix_can.specs.TreeOf.{tree_size}
+use Rattle.ix_manager.specs.Handled.{ManagerState, started}
 use Rattle.ix_script.specs.Events.{HasEvents}
 use Rattle.ix_script.specs.Grammar.{IsFirstScriptFault}
 use Rattle.ix_manage.specs.Command.{trace, replay}
 use Rattle.ix_manage.specs.Ends.{JobEnds, bad_text, bad_actions, large_start, lost_expression, lost_actions, no_memory, traced, bad_script, lost_script, large_replay, replayed}
 use Rattle.ix_manage.specs.inside.Refusal.{refusal_line, refusal_status, RefusesExpression, RefusesActions, RefusesScript, RefusesStart, RefusesText, IsBadScript}
-use Rattle.ix_manage.specs.Replay.{bad_line}
-use Rattle.ix_manage.specs.inside.ReplayProgress.{ScriptEnds, large, memory, played}
+use Rattle.ix_manage.specs.Replay.{ReadsEvents, Replays, bad_line}
 use Rattle.ix_manage.specs.Trace.{within, large_line, ReadsForm, Starts, Traces}
 use Rattle.ix_manage.specs.inside.TracesLines.{TracesLines}
 use Rattle.ix_manage.specs.declared.refusal.Refusal.{Refusal}
@@ -60,9 +61,11 @@ module _ (files : Option Listing) (limit : ℕ) (expression actions : List ℕ) 
   abbrev EndsTrace : ℕ → List ℕ → Type 0
   EndsTrace = JobEnds files (trace limit expression actions)
 
-  pub refused_start : (refusal : Refusal) → RefusesStart files expression limit refusal → EndsTrace (refusal_status refusal) (refusal_line refusal)
+  pub refused_start : (refusal : Refusal) → RefusesStart files expression limit refusal
+      → EndsTrace (refusal_status refusal) (refusal_line refusal)
   refused_start (BadText code at) why = bad_text why
-  refused_start (Large most) why = subst (λ l. EndsTrace 3 (large_line l)) (sym why.0) (large_start why.1)
+  refused_start (Large most) why =
+      subst (λ l. EndsTrace 3 (large_line l)) (sym why.0) (large_start why.1)
   refused_start LostExpression why = lost_expression
   refused_start Memory why = no_memory
   refused_start Words why = absurd why
@@ -72,7 +75,9 @@ module _ (files : Option Listing) (limit : ℕ) (expression actions : List ℕ) 
   refused_start LostScript why = absurd why
   refused_start Turns why = absurd why
 
-  pub refused_actions : (x : Form) → Starts files expression limit x → (refusal : Refusal) → RefusesActions files actions refusal → EndsTrace (refusal_status refusal) (refusal_line refusal)
+  pub refused_actions : (x : Form) → Starts files expression limit x → (refusal : Refusal)
+      → RefusesActions files actions refusal
+      → EndsTrace (refusal_status refusal) (refusal_line refusal)
   refused_actions x starts (BadActions code at) why = bad_actions starts why
   refused_actions x starts LostActions why = lost_actions starts
   refused_actions x starts Memory why = no_memory
@@ -85,10 +90,17 @@ module _ (files : Option Listing) (limit : ℕ) (expression actions : List ℕ) 
   refused_actions x starts Turns why = absurd why
 
   pub trace_ends_run : (x : Form) (most : ℕ) (then : Option Listing) (bytes passed : List ℕ) (status : ℕ) (text : List ℕ) → Starts files expression limit x
-      → most ≡ limit → then ≡ files → HasFile then actions bytes → length bytes ≤ 67108864 → passed ≡ bytes → TracesLines x most passed status text → EndsTrace status text
+      → most ≡ limit → then ≡ files → HasFile then actions bytes → length bytes ≤ 67108864
+      → passed ≡ bytes → TracesLines x most passed status text → EndsTrace status text
   trace_ends_run x most then bytes passed status text starts same_limit same file short is put =
       let read = subst (λ b. TracesLines x most b status text) is put in
-      traced starts (record { bytes = bytes; file = subst (λ f. HasFile f actions bytes) same file; short = short; has = read.has })
+      traced starts (record {
+        bytes =
+            bytes;
+        file = subst (λ f. HasFile f actions bytes) same file;
+        short = short;
+        has = read.has;
+      })
       (subst (λ l. Traces x l read.actions status text) same_limit read.traces)
 
 -- how a replay ends, by what its parts say
@@ -96,7 +108,8 @@ module _ (files : Option Listing) (limit turns : ℕ) (expression script : List 
   abbrev EndsReplay : ℕ → List ℕ → Type 0
   EndsReplay = JobEnds files (replay limit turns expression script)
 
-  pub replay_expression : (refusal : Refusal) → RefusesExpression files expression refusal → EndsReplay (refusal_status refusal) (refusal_line refusal)
+  pub replay_expression : (refusal : Refusal) → RefusesExpression files expression refusal
+      → EndsReplay (refusal_status refusal) (refusal_line refusal)
   replay_expression (BadText code at) why = bad_text why
   replay_expression LostExpression why = lost_expression
   replay_expression Memory why = no_memory
@@ -108,7 +121,9 @@ module _ (files : Option Listing) (limit turns : ℕ) (expression script : List 
   replay_expression LostScript why = absurd why
   replay_expression Turns why = absurd why
 
-  pub replay_refused : (x : Form) → ReadsForm files expression x → (refusal : Refusal) → RefusesScript files script refusal → EndsReplay (refusal_status refusal) (refusal_line refusal)
+  pub replay_refused : (x : Form) → ReadsForm files expression x → (refusal : Refusal)
+      → RefusesScript files script refusal
+      → EndsReplay (refusal_status refusal) (refusal_line refusal)
   replay_refused x reads (BadScript code at) why = bad_script reads why
   replay_refused x reads LostScript why = lost_script reads
   replay_refused x reads Memory why = no_memory
@@ -120,13 +135,29 @@ module _ (files : Option Listing) (limit turns : ℕ) (expression script : List 
   replay_refused x reads LostActions why = absurd why
   replay_refused x reads Turns why = absurd why
 
-  pub replay_ends : (x : Form) → ReadsForm files expression x → (bytes passed : List ℕ) → HasFile files script bytes → length bytes ≤ 67108864 → passed ≡ bytes
-      → (events : List GivenEvent) × HasEvents passed events → {status : ℕ} {text : List ℕ} → ScriptEnds x limit turns passed status text → EndsReplay status text
-  replay_ends x reads bytes passed file short same has (large above) =
-      large_replay (record { bytes = bytes; file = file; short = short; has = subst (λ b. HasEvents b has.0) same has.1 }) (record { form = x; reads = reads; above = above })
-  replay_ends x reads bytes passed file short same has memory = no_memory
-  replay_ends x reads bytes passed file short same has (played small replays) =
-      replayed (record { reads = reads; small = small }) (record { bytes = bytes; file = file; short = short; has = subst (λ b. HasEvents b has.0) same has.1 }) (replays has.0 has.1)
+  pub replay_reads : (bytes passed : List ℕ) → HasFile files script bytes → length bytes ≤ 67108864
+      → passed ≡ bytes → (events : List GivenEvent) → HasEvents passed events
+      → ReadsEvents files script events
+  replay_reads bytes passed file short same events has = record {
+    bytes = bytes;
+    file = file;
+    short = short;
+    has = subst (λ b. HasEvents b events) same has;
+  }
+
+  pub replay_large : (x : Form) → ReadsForm files expression x → {events : List GivenEvent}
+      → ReadsEvents files script events → limit < tree_size x [] → EndsReplay 3 (large_line limit)
+  replay_large x reads events above =
+      large_replay events (record { form = x; reads = reads; above = above })
+
+  pub replay_ends : (x : Form) → ReadsForm files expression x → tree_size x [] ≤ limit
+      → {events : List GivenEvent} → ReadsEvents files script events
+      → (m : ManagerState) → m ≡ started x limit
+      → (status : ℕ) (text : List ℕ) → Replays m.form m.limit turns events status text
+      → EndsReplay status text
+  replay_ends x reads small {events = events} read m fresh status text replays =
+      replayed (record { reads = reads; small = small }) read
+      (subst (λ (s : ManagerState). Replays s.form s.limit turns events status text) fresh replays)
 
 -- a script's fault is one of its file
 pub script_refused : (files : Option Listing) (name bytes passed : List ℕ) → HasFile files name bytes → length bytes ≤ 67108864 → passed ≡ bytes

@@ -2,7 +2,8 @@
 use Rattle.std.proofs.Common.{◌≡◌, ◌<◌, ◌≤◌, List, [], ◌∷◌, length, get_or, arith}
 
 module _ {A : Type 0} where
-  pub two_items : (xs : List A) (a b : A) → 2 ≤ length xs → length xs < 3 → a ≡ get_or xs 0 a → b ≡ get_or xs 1 b → xs ≡ a ∷ b ∷ []
+  pub two_items : (xs : List A) (a b : A) → 2 ≤ length xs → length xs < 3 → a ≡ get_or xs 0 a
+      → b ≡ get_or xs 1 b → xs ≡ a ∷ b ∷ []
   two_items [] a b low high p q = absurd (omega arith)
   two_items (x ∷ []) a b low high p q = absurd (omega arith)
   two_items (x ∷ y ∷ []) a b low high p q = cc

@@ -37,7 +37,8 @@ module _ {words : List (List ℕ)} {a b c : List ℕ} (all : words ≡ a ∷ b �
   pub journal_of : {expression script : List ℕ} → NamesFiles words expression script → b ≡ codes "-"
   journal_of names = ap (λ ws. get_or ws 1 []) (sym all ∙ names.same)
 
-  pub files_named : {expression script : List ℕ} → expression ≡ a → b ≡ codes "-" → script ≡ c → a ≢ codes "--nodes" → a ≢ codes "--turns" → NamesFiles words expression script
+  pub files_named : {expression script : List ℕ} → expression ≡ a → b ≡ codes "-" → script ≡ c
+      → a ≢ codes "--nodes" → a ≢ codes "--turns" → NamesFiles words expression script
   files_named first journal last no_nodes no_turns = record {
     same = all ∙ (λ i. sym first i ∷ journal i ∷ sym last i ∷ []);
     no_nodes = λ h. no_nodes (sym first ∙ h);
@@ -49,43 +50,65 @@ empty_behind [] none = refl
 empty_behind (item ∷ items) none = absurd (omega (arith, none))
 
 -- no words begin with a name
-pub no_first : {A : Type 0} (f : A → List ℕ) (items : List A) {name : List ℕ} → length items ≡ 0 → (rest : List (List ℕ)) → map f items ≢ name ∷ rest
+pub no_first : {A : Type 0} (f : A → List ℕ) (items : List A) {name : List ℕ} → length items ≡ 0
+    → (rest : List (List ℕ)) → map f items ≢ name ∷ rest
 no_first f [] none rest = λ is. let long = ap length is in omega (arith, long)
 no_first f (item ∷ items) none rest = absurd (omega (arith, none))
 
-pub other_first : {words behind : List (List ℕ)} {first name : List ℕ} → words ≡ first ∷ behind → first ≢ name → (rest : List (List ℕ)) → words ≢ name ∷ rest
+pub other_first : {words behind : List (List ℕ)} {first name : List ℕ} → words ≡ first ∷ behind
+    → first ≢ name → (rest : List (List ℕ)) → words ≢ name ∷ rest
 other_first all other rest = λ is. other (ap (λ ws. get_or ws 0 []) (sym all ∙ is))
 
 module _ {name : List ℕ} {usual greatest : ℕ} where
-  pub not_alone : {words rest : List (List ℕ)} {number : ℕ} → TakesOption name usual greatest words number rest → words ≡ name ∷ [] → ⊥
+  pub not_alone : {words rest : List (List ℕ)} {number : ℕ}
+      → TakesOption name usual greatest words number rest → words ≡ name ∷ [] → ⊥
   not_alone (absent none) is = none [] is
   not_alone (present text) is = let long = ap length is in absurd (omega (arith, long))
 
-  pub takes_present : {words rest : List (List ℕ)} {text : List ℕ} {number : ℕ} → words ≡ name ∷ text ∷ rest → IsNumberUpTo greatest text number → TakesOption name usual greatest words number rest
-  takes_present {rest = rest} {number = number} all text = subst (λ ws. TakesOption name usual greatest ws number rest) (sym all) (present text)
+  pub takes_present : {words rest : List (List ℕ)} {text : List ℕ} {number : ℕ}
+      → words ≡ name ∷ text ∷ rest → IsNumberUpTo greatest text number
+      → TakesOption name usual greatest words number rest
+  takes_present {rest = rest} {number = number} all text =
+      subst (λ ws. TakesOption name usual greatest ws number rest) (sym all) (present text)
 
-  pub number_behind : (later : List (List ℕ)) (text : List ℕ) {words rest : List (List ℕ)} {number : ℕ} → TakesOption name usual greatest words number rest → words ≡ name ∷ text ∷ later → IsNumberUpTo greatest text number
+  pub number_behind : (later : List (List ℕ)) (text : List ℕ)
+      {words rest : List (List ℕ)} {number : ℕ} → TakesOption name usual greatest words number rest
+      → words ≡ name ∷ text ∷ later → IsNumberUpTo greatest text number
   number_behind later text (absent none) is = absurd (none (text ∷ later) is)
-  number_behind later text {number = number} (present said) is = subst (λ t. IsNumberUpTo greatest t number) (ap (λ ws. get_or ws 1 []) is) said
+  number_behind later text {number = number} (present said) is =
+      subst (λ t. IsNumberUpTo greatest t number) (ap (λ ws. get_or ws 1 []) is) said
 
-  pub takes_same : greatest < 2 ^ 64 → {words other rest last : List (List ℕ)} {m n : ℕ} → TakesOption name usual greatest words m rest → TakesOption name usual greatest other n last → words ≡ other → rest ≡ last
+  pub takes_same : greatest < 2 ^ 64 → {words other rest last : List (List ℕ)} {m n : ℕ}
+      → TakesOption name usual greatest words m rest
+      → TakesOption name usual greatest other n last → words ≡ other → rest ≡ last
   takes_same small (absent none) (absent nothing) is = is
   takes_same small (absent none) (present {text} {rest} said) is = absurd (none (text ∷ rest) is)
-  takes_same small (present {text} {rest} said) (absent none) is = absurd (none (text ∷ rest) (sym is))
+  takes_same small (present {text} {rest} said) (absent none) is =
+      absurd (none (text ∷ rest) (sym is))
   takes_same small (present said) (present told) is = ap (λ ws. drop 2 ws) is
 
 -- the number of an option lies in its range
-pub number_within : {name : List ℕ} {usual greatest : ℕ} → 1 ≤ usual → usual ≤ greatest → {words rest : List (List ℕ)} {number : ℕ}
+pub number_within : {name : List ℕ} {usual greatest : ℕ} → 1 ≤ usual → usual ≤ greatest
+    → {words rest : List (List ℕ)} {number : ℕ}
     → TakesOption name usual greatest words number rest → (1 ≤ number) × (number ≤ greatest)
 number_within least most (absent none) = (least, most)
 number_within least most (present text) = (text.least, omega (arith, text.reads.fits))
 
 -- the words of a trace
-pub trace_behind : {words behind : List (List ℕ)} → words ≡ codes "trace" ∷ behind → {job : Job} → Names words job
-    → (limit : ℕ) × (expression : List ℕ) × (actions : List ℕ) × TakesOption (codes "--nodes") 100000 1000000 behind limit (expression ∷ actions ∷ [])
+pub trace_behind : {words behind : List (List ℕ)} → words ≡ codes "trace" ∷ behind → {job : Job}
+    → Names words job
+    → (limit : ℕ) × (expression : List ℕ) × (actions : List ℕ)
+    × TakesOption (codes "--nodes") 100000 1000000 behind limit (expression ∷ actions ∷ [])
 trace_behind is (of_trace {limit = limit} {expression = expression} {actions = actions} nodes) =
-    (limit, expression, actions, subst (λ ws. TakesOption (codes "--nodes") 100000 1000000 ws limit (expression ∷ actions ∷ [])) (ap (λ ws. drop 1 ws) is) nodes)
-trace_behind is (of_replay nodes turns files) = let long : 6 ≡ 5 = ap (λ ws. length (get_or ws 0 [])) is in absurd (omega (arith, long))
+    let files = expression ∷ actions ∷ [] in (
+      limit,
+      expression,
+      actions,
+      subst (λ ws. TakesOption (codes "--nodes") 100000 1000000 ws limit files)
+          (ap (λ ws. drop 1 ws) is) nodes,
+    )
+trace_behind is (of_replay nodes turns files) =
+    let long : 6 ≡ 5 = ap (λ ws. length (get_or ws 0 [])) is in absurd (omega (arith, long))
 
 -- the words of a replay, as far as they were read
 pub record BehindReplay (behind : List (List ℕ)) : Type 0 where
@@ -99,19 +122,24 @@ pub record BehindReplay (behind : List (List ℕ)) : Type 0 where
   pub turns_option : TakesOption (codes "--turns") 1000000000 1000000000 later turns last
   pub files : NamesFiles last expression script
 
-pub replay_behind : {words behind : List (List ℕ)} → words ≡ codes "replay" ∷ behind → {job : Job} → Names words job → BehindReplay behind
-replay_behind is (of_trace nodes) = let long : 5 ≡ 6 = ap (λ ws. length (get_or ws 0 [])) is in absurd (omega (arith, long))
-replay_behind is (of_replay {later = later} {last = last} {limit = limit} {turns = turns} {expression = expression} {script = script} nodes turn files) = record {
-  limit = limit;
-  turns = turns;
-  expression = expression;
-  script = script;
-  later = later;
-  last = last;
-  nodes_option = subst (λ ws. TakesOption (codes "--nodes") 100000 1000000 ws limit later) (ap (λ ws. drop 1 ws) is) nodes;
-  turns_option = turn;
-  files = files;
-}
+pub replay_behind : {words behind : List (List ℕ)} → words ≡ codes "replay" ∷ behind
+    → {job : Job} → Names words job → BehindReplay behind
+replay_behind is (of_trace nodes) =
+    let long : 5 ≡ 6 = ap (λ ws. length (get_or ws 0 [])) is in absurd (omega (arith, long))
+replay_behind is (of_replay {later = later} {last = last} {limit = limit} {turns = turns}
+    {expression = expression} {script = script} nodes turn files) = record {
+      limit = limit;
+      turns = turns;
+      expression = expression;
+      script = script;
+      later = later;
+      last = last;
+      nodes_option =
+          subst (λ ws. TakesOption (codes "--nodes") 100000 1000000 ws limit later)
+          (ap (λ ws. drop 1 ws) is) nodes;
+      turns_option = turn;
+      files = files;
+    }
 
 module _ {behind : List (List ℕ)} (read : BehindReplay behind) {later : List (List ℕ)} {number : ℕ}
     (nodes : TakesOption (codes "--nodes") 100000 1000000 behind number later)
@@ -120,20 +148,24 @@ module _ {behind : List (List ℕ)} (read : BehindReplay behind) {later : List (
     later_same = takes_same (omega arith) read.nodes_option nodes refl
 
     pub turns_named : TakesOption (codes "--turns") 1000000000 1000000000 later read.turns read.last
-    turns_named = subst (λ ws. TakesOption (codes "--turns") 1000000000 1000000000 ws read.turns read.last) later_same read.turns_option
+    turns_named =
+        subst (λ ws. TakesOption (codes "--turns") 1000000000 1000000000 ws read.turns read.last)
+        later_same read.turns_option
 
     pub files_named_behind : {last : List (List ℕ)} {count : ℕ}
         → TakesOption (codes "--turns") 1000000000 1000000000 later count last
         → NamesFiles last read.expression read.script
     files_named_behind turns =
-        subst (λ ws. NamesFiles ws read.expression read.script) (takes_same (omega arith) read.turns_option turns later_same) read.files
+        subst (λ ws. NamesFiles ws read.expression read.script)
+        (takes_same (omega arith) read.turns_option turns later_same) read.files
 
 -- the job that was read, by its command
 pub trace_named : {words : List (List ℕ)} {job : ReadJob} {names : TraceWords} → job ≡ Trace names
     → Names words (job_of job) → Names words (trace_of names)
 trace_named {words = words} is named = subst (λ job. Names words (job_of job)) is named
 
-pub replay_named : {words : List (List ℕ)} {job : ReadJob} {names : ReplayWords} → job ≡ Replay names
+pub replay_named : {words : List (List ℕ)} {job : ReadJob} {names : ReplayWords}
+    → job ≡ Replay names
     → Names words (job_of job) → Names words (replay_of names)
 replay_named {words = words} is named = subst (λ job. Names words (job_of job)) is named
 

@@ -8,8 +8,8 @@ pub record IsNumberUpTo (greatest : ℕ) (text : List ℕ) (number : ℕ) : Type
   pub reads : IsNumber (greatest + 1) text number
 
 -- Words that begin with an option of this name and its number, from 1 to the greatest, and what
--- stands behind them. Where the first word isn't this name, the number is the usual one, and nothing
--- is taken.
+-- stands behind them. Where the first word isn't this name, the number is the usual one, and
+-- nothing is taken.
 pub data TakesOption (name : List ℕ) (usual greatest : ℕ)
     : List (List ℕ) → ℕ → List (List ℕ) → Type 0 where
   absent : {words : List (List ℕ)}

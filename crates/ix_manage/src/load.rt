@@ -1,5 +1,5 @@
 //! Loads the files that the words name.
-ghost use Rattle.std.specs.Prelude.{◌≡◌, ◌≤◌, IfOk, IfErr, IsErrOf, length};
+ghost use Rattle.std.specs.Prelude.{◌≡◌, ◌≤◌, List, IfOk, IfErr, IsErrOf, length};
 ghost use Rattle.ix_words.specs.Each.{Each};
 ghost use Rattle.ix_values.specs.Faults.{IsActionText};
 ghost use Rattle.ix_parse.specs.Faults.{StandsFor};
@@ -7,7 +7,9 @@ ghost use Rattle.ix_outside.specs.Counts.{Rose};
 ghost use Rattle.ix_outside.specs.FilesState.{OnlyFaults};
 ghost use Rattle.ix_outside.specs.Files.{HasFile};
 ghost use Rattle.ix_lines.specs.TextLines.{lines_of};
-ghost use Rattle.ix_manage.specs.inside.Refusal.{RefusesActions, RefusesExpression, RefusesScript, RefusesText};
+ghost use Rattle.ix_outside.specs.Contents.{GivenEvent};
+ghost use Rattle.ix_script.specs.Events.{HasEvents};
+ghost use Rattle.ix_manage.specs.inside.Refusal.{IsBadScript, RefusesActions, RefusesExpression, RefusesScript, RefusesText};
 ghost use Rattle.ix_manage.specs.Trace.{ReadsForm};
 
 use crate::actions::{ActionLines, MOST_BYTES as MOST_ACTIONS_BYTES};
@@ -16,6 +18,7 @@ use ix_expr::Expression;
 use ix_lines::first_fault;
 use ix_outside::{Files, LoadFault};
 use ix_parse::TextFault;
+use ix_script::Script;
 use std::alloc::Global;
 
 /// The most bytes of an expression's text.
@@ -88,7 +91,7 @@ pub(crate) fn load_actions<F: Files>(
     }
 }
 
-/// The lines of the script aren't checked yet.
+/// The bytes of a script, whose lines `read_script` checks.
 pub(crate) fn load_script<F: Files>(
     alloc: Global,
     files: &mut F,
@@ -111,5 +114,21 @@ pub(crate) fn load_script<F: Files>(
             at: 67_108_864,
         }),
         Err(LoadFault::Memory) => Err(Refusal::Memory),
+    }
+}
+
+/// The script of bytes that were loaded, each of whose lines is in the grammar.
+pub(crate) fn read_script(bytes: &[u8]) -> Result<Script<'_>, Refusal>
+    ensures same { IfOk result (λ script. script.bytes.now ≡ bytes.now) }
+    ensures events { IfOk result
+        (λ script. (events : List GivenEvent) × HasEvents bytes.now events) }
+    ensures err { IfErr result (IsBadScript bytes.now) }
+{
+    match Script::read(bytes) {
+        Ok(script) => Ok(script),
+        Err(fault) => Err(Refusal::BadScript {
+            code: fault.code,
+            at: fault.at,
+        }),
     }
 }

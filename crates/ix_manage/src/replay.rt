@@ -1,24 +1,19 @@
 //! One replay, up to the last line that a refusal puts.
-ghost use Rattle.std.specs.Prelude.{◌≡◌, ◌≤◌, List, [], IfOk, IfErr};
+ghost use Rattle.std.specs.Prelude.{◌≡◌, ◌≤◌, IfErr};
 ghost use Rattle.ix_outside.specs.Counts.{Rose};
 ghost use Rattle.ix_outside.specs.FilesState.{OnlyFaults};
 ghost use Rattle.ix_outside.specs.SinkState.{OnlyPuts};
 ghost use Rattle.ix_manager.specs.Handled.{started};
-ghost use Rattle.ix_script.specs.Events.{HasEvents};
-ghost use Rattle.ix_outside.specs.Contents.{GivenEvent};
 ghost use Rattle.ix_manage.specs.Ends.{JobEnds};
 ghost use Rattle.ix_manage.specs.inside.Jobs.{replay_of};
 ghost use Rattle.ix_manage.specs.inside.Leaves.{IsNoLoss, Leaves, LostWhere};
-ghost use Rattle.ix_manage.specs.inside.Refusal.{IsBadScript};
-ghost use Rattle.ix_manage.specs.inside.ReplayProgress.{ScriptEnds, TakesTurns};
-ghost use Rattle.ix_can.specs.TreeOf.{tree_size};
+ghost use Rattle.ix_manage.specs.inside.ReplayProgress.{ReplaysScript, TakesTurns};
 
 use crate::job::ReplayWords;
-use crate::load::{load_expression, load_script};
+use crate::load::{load_expression, load_script, read_script};
 use crate::refusal::Refusal;
 use crate::run::Stop;
 use crate::turns::{Turn, take_events};
-use ix_expr::Expression;
 use ix_manager::{Manager, StartFault};
 use ix_outside::{Files, Sink, Site};
 use ix_script::{Script, ScriptSite};
@@ -53,65 +48,21 @@ pub(crate) fn replay<F: Files, S: Site, K: Sink>(
         Ok(bytes) => bytes,
         Err(refusal) => return Err(Stop::Refused(refusal)),
     };
-    match read_script(&bytes) {
-        Ok(script) => run_script(
-            alloc,
-            expression,
-            names.limit,
-            names.turns,
-            script,
-            site,
-            out,
-        ),
-        Err(refusal) => Err(Stop::Refused(refusal)),
-    }
-}
-
-fn read_script(bytes: &[u8]) -> Result<Script<'_>, Refusal>
-    ensures same { IfOk result (λ script. script.bytes.now ≡ bytes.now) }
-    ensures events { IfOk result (λ script. (events : List GivenEvent) × HasEvents bytes.now events) }
-    ensures err { IfErr result (IsBadScript bytes.now) }
-{
-    match Script::read(bytes) {
-        Ok(script) => Ok(script),
-        Err(fault) => Err(Refusal::BadScript {
-            code: fault.code,
-            at: fault.at,
-        }),
-    }
-}
-
-fn run_script<S: Site, K: Sink>(
-    alloc: Global,
-    expression: Expression,
-    limit: usize,
-    turns: usize,
-    script: Script<'_>,
-    site: &mut S,
-    out: &mut K,
-) -> Result<(), Stop>
-    requires least { 1 ≤ limit }
-    requires most { limit ≤ 1000000 }
-    requires turns { turns ≤ 1000000000 }
-
-    ensures leaves { Leaves
-        (ScriptEnds expression limit turns script.entry.bytes.now)
-        (K.state out.old) (K.state out.new) result }
-    ensures lost { IfErr result IsNoLoss }
-
-    ensures site { S.state site.new ≡ S.state site.old }
-    ensures puts { OnlyPuts (K.state out.old) (K.state out.new) }
-{
+    let script = match read_script(&bytes) {
+        Ok(script) => script,
+        Err(refusal) => return Err(Stop::Refused(refusal)),
+    };
+    let limit = names.limit;
     let mut manager = match Manager::start(alloc, site, expression, limit) {
         Ok(manager) => manager,
         Err(StartFault::Large { .. }) => return Err(Stop::Refused(Refusal::Large { limit })),
         Err(StartFault::Memory) => return Err(Stop::Refused(Refusal::Memory)),
     };
-    run_manager(alloc, &mut manager, turns, script, site, out)
+    run_script(alloc, &mut manager, names.turns, script, site, out)
 }
 
 /// Puts `history 0` in front: the manager was just started.
-fn run_manager<S: Site, K: Sink>(
+fn run_script<S: Site, K: Sink>(
     alloc: Global,
     manager: &mut Manager,
     turns: usize,
@@ -121,10 +72,9 @@ fn run_manager<S: Site, K: Sink>(
 ) -> Result<(), Stop>
     requires turns { turns ≤ 1000000000 }
     requires manager { manager.old ≡ started manager.old.form manager.old.limit }
-    requires small { tree_size manager.old.form [] ≤ manager.old.limit }
 
     ensures leaves { Leaves
-        (ScriptEnds manager.old.form manager.old.limit turns script.entry.bytes.now)
+        (ReplaysScript manager.old.form manager.old.limit turns script.entry.bytes.now)
         (K.state out.old) (K.state out.new) result }
     ensures lost { IfErr result IsNoLoss }
 

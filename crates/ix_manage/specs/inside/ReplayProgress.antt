@@ -15,8 +15,6 @@ use Rattle.ix_manager.specs.Wire.{run_text, unmarked}
 use Rattle.ix_script.specs.Events.{HasEvents}
 use Rattle.ix_manage.specs.ActionLines.{line}
 use Rattle.ix_manage.specs.Replay.{AreFirst, IsNoEnd, Replays, history_line}
-use Rattle.ix_can.specs.TreeOf.{tree_size}
-use Rattle.ix_manage.specs.Trace.{large_line}
 use Rattle.ix_manage.specs.declared.turns.Turn.{Turn}
 use Rattle.ix_manage.specs.declared.turns.Turn.TheVariants.{More, Done, Cut}
 
@@ -74,11 +72,3 @@ TakesTurn bytes given old was taken new now Done =
 TakesTurn bytes given old was taken new now Cut =
     (x : Form) (limit : ℕ) (known : Option (List ℕ)) → Stands x limit bytes known given old was
     → (turns : ℕ) → length taken ≤ turns → TakesTurns x limit turns bytes known now Cut
-
--- how a replay of an expression and of these bytes of a script may end
-pub data ScriptEnds (x : Form) (limit turns : ℕ) (bytes : List ℕ) : ℕ → List ℕ → Type 0 where
-  large : limit < tree_size x [] → ScriptEnds x limit turns bytes 3 (large_line limit)
-  memory : ScriptEnds x limit turns bytes 9 (line (codes "refused memory"))
-  played : {status : ℕ} {text : List ℕ}
-      → tree_size x [] ≤ limit → ReplaysScript x limit turns bytes status text
-      → ScriptEnds x limit turns bytes status text
