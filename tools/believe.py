@@ -149,7 +149,7 @@ def named_by_clauses(specs, path, pick=lambda text: [text]):
 
 def laws(text):
     """The public functions with an empty body."""
-    return re.findall(r"(?m)^pub fn \w+[^{;]*\n(?:    (?:ensures|requires).*\n)+(?=\{\}$)", text)
+    return re.findall(r"(?m)^pub fn \w+.*\n(?:(?![{}]).*\n)*?(?=\{\}$)", text)
 
 
 def claims(specs):
