@@ -4,7 +4,7 @@ use Rattle.ix_words.specs.Each.{Each, no_item, item, Member, here, there}
 use Rattle.ix_words.specs.Words.{Gives}
 use Rattle.ix_words.proofs.Each.{Each-left, Each-same, Each-weaker, Each-both, Each-anything}
 use Rattle.ix_words.proofs.Canon.{Member-same}
-use Rattle.ix_words.proofs.Words.{Joined-leads, Repeated-leads, Split-leads, Numbered-leads, Owned-leads, Projected-leads, Joined-front, Repeated-front, Split-closed, Numbered-closed, Owned-closed, Projected-closed, Joined-gives, Repeated-gives, Split-gives, Numbered-gives, Owned-gives, Joined-empty, Repeated-empty, Split-empty, Numbered-empty, Owned-empty, Projected-empty}
+use Rattle.ix_words.proofs.Words.{Joined-leads, Split-leads, Numbered-leads, Owned-leads, Projected-leads, Joined-front, Repeated-front, Split-closed, Numbered-closed, Owned-closed, Projected-closed, Joined-gives, Repeated-gives, Split-gives, Numbered-gives, Owned-gives, Joined-empty, Repeated-empty, Split-empty, Numbered-empty, Owned-empty, Projected-empty}
 use Rattle.ix_words.proofs.Owners.{EachPair-long, Owned-pairs}
 use Rattle.ix_values.specs.Order.{text_eq}
 use Rattle.ix_values.specs.lemmas.Order.{text_eq-decides}
@@ -14,9 +14,10 @@ use Rattle.ix_expr.specs.declared.arg.Arg.TheVariants.{Param}
 use Rattle.ix_expr.specs.Form.{PlainAtom, Form, atom, opt, seq, star, par, par_star, or, and, couple, any, every, sync, all}
 use Rattle.ix_expr.specs.Environment.{Environment, value_in, bind, HaveValues, Matches}
 use Rattle.ix_expr.specs.Meaning.{InAlphabet, IsOneMatch, IsComplete, IsPartial}
-use Rattle.ix_expr.specs.Laws.{AgreeAt, AgreeOn, MeansTheSame, EachAtomNames, IsFresh, WithinTheValues}
+use Rattle.ix_expr.specs.Laws.{AgreeAt, AgreeOn, AtomsAgreeAt, MeansTheSame, EachAtomNames, IsFresh, WithinTheValues}
 use Rattle.ix_expr.proofs.Agreement as Agreement
 use Rattle.ix_expr.proofs.Agreement.{alphabet-leads}
+use Rattle.ix_expr.proofs.AgreeingAtoms.{complete-same, partial-same, atoms-same}
 
 -- the empty word is partial
 pub empty-partial : (x : Form) (e : Environment) → IsPartial x e []
@@ -166,95 +167,31 @@ bound_alike false v u x y k = k
 pub bind-agree : {e f : Environment} (q : List ℕ) (u : Option (List ℕ)) (a : PlainAction) → AgreeAt e f a → AgreeAt (bind q u e) (bind q u f) a
 bind-agree {e} {f} q u a g = record { agree = λ p v m. bound_alike (text_eq q p) v u (value_in e p) (value_in f p) (g.agree p v m) }
 
-abbrev Bound : Environment → Environment → List ℕ → List ℕ → PlainAction → Type 0
-Bound e f p v = AgreeAt (bind p (Some v) e) (bind p (Some v) f)
-
-bound : {e f : Environment} (p v : List ℕ) {w : Word} → AgreeOn e f w → AgreeOn (bind p (Some v) e) (bind p (Some v) f) w
-bound p v g = Each-weaker (bind-agree p (Some v)) g
-
-alphabet_to : (y : Form) {e f : Environment} (a : PlainAction) → AgreeAt e f a → InAlphabet y e a → InAlphabet y f a
-alphabet_to y a g i = alphabet-leads y a (forth g) i
-
-alphabet_from : (y : Form) {e f : Environment} (a : PlainAction) → AgreeAt e f a → InAlphabet y f a → InAlphabet y e a
-alphabet_from y a g i = alphabet-leads y a (back g) i
-
-match_leads : (x : PlainAtom) {e f : Environment} (w : Word) → AgreeOn e f w → IsOneMatch x e w → IsOneMatch x f w
-match_leads x {e} {f} w g h =
-    (h.0, h.1, alphabet-leads (atom x) h.0 (forth (Each-first (Each-same h.1 g))) h.2)
-  where
-    Each-first : {a : PlainAction} {u : Word} → Each (AgreeAt e f) (a ∷ u) → AgreeAt e f a
-    Each-first (item k m) = k
-
-couple_leads : (y z : Form) {e f : Environment} {w : Word} → AgreeOn e f w → Each (λ a. InAlphabet y e a ⊎ InAlphabet z e a) w → Each (λ a. InAlphabet y f a ⊎ InAlphabet z f a) w
-couple_leads y z g h = Each-weaker
-    (λ a k. elim k.1 [ inl i ↦ inl (alphabet_to y a k.0 i) | inr i ↦ inr (alphabet_to z a k.0 i) ])
-    (Each-both g h)
-
-sync_leads : (p : List ℕ) (y : Form) {e f : Environment} {w : Word} → AgreeOn e f w → Each (λ a. (v : List ℕ) × InAlphabet y (bind p (Some v) e) a) w → Each (λ a. (v : List ℕ) × InAlphabet y (bind p (Some v) f) a) w
-sync_leads p y g h = Each-weaker
-    (λ a k. (k.1.0, alphabet_to y a (bind-agree p (Some k.1.0) a k.0) k.1.1))
-    (Each-both g h)
+-- where environments agree, so do the atoms of every expression
+pub agree-atoms : (x : Form) (e f : Environment) (a : PlainAction) → AgreeAt e f a → AtomsAgreeAt x e f a
+agree-atoms (atom x) e f a g = (λ h. alphabet-leads (atom x) a (forth g) h, λ h. alphabet-leads (atom x) a (back g) h)
+agree-atoms (opt y) e f a g = agree-atoms y e f a g
+agree-atoms (seq y z) e f a g = (agree-atoms y e f a g, agree-atoms z e f a g)
+agree-atoms (star y) e f a g = agree-atoms y e f a g
+agree-atoms (par y z) e f a g = (agree-atoms y e f a g, agree-atoms z e f a g)
+agree-atoms (par_star y) e f a g = agree-atoms y e f a g
+agree-atoms (or y z) e f a g = (agree-atoms y e f a g, agree-atoms z e f a g)
+agree-atoms (and y z) e f a g = (agree-atoms y e f a g, agree-atoms z e f a g)
+agree-atoms (couple y z) e f a g = (agree-atoms y e f a g, agree-atoms z e f a g)
+agree-atoms (any p y) e f a g = λ v. agree-atoms y (bind p v e) (bind p v f) a (bind-agree p v a g)
+agree-atoms (every p y) e f a g = λ v. agree-atoms y (bind p v e) (bind p v f) a (bind-agree p v a g)
+agree-atoms (sync p y) e f a g = λ v. agree-atoms y (bind p v e) (bind p v f) a (bind-agree p v a g)
+agree-atoms (all p y) e f a g = λ v. agree-atoms y (bind p v e) (bind p v f) a (bind-agree p v a g)
 
 pub complete-leads : (x : Form) (e f : Environment) (w : Word) → AgreeOn e f w → IsComplete x e w → IsComplete x f w
-complete-leads (atom x) e f w g h = match_leads x w g h
-complete-leads (opt y) e f w g h = elim h [ inl n ↦ inl n | inr c ↦ inr (complete-leads y e f w g c) ]
-complete-leads (seq y z) e f w g h = Joined-leads (complete-leads y e f) (complete-leads z e f) w g h
-complete-leads (star y) e f w g h = Repeated-leads (complete-leads y e f) w g h
-complete-leads (par y z) e f w g h = Split-leads (complete-leads y e f) (complete-leads z e f) w g h
-complete-leads (par_star y) e f w g h = Numbered-leads (complete-leads y e f) w g h
-complete-leads (or y z) e f w g h = elim h [ inl c ↦ inl (complete-leads y e f w g c) | inr c ↦ inr (complete-leads z e f w g c) ]
-complete-leads (and y z) e f w g h = (complete-leads y e f w g h.0, complete-leads z e f w g h.1)
-complete-leads (couple y z) e f w g h = (
-  couple_leads y z g h.0,
-  Projected-leads (alphabet_to y) (alphabet_from y) (complete-leads y e f) w g h.1,
-  Projected-leads (alphabet_to z) (alphabet_from z) (complete-leads z e f) w g h.2,
-)
-complete-leads (any p y) e f w g h = (h.0, complete-leads y (bind p (Some h.0) e) (bind p (Some h.0) f) w (bound p h.0 g) h.1)
-complete-leads (every p y) e f w g h = λ v. complete-leads y (bind p (Some v) e) (bind p (Some v) f) w (bound p v g) (h v)
-complete-leads (sync p y) e f w g h = (
-  sync_leads p y g h.0,
-  λ v. Projected-leads {G = Bound e f p v} (alphabet_to y) (alphabet_from y) (complete-leads y (bind p (Some v) e) (bind p (Some v) f)) w (bound p v g) (h.1 v),
-)
-complete-leads (all p y) e f w g h =
-    Owned-leads (λ v u k c. complete-leads y (bind p (Some v) e) (bind p (Some v) f) u (bound p v k) c) w g h
+complete-leads x e f w g h = complete-same x e f w (Each-weaker (agree-atoms x e f) g) h
 
 pub partial-leads : (x : Form) (e f : Environment) (w : Word) → AgreeOn e f w → IsPartial x e w → IsPartial x f w
-partial-leads (atom x) e f w g h = elim h [ inl n ↦ inl n | inr m ↦ inr (match_leads x w g m) ]
-partial-leads (opt y) e f w g h = partial-leads y e f w g h
-partial-leads (seq y z) e f w g h =
-    elim h [
-      | inl p ↦ inl (partial-leads y e f w g p)
-      | inr j ↦ inr (Joined-leads (complete-leads y e f) (partial-leads z e f) w g j)
-    ]
-partial-leads (star y) e f w g h = Joined-leads (Repeated-leads (complete-leads y e f)) (partial-leads y e f) w g h
-partial-leads (par y z) e f w g h = Split-leads (partial-leads y e f) (partial-leads z e f) w g h
-partial-leads (par_star y) e f w g h = Numbered-leads (partial-leads y e f) w g h
-partial-leads (or y z) e f w g h = elim h [ inl p ↦ inl (partial-leads y e f w g p) | inr p ↦ inr (partial-leads z e f w g p) ]
-partial-leads (and y z) e f w g h = (partial-leads y e f w g h.0, partial-leads z e f w g h.1)
-partial-leads (couple y z) e f w g h = (
-  couple_leads y z g h.0,
-  Projected-leads (alphabet_to y) (alphabet_from y) (partial-leads y e f) w g h.1,
-  Projected-leads (alphabet_to z) (alphabet_from z) (partial-leads z e f) w g h.2,
-)
-partial-leads (any p y) e f w g h = (h.0, partial-leads y (bind p (Some h.0) e) (bind p (Some h.0) f) w (bound p h.0 g) h.1)
-partial-leads (every p y) e f w g h = λ v. partial-leads y (bind p (Some v) e) (bind p (Some v) f) w (bound p v g) (h v)
-partial-leads (sync p y) e f w g h = (
-  sync_leads p y g h.0,
-  λ v. Projected-leads {G = Bound e f p v} (alphabet_to y) (alphabet_from y) (partial-leads y (bind p (Some v) e) (bind p (Some v) f)) w (bound p v g) (h.1 v),
-)
-partial-leads (all p y) e f w g h =
-    Owned-leads (λ v u k c. partial-leads y (bind p (Some v) e) (bind p (Some v) f) u (bound p v k) c) w g h
-
-agree_back : {e f : Environment} {w : Word} → AgreeOn e f w → AgreeOn f e w
-agree_back g = Each-weaker (λ a k. agree-sym k) g
+partial-leads x e f w g h = partial-same x e f w (Each-weaker (agree-atoms x e f) g) h
 
 -- environments that agree on a word mean the same of it
 pub agree-same : (x : Form) (e f : Environment) (w : Word) → AgreeOn e f w → MeansTheSame x e f w
-agree-same x e f w g = record {
-  complete = (complete-leads x e f w g, complete-leads x f e w (agree_back g));
-  partial = (partial-leads x e f w g, partial-leads x f e w (agree_back g));
-  alphabet = Each-weaker (λ a k. (alphabet_to x a k, alphabet_from x a k)) g;
-}
+agree-same x e f w g = atoms-same x e f w (Each-weaker (agree-atoms x e f) g)
 
 -- Owners
 

@@ -1,4 +1,5 @@
 pub mod Agreement
+pub mod AgreeingAtoms
 pub mod Slots
 pub mod Places
 pub mod Walks
@@ -6,3 +7,6 @@ pub mod Parts
 pub mod Emptiness
 pub mod LawsOfMeaning
 pub mod LawsOfNames
+pub mod Mentioned
+pub mod Unseen
+pub mod PairFound

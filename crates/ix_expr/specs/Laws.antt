@@ -1,14 +1,16 @@
 -- Laws of meaning, as statements over the definitions alone.
-use Rattle.std.specs.Prelude.{◌≡◌, ◌≢◌, ◌↔◌, ℕ, List, [], ◌++◌, Some, None}
+use Rattle.std.specs.Prelude.{◌≡◌, ◌≢◌, ◌↔◌, ℕ, List, [], ◌∷◌, ◌++◌, Option, Some, None}
 use Rattle.ix_words.specs.Each.{Each, Member, EachPair}
-use Rattle.ix_words.specs.Parts.{part}
+use Rattle.ix_words.specs.Parts.{part, Projection}
 use Rattle.ix_values.specs.Order.{text_eq}
 use Rattle.ix_values.specs.PlainAction.{PlainAction, Word}
 use Rattle.ix_expr.specs.declared.arg.Arg.TheVariants.{Param}
 use Rattle.ix_expr.specs.Form.{Form, atom, opt, seq, star, par, par_star, or, and, couple, any, every, sync, all}
-use Rattle.ix_expr.specs.Environment.{Environment, value_in, bind}
+use Rattle.ix_expr.specs.Environment.{Environment, value_in, bind, Matches}
 use Rattle.ix_expr.specs.FormFaults.{Fits}
 use Rattle.ix_expr.specs.Meaning.{InAlphabet, IsComplete, IsPartial}
+use Rattle.ix_expr.specs.Mentions.{Mentions}
+use Rattle.ix_expr.specs.Sees.{Sees}
 
 -- at the action the environments agree on which parameter has which of its values
 pub record AgreeAt (e f : Environment) (a : PlainAction) : Type 0 where
@@ -18,11 +20,38 @@ pub record AgreeAt (e f : Environment) (a : PlainAction) : Type 0 where
 abbrev pub AgreeOn : Environment → Environment → Word → Type 0
 AgreeOn e f w = Each (AgreeAt e f) w
 
+-- at the action each atom of the expression matches under both environments or under neither,
+-- whatever value, or outside, the quantifiers around it in the expression give their parameters
+abbrev pub AtomsAgreeAt : Form → Environment → Environment → PlainAction → Type 0
+AtomsAgreeAt (atom x) e f a = Matches x e a ↔ Matches x f a
+AtomsAgreeAt (opt y) e f a = AtomsAgreeAt y e f a
+AtomsAgreeAt (seq y z) e f a = AtomsAgreeAt y e f a × AtomsAgreeAt z e f a
+AtomsAgreeAt (star y) e f a = AtomsAgreeAt y e f a
+AtomsAgreeAt (par y z) e f a = AtomsAgreeAt y e f a × AtomsAgreeAt z e f a
+AtomsAgreeAt (par_star y) e f a = AtomsAgreeAt y e f a
+AtomsAgreeAt (or y z) e f a = AtomsAgreeAt y e f a × AtomsAgreeAt z e f a
+AtomsAgreeAt (and y z) e f a = AtomsAgreeAt y e f a × AtomsAgreeAt z e f a
+AtomsAgreeAt (couple y z) e f a = AtomsAgreeAt y e f a × AtomsAgreeAt z e f a
+AtomsAgreeAt (any p y) e f a = (v : Option (List ℕ)) → AtomsAgreeAt y (bind p v e) (bind p v f) a
+AtomsAgreeAt (every p y) e f a = (v : Option (List ℕ)) → AtomsAgreeAt y (bind p v e) (bind p v f) a
+AtomsAgreeAt (sync p y) e f a = (v : Option (List ℕ)) → AtomsAgreeAt y (bind p v e) (bind p v f) a
+AtomsAgreeAt (all p y) e f a = (v : Option (List ℕ)) → AtomsAgreeAt y (bind p v e) (bind p v f) a
+
+-- the atoms of the expression agree at each action of the word
+abbrev pub AtomsAgreeOn : Form → Environment → Environment → Word → Type 0
+AtomsAgreeOn x e f w = Each (AtomsAgreeAt x e f) w
+
 -- the expression means the same of the word under both environments
 pub record MeansTheSame (x : Form) (e f : Environment) (w : Word) : Type 0 where
   pub complete : IsComplete x e w ↔ IsComplete x f w
   pub partial : IsPartial x e w ↔ IsPartial x f w
   pub alphabet : Each (λ a. InAlphabet x e a ↔ InAlphabet x f a) w
+
+-- at an action whose value v no atom of the expression sees by p, each atom matches with p given v as
+-- with p outside
+abbrev pub UnseenValuesAreOutside : Type 0
+UnseenValuesAreOutside = (x : Form) (e : Environment) (p v : List ℕ) (a : PlainAction) →
+    ¬ Sees x p v a → AtomsAgreeAt x (bind p (Some v) e) (bind p None e) a
 
 -- every atom of the expression names the parameter p: no quantifier in it binds p anew
 abbrev pub EachAtomNames : List ℕ → Form → Type 0
@@ -60,6 +89,12 @@ PartialWordsStayInTheAlphabet = (x : Form) (e : Environment) (w : Word) → IsPa
 abbrev pub AgreeingEnvironmentsMeanTheSame : Type 0
 AgreeingEnvironmentsMeanTheSame = (x : Form) (e f : Environment) (w : Word) → AgreeOn e f w → MeansTheSame x e f w
 
+-- environments under which the atoms of the expression match the same of a word's actions mean the
+-- same of it
+abbrev pub AgreeingAtomsMeanTheSame : Type 0
+AgreeingAtomsMeanTheSame = (x : Form) (e f : Environment) (w : Word) →
+    AtomsAgreeOn x e f w → MeansTheSame x e f w
+
 -- in `all $p y`, where every atom of y names `$p`, an owner whose part is partial is a value of each action that it owns
 abbrev pub OwnersAreValues : Type 0
 OwnersAreValues = (p : List ℕ) (y : Form) (e : Environment) (w : Word) (owners : List (List ℕ)) (v : List ℕ) → EachAtomNames p y →
@@ -95,3 +130,16 @@ pub record WithinTheValues (p : List ℕ) (y : Form) (e : Environment) (w : Word
 -- in `all $p y`, where every atom of y names `$p`, owners among each action's own values suffice
 abbrev pub OwnersAmongTheValues : Type 0
 OwnersAmongTheValues = (p : List ℕ) (y : Form) (e : Environment) (w : Word) → EachAtomNames p y → WithinTheValues p y e w
+
+-- the action doesn't matter to the expression: it isn't in the alphabet, no word that ends with it
+-- is partial, and behind a word it adds nothing to the projection to the alphabet
+pub record DoesNotMatter (x : Form) (e : Environment) (a : PlainAction) : Type 0 where
+  pub alphabet : ¬ InAlphabet x e a
+  pub partial : (w : Word) → ¬ IsPartial x e (w ++ a ∷ [])
+  pub projection : (w u : Word) →
+      Projection (InAlphabet x e) (w ++ a ∷ []) u ↔ Projection (InAlphabet x e) w u
+
+-- an action whose name no atom has doesn't matter, whatever the environment
+abbrev pub UnmentionedNamesDoNotMatter : Type 0
+UnmentionedNamesDoNotMatter = (x : Form) (e : Environment) (a : PlainAction) →
+    ¬ Mentions x a.name → DoesNotMatter x e a

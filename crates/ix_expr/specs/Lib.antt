@@ -3,6 +3,8 @@ pub mod Reserved
 pub mod Spelling
 pub mod Environment
 pub mod Meaning
+pub mod Mentions
+pub mod Sees
 pub mod FormFaults
 pub mod CanonicalText
 pub mod Fitting

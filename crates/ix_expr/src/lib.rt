@@ -11,7 +11,9 @@ mod expression;
 pub mod fitting;
 pub mod laws;
 mod matching;
+mod names;
 mod scope;
+mod seen;
 mod walk;
 
 pub use alphabet::contains;
@@ -22,6 +24,8 @@ pub use env::Env;
 pub use expr::Expr;
 pub use expression::{Expression, FormFault};
 pub use matching::matches;
+pub use names::mentions;
+pub use seen::sees;
 
 #[cfg(test)]
 mod tests;

@@ -82,7 +82,8 @@ fn names_parameter(atom: &Atom, parameter: &Name) -> bool
     atom.args().iter().any(|arg| is_parameter(arg, parameter))
 }
 
-fn is_parameter(arg: &Arg, parameter: &Name) -> bool
+/// Whether the argument is the parameter.
+pub(crate) fn is_parameter(arg: &Arg, parameter: &Name) -> bool
     ensures { result ≡ faults.is_parameter parameter.now arg.now }
 {
     match arg {

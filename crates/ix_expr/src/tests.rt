@@ -24,13 +24,15 @@ fn boxed(alloc: Global, expr: Option<Expr>) -> Result<Box<Expr>, Fail> {
     }
 }
 
-/// One node over the operands on the stack, the first operand uppermost: `a` to `m` are atoms without arguments, `1`, `2`
-/// and `3` are `a($p)`, `a($q)` and `a(p)`, `?` an option, `-` a sequence, `A` to `Z` an `any` and `*` an `all $p`.
+/// One node over the operands on the stack, the first operand uppermost: `a` to `m` are atoms without arguments, `1`, `2`,
+/// `3` and `4` are `a($p)`, `a($q)`, `a(p)` and `a($p,$q)`, `?` an option, `-` a sequence, `A` to `Z` an `any` and `*` an
+/// `all $p`.
 fn node(alloc: Global, symbol: u8, stack: &mut Vec<Expr>) -> Result<Expr, Fail> {
     match symbol {
         b'1' => atom(b"a", &[Arg::Param(name(b"p")?)]),
         b'2' => atom(b"a", &[Arg::Param(name(b"q")?)]),
         b'3' => atom(b"a", &[Arg::Fixed(value(b"p")?)]),
+        b'4' => atom(b"a", &[Arg::Param(name(b"p")?), Arg::Param(name(b"q")?)]),
         b'?' => Ok(Expr::Opt(boxed(alloc, stack.pop())?)),
         b'-' => sequence(alloc, stack),
         b'*' => Ok(Expr::All(name(b"p")?, boxed(alloc, stack.pop())?)),
@@ -58,13 +60,18 @@ fn put(alloc: Global, symbol: u8, stack: &mut Vec<Expr>) -> Result<(), Fail> {
     Ok(())
 }
 
-/// 0 and the number of nodes, or the code and the node of the first form fault, of the expression in prefix notation.
-fn verdict(alloc: Global, text: &[u8]) -> Result<(u8, usize), Fail> {
+/// The expression in prefix notation.
+fn expression(alloc: Global, text: &[u8]) -> Result<Expr, Fail> {
     let mut stack = Vec::new(alloc);
     for symbol in text.iter().rev() {
         put(alloc, *symbol, &mut stack)?;
     }
-    match Expression::new(stack.pop().ok_or("no expression")?) {
+    Ok(stack.pop().ok_or("no expression")?)
+}
+
+/// 0 and the number of nodes, or the code and the node of the first form fault, of the expression in prefix notation.
+fn verdict(alloc: Global, text: &[u8]) -> Result<(u8, usize), Fail> {
+    match Expression::new(expression(alloc, text)?) {
         Ok(expression) => Ok((0, expression.nodes())),
         Err(fault) => Ok((fault.code, fault.node)),
     }
@@ -138,5 +145,71 @@ fn alphabets(rt: HostRuntime) -> Result<(), Fail> {
         )
     );
     assert!(rt; accepts_empty(expression.expr()));
+    Ok(())
+}
+
+/// An expression in prefix notation, a name, and whether one of its atoms has this name: at the
+/// root, on either side, and below options, iterations and quantifiers. Parameters, arguments and
+/// names that only begin alike don't count.
+const MENTIONED: [(&[u8], &[u8], bool); 12] = [
+    (b"a", b"a", true),
+    (b"a", b"b", false),
+    (b"a", b"aa", false),
+    (b"-ab", b"a", true),
+    (b"-ab", b"b", true),
+    (b"-ab", b"c", false),
+    (b"-a-bc", b"c", true),
+    (b"--abc", b"b", true),
+    (b"?*1", b"a", true),
+    (b"?*1", b"p", false),
+    (b"3", b"p", false),
+    (b"P-b?c", b"c", true),
+];
+
+#[test]
+fn mentioned_names(rt: HostRuntime) -> Result<(), Fail> {
+    for (text, sought, is_mentioned) in MENTIONED {
+        let expr = expression(rt.alloc(), text)?;
+        assert_eq!(rt; mentions(&expr, &name(sought)?), is_mentioned);
+    }
+    Ok(())
+}
+
+/// An expression in prefix notation, an action's name and its values, each a byte, a value, and
+/// whether the expression sees this value by `$p`: on either side, below options and quantifiers,
+/// and where the value stands in two places. Another value, parameter, name or number of values
+/// isn't seen, nor is an argument with a value of its own.
+const SEEN: [(&[u8], &[u8], &[u8], &[u8], bool); 14] = [
+    (b"1", b"a", b"v", b"v", true),
+    (b"1", b"a", b"v", b"w", false),
+    (b"1", b"b", b"v", b"v", false),
+    (b"1", b"a", b"vv", b"v", false),
+    (b"2", b"a", b"v", b"v", false),
+    (b"3", b"a", b"p", b"p", false),
+    (b"4", b"a", b"vw", b"v", true),
+    (b"4", b"a", b"vw", b"w", false),
+    (b"4", b"a", b"vv", b"v", true),
+    (b"4", b"a", b"v", b"v", false),
+    (b"-21", b"a", b"v", b"v", true),
+    (b"-12", b"a", b"v", b"v", true),
+    (b"-2?3", b"a", b"v", b"v", false),
+    (b"Q?*1", b"a", b"v", b"v", true),
+];
+
+#[test]
+fn seen_values(rt: HostRuntime) -> Result<(), Fail> {
+    for (text, action, bytes, sought, is_seen) in SEEN {
+        let expr = expression(rt.alloc(), text)?;
+        let mut values = Vec::new(rt.alloc());
+        for byte in bytes {
+            values.push(value(&[*byte])?).map_err(|_| AllocError)?;
+        }
+        assert!(rt; values.len() <= 4);
+        let action = Action::new(name(action)?, values.as_slice());
+        assert_eq!(rt;
+            sees(&expr, &name(b"p")?, &value(sought)?, &action),
+            is_seen
+        );
+    }
     Ok(())
 }
