@@ -16,20 +16,19 @@ use Rattle.ix_values.specs.Order.{text_eq, text_cmp}
 use Rattle.ix_values.specs.lemmas.Order.{text_cmp-same, text_eq-decides}
 use Rattle.ix_entries.specs.inside.Entries.{KeysAscend, item_at}
 use Rattle.ix_tree.specs.Order.{key, first_part}
-use Rattle.ix_tree.specs.Plain.{Plain}
-use Rattle.ix_tree.specs.PlainOf.{plain}
-use Rattle.ix_tree.specs.inside.PlainLists.{plain_entry}
-use Rattle.ix_tree.specs.declared.tree.Tree.{Tree}
+use Rattle.ix_tree.specs.Plain.{Plain, dead, items_of}
+use Rattle.ix_tree.specs.PlainOf.{plain_entry, plain_entries}
+use Rattle.ix_tree.proofs.PlainLists.{items_of-listed}
 use Rattle.ix_can.specs.inside.May.{tree_at}
 use Rattle.ix_can.proofs.Lists.{one_test}
 
 -- where plain entries ascend by their values, so do the entries in memory
-pub keys_ascend : (es : List (List ℕ × Tree)) → Ascending (λ x y. text_cmp (key x) (key y)) (map plain_entry es) → KeysAscend text_cmp es
+pub keys_ascend : (es : List (List ℕ × Plain)) → Ascending (λ x y. text_cmp (key x) (key y)) (map plain_entry es) → KeysAscend text_cmp es
 unfolding IsStrictlySortedBy
 keys_ascend [] h = tt
 keys_ascend (e ∷ es) (below first rest) = (later es first, keys_ascend es rest)
   where
-    later : (fs : List (List ℕ × Tree)) → Each (λ x. text_cmp e.0 (key x) ≡ Less) (map plain_entry fs) → AllByRecursion (λ k. text_cmp e.0 k ≡ Less) (keys_of fs)
+    later : (fs : List (List ℕ × Plain)) → Each (λ x. text_cmp e.0 (key x) ≡ Less) (map plain_entry fs) → AllByRecursion (λ k. text_cmp e.0 k ≡ Less) (keys_of fs)
     later [] h = tt
     later (f ∷ fs) h = (Each-head h, later fs (Each-tail h))
 
@@ -44,14 +43,18 @@ key_test k v = one_test (text_eq k v) (is_at (text_cmp v) k) (
 )
 
 -- the tree of a value is that of its entry, or the common one
-pub tree_of_value : (es : List (List ℕ × Tree)) (common : Tree) (v : List ℕ) → plain (item_at text_cmp es common v) ≡ tree_at v (plain common) (map plain_entry es)
+pub tree_of_value : (es : List (List ℕ × Plain)) (common : Plain) (v : List ℕ) → item_at text_cmp es common v ≡ tree_at v common (map plain_entry es)
 tree_of_value [] common v = refl
 tree_of_value (e ∷ es) common v =
-    here (is_at (text_cmp v) e.0) (tree_of_value es common v) ∙ ap (λ (b : Bool). if b then plain e.1 else tree_at v (plain common) (map plain_entry es)) (sym (key_test e.0 v))
+    here (is_at (text_cmp v) e.0) (tree_of_value es common v) ∙ ap (λ (b : Bool). if b then e.1 else tree_at v common (map plain_entry es)) (sym (key_test e.0 v))
   where
-    here : (b : Bool) → plain (item_at text_cmp es common v) ≡ tree_at v (plain common) (map plain_entry es) → plain (unwrap_or (cond b (Some e.1) (lookup (is_at (text_cmp v)) es)) common) ≡ (if b then plain e.1 else tree_at v (plain common) (map plain_entry es))
+    here : (b : Bool) → item_at text_cmp es common v ≡ tree_at v common (map plain_entry es) → (unwrap_or (cond b (Some e.1) (lookup (is_at (text_cmp v)) es)) common) ≡ (if b then e.1 else tree_at v common (map plain_entry es))
     here true rest = refl
     here false rest = rest
+
+-- so with the entries as a part
+pub state_of_value : (es : List (List ℕ × Plain)) (common : Plain) (v : List ℕ) → item_at text_cmp es common v ≡ tree_at v common (items_of (plain_entries es))
+state_of_value es common v = tree_of_value es common v ∙ ap (tree_at v common) (sym (items_of-listed (map plain_entry es)))
 
 -- what the common tree and each entry's have, the tree of every value has
 pub tree_at_has : (G : Plain → Type 0) (common : Plain) (v : List ℕ) (xs : List Plain) → G common → Each (λ x. G (first_part x)) xs → G (tree_at v common xs)

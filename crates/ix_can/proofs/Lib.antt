@@ -24,9 +24,7 @@ pub mod MayAll
 pub mod MovesAll
 pub mod MovesTell
 pub mod Measures
-pub mod Shapes
 pub mod Children
 pub mod Keys
 pub mod Asking
-pub mod Quantified
 mod Examples

@@ -6,10 +6,12 @@ mod first;
 pub mod laws;
 mod next;
 mod plain_tests;
+mod values;
 
-pub use completion::is_final;
+pub use completion::{completes, is_final};
 pub use first::can_first;
-pub use next::can;
+pub use next::{can, goes_on};
+pub use values::{state_at, state_of};
 
 #[cfg(test)]
 mod tests;

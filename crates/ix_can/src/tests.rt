@@ -1,8 +1,11 @@
 //! Each call on trees that were built by hand, with answers worked out from what they mean.
 
+ghost use Rattle.std.specs.Prelude.{◌≡◌, IfOk};
+ghost use Rattle.ix_tree.specs.Size.{size_of};
+
 use super::*;
 use ix_expr::{Arg, Atom, Env, Expr, Expression};
-use ix_tree::Tree;
+use ix_tree::{Knot, Node, Tree};
 use ix_values::{Action, Name, Value};
 use std::alloc::Global;
 use std::test::Fail;
@@ -11,8 +14,17 @@ fn name(text: &[u8]) -> Result<Name, Fail> {
     Ok(Name::read(text).ok_or("not a name")?)
 }
 
-fn side(done: bool) -> Tree {
-    if done { Tree::Done } else { Tree::Start }
+fn side(alloc: Global, done: bool) -> Result<Knot, Fail>
+    ensures { IfOk result (λ t. size_of t ≡ 1) }
+{
+    let node = if done { Node::Done } else { Node::Start };
+    Ok(Knot::new(alloc, node)?)
+}
+
+/// The tree of `a @ b` where each side has happened or not.
+fn sides(alloc: Global, left: bool, right: bool) -> Result<Knot, Fail> {
+    let first = side(alloc, left)?;
+    Ok(Knot::new(alloc, Node::Couple(first, side(alloc, right)?))?)
 }
 
 /// What `can` and `is_final` answer of `a @ b` where each side has happened or not.
@@ -25,8 +37,7 @@ fn coupled(alloc: Global, left: bool, right: bool, text: &[u8]) -> Result<(bool,
         Ok(expression) => expression,
         Err(_) => return Err("refused".into()),
     };
-    let left_tree = Box::new(alloc, side(left))?;
-    let tree = Tree::Couple(left_tree, Box::new(alloc, side(right))?);
+    let tree = Tree::of(sides(alloc, left, right)?);
     let action = Action::new(name(text)?, &[]);
     let next = can(&tree, expression.expr(), &Env::new(), &action);
     Ok((next, is_final(&tree, expression.expr())))

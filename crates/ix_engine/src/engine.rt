@@ -2,7 +2,6 @@
 
 ghost use Rattle.std.specs.Prelude.{◌≡◌, ◌<◌, ◌≤◌, ◌↔◌, ℕ, [], ◌∷◌, ◌++◌, length, IsTrue, IfOk, OnOk};
 ghost use Rattle.ix_expr.specs.Meaning.{IsComplete};
-ghost use Rattle.ix_tree.specs.PlainOf.{plain};
 ghost use Rattle.ix_tree.specs.Size.{size_of};
 ghost use Rattle.ix_can.specs.TreeOf.{tree_of, tree_size};
 ghost use Rattle.ix_engine.specs.inside.Engine.{Allows, Permits, Follows, extended};
@@ -40,7 +39,6 @@ impl Model for Engine {
 
     ghost use Rattle.std.specs.Prelude.{◌≡◌, ◌≤◌, ◌-◌, [], length};
     ghost use Rattle.std.specs.Vec.{vec_capacity, vec_len};
-    ghost use Rattle.ix_tree.specs.PlainOf.{plain};
     ghost use Rattle.ix_tree.specs.Size.{size_of};
     ghost use Rattle.ix_can.specs.TreeOf.{tree_of};
 
@@ -52,9 +50,9 @@ impl Model for Engine {
     } };
 
     // The tree is that of the history, and both are within their limits.
-    ghost invariant = { λ s. (plain s.tree ≡ tree_of s.expression [] s.history.items)
+    ghost invariant = { λ s. (s.tree ≡ tree_of s.expression [] s.history.items)
         × (length s.history.items ≤ 1000000)
-        × (size_of (plain s.tree) ≤ s.limit)
+        × (size_of s.tree ≤ s.limit)
         × (s.limit ≤ 1000000) };
 }
 
@@ -125,7 +123,7 @@ impl Engine {
     /// the history has 1,000,000 actions, `Over` exactly where the Size of the extended history's
     /// tree is above the limit, and want of memory.
     pub fn prepare(&self, alloc: Global, action: &Action) -> Result<Next, PrepareFault>
-        ensures follows { IfOk result (λ next. Follows self.now next.action (plain next.tree)) }
+        ensures follows { IfOk result (λ next. Follows self.now next.action next.tree) }
         ensures action { IfOk result (λ next. next.action ≡ action.now) }
         ensures permitted { OnOk result (Allows self.now action.now) }
         ensures not_partial { (result ≡ Err PrepareFault.NotPartial)
@@ -168,7 +166,7 @@ impl Engine {
 
     /// Extends the history by a prepared action. Takes no memory.
     pub fn commit(&mut self, next: Next)
-        requires follows { Follows self.old next.action (plain next.tree) }
+        requires follows { Follows self.old next.action next.tree }
         requires spare { 1 ≤ self.old.spare }
         ensures history { self.new.history ≡ extended self.old next.action }
         ensures form { self.new.form ≡ self.old.form }

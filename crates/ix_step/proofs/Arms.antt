@@ -6,8 +6,6 @@ use Rattle.ix_expr.specs.FormFaults.{Fits}
 use Rattle.ix_expr.proofs.Parts.{fits-operands}
 use Rattle.ix_tree.specs.Plain.{Plain, opt as opt_of, seq as seq_of, star as star_of, or as or_of, and as and_of, couple as couple_of}
 use Rattle.ix_tree.specs.Plain.{listed}
-use Rattle.ix_tree.specs.PlainOf.{plain}
-use Rattle.ix_tree.specs.declared.tree.Tree.{Tree}
 use Rattle.ix_tree.proofs.PlainLists.{items_of-listed}
 use Rattle.ix_tree.specs.Size.{size_of}
 use Rattle.ix_words.specs.Each.{Each, no_item, item}
@@ -109,10 +107,10 @@ star_moves y e again us a =
     ap (λ items. node items (when again (live (begun y e a)))) (items_of-listed us) ∙ ap (node us) (again_listed again y e a)
 
 -- the tree at a place of a list is ready
-pub ready_at : (limit : ℕ) (x : Form) (e : Environment) (ts : List Tree) (i : ℕ) (d : Tree) → i < length ts → d ≡ get_or ts i d → Each (Ready limit x e) (map plain ts) → Ready limit x e (plain d)
-ready_at limit x e ts i d lt is h = subst (λ t. Ready limit x e (plain t)) (sym is) (there ts i lt h)
+pub ready_at : (limit : ℕ) (x : Form) (e : Environment) (ts : List Plain) (i : ℕ) (d : Plain) → i < length ts → d ≡ get_or ts i d → Each (Ready limit x e) ts → Ready limit x e d
+ready_at limit x e ts i d lt is h = subst (λ t. Ready limit x e t) (sym is) (there ts i lt h)
   where
-    there : (us : List Tree) (k : ℕ) → k < length us → Each (Ready limit x e) (map plain us) → Ready limit x e (plain (get_or us k d))
+    there : (us : List Plain) (k : ℕ) → k < length us → Each (Ready limit x e) us → Ready limit x e ((get_or us k d))
     there [] k lt h = absurd (omega (arith, lt))
     there (u ∷ us) zero lt h = Each-head h
     there (u ∷ us) (suc k) lt h = there us k (omega (arith, lt)) (Each-tail h)

@@ -1,4 +1,4 @@
--- Entries in memory as plain entries: the tree at a value, and what they hold after a tree is put among them.
+-- Entries in memory as entries: the tree at a value, and what they hold after a tree is put among them.
 use Rattle.std.proofs.Common.{◌≡◌, ◌⊎◌, inl, inr, ℕ, suc, ◌+◌, ◌<◌, ◌≤◌, Bool, true, false, not, cond, List, [], ◌∷◌, ◌++◌, length, take, drop, get_or, map, append-nil, Some, Result, Ok, Err, refl, sym, ap, ◌∙◌, subst, true≢false, arith, Ordering, Less, Equal, Greater, if◌then◌else◌}
 use Rattle.std.specs.BTreeMap.{is_at, insert_entry}
 use Rattle.std.specs.Cmp.{tied_itself}
@@ -17,11 +17,9 @@ use Rattle.ix_values.specs.Order.{text_eq, text_cmp}
 use Rattle.ix_values.specs.lemmas.Order.{text_cmp-same, text_eq-decides}
 use Rattle.ix_entries.specs.inside.Entries.{KeysAscend, IsProper, item_at, with_entry}
 use Rattle.ix_tree.specs.Plain.{Plain, entry, listed, pair}
-use Rattle.ix_tree.specs.PlainOf.{plain}
-use Rattle.ix_tree.specs.inside.PlainLists.{plain_entry, plain_entries}
+use Rattle.ix_tree.specs.PlainOf.{plain_entry, plain_entries}
 use Rattle.ix_tree.specs.Order.{key, first_part, tree_cmp}
 use Rattle.ix_tree.specs.Size.{size_of}
-use Rattle.ix_tree.specs.declared.tree.Tree.{Tree}
 use Rattle.ix_tree.specs.lemmas.TreeOrder.{tree_order}
 use Rattle.ix_can.specs.Nodes.{same_tree}
 use Rattle.ix_can.specs.TreeOf.{entries_of}
@@ -46,24 +44,24 @@ key_at v u =
       λ e. (text_eq-decides v u).1 (sym ((text_eq-decides u v).0 e)),
     )
 
-keys_above : (v : List ℕ) (es : List (List ℕ × Tree)) → Each (λ y. text_cmp v (key y) ≡ Less) (map plain_entry es) → AllByRecursion (λ u. text_cmp v u ≡ Less) (keys_of es)
+keys_above : (v : List ℕ) (es : List (List ℕ × Plain)) → Each (λ y. text_cmp v (key y) ≡ Less) (map plain_entry es) → AllByRecursion (λ u. text_cmp v u ≡ Less) (keys_of es)
 keys_above v [] h = tt
 keys_above v (e ∷ es) h = (Each-head h, keys_above v es (Each-tail h))
 
 -- entries that ascend by their values have keys that ascend strictly
-pub keys_ascend : (es : List (List ℕ × Tree)) → Ascending (λ x y. text_cmp (key x) (key y)) (map plain_entry es) → KeysAscend text_cmp es
+pub keys_ascend : (es : List (List ℕ × Plain)) → Ascending (λ x y. text_cmp (key x) (key y)) (map plain_entry es) → KeysAscend text_cmp es
 unfolding IsStrictlySortedBy
 keys_ascend [] h = tt
 keys_ascend (e ∷ es) (below g h) = (keys_above e.0 es g, keys_ascend es h)
 
--- the plain tree of the item at a value is the tree at that value
-pub tree_at_item : (v : List ℕ) (common : Tree) (es : List (List ℕ × Tree)) → tree_at v (plain common) (map plain_entry es) ≡ plain (item_at text_cmp es common v)
+-- the tree of the item at a value is the tree at that value
+pub tree_at_item : (v : List ℕ) (common : Plain) (es : List (List ℕ × Plain)) → tree_at v common (map plain_entry es) ≡ (item_at text_cmp es common v)
 tree_at_item v common [] = refl
 tree_at_item v common (e ∷ es) =
     chosen (text_eq e.0 v) (tree_at_item v common es)
-    ∙ ap (λ b. plain (unwrap_or (cond b (Some e.1) (lookup (is_at (text_cmp v)) es)) common)) (sym (key_at v e.0))
+    ∙ ap (λ b. (unwrap_or (cond b (Some e.1) (lookup (is_at (text_cmp v)) es)) common)) (sym (key_at v e.0))
   where
-    chosen : (b : Bool) → tree_at v (plain common) (map plain_entry es) ≡ plain (item_at text_cmp es common v) → (if b then plain e.1 else tree_at v (plain common) (map plain_entry es)) ≡ plain (unwrap_or (cond b (Some e.1) (lookup (is_at (text_cmp v)) es)) common)
+    chosen : (b : Bool) → tree_at v common (map plain_entry es) ≡ (item_at text_cmp es common v) → (if b then e.1 else tree_at v common (map plain_entry es)) ≡ (unwrap_or (cond b (Some e.1) (lookup (is_at (text_cmp v)) es)) common)
     chosen true rest = refl
     chosen false rest = rest
 
@@ -74,23 +72,23 @@ abbrev pub IsOf : (List ℕ → Plain) → Plain → Type 0
 IsOf tree x = x ≡ entry (key x) (tree (key x))
 
 -- where each value has one tree, an entry that is inserted is put in its place, once
-insert_is_put : (tree : List ℕ → Plain) (es : List (List ℕ × Tree)) (v : List ℕ) (x : Tree) → Each (IsOf tree) (map plain_entry es) → plain x ≡ tree v → map plain_entry (insert_entry text_cmp es v x) ≡ put_once tree_cmp (entry v (plain x)) (map plain_entry es)
+insert_is_put : (tree : List ℕ → Plain) (es : List (List ℕ × Plain)) (v : List ℕ) (x : Plain) → Each (IsOf tree) (map plain_entry es) → x ≡ tree v → map plain_entry (insert_entry text_cmp es v x) ≡ put_once tree_cmp (entry v x) (map plain_entry es)
 insert_is_put tree [] v x h s = refl
 insert_is_put tree (e ∷ es) v x h s = placed (text_cmp v e.0) refl (insert_is_put tree es v x (Each-tail h) s)
   where
-    placed : (o : Ordering) → text_cmp v e.0 ≡ o → map plain_entry (insert_entry text_cmp es v x) ≡ put_once tree_cmp (entry v (plain x)) (map plain_entry es) →
+    placed : (o : Ordering) → text_cmp v e.0 ≡ o → map plain_entry (insert_entry text_cmp es v x) ≡ put_once tree_cmp (entry v x) (map plain_entry es) →
         map plain_entry (match_ordering o ((v, x) ∷ e ∷ es) ((e.0, x) ∷ es) (e ∷ insert_entry text_cmp es v x))
-        ≡ by_order (ordering_then o (ordering_then (tree_cmp (plain x) (plain e.1)) Equal)) (entry v (plain x) ∷ map plain_entry (e ∷ es)) (map plain_entry (e ∷ es)) (plain_entry e ∷ put_once tree_cmp (entry v (plain x)) (map plain_entry es))
+        ≡ by_order (ordering_then o (ordering_then (tree_cmp x e.1) Equal)) (entry v x ∷ map plain_entry (e ∷ es)) (map plain_entry (e ∷ es)) (plain_entry e ∷ put_once tree_cmp (entry v x) (map plain_entry es))
     placed Less c rest = refl
     placed Greater c rest = ap (λ l. plain_entry e ∷ l) rest
     placed Equal c rest =
-        let same : plain x ≡ plain e.1 = s ∙ ap tree (text_cmp-same v e.0 c) ∙ sym (ap first_part (Each-head h)) in
-        let tied : tree_cmp (plain x) (plain e.1) ≡ Equal = subst (λ z. tree_cmp (plain x) z ≡ Equal) same (tied_itself tree_order.total (plain x)) in
+        let same : x ≡ e.1 = s ∙ ap tree (text_cmp-same v e.0 c) ∙ sym (ap first_part (Each-head h)) in
+        let tied : tree_cmp x e.1 ≡ Equal = subst (λ z. tree_cmp x z ≡ Equal) same (tied_itself tree_order.total x) in
         ap (λ z. entry e.0 z ∷ map plain_entry es) same
-        ∙ sym (ap (λ o. by_order (ordering_then o Equal) (entry v (plain x) ∷ map plain_entry (e ∷ es)) (map plain_entry (e ∷ es)) (plain_entry e ∷ put_once tree_cmp (entry v (plain x)) (map plain_entry es))) tied)
+        ∙ sym (ap (λ o. by_order (ordering_then o Equal) (entry v x ∷ map plain_entry (e ∷ es)) (map plain_entry (e ∷ es)) (plain_entry e ∷ put_once tree_cmp (entry v x) (map plain_entry es))) tied)
 
 -- where the value has no entry, none is removed
-remove_none : (es : List (List ℕ × Tree)) (v : List ℕ) → Each (λ z. text_eq (key z) v ≡ false) (map plain_entry es) → remove_entry (is_at (text_cmp v)) es ≡ es
+remove_none : (es : List (List ℕ × Plain)) (v : List ℕ) → Each (λ z. text_eq (key z) v ≡ false) (map plain_entry es) → remove_entry (is_at (text_cmp v)) es ≡ es
 remove_none [] v h = refl
 remove_none (e ∷ es) v h =
     ap (λ b. cond b es (e ∷ remove_entry (is_at (text_cmp v)) es)) (key_at v e.0 ∙ Each-head h)
@@ -126,17 +124,17 @@ module _ (common : Plain) (tree : List ℕ → Plain) where
       ∙ ap (λ l. put_all (entries_of common tree values ++ l) []) (append-nil (when (not (same_tree (tree v) common)) (entry v (tree v) ∷ [])))
       ∙ put_all-append (entries_of common tree values) (when (not (same_tree (tree v) common)) (entry v (tree v) ∷ [])) []
 
-module _ (eq : Tree → Tree → Bool) (agree : (x y : Tree) → eq x y ≡ same_tree (plain x) (plain y)) where
+module _ (eq : Plain → Plain → Bool) (agree : (x y : Plain) → eq x y ≡ same_tree x y) where
   -- a value's tree that is put among the entries of values
-  pub with_entry_put : (common : Tree) (tree : List ℕ → Plain) (values : List (List ℕ)) (es : List (List ℕ × Tree)) (v : List ℕ) (x : Tree) → map plain_entry es ≡ entries_put (plain common) tree values → plain x ≡ tree v → map plain_entry (with_entry text_cmp eq common es v x) ≡ put_all (when (not (same_tree (tree v) (plain common))) (entry v (tree v) ∷ [])) (map plain_entry es)
-  with_entry_put common tree values es v x held s = by_test (eq x common) (agree x common ∙ ap (λ t. same_tree t (plain common)) s)
+  pub with_entry_put : (common : Plain) (tree : List ℕ → Plain) (values : List (List ℕ)) (es : List (List ℕ × Plain)) (v : List ℕ) (x : Plain) → map plain_entry es ≡ entries_put common tree values → x ≡ tree v → map plain_entry (with_entry text_cmp eq common es v x) ≡ put_all (when (not (same_tree (tree v) common)) (entry v (tree v) ∷ [])) (map plain_entry es)
+  with_entry_put common tree values es v x held s = by_test (eq x common) (agree x common ∙ ap (λ t. same_tree t common) s)
     where
-      by_test : (b : Bool) → b ≡ same_tree (tree v) (plain common) → map plain_entry (cond b (remove_entry (is_at (text_cmp v)) es) (insert_entry text_cmp es v x)) ≡ put_all (when (not (same_tree (tree v) (plain common))) (entry v (tree v) ∷ [])) (map plain_entry es)
+      by_test : (b : Bool) → b ≡ same_tree (tree v) common → map plain_entry (cond b (remove_entry (is_at (text_cmp v)) es) (insert_entry text_cmp es v x)) ≡ put_all (when (not (same_tree (tree v) common)) (entry v (tree v) ∷ [])) (map plain_entry es)
       by_test true e =
-          ap (map plain_entry) (remove_none es v (subst (Each (λ z. text_eq (key z) v ≡ false)) (sym held) (put_others (plain common) tree values v (sym e))))
+          ap (map plain_entry) (remove_none es v (subst (Each (λ z. text_eq (key z) v ≡ false)) (sym held) (put_others common tree values v (sym e))))
           ∙ ap (λ b. put_all (when (not b) (entry v (tree v) ∷ [])) (map plain_entry es)) e
       by_test false e =
-          insert_is_put tree es v x (subst (Each (IsOf tree)) (sym held) (put_are (plain common) tree values)) s
+          insert_is_put tree es v x (subst (Each (IsOf tree)) (sym held) (put_are common tree values)) s
           ∙ ap (λ t. put_once tree_cmp (entry v t) (map plain_entry es)) s
           ∙ ap (λ b. put_all (when (not b) (entry v (tree v) ∷ [])) (map plain_entry es)) e
 
@@ -155,7 +153,7 @@ put_counts y (x ∷ xs) =
     ])
 
 -- what the entries are after one more value: they are more by the entry's Size where they are more
-pub record Entered (common : Plain) (tree : List ℕ → Plain) (values : List (List ℕ)) (old : List (List ℕ × Tree)) (total : ℕ) (new : List (List ℕ × Tree)) (x : Plain) : Type 0 where
+pub record Entered (common : Plain) (tree : List ℕ → Plain) (values : List (List ℕ)) (old : List (List ℕ × Plain)) (total : ℕ) (new : List (List ℕ × Plain)) (x : Plain) : Type 0 where
   pub items : map plain_entry new ≡ entries_put common tree values
   pub grown : length old < length new → total + 1 + size_of x ≡ size_of (plain_entries new)
   pub kept : length new ≤ length old → total ≡ size_of (plain_entries new)
@@ -164,14 +162,14 @@ count_when : (b : Bool) (y : Plain) (xs : List Plain) → (put_all (when b (y �
 count_when true y xs = put_counts y xs
 count_when false y xs = inl refl
 
-module _ (eq : Tree → Tree → Bool) (agree : (x y : Tree) → eq x y ≡ same_tree (plain x) (plain y)) where
-  pub entered : (common : Tree) (tree : List ℕ → Plain) (values : List (List ℕ)) (old : List (List ℕ × Tree)) (total : ℕ) (v : List ℕ) (x : Tree) (new : List (List ℕ × Tree)) → HoldTrees (plain common) tree values old total → plain x ≡ tree v → new ≡ with_entry text_cmp eq common old v x → Entered (plain common) tree (values ++ v ∷ []) old total new (plain x)
+module _ (eq : Plain → Plain → Bool) (agree : (x y : Plain) → eq x y ≡ same_tree x y) where
+  pub entered : (common : Plain) (tree : List ℕ → Plain) (values : List (List ℕ)) (old : List (List ℕ × Plain)) (total : ℕ) (v : List ℕ) (x : Plain) (new : List (List ℕ × Plain)) → HoldTrees common tree values old total → x ≡ tree v → new ≡ with_entry text_cmp eq common old v x → Entered common tree (values ++ v ∷ []) old total new x
   entered common tree values old total v x new held s e =
-      let b : Bool = not (same_tree (tree v) (plain common)) in
-      let put : map plain_entry new ≡ put_all (when (not (same_tree (tree v) (plain common))) (entry v (tree v) ∷ [])) (map plain_entry old) = ap (map plain_entry) e ∙ with_entry_put eq agree common tree values old v x held.items s in
-      let counts = count_when (not (same_tree (tree v) (plain common))) (entry v (tree v)) (map plain_entry old) in
+      let b : Bool = not (same_tree (tree v) common) in
+      let put : map plain_entry new ≡ put_all (when (not (same_tree (tree v) common)) (entry v (tree v) ∷ [])) (map plain_entry old) = ap (map plain_entry) e ∙ with_entry_put eq agree common tree values old v x held.items s in
+      let counts = count_when (not (same_tree (tree v) common)) (entry v (tree v)) (map plain_entry old) in
       record {
-        items = put ∙ ap (put_all (when (not (same_tree (tree v) (plain common))) (entry v (tree v) ∷ []))) held.items ∙ sym (put_next (plain common) tree values v);
+        items = put ∙ ap (put_all (when (not (same_tree (tree v) common)) (entry v (tree v) ∷ []))) held.items ∙ sym (put_next common tree values v);
         grown = λ lt. elim counts [
           | inl h ↦ let k : length (map plain_entry new) ≡ length (map plain_entry old) = ap length (put ∙ h) in absurd (omega (arith, k, length-map new plain_entry, length-map old plain_entry))
           | inr h ↦
@@ -212,7 +210,7 @@ fault_of_some limit common tree us vs fault h =
         (put_all_grows (entries_of common tree vs) (put_all (entries_of common tree us) []))
 
 -- what the count tells of the entries
-pub entered_counts : {common : Plain} {tree : List ℕ → Plain} {values : List (List ℕ)} {old new : List (List ℕ × Tree)} {total : ℕ} {x : Plain} (limit size : ℕ) → Entered common tree values old total new x → size ≡ size_of x → total ≤ limit → (b : Bool) → (b ≡ true → length old < length new) → (b ≡ false → length new ≤ length old) → (r : Result ℕ BuildFault) → Counts limit total (1 + size) b r → EnterTrees limit common tree values new r
+pub entered_counts : {common : Plain} {tree : List ℕ → Plain} {values : List (List ℕ)} {old new : List (List ℕ × Plain)} {total : ℕ} {x : Plain} (limit size : ℕ) → Entered common tree values old total new x → size ≡ size_of x → total ≤ limit → (b : Bool) → (b ≡ true → length old < length new) → (b ≡ false → length new ≤ length old) → (r : Result ℕ BuildFault) → Counts limit total (1 + size) b r → EnterTrees limit common tree values new r
 entered_counts limit size d s w false more less (Ok now) h =
     (record { items = d.items; counted = h ∙ d.kept (less refl) }, omega (arith, h))
 entered_counts limit size d s w false more less (Err fault) h = absurd h
@@ -227,24 +225,24 @@ entered_counts limit size d s w true more less (Err Memory) h = absurd h
 
 -- Nothing is put yet
 
-pub nothing_proper : (eq : Tree → Tree → Bool) (common : Tree) (es : List (List ℕ × Tree)) → es ≡ [] → IsProper text_cmp eq common es
+pub nothing_proper : (eq : Plain → Plain → Bool) (common : Plain) (es : List (List ℕ × Plain)) → es ≡ [] → IsProper text_cmp eq common es
 unfolding IsStrictlySortedBy
 nothing_proper eq common es e = subst (IsProper text_cmp eq common) (sym e) (record { ascending = tt; differing = λ k d lt. absurd (omega arith) })
 
-pub nothing_held : (common : Plain) (tree : List ℕ → Plain) (es : List (List ℕ × Tree)) → es ≡ [] → HoldTrees common tree [] es 0
+pub nothing_held : (common : Plain) (tree : List ℕ → Plain) (es : List (List ℕ × Plain)) → es ≡ [] → HoldTrees common tree [] es 0
 nothing_held common tree es e = subst (λ l. HoldTrees common tree [] l 0) (sym e) (record { items = refl; counted = refl })
 
 -- One value after the other
 
 -- the entries of the values up to the next
-pub after_put : (limit : ℕ) (common : Plain) (tree : List ℕ → Plain) (vs : List (List ℕ)) (i : ℕ) (v : List ℕ) (new : List (List ℕ × Tree)) (r : Result ℕ BuildFault) (sum : ℕ) → i < length vs → v ≡ get_or vs i v → EnterTrees limit common tree (take i vs ++ v ∷ []) new r → r ≡ Ok sum → HoldTrees common tree (take (i + 1) vs) new sum × (sum ≤ limit)
+pub after_put : (limit : ℕ) (common : Plain) (tree : List ℕ → Plain) (vs : List (List ℕ)) (i : ℕ) (v : List ℕ) (new : List (List ℕ × Plain)) (r : Result ℕ BuildFault) (sum : ℕ) → i < length vs → v ≡ get_or vs i v → EnterTrees limit common tree (take i vs ++ v ∷ []) new r → r ≡ Ok sum → HoldTrees common tree (take (i + 1) vs) new sum × (sum ≤ limit)
 after_put limit common tree vs i v new r sum lt same h e =
     subst (λ us. HoldTrees common tree us new sum × (sum ≤ limit))
     (ap (λ u. take i vs ++ u ∷ []) same ∙ sym (take_more vs i v lt))
     (subst (EnterTrees limit common tree (take i vs ++ v ∷ []) new) e h)
 
 -- a fault met at the next value
-pub fault_at : (limit : ℕ) (common : Plain) (tree : List ℕ → Plain) (vs : List (List ℕ)) (i : ℕ) (v : List ℕ) (new : List (List ℕ × Tree)) (r : Result ℕ BuildFault) (fault : BuildFault) → i < length vs → v ≡ get_or vs i v → EnterTrees limit common tree (take i vs ++ v ∷ []) new r → r ≡ Err fault → IsAbove limit (pair common (listed (entries_put common tree vs))) fault
+pub fault_at : (limit : ℕ) (common : Plain) (tree : List ℕ → Plain) (vs : List (List ℕ)) (i : ℕ) (v : List ℕ) (new : List (List ℕ × Plain)) (r : Result ℕ BuildFault) (fault : BuildFault) → i < length vs → v ≡ get_or vs i v → EnterTrees limit common tree (take i vs ++ v ∷ []) new r → r ≡ Err fault → IsAbove limit (pair common (listed (entries_put common tree vs))) fault
 fault_at limit common tree vs i v new r fault lt same h e =
     let us : take i vs ++ v ∷ [] ≡ take (i + 1) vs = ap (λ u. take i vs ++ u ∷ []) same ∙ sym (take_more vs i v lt) in
     subst (λ l. IsAbove limit (pair common (listed (entries_put common tree l))) fault) (take-append-drop (i + 1) vs)

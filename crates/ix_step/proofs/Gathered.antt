@@ -1,8 +1,9 @@
 -- Lists into which trees are put one by one: what they hold at last, and that they only grow.
-use Rattle.std.proofs.Common.{◌||◌, inl, inr, not, ◌≡◌, ℕ, ◌<◌, ◌≤◌, ◌+◌, Bool, true, false, List, [], ◌∷◌, ◌++◌, map, flat_map, drop, get_or, length, add-one, drop-cons, Result, Ok, Err, refl, sym, ap, ◌∙◌, subst, arith, append_assoc, append-nil, Ordering, Equal}
+use Rattle.std.proofs.Common.{◌||◌, inl, inr, not, ◌≡◌, ℕ, ◌<◌, ◌≤◌, ◌+◌, Bool, true, false, List, [], ◌∷◌, ◌++◌, map, flat_map, drop, get_or, length, add-one, drop-cons, Result, Ok, Err, refl, sym, ap, ◌∙◌, subst, arith, append_assoc, append-nil, map-id, Ordering, Equal}
 use Rattle.ix_words.specs.Each.{Member, here, there}
 use Rattle.ix_words.specs.Canon.{put_once, canon}
-use Rattle.std.specs.List.{list_any}
+use Rattle.std.specs.List.{list_any, sum_by}
+use Rattle.ix_tree.proofs.PlainLists.{size_of-listed}
 use Rattle.std.proofs.lemmas.List.{drop_all}
 use Rattle.ix_words.specs.Canon.{when}
 use Rattle.ix_words.proofs.Canon.{Member-cases, canon-end, canon-members, by_order-has}
@@ -15,8 +16,6 @@ use Rattle.ix_alts.specs.inside.Alternatives.{Alternatives, HasItem}
 use Rattle.ix_tree.specs.Plain.{Plain, listed}
 use Rattle.ix_tree.specs.Order.{tree_cmp}
 use Rattle.ix_tree.specs.Size.{size_of}
-use Rattle.ix_tree.specs.PlainOf.{plain}
-use Rattle.ix_tree.specs.declared.tree.Tree.{Tree}
 use Rattle.ix_tree.specs.lemmas.TreeOrder.{tree_order, tree_cmp-same}
 use Rattle.ix_step.specs.inside.Builds.{IsAbove, put_all, Gathers, Puts}
 use Rattle.ix_step.specs.declared.fault.BuildFault.{BuildFault}
@@ -127,6 +126,24 @@ module _ {T : Type 0} (h : T → Plain) (f : Plain → List Plain) (ts : List T)
       subst (λ l. IsAbove limit (listed l) fault) (ap (λ l. put_all l s) (sym (rest_is lt)) ∙ e)
       (fault_before limit (f (h (get_or ts i d))) (flat_map f (map h (drop (i + 1) ts))) s fault g)
 
+-- so with trees
+module _ (f : Plain → List Plain) (ts : List Plain) (i : ℕ) (d : Plain) where
+  trees_is : i < length ts → flat_map f (drop i ts) ≡ f (get_or ts i d) ++ flat_map f (drop (i + 1) ts)
+  trees_is lt =
+      let cut : drop i ts ≡ get_or ts i d ∷ drop (i + 1) ts = rw (add-one, drop-cons ts i d) refl in
+      ap (flat_map f) cut
+
+  pub next_tree : (s new total : List Plain) → i < length ts → put_all (flat_map f (drop i ts)) s ≡ total → new ≡ put_all (f (get_or ts i d)) s → put_all (flat_map f (drop (i + 1) ts)) new ≡ total
+  next_tree s new total lt e g =
+      ap (put_all (flat_map f (drop (i + 1) ts))) g
+      ∙ sym (put_all-append (f (get_or ts i d)) (flat_map f (drop (i + 1) ts)) s)
+      ∙ ap (λ l. put_all l s) (sym (trees_is lt)) ∙ e
+
+  pub fault_tree : (limit : ℕ) (s total : List Plain) (fault : BuildFault) → i < length ts → put_all (flat_map f (drop i ts)) s ≡ total → IsAbove limit (listed (put_all (f (get_or ts i d)) s)) fault → IsAbove limit (listed total) fault
+  fault_tree limit s total fault lt e g =
+      subst (λ l. IsAbove limit (listed l) fault) (ap (λ l. put_all l s) (sym (trees_is lt)) ∙ e)
+      (fault_before limit (f (get_or ts i d)) (flat_map f (drop (i + 1) ts)) s fault g)
+
 -- Faults of trees that may be dead
 
 absent : (limit : ℕ) (fault : BuildFault) (y : Plain) → 1 ≤ limit → IsAbove limit dead fault → IsAbove limit y fault
@@ -160,21 +177,32 @@ any_of_set test us = any_same test (canon tree_cmp us) us (canon-members tree_or
 
 -- Tests of the trees of a list, one by one
 
-module _ (test : Plain → Bool) (ts : List Tree) (i : ℕ) where
-  one_more : (d : Tree) → i < length ts → d ≡ get_or ts i d → list_any test (map plain (drop i ts)) ≡ (test (plain d) || list_any test (map plain (drop (i + 1) ts)))
+module _ (test : Plain → Bool) (ts : List Plain) (i : ℕ) where
+  one_more : (d : Plain) → i < length ts → d ≡ get_or ts i d → list_any test ((drop i ts)) ≡ (test d || list_any test ((drop (i + 1) ts)))
   one_more d lt is =
       let cut : drop i ts ≡ get_or ts i d ∷ drop (i + 1) ts = rw (add-one, drop-cons ts i d) refl in
-      ap (λ l. list_any test (map plain l)) cut ∙ ap (λ t. test (plain t) || list_any test (map plain (drop (i + 1) ts))) (sym is)
+      ap (λ l. list_any test l) cut ∙ ap (λ t. test t || list_any test ((drop (i + 1) ts))) (sym is)
 
-  pub any_found : (d : Tree) → i < length ts → d ≡ get_or ts i d → test (plain d) ≡ true → true ≡ list_any test (map plain (drop i ts))
-  any_found d lt is e = sym (one_more d lt is ∙ ap (λ b. b || list_any test (map plain (drop (i + 1) ts))) e)
+  pub any_found : (d : Plain) → i < length ts → d ≡ get_or ts i d → test d ≡ true → true ≡ list_any test ((drop i ts))
+  any_found d lt is e = sym (one_more d lt is ∙ ap (λ b. b || list_any test ((drop (i + 1) ts))) e)
 
-  pub any_passed : (d : Tree) → i < length ts → d ≡ get_or ts i d → test (plain d) ≡ false → list_any test (map plain (drop (i + 1) ts)) ≡ list_any test (map plain (drop i ts))
-  any_passed d lt is e = sym (one_more d lt is ∙ ap (λ b. b || list_any test (map plain (drop (i + 1) ts))) e)
+  pub any_passed : (d : Plain) → i < length ts → d ≡ get_or ts i d → test d ≡ false → list_any test ((drop (i + 1) ts)) ≡ list_any test ((drop i ts))
+  any_passed d lt is e = sym (one_more d lt is ∙ ap (λ b. b || list_any test ((drop (i + 1) ts))) e)
 
-  pub any_none : length ts ≤ i → false ≡ list_any test (map plain (drop i ts))
-  any_none le = ap (λ l. list_any test (map plain l)) (sym (drop_all i ts le))
+  pub any_none : length ts ≤ i → false ≡ list_any test ((drop i ts))
+  any_none le = ap (λ l. list_any test l) (sym (drop_all i ts le))
 
   -- where no tree is left, nothing more is put
-  pub gather_end : (f : Plain → List Plain) (s total : List Plain) → length ts ≤ i → put_all (flat_map f (map plain (drop i ts))) s ≡ total → s ≡ total
-  gather_end f s total le e = ap (λ l. put_all (flat_map f (map plain l)) s) (sym (drop_all i ts le)) ∙ e
+  pub gather_end : (f : Plain → List Plain) (s total : List Plain) → length ts ≤ i → put_all (flat_map f ((drop i ts))) s ≡ total → s ≡ total
+  gather_end f s total le e = ap (λ l. put_all (flat_map f l) s) (sym (drop_all i ts le)) ∙ e
+
+-- a tree put into a set of trees
+pub gathers_tree : (set : Alternatives Plain) (new : List Plain) (item : Plain) (r : Result (Unit {0}) BuildFault) → Puts tree_cmp size_of set new item r → Gathers set.budget (item ∷ []) set.items new r
+gathers_tree set new item r h =
+    subst (λ l. Gathers set.budget (item ∷ []) l new r) (map-id set.items)
+    (subst (λ l. Gathers set.budget (item ∷ []) (map (λ x. x) set.items) l r) (map-id new)
+    (gathers_put (λ x. x) tree_cmp (λ x y. refl) set new item r h))
+
+-- what trees weigh together is the Size of their list
+pub tree_weights : (xs : List Plain) → sum_by size_of xs ≡ size_of (listed xs)
+tree_weights xs = sym (size_of-listed xs)

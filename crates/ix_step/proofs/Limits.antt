@@ -1,14 +1,10 @@
 -- What is built within a limit: faults of parts are faults of the whole, and the arms of the moved tree.
-use Rattle.std.specs.declared.boxed.Box.{Box}
 use Rattle.std.proofs.Common.{MatchResult, Global, IsTrue, ◌↔◌, ◌≡◌, ℕ, ◌≤◌, Bool, true, false, not, Result, Ok, Err, refl, sym, ap, ◌∙◌, subst, true≢false, arith}
 use Rattle.ix_values.specs.PlainAction.{PlainAction}
 use Rattle.ix_expr.specs.Form.{Form}
 use Rattle.ix_expr.specs.Environment.{Environment}
 use Rattle.ix_tree.specs.Plain.{Plain, dead, done}
-use Rattle.ix_tree.specs.PlainOf.{plain}
-use Rattle.ix_tree.specs.lemmas.PlainParts.{plain-Dead, plain-Done}
 use Rattle.ix_tree.specs.Size.{size_of}
-use Rattle.ix_tree.specs.declared.tree.Tree.{Tree, Dead, Done}
 use Rattle.ix_can.specs.Nodes.{is_dead, dead_if}
 use Rattle.ix_can.specs.inside.May.{may}
 use Rattle.ix_can.specs.inside.Moved.{moved}
@@ -18,7 +14,7 @@ use Rattle.ix_can.proofs.Lists.{one_test, iff_trans, iff_sym}
 use Rattle.ix_can.proofs.Testing.{alphabet_says}
 use Rattle.ix_can.proofs.Nodes.{dead_is}
 use Rattle.ix_can.proofs.MovesShared.{moved_live}
-use Rattle.ix_step.specs.inside.Builds.{Builds, BuildsBox, IsAbove, IsSmall, IsSmallBox}
+use Rattle.ix_step.specs.inside.Builds.{Builds, IsAbove, IsSmall}
 use Rattle.ix_step.specs.declared.fault.BuildFault.{BuildFault}
 use Rattle.ix_step.specs.declared.fault.BuildFault.TheVariants.{Over, Memory}
 
@@ -26,10 +22,6 @@ use Rattle.ix_step.specs.declared.fault.BuildFault.TheVariants.{Over, Memory}
 pub above_grows : (limit : ℕ) (x y : Plain) (fault : BuildFault) → size_of x ≤ size_of y → IsAbove limit x fault → IsAbove limit y fault
 above_grows limit x y (Over told) le h = (h.0, omega (arith, h.1))
 above_grows limit x y Memory le h = tt
-
--- the dead tree is built
-pub builds_dead : (limit : ℕ) (x : Plain) → x ≡ dead → 1 ≤ limit → Builds limit x (Ok Dead)
-builds_dead limit x e le = subst (λ y. Builds limit y (Ok Dead)) (sym e) (plain-Dead, le)
 
 -- where the action may not come next the moved tree is dead
 pub moved_is_dead : (x : Form) (e : Environment) (t : Plain) (a : PlainAction) → may x e t a ≡ false → moved x e t a ≡ dead
@@ -40,16 +32,12 @@ moved_is_dead x e t a h = dead_is (moved x e t a) (dead_here (is_dead (moved x e
     dead_here false h = absurd (true≢false h)
 
 -- where the action may come next, what is built as the moved node is built as the moved tree
-pub builds_arm : (limit : ℕ) (x : Form) (e : Environment) (a : PlainAction) (p q s : Plain) (r : Result Tree BuildFault) → p ≡ q → moved x e q a ≡ dead_if (not (may x e q a)) s → may x e p a ≡ true → Builds limit s r → Builds limit (moved x e p a) r
+pub builds_arm : (limit : ℕ) (x : Form) (e : Environment) (a : PlainAction) (p q s : Plain) (r : Result Plain BuildFault) → p ≡ q → moved x e q a ≡ dead_if (not (may x e q a)) s → may x e p a ≡ true → Builds limit s r → Builds limit (moved x e p a) r
 builds_arm limit x e a p q s r same m h b =
     subst (λ y. Builds limit y r) (sym (ap (λ t. moved x e t a) same ∙ m ∙ ap (λ c. dead_if (not c) s) (sym (ap (λ t. may x e t a) same) ∙ h))) b
 
--- the done tree is built
-pub builds_done : (limit : ℕ) (x : Plain) → x ≡ done → 1 ≤ limit → Builds limit x (Ok Done)
-builds_done limit x e le = subst (λ y. Builds limit y (Ok Done)) (sym e) (plain-Done, le)
-
 -- what was built within the limit is small
-pub small_built : (limit : ℕ) (x : Plain) (r : Result Tree BuildFault) → limit ≤ 1000000 → Builds limit x r → IsSmall r
+pub small_built : (limit : ℕ) (x : Plain) (r : Result Plain BuildFault) → limit ≤ 1000000 → Builds limit x r → IsSmall r
 small_built limit x (Ok tree) le h = omega (arith, ap size_of h.0, h.1)
 small_built limit x (Err fault) le h = tt
 
@@ -59,16 +47,6 @@ same_alphabet b x e a h = one_test b (in_alphabet x e a) (iff_trans h (iff_sym (
 
 -- Nodes of two
 
--- what was built as a node is built as its plain tree
-pub builds_node : (limit : ℕ) (p q : Plain) (r : Result Tree BuildFault) → p ≡ q → Builds limit p r → Builds limit q r
+-- what was built as a node is built as its tree
+pub builds_node : (limit : ℕ) (p q : Plain) (r : Result Plain BuildFault) → p ≡ q → Builds limit p r → Builds limit q r
 builds_node limit p q r e h = subst (λ x. Builds limit x r) e h
-
--- a tree that was small is small in its box
-pub box_small : (t : Tree) (r : Result (Box Tree Global) BuildFault) → MatchResult r (λ b. plain b.value ≡ plain t) (λ f. f ≡ Memory) → size_of (plain t) ≤ 1000000 → IsSmallBox r
-box_small t (Ok b) h le = omega (arith, ap size_of h, le)
-box_small t (Err fault) h le = tt
-
--- a tree that was built is built in its box
-pub box_built : (limit : ℕ) (x : Plain) (t : Tree) (r : Result (Box Tree Global) BuildFault) → MatchResult r (λ b. plain b.value ≡ plain t) (λ f. f ≡ Memory) → Builds limit x (Ok t) → BuildsBox limit x r
-box_built limit x t (Ok b) h g = (h ∙ g.0, g.1)
-box_built limit x t (Err fault) h g = subst (IsAbove limit x) (sym h) tt

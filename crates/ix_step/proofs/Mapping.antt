@@ -13,14 +13,11 @@ use Rattle.ix_expr.specs.Form.{Form, all}
 use Rattle.ix_expr.specs.Environment.{Environment, bind}
 use Rattle.ix_expr.proofs.Parts.{fits-operands}
 use Rattle.ix_tree.specs.Plain.{Plain, dead, entry, listed, items_of, is_dead, all as all_of, map as map_of}
-use Rattle.ix_tree.specs.PlainOf.{plain, plain_map}
-use Rattle.ix_tree.specs.inside.PlainLists.{plain_entry, plain_entries}
-use Rattle.ix_tree.specs.lemmas.PlainParts.{plain-Dead, plain-Map}
+use Rattle.ix_tree.specs.PlainOf.{plain_map, plain_entry, plain_entries}
 use Rattle.ix_tree.specs.Order.{key, first_part, tree_cmp}
 use Rattle.ix_tree.specs.Size.{size_of}
-use Rattle.ix_tree.specs.declared.tree.Tree.{Tree, Dead}
-use Rattle.ix_tree.specs.declared.tree.Map.{Map}
-use Rattle.ix_tree.specs.contracts.tree.TreePartialEq.TheImpl.{ghosts as tree_ghosts}
+use Rattle.ix_tree.specs.declared.node.Map.{Map}
+use Rattle.ix_tree.specs.contracts.order.KnotPartialEq.TheImpl.{ghosts as tree_ghosts}
 use Rattle.ix_tree.proofs.PlainLists.{items_of-listed}
 use Rattle.ix_can.specs.Nodes.{same_tree, set_of, dead_if}
 use Rattle.ix_can.specs.Laws.{IsProper, ProperEntries}
@@ -52,31 +49,31 @@ member_size m (x ∷ ms) k = elim (Member-cases k) [
 -- The entries of a map
 
 pub map_items : (m : Map) → items_of (first_part (plain_map m)) ≡ map plain_entry m.entries.items
-map_items m = ap (λ z. items_of (first_part z)) (plain-Map m) ∙ items_of-listed (map plain_entry m.entries.items)
+map_items m = items_of-listed (map plain_entry m.entries.items)
 
 -- no entry has the initial tree
-differing : (initial : Tree) (es : List (List ℕ × Tree)) → Each (λ x. ¬ (first_part x ≡ plain initial)) (map plain_entry es) → All (λ x. tree_ghosts.eq x initial ≡ false) (values_of es)
+differing : (initial : Plain) (es : List (List ℕ × Plain)) → Each (λ x. ¬ (first_part x ≡ initial)) (map plain_entry es) → All (λ x. tree_ghosts.eq x initial ≡ false) (values_of es)
 differing initial [] h k d lt = absurd (omega arith)
-differing initial (e ∷ es) h zero d lt = same_trees e.1 initial ∙ other (same_tree (plain e.1) (plain initial)) refl
+differing initial (e ∷ es) h zero d lt = same_trees e.1 initial ∙ other (same_tree e.1 initial) refl
   where
-    other : (b : Bool) → same_tree (plain e.1) (plain initial) ≡ b → same_tree (plain e.1) (plain initial) ≡ false
+    other : (b : Bool) → same_tree e.1 initial ≡ b → same_tree e.1 initial ≡ false
     other false s = s
-    other true s = absurd (Each-head h (same_is (plain e.1) (plain initial) s))
+    other true s = absurd (Each-head h (same_is e.1 initial s))
 differing initial (e ∷ es) h (suc k) d lt = differing initial es (Each-tail h) k d (omega arith)
 
 -- entries that copy those of a map are proper
-pub copy_proper : {G : Plain → Type 0} (initial : Tree) (copy : List (List ℕ × Tree)) (xs : List Plain) → map plain_entry copy ≡ xs → ProperEntries G (plain initial) xs → IsProperList text_cmp tree_ghosts.eq initial copy
+pub copy_proper : {G : Plain → Type 0} (initial : Plain) (copy : List (List ℕ × Plain)) (xs : List Plain) → map plain_entry copy ≡ xs → ProperEntries G initial xs → IsProperList text_cmp tree_ghosts.eq initial copy
 copy_proper initial copy xs e h = record {
   ascending = keys_ascend copy (subst (Ascending (λ x y. text_cmp (key x) (key y))) (sym e) h.ascending);
-  differing = differing initial copy (subst (Each (λ x. ¬ (first_part x ≡ plain initial))) (sym e) h.differ);
+  differing = differing initial copy (subst (Each (λ x. ¬ (first_part x ≡ initial))) (sym e) h.differ);
 }
 
 -- and the map of them with a tree put among them is the map with that tree
-pub copy_with_tree : (initial : Tree) (copy new : List (List ℕ × Tree)) (xs : List Plain) (v : List ℕ) (x : Tree) → map plain_entry copy ≡ xs → Ascending (λ x y. text_cmp (key x) (key y)) xs → new ≡ with_entry text_cmp tree_ghosts.eq initial copy v x → map_of (plain_entries new) ≡ with_tree (plain initial) v (plain x) xs
+pub copy_with_tree : (initial : Plain) (copy new : List (List ℕ × Plain)) (xs : List Plain) (v : List ℕ) (x : Plain) → map plain_entry copy ≡ xs → Ascending (λ x y. text_cmp (key x) (key y)) xs → new ≡ with_entry text_cmp tree_ghosts.eq initial copy v x → map_of (plain_entries new) ≡ with_tree initial v x xs
 copy_with_tree initial copy new xs v x e h n =
     ap (λ l. map_of (plain_entries l)) n
     ∙ ap (λ l. map_of (listed l)) (with_entry_map tree_ghosts.eq same_trees initial copy v x (subst (Ascending (λ y z. text_cmp (key y) (key z))) (sym e) h))
-    ∙ ap (λ l. map_of (set_of (entry_with (plain initial) v (plain x) ++ filter (λ other. not (text_eq (key other) v)) l))) e
+    ∙ ap (λ l. map_of (set_of (entry_with initial v x ++ filter (λ other. not (text_eq (key other) v)) l))) e
 
 -- Sizes
 
@@ -189,14 +186,14 @@ put_no_map limit initial v x xs old u d = ap (λ b. put_all (when (not b) (with_
 pub all_fault : (limit : ℕ) (ms : List Plain) (fault : BuildFault) → IsAbove limit (listed (put_all ms [])) fault → IsAbove limit (all_of (set_of ms)) fault
 all_fault limit ms fault h = above_grows limit (listed (put_all ms [])) (all_of (set_of ms)) fault (let e : size_all (put_all ms []) ≡ size_of (set_of ms) = ap size_all (put_all-nothing ms) in omega arith) h
 
-pub all_gathered : (limit : ℕ) (ms items : List Plain) (r : Result Tree BuildFault) → items ≡ put_all ms [] → Builds limit (all_of (listed items)) r → Builds limit (all_of (set_of ms)) r
+pub all_gathered : (limit : ℕ) (ms items : List Plain) (r : Result Plain BuildFault) → items ≡ put_all ms [] → Builds limit (all_of (listed items)) r → Builds limit (all_of (set_of ms)) r
 all_gathered limit ms items r e b = subst (λ l. Builds limit (all_of (listed l)) r) (e ∙ put_all-nothing ms) b
 
 -- the entries of a map are no larger than it
 pub items_size : (m : Map) → size_all (items_of (first_part (plain_map m))) ≤ size_of (plain_map m)
 items_size m =
     let e : size_all (items_of (first_part (plain_map m))) ≡ size_all (map plain_entry m.entries.items) = ap size_all (map_items m) in
-    let k : size_of (plain_map m) ≡ 1 + size_all (map plain_entry m.entries.items) = ap size_of (plain-Map m) in
+    let k : size_of (plain_map m) ≡ 1 + size_all (map plain_entry m.entries.items) = refl in
     omega (arith, e, k)
 
 -- what each item's tree has, that of the item at a place has
@@ -207,25 +204,17 @@ each_at h (x ∷ ts) (suc i) d lt g = each_at h ts i d (omega arith) (Each-tail 
 
 -- Trees of values in a map
 
-module _ (m : Map) (es : List (List ℕ × Tree)) (copied : es ≡ m.entries.items) where
+module _ (m : Map) (es : List (List ℕ × Plain)) (copied : es ≡ m.entries.items) where
   same_entries : items_of (first_part (plain_map m)) ≡ map plain_entry es
   same_entries = map_items m ∙ ap (map plain_entry) (sym copied)
 
   pub map_keys : Ascending (λ x y. text_cmp (key x) (key y)) (items_of (first_part (plain_map m))) → KeysAscend text_cmp es
   map_keys h = keys_ascend es (subst (Ascending (λ x y. text_cmp (key x) (key y))) same_entries h)
 
-  -- the tree that is found is that of the value, or the dead one
-  pub found_in_map : (v : List ℕ) (d t : Tree) → d ≡ Dead → t ≡ item_at text_cmp es d v → tree_at v dead (items_of (first_part (plain_map m))) ≡ plain t
-  found_in_map v d t same f =
-      ap (tree_at v dead) same_entries
-      ∙ ap (λ z. tree_at v z (map plain_entry es)) (sym plain-Dead ∙ ap plain (sym same))
-      ∙ tree_at_item v d es
-      ∙ ap plain (sym f)
-
   found_size : (v : List ℕ) → size_of (tree_at v dead (items_of (first_part (plain_map m)))) ≤ size_of (plain_map m)
   found_size v =
       let k = tree_at_size v dead es in
-      let e : size_of (plain_map m) ≡ 1 + size_of (plain_entries es) = ap size_of (plain-Map m) ∙ ap (λ l. 1 + size_of (plain_entries l)) (sym copied) in
+      let e : size_of (plain_map m) ≡ 1 + size_of (plain_entries es) = ap (λ l. 1 + size_of (plain_entries l)) (sym copied) in
       let t : size_of (tree_at v dead (items_of (first_part (plain_map m)))) ≡ size_of (tree_at v dead (map plain_entry es)) = ap (λ l. size_of (tree_at v dead l)) same_entries in
       omega (arith, k, e, t)
 
@@ -249,20 +238,16 @@ module _ (m : Map) (es : List (List ℕ × Tree)) (copied : es ≡ m.entries.ite
           bounded = r.bounded;
         }))
 
-    module _ (a : PlainAction) (t : Plain) (r : Result Tree BuildFault) (s : tree_at v dead (items_of (first_part (plain_map m))) ≡ t) where
-      -- what was built from the initial tree where none is found
-      pub begun_first : is_dead t ≡ true → Builds room (moved y f initial a) r → Builds room (begun_tree p y e a initial (plain_map m) v) r
-      begun_first d b =
-          subst (λ (z : Plain). Builds room (moved y (bind p (Some v) e) z a) r)
-          (sym (ap (or_initial initial) s ∙ ap (λ q. if q then initial else t) d))
-          (subst (λ (g : Environment). Builds room (moved y g initial a) r) inside b)
+    -- and of the tree that moves
+    pub start_ready : ReadyToBegin room p y e initial → HoldsWell y initial (plain_map m) → Ready room y f (or_initial initial (tree_at v dead (items_of (first_part (plain_map m)))))
+    start_ready r h = chosen (is_dead found) refl
+      where
+        found : Plain
+        found = tree_at v dead (items_of (first_part (plain_map m)))
 
-      -- and from the one that is found
-      pub begun_found : is_dead t ≡ false → Builds room (moved y f t a) r → Builds room (begun_tree p y e a initial (plain_map m) v) r
-      begun_found d b =
-          subst (λ (z : Plain). Builds room (moved y (bind p (Some v) e) z a) r)
-          (sym (ap (or_initial initial) s ∙ ap (λ q. if q then initial else t) d))
-          (subst (λ (g : Environment). Builds room (moved y g t a) r) inside b)
+        chosen : (b : Bool) → is_dead found ≡ b → Ready room y f (if b then initial else found)
+        chosen true d = first_ready r
+        chosen false d = found_ready found r h refl d
 
 -- The arm
 
@@ -270,7 +255,7 @@ module _ (p : List ℕ) (y : Form) (e : Environment) (a : PlainAction) where
   pub all_after : (ps : Plain) → moved (all p y) e (all_of ps) a ≡ dead_if (not (may (all p y) e (all_of ps) a)) (all_of (set_of (flat_map (maps_after p y e a (tree_of y [] []) a.values) (items_of ps))))
   all_after ps = refl
 
-  pub all_built : (limit : ℕ) (x ps initial : Plain) (ms : List Plain) (r : Result Tree BuildFault) → x ≡ all_of ps → items_of ps ≡ ms → initial ≡ initial_tree y → may (all p y) e x a ≡ true → Builds limit (all_of (set_of (flat_map (maps_after p y e a initial a.values) ms))) r → Builds limit (moved (all p y) e x a) r
+  pub all_built : (limit : ℕ) (x ps initial : Plain) (ms : List Plain) (r : Result Plain BuildFault) → x ≡ all_of ps → items_of ps ≡ ms → initial ≡ initial_tree y → may (all p y) e x a ≡ true → Builds limit (all_of (set_of (flat_map (maps_after p y e a initial a.values) ms))) r → Builds limit (moved (all p y) e x a) r
   all_built limit x ps initial ms r shape items i h b =
       builds_arm limit (all p y) e a x (all_of ps) (all_of (set_of (flat_map (maps_after p y e a (tree_of y [] []) a.values) (items_of ps)))) r shape (all_after ps) h
       (subst (λ (l : List Plain). Builds limit (all_of (set_of (flat_map (maps_after p y e a (tree_of y [] []) a.values) l))) r) (sym items)

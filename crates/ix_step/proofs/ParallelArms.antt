@@ -11,7 +11,6 @@ use Rattle.ix_expr.proofs.Parts.{fits-operands}
 use Rattle.ix_tree.specs.Plain.{Plain, dead, start, done, none, more, pair, bag, map, entry, listed, items_of, par as par_of, par_star as par_star_of, opt as opt_of, seq as seq_of, star as star_of, or as or_of, and as and_of, couple as couple_of, any as any_of, every as every_of, sync as sync_of, all as all_of}
 use Rattle.ix_tree.specs.Order.{first_part, second_part}
 use Rattle.ix_tree.specs.Size.{size_of}
-use Rattle.ix_tree.specs.declared.tree.Tree.{Tree}
 use Rattle.ix_tree.proofs.PlainLists.{items_of-listed}
 use Rattle.ix_can.specs.Nodes.{set_of, dead_if}
 use Rattle.ix_can.specs.inside.May.{may}
@@ -119,7 +118,7 @@ module _ (limit : ℕ) (e : Environment) where
 
   -- Arms
 
-  module _ (a : PlainAction) (t : Plain) (r : Result Tree BuildFault) where
+  module _ (a : PlainAction) (t : Plain) (r : Result Plain BuildFault) where
     pub par_arm : (y z : Form) (ps : List Plain) → t ≡ par_of (listed ps) → may (par y z) e t a ≡ true → Builds limit (par_of (set_of (flat_map (pair_moves y z e a) ps))) r → Builds limit (moved (par y z) e t a) r
     par_arm y z ps same h b =
         builds_arm limit (par y z) e a t (par_of (listed ps)) (par_of (set_of (flat_map (pair_moves y z e a) ps))) r same

@@ -1,6 +1,5 @@
 -- The quantifiers' trees: what is asked of the trees of values before they are moved, and the entries after an action.
 use Rattle.std.proofs.Common.{◌≡◌, ℕ, ◌+◌, ◌≤◌, Bool, true, false, not, List, [], ◌∷◌, ◌++◌, map, flat_map, Some, None, Result, Ok, Err, Vec, Global, refl, sym, ap, ◌∙◌, subst, true≢false, arith, Less, if◌then◌else◌}
-use Rattle.std.specs.declared.boxed.Box.{Box}
 use Rattle.std.specs.Map.{keys_of}
 use Rattle.std.specs.Ordering.{is_eq}
 use Rattle.ix_words.specs.Each.{Each, no_item, item}
@@ -14,11 +13,9 @@ use Rattle.ix_expr.specs.Form.{Form, any, every, sync}
 use Rattle.ix_expr.specs.Environment.{Environment, bind}
 use Rattle.ix_expr.proofs.Parts.{fits-operands}
 use Rattle.ix_tree.specs.Plain.{Plain, pair, listed, items_of, any as any_of, every as every_of, sync as sync_of}
-use Rattle.ix_tree.specs.PlainOf.{plain}
-use Rattle.ix_tree.specs.inside.PlainLists.{plain_entry, plain_entries}
+use Rattle.ix_tree.specs.PlainOf.{plain_entry, plain_entries}
 use Rattle.ix_tree.specs.Order.{key, first_part}
 use Rattle.ix_tree.specs.Size.{size_of}
-use Rattle.ix_tree.specs.declared.tree.Tree.{Tree}
 use Rattle.ix_tree.proofs.PlainLists.{items_of-listed}
 use Rattle.ix_can.specs.Nodes.{set_of, dead_if}
 use Rattle.ix_can.specs.TreeOf.{entries_of}
@@ -46,11 +43,11 @@ tree_at_has G v common (x ∷ xs) g h = chosen (text_eq (key x) v) (tree_at_has 
     chosen false k = k
 
 -- it is no larger than the common tree and the entries together
-pub tree_at_size : (v : List ℕ) (common : Plain) (es : List (List ℕ × Tree)) → size_of (tree_at v common (map plain_entry es)) ≤ size_of common + size_of (plain_entries es)
+pub tree_at_size : (v : List ℕ) (common : Plain) (es : List (List ℕ × Plain)) → size_of (tree_at v common (map plain_entry es)) ≤ size_of common + size_of (plain_entries es)
 tree_at_size v common [] = omega arith
 tree_at_size v common (e ∷ es) = chosen (text_eq e.0 v) (tree_at_size v common es)
   where
-    chosen : (b : Bool) → size_of (tree_at v common (map plain_entry es)) ≤ size_of common + size_of (plain_entries es) → size_of (if b then plain e.1 else tree_at v common (map plain_entry es)) ≤ size_of common + size_of (plain_entries (e ∷ es))
+    chosen : (b : Bool) → size_of (tree_at v common (map plain_entry es)) ≤ size_of common + size_of (plain_entries es) → size_of (if b then e.1 else tree_at v common (map plain_entry es)) ≤ size_of common + size_of (plain_entries (e ∷ es))
     chosen true k = omega arith
     chosen false k = omega (arith, k)
 
@@ -83,7 +80,7 @@ module _ (limit : ℕ) (p : List ℕ) (y : Form) (e : Environment) (common : Pla
       record { fits = r.fits.body None; proper = r.proper; small = omega (arith, r.small); positive = r.positive; bounded = r.bounded }
 
   -- of the tree of each value
-  pub value_ready : (es : List (List ℕ × Tree)) (v : List ℕ) → ReadyInside limit p y e common (map plain_entry es) → Ready limit y (bind p (Some v) e) (tree_at v common (map plain_entry es))
+  pub value_ready : (es : List (List ℕ × Plain)) (v : List ℕ) → ReadyInside limit p y e common (map plain_entry es) → Ready limit y (bind p (Some v) e) (tree_at v common (map plain_entry es))
   value_ready es v r =
       record {
         fits = r.fits.body (Some v);
@@ -93,7 +90,7 @@ module _ (limit : ℕ) (p : List ℕ) (y : Form) (e : Environment) (common : Pla
         bounded = r.bounded;
       }
 
-module _ (limit : ℕ) (p : List ℕ) (y : Form) (e : Environment) (common : Plain) (es : List (List ℕ × Tree)) where
+module _ (limit : ℕ) (p : List ℕ) (y : Form) (e : Environment) (common : Plain) (es : List (List ℕ × Plain)) where
   beside_listed : ProperEntries (IsProper y) common (items_of (plain_entries es)) → ProperEntries (IsProper y) common (map plain_entry es)
   beside_listed h = subst (ProperEntries (IsProper y) common) (items_of-listed (map plain_entry es)) h
 
@@ -136,7 +133,7 @@ ready_same limit y e f t u p q r =
     subst (λ (x : Plain). Ready limit y f x) (sym q) (subst (λ (g : Environment). Ready limit y g t) (sym p) r)
 
 -- what was built from an equal tree in an equal environment
-pub builds_same : (limit : ℕ) (only_inside : Bool) (y : Form) (e f : Environment) (a : PlainAction) (t u : Plain) (r : Result Tree BuildFault) → f ≡ e → u ≡ t → Builds limit (moved_part only_inside y f a u) r → Builds limit (moved_part only_inside y e a t) r
+pub builds_same : (limit : ℕ) (only_inside : Bool) (y : Form) (e f : Environment) (a : PlainAction) (t u : Plain) (r : Result Plain BuildFault) → f ≡ e → u ≡ t → Builds limit (moved_part only_inside y f a u) r → Builds limit (moved_part only_inside y e a t) r
 builds_same limit only_inside y e f a t u r p q b =
     subst (λ (x : Plain). Builds limit (moved_part only_inside y e a x) r) q (subst (λ (g : Environment). Builds limit (moved_part only_inside y g a u) r) p b)
 
@@ -157,7 +154,7 @@ made_is_put next tree made xs vs h =
     ∙ ap set_of (sym (flat_map-append (entry_at next tree) (map key xs) vs))
     ∙ ap listed (sym (put_all-nothing (entries_of next tree (map key xs ++ vs))))
 
-keys_listed : (es : List (List ℕ × Tree)) → map key (map plain_entry es) ≡ keys_of es
+keys_listed : (es : List (List ℕ × Plain)) → map key (map plain_entry es) ≡ keys_of es
 keys_listed [] = refl
 keys_listed (e ∷ es) = ap (λ l. e.0 ∷ l) (keys_listed es)
 
@@ -179,7 +176,7 @@ module _ (move : List ℕ → Plain → Plain) (common next : Plain) (vs : List 
       (Each-weaker {G = λ x. tree_at (key x) common xs ≡ first_part x} {H = λ x. own_made x ≡ entry_at next (tree_moved xs) (key x)} (own_is_moved xs) (tree_at_own common xs h))
 
   -- and for the entries in memory
-  pub entries_after : (es : List (List ℕ × Tree)) → Ascending (λ x z. text_cmp (key x) (key z)) (map plain_entry es) → set_of (flat_map (λ x. entry_with next (key x) (move (key x) (first_part x))) (items_of (plain_entries es)) ++ flat_map (λ v. entry_with next v (move v (tree_at v common (items_of (plain_entries es))))) vs) ≡ listed (entries_put next (λ v. move v (tree_at v common (map plain_entry es))) (keys_of es ++ vs))
+  pub entries_after : (es : List (List ℕ × Plain)) → Ascending (λ x z. text_cmp (key x) (key z)) (map plain_entry es) → set_of (flat_map (λ x. entry_with next (key x) (move (key x) (first_part x))) (items_of (plain_entries es)) ++ flat_map (λ v. entry_with next v (move v (tree_at v common (items_of (plain_entries es))))) vs) ≡ listed (entries_put next (λ v. move v (tree_at v common (map plain_entry es))) (keys_of es ++ vs))
   entries_after es h =
       ap (λ (xs : List Plain). set_of (flat_map own_made xs ++ flat_map (λ v. entry_with next v (move v (tree_at v common xs))) vs)) (items_of-listed (map plain_entry es))
       ∙ moved_is_put (map plain_entry es) h
@@ -187,7 +184,7 @@ module _ (move : List ℕ → Plain → Plain) (common next : Plain) (vs : List 
 
 -- The arms
 
-module _ (p : List ℕ) (y : Form) (e : Environment) (a : PlainAction) (common : Plain) (es : List (List ℕ × Tree)) (ascending : Ascending (λ x z. text_cmp (key x) (key z)) (map plain_entry es)) where
+module _ (p : List ℕ) (y : Form) (e : Environment) (a : PlainAction) (common : Plain) (es : List (List ℕ × Plain)) (ascending : Ascending (λ x z. text_cmp (key x) (key z)) (map plain_entry es)) where
   pub any_after : moved (any p y) e (any_of common (plain_entries es)) a ≡ dead_if (not (may (any p y) e (any_of common (plain_entries es)) a)) (any_of (common_after false p y e a common) (listed (entries_put (common_after false p y e a common) (tree_after false p y e a common (map plain_entry es)) (touched es a))))
   any_after =
       ap (λ t. dead_if (not (may (any p y) e (any_of common (plain_entries es)) a)) (any_of (common_after false p y e a common) t))
@@ -210,16 +207,16 @@ pub fault_of_common : (limit : ℕ) (common : Plain) (rest : Plain) (fault : Bui
 fault_of_common limit common rest fault h = above_grows limit common (pair common rest) fault (omega arith) h
 
 -- the parts of an equal common tree, for equal values
-pub parts_same : (limit : ℕ) (common next : Plain) (tree : List ℕ → Plain) (us vs : List (List ℕ)) (r : Result (Box Tree Global × Vec (List ℕ × Tree) Global) BuildFault) → common ≡ next → us ≡ vs → BuildsParts limit common tree us r → BuildsParts limit next tree vs r
+pub parts_same : (limit : ℕ) (common next : Plain) (tree : List ℕ → Plain) (us vs : List (List ℕ)) (r : Result (Plain × Vec (List ℕ × Plain) Global) BuildFault) → common ≡ next → us ≡ vs → BuildsParts limit common tree us r → BuildsParts limit next tree vs r
 parts_same limit common next tree us vs r p q h =
     subst (λ (x : Plain). BuildsParts limit x tree vs r) p (subst (λ (l : List (List ℕ)). BuildsParts limit common tree l r) q h)
 
 -- parts that were built are small
-pub parts_small : (limit : ℕ) (common : Plain) (tree : List ℕ → Plain) (values : List (List ℕ)) (r : Result (Box Tree Global × Vec (List ℕ × Tree) Global) BuildFault) → limit ≤ 1000000 → BuildsParts limit common tree values r → AreSmallParts r
+pub parts_small : (limit : ℕ) (common : Plain) (tree : List ℕ → Plain) (values : List (List ℕ)) (r : Result (Plain × Vec (List ℕ × Plain) Global) BuildFault) → limit ≤ 1000000 → BuildsParts limit common tree values r → AreSmallParts r
 parts_small limit common tree values (Ok parts) le h = (omega (arith, ap size_of h.0, h.2), omega (arith, h.3))
 parts_small limit common tree values (Err fault) le h = tt
 
-module _ (limit : ℕ) (p : List ℕ) (y : Form) (e : Environment) (a : PlainAction) (x : Plain) (common : Plain) (es : List (List ℕ × Tree)) (r : Result Tree BuildFault) where
+module _ (limit : ℕ) (p : List ℕ) (y : Form) (e : Environment) (a : PlainAction) (x : Plain) (common : Plain) (es : List (List ℕ × Plain)) (r : Result Plain BuildFault) where
   pub any_built : x ≡ any_of common (plain_entries es) → ReadyInside limit p y e common (map plain_entry es) → may (any p y) e x a ≡ true → Builds limit (any_of (common_after false p y e a common) (listed (entries_put (common_after false p y e a common) (tree_after false p y e a common (map plain_entry es)) (touched es a)))) r → Builds limit (moved (any p y) e x a) r
   any_built shape ready h b =
       builds_arm limit (any p y) e a x (any_of common (plain_entries es)) (any_of (common_after false p y e a common) (listed (entries_put (common_after false p y e a common) (tree_after false p y e a common (map plain_entry es)) (touched es a)))) r

@@ -4,7 +4,6 @@ ghost use Rattle.std.specs.Prelude.{◌≡◌, ◌≤◌, true, map};
 ghost use Rattle.ix_words.specs.Each.{Each};
 ghost use Rattle.ix_expr.specs.inside.FormOf.{form_of};
 ghost use Rattle.ix_expr.specs.Form.{opt, seq, star, or, and, couple};
-ghost use Rattle.ix_tree.specs.PlainOf.{plain};
 ghost use Rattle.ix_can.specs.inside.May.{may};
 ghost use Rattle.ix_can.specs.Tests.{in_alphabet};
 ghost use Rattle.ix_can.specs.inside.Moved.{moved, moved_inside};
@@ -17,19 +16,19 @@ use crate::alternatives::{put_live, seq_node, star_node};
 use crate::fault::BuildFault;
 use crate::first::first_tree;
 use crate::maps::advance_all;
-use crate::nodes::{and_node, copied, couple_node, opt_node, or_node};
+use crate::nodes::{and_node, couple_node, dead, done, opt_node, or_node, shared};
 use crate::parallel::{advance_par, advance_par_star};
 use crate::quantifiers::{advance_any, advance_every, advance_sync};
 use ix_alts::AltSet;
-use ix_can::can;
+use ix_can::goes_on;
 use ix_expr::{Env, Expr, contains};
-use ix_tree::Tree;
+use ix_tree::{Knot, Node};
 use ix_values::Action;
 use std::alloc::Global;
 
 /// The moved tree, dead where the action may not come next.
 ///
-/// `can` is asked anew at each node: that it holds of a node doesn't say that it holds of its
+/// `goes_on` is asked anew at each node: that it holds of a node doesn't say that it holds of its
 /// parts, as of `y | z` one side may do. A part of which it doesn't hold is dead.
 ///
 /// `#[tactic(none)]` stands here and in the files beside this one since the answers are written by
@@ -38,20 +37,20 @@ use std::alloc::Global;
 #[tactic(none)]
 pub(crate) fn advance(
     expr: &Expr,
-    tree: &Tree,
+    tree: &Knot,
     env: &Env,
     action: &Action,
     alloc: Global,
     limit: usize,
-) -> Result<Tree, BuildFault>
-    requires { Ready limit (form_of expr.now) env.now (plain tree.now) }
-    ensures { Builds limit (moved (form_of expr.now) env.now (plain tree.now) action.now) result }
+) -> Result<Knot, BuildFault>
+    requires { Ready limit (form_of expr.now) env.now tree.now }
+    ensures { Builds limit (moved (form_of expr.now) env.now tree.now action.now) result }
 {
-    if !can(tree, expr, env, action) {
-        return Ok(Tree::Dead);
+    if !goes_on(expr, env, tree, action) {
+        return dead(alloc, limit);
     }
     match expr {
-        Expr::Atom(_) => Ok(Tree::Done),
+        Expr::Atom(_) => done(alloc, limit),
         Expr::Opt(y) => advance_opt(y, tree, env, action, alloc, limit),
         Expr::Seq(y, z) => advance_seq(y, z, tree, env, action, alloc, limit),
         Expr::Star(y) => advance_star(y, tree, env, action, alloc, limit),
@@ -71,18 +70,18 @@ pub(crate) fn advance(
 #[tactic(none)]
 fn advance_opt(
     y: &Expr,
-    tree: &Tree,
+    tree: &Knot,
     env: &Env,
     action: &Action,
     alloc: Global,
     limit: usize,
-) -> Result<Tree, BuildFault>
-    requires ready { Ready limit (opt (form_of y.now)) env.now (plain tree.now) }
-    requires may { may (opt (form_of y.now)) env.now (plain tree.now) action.now ≡ true }
-    ensures { Builds limit (moved (opt (form_of y.now)) env.now (plain tree.now) action.now) result }
+) -> Result<Knot, BuildFault>
+    requires ready { Ready limit (opt (form_of y.now)) env.now tree.now }
+    requires may { may (opt (form_of y.now)) env.now tree.now action.now ≡ true }
+    ensures { Builds limit (moved (opt (form_of y.now)) env.now tree.now action.now) result }
 {
-    let Tree::Opt(_, inner) = tree else {
-        return Ok(Tree::Dead);
+    let Node::Opt(_, inner) = tree.node() else {
+        return dead(alloc, limit);
     };
     let inner = advance(y, inner, env, action, alloc, limit);
     opt_node(inner, alloc, limit)
@@ -93,18 +92,18 @@ fn advance_opt(
 fn advance_or(
     y: &Expr,
     z: &Expr,
-    tree: &Tree,
+    tree: &Knot,
     env: &Env,
     action: &Action,
     alloc: Global,
     limit: usize,
-) -> Result<Tree, BuildFault>
-    requires ready { Ready limit (or (form_of y.now) (form_of z.now)) env.now (plain tree.now) }
-    requires may { may (or (form_of y.now) (form_of z.now)) env.now (plain tree.now) action.now ≡ true }
-    ensures { Builds limit (moved (or (form_of y.now) (form_of z.now)) env.now (plain tree.now) action.now) result }
+) -> Result<Knot, BuildFault>
+    requires ready { Ready limit (or (form_of y.now) (form_of z.now)) env.now tree.now }
+    requires may { may (or (form_of y.now) (form_of z.now)) env.now tree.now action.now ≡ true }
+    ensures { Builds limit (moved (or (form_of y.now) (form_of z.now)) env.now tree.now action.now) result }
 {
-    let Tree::Or(left, right) = tree else {
-        return Ok(Tree::Dead);
+    let Node::Or(left, right) = tree.node() else {
+        return dead(alloc, limit);
     };
     let left = advance(y, left, env, action, alloc, limit);
     let right = advance(z, right, env, action, alloc, limit);
@@ -116,18 +115,18 @@ fn advance_or(
 fn advance_and(
     y: &Expr,
     z: &Expr,
-    tree: &Tree,
+    tree: &Knot,
     env: &Env,
     action: &Action,
     alloc: Global,
     limit: usize,
-) -> Result<Tree, BuildFault>
-    requires ready { Ready limit (and (form_of y.now) (form_of z.now)) env.now (plain tree.now) }
-    requires may { may (and (form_of y.now) (form_of z.now)) env.now (plain tree.now) action.now ≡ true }
-    ensures { Builds limit (moved (and (form_of y.now) (form_of z.now)) env.now (plain tree.now) action.now) result }
+) -> Result<Knot, BuildFault>
+    requires ready { Ready limit (and (form_of y.now) (form_of z.now)) env.now tree.now }
+    requires may { may (and (form_of y.now) (form_of z.now)) env.now tree.now action.now ≡ true }
+    ensures { Builds limit (moved (and (form_of y.now) (form_of z.now)) env.now tree.now action.now) result }
 {
-    let Tree::And(left, right) = tree else {
-        return Ok(Tree::Dead);
+    let Node::And(left, right) = tree.node() else {
+        return dead(alloc, limit);
     };
     let left = advance(y, left, env, action, alloc, limit);
     let right = advance(z, right, env, action, alloc, limit);
@@ -139,18 +138,18 @@ fn advance_and(
 fn advance_couple(
     y: &Expr,
     z: &Expr,
-    tree: &Tree,
+    tree: &Knot,
     env: &Env,
     action: &Action,
     alloc: Global,
     limit: usize,
-) -> Result<Tree, BuildFault>
-    requires ready { Ready limit (couple (form_of y.now) (form_of z.now)) env.now (plain tree.now) }
-    requires may { may (couple (form_of y.now) (form_of z.now)) env.now (plain tree.now) action.now ≡ true }
-    ensures { Builds limit (moved (couple (form_of y.now) (form_of z.now)) env.now (plain tree.now) action.now) result }
+) -> Result<Knot, BuildFault>
+    requires ready { Ready limit (couple (form_of y.now) (form_of z.now)) env.now tree.now }
+    requires may { may (couple (form_of y.now) (form_of z.now)) env.now tree.now action.now ≡ true }
+    ensures { Builds limit (moved (couple (form_of y.now) (form_of z.now)) env.now tree.now action.now) result }
 {
-    let Tree::Couple(left, right) = tree else {
-        return Ok(Tree::Dead);
+    let Node::Couple(left, right) = tree.node() else {
+        return dead(alloc, limit);
     };
     let left = advance_inside(y, left, env, action, alloc, limit);
     let right = advance_inside(z, right, env, action, alloc, limit);
@@ -162,19 +161,19 @@ fn advance_couple(
 #[tactic(none)]
 pub(crate) fn advance_inside(
     expr: &Expr,
-    tree: &Tree,
+    tree: &Knot,
     env: &Env,
     action: &Action,
     alloc: Global,
     limit: usize,
-) -> Result<Tree, BuildFault>
-    requires { Ready limit (form_of expr.now) env.now (plain tree.now) }
-    ensures { Builds limit (moved_inside (in_alphabet (form_of expr.now) env.now action.now) (moved (form_of expr.now) env.now (plain tree.now) action.now) (plain tree.now)) result }
+) -> Result<Knot, BuildFault>
+    requires { Ready limit (form_of expr.now) env.now tree.now }
+    ensures { Builds limit (moved_inside (in_alphabet (form_of expr.now) env.now action.now) (moved (form_of expr.now) env.now tree.now action.now) tree.now) result }
 {
     if contains(expr, env, action) {
         advance(expr, tree, env, action, alloc, limit)
     } else {
-        copied(tree, alloc, limit)
+        shared(tree, limit)
     }
 }
 
@@ -183,18 +182,18 @@ pub(crate) fn advance_inside(
 fn advance_seq(
     y: &Expr,
     z: &Expr,
-    tree: &Tree,
+    tree: &Knot,
     env: &Env,
     action: &Action,
     alloc: Global,
     limit: usize,
-) -> Result<Tree, BuildFault>
-    requires ready { Ready limit (seq (form_of y.now) (form_of z.now)) env.now (plain tree.now) }
-    requires may { may (seq (form_of y.now) (form_of z.now)) env.now (plain tree.now) action.now ≡ true }
-    ensures { Builds limit (moved (seq (form_of y.now) (form_of z.now)) env.now (plain tree.now) action.now) result }
+) -> Result<Knot, BuildFault>
+    requires ready { Ready limit (seq (form_of y.now) (form_of z.now)) env.now tree.now }
+    requires may { may (seq (form_of y.now) (form_of z.now)) env.now tree.now action.now ≡ true }
+    ensures { Builds limit (moved (seq (form_of y.now) (form_of z.now)) env.now tree.now action.now) result }
 {
-    let Tree::Seq(first, rest) = tree else {
-        return Ok(Tree::Dead);
+    let Node::Seq(first, rest) = tree.node() else {
+        return dead(alloc, limit);
     };
     let first = advance(y, first, env, action, alloc, limit);
     let mut set = AltSet::new(alloc, limit);
@@ -206,39 +205,39 @@ fn advance_seq(
 #[tactic(none)]
 fn advance_star(
     y: &Expr,
-    tree: &Tree,
+    tree: &Knot,
     env: &Env,
     action: &Action,
     alloc: Global,
     limit: usize,
-) -> Result<Tree, BuildFault>
-    requires ready { Ready limit (star (form_of y.now)) env.now (plain tree.now) }
-    requires may { may (star (form_of y.now)) env.now (plain tree.now) action.now ≡ true }
-    ensures { Builds limit (moved (star (form_of y.now)) env.now (plain tree.now) action.now) result }
+) -> Result<Knot, BuildFault>
+    requires ready { Ready limit (star (form_of y.now)) env.now tree.now }
+    requires may { may (star (form_of y.now)) env.now tree.now action.now ≡ true }
+    ensures { Builds limit (moved (star (form_of y.now)) env.now tree.now action.now) result }
 {
-    let Tree::Star(again, rest) = tree else {
-        return Ok(Tree::Dead);
+    let Node::Star(again, rest) = tree.node() else {
+        return dead(alloc, limit);
     };
     let begun = advance_again(y, *again, env, action, alloc, limit);
     let mut set = AltSet::new(alloc, limit);
     let moved = advance_each(y, rest.as_slice(), &mut set, env, action, alloc, limit);
-    star_node(y, moved, begun, set, limit)
+    star_node(y, moved, begun, set, alloc, limit)
 }
 
 #[cycle(advance)]
 fn advance_each(
     expr: &Expr,
-    trees: &[Tree],
-    set: &mut AltSet<Tree>,
+    trees: &[Knot],
+    set: &mut AltSet<Knot>,
     env: &Env,
     action: &Action,
     alloc: Global,
     limit: usize,
 ) -> Result<(), BuildFault>
-    requires ready { Each (Ready limit (form_of expr.now) env.now) (map plain trees.now) }
+    requires ready { Each (Ready limit (form_of expr.now) env.now) trees.now }
     requires budget { set.old.budget ≡ limit }
     requires positive { 1 ≤ limit }
-    ensures gathers { Gathers limit (live_moves (form_of expr.now) env.now action.now (map plain trees.now)) (map plain set.old.items) (map plain set.new.items) result }
+    ensures gathers { Gathers limit (live_moves (form_of expr.now) env.now action.now trees.now) set.old.items set.new.items result }
     ensures budget { set.new.budget ≡ limit }
 {
     for tree in trees {
@@ -261,12 +260,12 @@ pub(crate) fn advance_again(
     action: &Action,
     alloc: Global,
     limit: usize,
-) -> Result<Tree, BuildFault>
+) -> Result<Knot, BuildFault>
     requires { Ready limit (form_of expr.now) env.now (initial_tree (form_of expr.now)) }
     ensures { Builds limit (begun_again again (form_of expr.now) env.now action.now) result }
 {
     if !again {
-        return Ok(Tree::Dead);
+        return dead(alloc, limit);
     }
     match first_tree(expr, alloc) {
         Ok(tree) => advance(expr, &tree, env, action, alloc, limit),

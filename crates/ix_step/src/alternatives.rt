@@ -5,7 +5,6 @@ ghost use Rattle.std.specs.List.{list_any};
 ghost use Rattle.ix_words.specs.Canon.{when};
 ghost use Rattle.ix_expr.specs.inside.FormOf.{form_of};
 ghost use Rattle.ix_tree.specs.Plain.{Plain, seq, star, listed};
-ghost use Rattle.ix_tree.specs.PlainOf.{plain};
 ghost use Rattle.ix_tree.specs.Size.{size_of};
 ghost use Rattle.ix_can.specs.Nodes.{live, set_of};
 ghost use Rattle.ix_can.specs.TreeOf.{is_final as is_final_by};
@@ -14,23 +13,23 @@ ghost use Rattle.ix_step.specs.inside.Initial.{initial_tree};
 
 use crate::fault::BuildFault;
 use crate::first::first_tree;
-use crate::nodes::boxed;
+use crate::nodes::within;
 use crate::sets::put;
 use ix_alts::AltSet;
-use ix_can::is_final;
+use ix_can::completes;
 use ix_expr::Expr;
-use ix_tree::Tree;
+use ix_tree::{Knot, Node};
 use std::alloc::Global;
 
 #[tactic(none)]
 pub(crate) fn put_live(
-    set: &mut AltSet<Tree>,
-    tree: Result<Tree, BuildFault>,
+    set: &mut AltSet<Knot>,
+    tree: Result<Knot, BuildFault>,
 ) -> Result<(), BuildFault>
     requires small { IsSmall tree }
     requires positive { 1 ≤ set.old.budget }
     ensures gathers { (x : Plain) → Builds set.old.budget x tree
-        → Gathers set.old.budget (live x) (map plain set.old.items) (map plain set.new.items) result }
+        → Gathers set.old.budget (live x) set.old.items set.new.items result }
     ensures budget { set.new.budget ≡ set.old.budget }
 {
     match tree {
@@ -40,9 +39,9 @@ pub(crate) fn put_live(
 }
 
 #[tactic(none)]
-fn put_unless_dead(set: &mut AltSet<Tree>, tree: Tree) -> Result<(), BuildFault>
-    requires { size_of (plain tree) ≤ 1000000 }
-    ensures gathers { Gathers set.old.budget (live (plain tree)) (map plain set.old.items) (map plain set.new.items) result }
+fn put_unless_dead(set: &mut AltSet<Knot>, tree: Knot) -> Result<(), BuildFault>
+    requires { size_of tree ≤ 1000000 }
+    ensures gathers { Gathers set.old.budget (live tree) set.old.items set.new.items result }
     ensures budget { set.new.budget ≡ set.old.budget }
 {
     if tree.is_dead() {
@@ -54,13 +53,13 @@ fn put_unless_dead(set: &mut AltSet<Tree>, tree: Tree) -> Result<(), BuildFault>
 
 #[tactic(none)]
 fn put_first(
-    set: &mut AltSet<Tree>,
+    set: &mut AltSet<Knot>,
     begins: bool,
     expr: &Expr,
     alloc: Global,
 ) -> Result<(), BuildFault>
     requires { size_of (initial_tree (form_of expr.now)) ≤ 1000000 }
-    ensures gathers { Gathers set.old.budget (when begins (initial_tree (form_of expr.now) ∷ [])) (map plain set.old.items) (map plain set.new.items) result }
+    ensures gathers { Gathers set.old.budget (when begins (initial_tree (form_of expr.now) ∷ [])) set.old.items set.new.items result }
     ensures budget { set.new.budget ≡ set.old.budget }
 {
     if !begins {
@@ -72,11 +71,11 @@ fn put_first(
     }
 }
 
-fn any_final(trees: &[Tree], expr: &Expr) -> bool
-    ensures { result ≡ list_any (is_final_by (form_of expr.now)) (map plain trees.now) }
+fn any_final(trees: &[Knot], expr: &Expr) -> bool
+    ensures { result ≡ list_any (is_final_by (form_of expr.now)) trees.now }
 {
     for tree in trees {
-        if is_final(tree, expr) {
+        if completes(expr, tree) {
             return true;
         }
     }
@@ -88,20 +87,21 @@ fn any_final(trees: &[Tree], expr: &Expr) -> bool
 pub(crate) fn star_node(
     y: &Expr,
     moved: Result<(), BuildFault>,
-    begun: Result<Tree, BuildFault>,
-    mut set: AltSet<Tree>,
+    begun: Result<Knot, BuildFault>,
+    mut set: AltSet<Knot>,
+    alloc: Global,
     limit: usize,
-) -> Result<Tree, BuildFault>
+) -> Result<Knot, BuildFault>
     requires budget { set.budget ≡ limit }
     requires positive { 1 ≤ limit }
     requires limit { limit ≤ 1000000 }
     requires begun { IsSmall begun }
-    ensures { (ms : List Plain) (x : Plain) → Gathers limit ms [] (map plain set.items) moved → Builds limit x begun
+    ensures { (ms : List Plain) (x : Plain) → Gathers limit ms [] set.items moved → Builds limit x begun
         → Builds limit (star (list_any (is_final_by (form_of y.now)) (ms ++ live x)) (set_of (ms ++ live x))) result }
 {
     match moved {
         Ok(()) => match put_live(&mut set, begun) {
-            Ok(()) => star_of_set(y, set, limit),
+            Ok(()) => star_of_set(y, set, alloc, limit),
             Err(fault) => Err(fault),
         },
         Err(fault) => Err(fault),
@@ -111,10 +111,10 @@ pub(crate) fn star_node(
 /// The flag says whether the word is a concatenation of complete words, so that another run may
 /// begin. That is so where an alternative for the last run is final.
 #[tactic(none)]
-fn star_of_set(y: &Expr, set: AltSet<Tree>, limit: usize) -> Result<Tree, BuildFault>
+fn star_of_set(y: &Expr, set: AltSet<Knot>, alloc: Global, limit: usize) -> Result<Knot, BuildFault>
     requires budget { set.budget ≡ limit }
     requires limit { limit ≤ 1000000 }
-    ensures { Builds limit (star (list_any (is_final_by (form_of y.now)) (map plain set.items)) (listed (map plain set.items))) result }
+    ensures { Builds limit (star (list_any (is_final_by (form_of y.now)) set.items) (listed set.items)) result }
 {
     let size = 1 + set.total();
     if size > limit {
@@ -122,7 +122,7 @@ fn star_of_set(y: &Expr, set: AltSet<Tree>, limit: usize) -> Result<Tree, BuildF
     }
     let items = set.into_items();
     let again = any_final(items.as_slice(), y);
-    Ok(Tree::Star(again, items))
+    within(Node::Star(again, items), alloc, limit)
 }
 
 /// Beside the moved alternatives for z stands one more where the first part is final: z may begin.
@@ -130,17 +130,17 @@ fn star_of_set(y: &Expr, set: AltSet<Tree>, limit: usize) -> Result<Tree, BuildF
 pub(crate) fn seq_node(
     y: &Expr,
     z: &Expr,
-    first: Result<Tree, BuildFault>,
+    first: Result<Knot, BuildFault>,
     moved: Result<(), BuildFault>,
-    set: AltSet<Tree>,
+    set: AltSet<Knot>,
     alloc: Global,
     limit: usize,
-) -> Result<Tree, BuildFault>
+) -> Result<Knot, BuildFault>
     requires initial { size_of (initial_tree (form_of z.now)) ≤ 1000000 }
     requires budget { set.budget ≡ limit }
     requires limit { limit ≤ 1000000 }
     requires first { IsSmall first }
-    ensures { (x : Plain) (ms : List Plain) → Builds limit x first → Gathers limit ms [] (map plain set.items) moved
+    ensures { (x : Plain) (ms : List Plain) → Builds limit x first → Gathers limit ms [] set.items moved
         → Builds limit (seq x (set_of (ms ++ when (is_final_by (form_of y.now) x) (initial_tree (form_of z.now) ∷ [])))) result }
 {
     match moved {
@@ -156,19 +156,19 @@ pub(crate) fn seq_node(
 fn seq_begun(
     y: &Expr,
     z: &Expr,
-    first: Tree,
-    mut set: AltSet<Tree>,
+    first: Knot,
+    mut set: AltSet<Knot>,
     alloc: Global,
     limit: usize,
-) -> Result<Tree, BuildFault>
+) -> Result<Knot, BuildFault>
     requires initial { size_of (initial_tree (form_of z.now)) ≤ 1000000 }
     requires budget { set.budget ≡ limit }
     requires limit { limit ≤ 1000000 }
-    requires first { size_of (plain first) ≤ 1000000 }
-    ensures { (ms : List Plain) → map plain set.items ≡ put_all ms []
-        → Builds limit (seq (plain first) (set_of (ms ++ when (is_final_by (form_of y.now) (plain first)) (initial_tree (form_of z.now) ∷ [])))) result }
+    requires first { size_of first ≤ 1000000 }
+    ensures { (ms : List Plain) → set.items ≡ put_all ms []
+        → Builds limit (seq first (set_of (ms ++ when (is_final_by (form_of y.now) first) (initial_tree (form_of z.now) ∷ [])))) result }
 {
-    match put_first(&mut set, is_final(&first, y), z, alloc) {
+    match put_first(&mut set, completes(y, &first), z, alloc) {
         Ok(()) => seq_of_set(first, set, alloc, limit),
         Err(fault) => Err(fault),
     }
@@ -176,22 +176,19 @@ fn seq_begun(
 
 #[tactic(none)]
 fn seq_of_set(
-    first: Tree,
-    set: AltSet<Tree>,
+    first: Knot,
+    set: AltSet<Knot>,
     alloc: Global,
     limit: usize,
-) -> Result<Tree, BuildFault>
+) -> Result<Knot, BuildFault>
     requires budget { set.budget ≡ limit }
     requires limit { limit ≤ 1000000 }
-    requires first { size_of (plain first) ≤ 1000000 }
-    ensures { Builds limit (seq (plain first) (listed (map plain set.items))) result }
+    requires first { size_of first ≤ 1000000 }
+    ensures { Builds limit (seq first (listed set.items)) result }
 {
     let size = 1 + first.size() + set.total();
     if size > limit {
         return Err(BuildFault::Over { limit });
     }
-    match boxed(first, alloc) {
-        Ok(first) => Ok(Tree::Seq(first, set.into_items())),
-        Err(fault) => Err(fault),
-    }
+    within(Node::Seq(first, set.into_items()), alloc, limit)
 }

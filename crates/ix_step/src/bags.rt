@@ -2,23 +2,23 @@
 
 ghost use Rattle.std.specs.Prelude.{◌≡◌, ◌+◌, ◌<◌, ◌≤◌, List, [], ◌∷◌, length, map, insert, remove, IfOk};
 ghost use Rattle.ix_tree.specs.Plain.{Plain, bag, par_star, listed};
-ghost use Rattle.ix_tree.specs.PlainOf.{plain, plain_bag};
-ghost use Rattle.ix_tree.specs.inside.PlainLists.{plain_trees};
+ghost use Rattle.ix_tree.specs.PlainOf.{plain_bag};
 ghost use Rattle.ix_tree.specs.Size.{size_of};
 ghost use Rattle.ix_can.specs.Nodes.{put_in, set_of};
 ghost use Rattle.ix_can.specs.inside.Moved.{bag_with};
 ghost use Rattle.ix_step.specs.inside.Builds.{Builds, Gathers, IsSmall};
 
 use crate::fault::BuildFault;
+use crate::nodes::within;
 use crate::sets::put;
 use ix_alts::AltSet;
-use ix_tree::{Bag, Tree, copy_trees};
+use ix_tree::{Bag, Knot, Node, share_knots};
 use std::alloc::{AllocError, Global};
 
 /// The place that keeps the trees in ascending order: before the first that isn't below this one.
-fn place_of(tree: &Tree, others: &[Tree]) -> usize
+fn place_of(tree: &Knot, others: &[Knot]) -> usize
     ensures within { result ≤ length others.now }
-    ensures place { put_in (plain tree.now) (map plain others.now) ≡ insert (map plain others.now) result (plain tree.now) }
+    ensures place { put_in tree.now others.now ≡ insert others.now result tree.now }
 {
     for (place, other) in others.iter().enumerate() {
         if !tree.cmp(other).is_gt() {
@@ -28,19 +28,19 @@ fn place_of(tree: &Tree, others: &[Tree]) -> usize
     others.len()
 }
 
-fn others_of(items: &[Tree], place: usize, alloc: Global) -> Result<Vec<Tree>, AllocError>
+fn others_of(items: &[Knot], place: usize, alloc: Global) -> Result<Vec<Knot>, AllocError>
     requires { place < length items.now }
-    ensures { IfOk result (λ v. map plain v.items ≡ remove (map plain items.now) place) }
+    ensures { IfOk result (λ v. v.items ≡ remove items.now place) }
 {
-    let mut others = copy_trees(alloc, items)?;
+    let mut others = share_knots(alloc, items)?;
     let _ = others.remove(place);
     Ok(others)
 }
 
 #[tactic(none)]
-fn put_bag(set: &mut AltSet<Bag>, tree: Tree, others: Vec<Tree>) -> Result<(), BuildFault>
-    requires { size_of (plain tree) + size_of (plain_trees others.items) ≤ 2000000 }
-    ensures gathers { Gathers set.old.budget (bag (listed (put_in (plain tree) (map plain others.items))) ∷ []) (map plain_bag set.old.items) (map plain_bag set.new.items) result }
+fn put_bag(set: &mut AltSet<Bag>, tree: Knot, others: Vec<Knot>) -> Result<(), BuildFault>
+    requires { size_of tree + size_of (listed others.items) ≤ 2000000 }
+    ensures gathers { Gathers set.old.budget (bag (listed (put_in tree others.items)) ∷ []) (map plain_bag set.old.items) (map plain_bag set.new.items) result }
     ensures budget { set.new.budget ≡ set.old.budget }
 {
     let mut items = others;
@@ -55,17 +55,17 @@ fn put_bag(set: &mut AltSet<Bag>, tree: Tree, others: Vec<Tree>) -> Result<(), B
 #[tactic(none)]
 pub(crate) fn put_moved(
     set: &mut AltSet<Bag>,
-    moved: Result<Tree, BuildFault>,
-    items: &[Tree],
+    moved: Result<Knot, BuildFault>,
+    items: &[Knot],
     place: usize,
     alloc: Global,
 ) -> Result<(), BuildFault>
     requires moved { IsSmall moved }
-    requires items { size_of (plain_trees items.now) ≤ 1000000 }
+    requires items { size_of (listed items.now) ≤ 1000000 }
     requires place { place < length items.now }
     requires positive { 1 ≤ set.old.budget }
     ensures gathers { (x : Plain) → Builds set.old.budget x moved
-        → Gathers set.old.budget (bag_with x (remove (map plain items.now) place)) (map plain_bag set.old.items) (map plain_bag set.new.items) result }
+        → Gathers set.old.budget (bag_with x (remove items.now place)) (map plain_bag set.old.items) (map plain_bag set.new.items) result }
     ensures budget { set.new.budget ≡ set.old.budget }
 {
     let tree = match moved {
@@ -84,23 +84,23 @@ pub(crate) fn put_moved(
 #[tactic(none)]
 fn put_more(
     set: &mut AltSet<Bag>,
-    more: &Tree,
-    items: &[Tree],
+    more: &Knot,
+    items: &[Knot],
     alloc: Global,
 ) -> Result<(), BuildFault>
-    requires more { size_of (plain more.now) ≤ 1000000 }
-    requires items { size_of (plain_trees items.now) ≤ 1000000 }
-    ensures gathers { Gathers set.old.budget (bag_with (plain more.now) (map plain items.now)) (map plain_bag set.old.items) (map plain_bag set.new.items) result }
+    requires more { size_of more.now ≤ 1000000 }
+    requires items { size_of (listed items.now) ≤ 1000000 }
+    ensures gathers { Gathers set.old.budget (bag_with more.now items.now) (map plain_bag set.old.items) (map plain_bag set.new.items) result }
     ensures budget { set.new.budget ≡ set.old.budget }
 {
     if more.is_dead() {
         return Ok(());
     }
-    let tree = match more.copy(alloc) {
+    let tree = match more.share() {
         Ok(tree) => tree,
         Err(_) => return Err(BuildFault::Memory),
     };
-    match copy_trees(alloc, items) {
+    match share_knots(alloc, items) {
         Ok(others) => put_bag(set, tree, others),
         Err(_) => Err(BuildFault::Memory),
     }
@@ -111,15 +111,15 @@ fn put_more(
 #[tactic(none)]
 pub(crate) fn put_first(
     set: &mut AltSet<Bag>,
-    first: &Result<Tree, BuildFault>,
-    items: &[Tree],
+    first: &Result<Knot, BuildFault>,
+    items: &[Knot],
     alloc: Global,
 ) -> Result<(), BuildFault>
     requires first { IsSmall first.now }
-    requires items { size_of (plain_trees items.now) ≤ 1000000 }
+    requires items { size_of (listed items.now) ≤ 1000000 }
     requires positive { 1 ≤ set.old.budget }
     ensures gathers { (x : Plain) → Builds set.old.budget x first.now
-        → Gathers set.old.budget (bag_with x (map plain items.now)) (map plain_bag set.old.items) (map plain_bag set.new.items) result }
+        → Gathers set.old.budget (bag_with x items.now) (map plain_bag set.old.items) (map plain_bag set.new.items) result }
     ensures budget { set.new.budget ≡ set.old.budget }
 {
     match first {
@@ -132,9 +132,11 @@ pub(crate) fn put_first(
 pub(crate) fn par_star_node(
     gathered: Result<(), BuildFault>,
     set: AltSet<Bag>,
+    alloc: Global,
     limit: usize,
-) -> Result<Tree, BuildFault>
+) -> Result<Knot, BuildFault>
     requires budget { set.budget ≡ limit }
+    requires limit { limit ≤ 1000000 }
     ensures { (bs : List Plain) → Gathers limit bs [] (map plain_bag set.items) gathered
         → Builds limit (par_star (set_of bs)) result }
 {
@@ -144,5 +146,5 @@ pub(crate) fn par_star_node(
     if set.total() >= limit {
         return Err(BuildFault::Over { limit });
     }
-    Ok(Tree::ParStar(set.into_items()))
+    within(Node::ParStar(set.into_items()), alloc, limit)
 }

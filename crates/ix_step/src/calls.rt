@@ -1,11 +1,11 @@
 //! The two calls: the tree of the empty word, and the step to the tree of a word with one more action.
 
-ghost use Rattle.std.specs.Prelude.{◌≡◌, ◌≤◌, ◌++◌, ◌∷◌, [], true};
+ghost use Rattle.std.specs.Prelude.{◌≡◌, ◌≤◌, ◌++◌, ◌∷◌, [], true, ℕ};
 ghost use Rattle.ix_values.specs.PlainAction.{Word};
 ghost use Rattle.ix_expr.specs.Environment.{Environment};
 ghost use Rattle.ix_expr.specs.FormFaults.{Fits};
 ghost use Rattle.ix_expr.specs.inside.FormOf.{form_of};
-ghost use Rattle.ix_tree.specs.PlainOf.{plain};
+ghost use Rattle.ix_tree.specs.Plain.{Plain};
 ghost use Rattle.ix_tree.specs.Size.{size_of};
 ghost use Rattle.ix_can.specs.Laws.{IsProper};
 ghost use Rattle.ix_can.specs.inside.May.{may};
@@ -16,9 +16,9 @@ ghost use Rattle.ix_step.specs.inside.Builds.{Builds};
 use crate::advance::advance;
 use crate::fault::BuildFault;
 use crate::first::first_tree;
-use crate::nodes::within;
+use crate::nodes::bounded;
 use ix_expr::{Env, Expr};
-use ix_tree::Tree;
+use ix_tree::{Knot, Tree};
 use ix_values::Action;
 use std::alloc::Global;
 
@@ -31,7 +31,7 @@ pub fn initial(alloc: Global, expr: &Expr, limit: usize) -> Result<Tree, BuildFa
     ensures { Builds limit (tree_of (form_of expr.now) [] []) result }
 {
     match first_tree(expr, alloc) {
-        Ok(tree) => within(tree, limit),
+        Ok(tree) => tree_of_knot(bounded(tree, limit)),
         Err(_) => Err(BuildFault::Memory),
     }
 }
@@ -48,34 +48,34 @@ pub fn step(
     limit: usize,
 ) -> Result<Tree, BuildFault>
     requires fits { Fits (form_of expr.now) env.now }
-    requires proper { IsProper (form_of expr.now) (plain tree.now) }
-    requires may { may (form_of expr.now) env.now (plain tree.now) action.now ≡ true }
+    requires proper { IsProper (form_of expr.now) tree.now }
+    requires may { may (form_of expr.now) env.now tree.now action.now ≡ true }
     requires limit { limit ≤ 1000000 }
-    requires size { size_of (plain tree.now) ≤ 1000000 }
-    ensures by_tree { Builds limit (moved (form_of expr.now) env.now (plain tree.now) action.now) result }
-    ensures by_word { (w : Word) → plain tree.now ≡ tree_of (form_of expr.now) env.now w
+    requires size { size_of tree.now ≤ 1000000 }
+    ensures by_tree { Builds limit (moved (form_of expr.now) env.now tree.now action.now) result }
+    ensures by_word { (w : Word) → tree.now ≡ tree_of (form_of expr.now) env.now w
         → Builds limit (tree_of (form_of expr.now) env.now (w ++ action.now ∷ [])) result }
 {
-    moved_within(expr, tree, env, action, alloc, limit)
+    tree_of_knot(moved_within(expr, tree.knot(), env, action, alloc, limit))
 }
 
 #[tactic(none)]
 fn moved_within(
     expr: &Expr,
-    tree: &Tree,
+    tree: &Knot,
     env: &Env,
     action: &Action,
     alloc: Global,
     limit: usize,
-) -> Result<Tree, BuildFault>
+) -> Result<Knot, BuildFault>
     requires fits { Fits (form_of expr.now) env.now }
-    requires proper { IsProper (form_of expr.now) (plain tree.now) }
+    requires proper { IsProper (form_of expr.now) tree.now }
     requires limit { limit ≤ 1000000 }
-    requires size { size_of (plain tree.now) ≤ 1000000 }
-    ensures { Builds limit (moved (form_of expr.now) env.now (plain tree.now) action.now) result }
+    requires size { size_of tree.now ≤ 1000000 }
+    ensures { Builds limit (moved (form_of expr.now) env.now tree.now action.now) result }
 {
     match advance(expr, tree, env, action, alloc, at_least_one(limit)) {
-        Ok(moved) => within(moved, limit),
+        Ok(moved) => bounded(moved, limit),
         Err(BuildFault::Over { .. }) => Err(BuildFault::Over { limit }),
         Err(BuildFault::Memory) => Err(BuildFault::Memory),
     }
@@ -90,4 +90,13 @@ fn at_least_one(limit: usize) -> usize
     ensures bounded { result ≤ 1000000 }
 {
     if limit == 0 { 1 } else { limit }
+}
+
+fn tree_of_knot(knot: Result<Knot, BuildFault>) -> Result<Tree, BuildFault>
+    ensures { (limit : ℕ) (x : Plain) → Builds limit x knot → Builds limit x result }
+{
+    match knot {
+        Ok(knot) => Ok(Tree::of(knot)),
+        Err(fault) => Err(fault),
+    }
 }

@@ -4,34 +4,33 @@ ghost use Rattle.std.specs.Prelude.{◌≡◌, ℕ, ◌≤◌, ◌++◌, ◌∷�
 ghost use Rattle.ix_values.specs.Order.{text_cmp};
 ghost use Rattle.ix_entries.specs.inside.Entries.{IsProper};
 ghost use Rattle.ix_tree.specs.Plain.{Plain};
-ghost use Rattle.ix_tree.specs.PlainOf.{plain};
 ghost use Rattle.ix_step.specs.inside.Builds.{Builds, IsSmall};
 ghost use Rattle.ix_step.specs.inside.EnterTrees.{HoldTrees, EnterTrees, Counts};
 
 use crate::fault::BuildFault;
 use ix_entries::put;
-use ix_tree::Tree;
+use ix_tree::Knot;
 use ix_values::Value;
 
 /// Puts the value's tree among the entries. `total` is what the Sizes of the entries are together,
 /// and the answer what they are together afterwards.
 pub(crate) fn put_tree(
-    entries: &mut Vec<(Value, Tree)>,
+    entries: &mut Vec<(Value, Knot)>,
     total: usize,
-    common: &Tree,
+    common: &Knot,
     value: Value,
-    tree: Result<Tree, BuildFault>,
+    tree: Result<Knot, BuildFault>,
     limit: usize,
 ) -> Result<usize, BuildFault>
-    requires proper { IsProper text_cmp ⟦<Tree as PartialEq>⟧.eq common.now entries.old.items }
+    requires proper { IsProper text_cmp ⟦<Knot as PartialEq>⟧.eq common.now entries.old.items }
     requires small { IsSmall tree }
     requires within { total ≤ limit }
     requires bounded { limit ≤ 1000000 }
-    ensures proper { IsProper text_cmp ⟦<Tree as PartialEq>⟧.eq common.now entries.new.items }
+    ensures proper { IsProper text_cmp ⟦<Knot as PartialEq>⟧.eq common.now entries.new.items }
     ensures entered { (trees : List ℕ → Plain) (values : List (List ℕ))
-        → HoldTrees (plain common.now) trees values entries.old.items total
+        → HoldTrees common.now trees values entries.old.items total
         → Builds limit (trees value) tree
-        → EnterTrees limit (plain common.now) trees (values ++ value ∷ []) entries.new.items result }
+        → EnterTrees limit common.now trees (values ++ value ∷ []) entries.new.items result }
 {
     let tree = match tree {
         Ok(tree) => tree,

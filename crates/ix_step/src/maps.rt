@@ -4,13 +4,15 @@ ghost use Rattle.std.specs.Prelude.{◌≡◌, ℕ, ◌≤◌, ◌++◌, [], Lis
 ghost use Rattle.ix_words.specs.Each.{Each};
 ghost use Rattle.ix_expr.specs.inside.FormOf.{form_of};
 ghost use Rattle.ix_expr.specs.Form.{Form, all};
-ghost use Rattle.ix_tree.specs.Plain.{Plain, listed, items_of, all as all_of, map as map_of};
-ghost use Rattle.ix_tree.specs.PlainOf.{plain, plain_map};
+ghost use Rattle.ix_tree.specs.Plain.{Plain, dead, listed, items_of, all as all_of, map as map_of};
+ghost use Rattle.ix_tree.specs.PlainOf.{plain_map, plain_entries};
 ghost use Rattle.ix_tree.specs.Order.{first_part};
 ghost use Rattle.ix_tree.specs.Size.{size_of};
-ghost use Rattle.ix_can.specs.inside.May.{may};
+ghost use Rattle.ix_can.specs.inside.May.{may, tree_at};
 ghost use Rattle.ix_can.specs.Nodes.{set_of, is_live};
-ghost use Rattle.ix_can.specs.inside.Moved.{moved, map_with, entry_with};
+ghost use Rattle.ix_can.specs.inside.Moved.{moved, map_with, entry_with, or_initial};
+ghost use Rattle.ix_entries.specs.inside.Entries.{KeysAscend};
+ghost use Rattle.ix_values.specs.Order.{text_cmp};
 ghost use Rattle.ix_step.specs.inside.Builds.{Builds, Gathers, IsSmall};
 ghost use Rattle.ix_step.specs.inside.Ready.{Ready};
 ghost use Rattle.ix_step.specs.inside.MapsAfter.{HoldsWell, ReadyToBegin, begun_tree, map_after, maps_after, with_tree, Retold};
@@ -18,11 +20,13 @@ ghost use Rattle.ix_step.specs.inside.MapsAfter.{HoldsWell, ReadyToBegin, begun_
 use crate::advance::advance;
 use crate::fault::BuildFault;
 use crate::first::first_tree;
+use crate::nodes::{dead, within};
 use crate::sets::put as put_alternative;
 use ix_alts::AltSet;
-use ix_entries::{at, put};
+use ix_can::state_of;
+use ix_entries::put;
 use ix_expr::{Env, Expr};
-use ix_tree::{Map, Tree, copy_entries};
+use ix_tree::{Knot, Map, Node, share_entries};
 use ix_values::{Action, Name, Value};
 use std::alloc::{AllocError, Global};
 
@@ -31,18 +35,18 @@ use std::alloc::{AllocError, Global};
 pub(crate) fn advance_all(
     parameter: &Name,
     y: &Expr,
-    tree: &Tree,
+    tree: &Knot,
     env: &Env,
     action: &Action,
     alloc: Global,
     limit: usize,
-) -> Result<Tree, BuildFault>
-    requires ready { Ready limit (all parameter.now (form_of y.now)) env.now (plain tree.now) }
-    requires may { may (all parameter.now (form_of y.now)) env.now (plain tree.now) action.now ≡ true }
-    ensures { Builds limit (moved (all parameter.now (form_of y.now)) env.now (plain tree.now) action.now) result }
+) -> Result<Knot, BuildFault>
+    requires ready { Ready limit (all parameter.now (form_of y.now)) env.now tree.now }
+    requires may { may (all parameter.now (form_of y.now)) env.now tree.now action.now ≡ true }
+    ensures { Builds limit (moved (all parameter.now (form_of y.now)) env.now tree.now action.now) result }
 {
-    let Tree::All(maps) = tree else {
-        return Ok(Tree::Dead);
+    let Node::All(maps) = tree.node() else {
+        return dead(alloc, limit);
     };
     let first = match first_tree(y, alloc) {
         Ok(first) => first,
@@ -55,7 +59,7 @@ pub(crate) fn advance_all(
     let moved = advance_maps(
         y, parameter, maps, &first, &mut set, env, action, alloc, limit, room,
     );
-    all_node(moved, set, limit)
+    all_node(moved, set, alloc, limit)
 }
 
 fn larger(a: usize, b: usize) -> usize
@@ -73,7 +77,7 @@ fn advance_maps(
     y: &Expr,
     parameter: &Name,
     maps: &[Map],
-    first: &Tree,
+    first: &Knot,
     set: &mut AltSet<Map>,
     env: &Env,
     action: &Action,
@@ -81,12 +85,12 @@ fn advance_maps(
     limit: usize,
     room: usize,
 ) -> Result<(), BuildFault>
-    requires ready { ReadyToBegin room parameter.now (form_of y.now) env.now (plain first.now) }
-    requires held { Each (HoldsWell (form_of y.now) (plain first.now)) (map plain_map maps.now) }
+    requires ready { ReadyToBegin room parameter.now (form_of y.now) env.now first.now }
+    requires held { Each (HoldsWell (form_of y.now) first.now) (map plain_map maps.now) }
     requires budget { set.old.budget ≡ limit }
     requires room { limit ≤ room }
     ensures gathers { Gathers limit
-        (flat_map (maps_after parameter.now (form_of y.now) env.now action.now (plain first.now) action.now.values) (map plain_map maps.now))
+        (flat_map (maps_after parameter.now (form_of y.now) env.now action.now first.now action.now.values) (map plain_map maps.now))
         (map plain_map set.old.items) (map plain_map set.new.items) result }
     ensures budget { set.new.budget ≡ limit }
 {
@@ -106,7 +110,7 @@ fn advance_map(
     y: &Expr,
     parameter: &Name,
     state: &Map,
-    first: &Tree,
+    first: &Knot,
     set: &mut AltSet<Map>,
     env: &Env,
     action: &Action,
@@ -114,12 +118,12 @@ fn advance_map(
     limit: usize,
     room: usize,
 ) -> Result<(), BuildFault>
-    requires ready { ReadyToBegin room parameter.now (form_of y.now) env.now (plain first.now) }
-    requires held { HoldsWell (form_of y.now) (plain first.now) (plain_map state.now) }
+    requires ready { ReadyToBegin room parameter.now (form_of y.now) env.now first.now }
+    requires held { HoldsWell (form_of y.now) first.now (plain_map state.now) }
     requires budget { set.old.budget ≡ limit }
     requires room { limit ≤ room }
     ensures gathers { Gathers limit
-        (maps_after parameter.now (form_of y.now) env.now action.now (plain first.now) action.now.values (plain_map state.now))
+        (maps_after parameter.now (form_of y.now) env.now action.now first.now action.now.values (plain_map state.now))
         (map plain_map set.old.items) (map plain_map set.new.items) result }
     ensures budget { set.new.budget ≡ limit }
 {
@@ -139,43 +143,49 @@ fn tree_begun(
     y: &Expr,
     parameter: &Name,
     state: &Map,
-    first: &Tree,
+    first: &Knot,
     value: &Value,
     env: &Env,
     action: &Action,
     alloc: Global,
     room: usize,
-) -> Result<Tree, BuildFault>
-    requires ready { ReadyToBegin room parameter.now (form_of y.now) env.now (plain first.now) }
-    requires held { HoldsWell (form_of y.now) (plain first.now) (plain_map state.now) }
+) -> Result<Knot, BuildFault>
+    requires ready { ReadyToBegin room parameter.now (form_of y.now) env.now first.now }
+    requires held { HoldsWell (form_of y.now) first.now (plain_map state.now) }
     ensures { Builds room
-        (begun_tree parameter.now (form_of y.now) env.now action.now (plain first.now) (plain_map state.now) value.now)
+        (begun_tree parameter.now (form_of y.now) env.now action.now first.now (plain_map state.now) value.now)
         result }
 {
     let inside = env.with(*parameter, Some(*value));
-    let dead = Tree::Dead;
-    let tree = at(&state.entries, &dead, value);
-    if tree.is_dead() {
-        advance(y, first, &inside, action, alloc, room)
-    } else {
-        advance(y, tree, &inside, action, alloc, room)
+    let tree = or_first(&state.entries, first, value);
+    advance(y, tree, &inside, action, alloc, room)
+}
+
+/// The state of the value, or the first tree where the value has no live one.
+fn or_first<'a>(entries: &'a [(Value, Knot)], first: &'a Knot, value: &Value) -> &'a Knot
+    requires { KeysAscend text_cmp entries.now }
+    ensures { result.now ≡ or_initial first.now (tree_at value.now dead (items_of (plain_entries entries.now))) }
+{
+    match state_of(entries, value) {
+        Some(state) if !state.is_dead() => state,
+        _ => first,
     }
 }
 
 fn put_moved(
     set: &mut AltSet<Map>,
     state: &Map,
-    first: &Tree,
+    first: &Knot,
     value: Value,
-    tree: Result<Tree, BuildFault>,
+    tree: Result<Knot, BuildFault>,
     alloc: Global,
     limit: usize,
 ) -> Result<(), BuildFault>
-    requires held { (y : Form) × HoldsWell y (plain first.now) (plain_map state.now) }
+    requires held { (y : Form) × HoldsWell y first.now (plain_map state.now) }
     requires small { IsSmall tree }
     requires budget { set.old.budget ≡ limit }
-    ensures gathers { (room : ℕ) (x : Plain) → 1 ≤ room → limit ≤ room → size_of (plain first.now) ≤ room → Builds room x tree
-        → Gathers limit (map_with (plain first.now) value x (items_of (first_part (plain_map state.now))))
+    ensures gathers { (room : ℕ) (x : Plain) → 1 ≤ room → limit ≤ room → size_of first.now ≤ room → Builds room x tree
+        → Gathers limit (map_with first.now value x (items_of (first_part (plain_map state.now))))
         (map plain_map set.old.items) (map plain_map set.new.items) result }
     ensures budget { set.new.budget ≡ limit }
 {
@@ -199,14 +209,14 @@ fn retold(fault: BuildFault, limit: usize) -> BuildFault
 fn put_live(
     set: &mut AltSet<Map>,
     state: &Map,
-    first: &Tree,
+    first: &Knot,
     value: Value,
-    tree: Tree,
+    tree: Knot,
     alloc: Global,
 ) -> Result<(), BuildFault>
-    requires held { (y : Form) × HoldsWell y (plain first.now) (plain_map state.now) }
-    requires small { size_of (plain tree) ≤ 1000000 }
-    ensures gathers { Gathers set.old.budget (map_with (plain first.now) value (plain tree) (items_of (first_part (plain_map state.now))))
+    requires held { (y : Form) × HoldsWell y first.now (plain_map state.now) }
+    requires small { size_of tree ≤ 1000000 }
+    ensures gathers { Gathers set.old.budget (map_with first.now value tree (items_of (first_part (plain_map state.now))))
         (map plain_map set.old.items) (map plain_map set.new.items) result }
     ensures budget { set.new.budget ≡ set.old.budget }
 {
@@ -221,15 +231,15 @@ fn put_live(
 
 fn map_beside(
     state: &Map,
-    first: &Tree,
+    first: &Knot,
     value: Value,
-    tree: Tree,
+    tree: Knot,
     alloc: Global,
 ) -> Result<Map, AllocError>
-    requires held { (y : Form) × HoldsWell y (plain first.now) (plain_map state.now) }
-    ensures { IfOk result (λ m. plain_map m ≡ with_tree (plain first.now) value (plain tree) (items_of (first_part (plain_map state.now)))) }
+    requires held { (y : Form) × HoldsWell y first.now (plain_map state.now) }
+    ensures { IfOk result (λ m. plain_map m ≡ with_tree first.now value tree (items_of (first_part (plain_map state.now)))) }
 {
-    let mut entries = match copy_entries(alloc, &state.entries) {
+    let mut entries = match share_entries(alloc, &state.entries) {
         Ok(entries) => entries,
         Err(fault) => return Err(fault),
     };
@@ -242,19 +252,20 @@ fn map_beside(
 fn all_node(
     moved: Result<(), BuildFault>,
     set: AltSet<Map>,
+    alloc: Global,
     limit: usize,
-) -> Result<Tree, BuildFault>
+) -> Result<Knot, BuildFault>
     requires budget { set.budget ≡ limit }
     requires limit { limit ≤ 1000000 }
     ensures { (ms : List Plain) → Gathers limit ms [] (map plain_map set.items) moved → Builds limit (all_of (set_of ms)) result }
 {
     match moved {
-        Ok(()) => all_of_set(set, limit),
+        Ok(()) => all_of_set(set, alloc, limit),
         Err(fault) => Err(fault),
     }
 }
 
-fn all_of_set(set: AltSet<Map>, limit: usize) -> Result<Tree, BuildFault>
+fn all_of_set(set: AltSet<Map>, alloc: Global, limit: usize) -> Result<Knot, BuildFault>
     requires budget { set.budget ≡ limit }
     requires limit { limit ≤ 1000000 }
     ensures { Builds limit (all_of (listed (map plain_map set.items))) result }
@@ -263,5 +274,5 @@ fn all_of_set(set: AltSet<Map>, limit: usize) -> Result<Tree, BuildFault>
     if size > limit {
         return Err(BuildFault::Over { limit });
     }
-    Ok(Tree::All(set.into_items()))
+    within(Node::All(set.into_items()), alloc, limit)
 }

@@ -1,18 +1,44 @@
 //! The making of nodes from parts that were built, or were not.
 
-ghost use Rattle.std.specs.Prelude.{◌≡◌, ℕ, ◌≤◌, ◌^◌, false, MatchResult};
-ghost use Rattle.ix_tree.specs.Plain.{Plain, opt, or, and, couple};
-ghost use Rattle.ix_tree.specs.PlainOf.{plain};
+ghost use Rattle.std.specs.Prelude.{ℕ, ◌≤◌, ◌^◌, false};
+ghost use Rattle.ix_tree.specs.Plain.{Plain, dead, done, opt, or, and, couple};
+ghost use Rattle.ix_tree.specs.inside.PlainNode.{plain_node};
 ghost use Rattle.ix_tree.specs.Size.{size_of};
-ghost use Rattle.ix_step.specs.inside.Builds.{Builds, BuildsBox, BuildsBoth, IsSmall, IsSmallBox, IsSmallBoth};
+ghost use Rattle.ix_step.specs.inside.Builds.{Builds, BuildsBoth, IsSmall, IsSmallBoth};
 
 use crate::fault::BuildFault;
-use ix_tree::Tree;
+use ix_tree::{Knot, Node};
 use std::alloc::Global;
 
-pub(crate) fn within(tree: Tree, limit: usize) -> Result<Tree, BuildFault>
-    requires { size_of (plain tree) ≤ 2 ^ 32 }
-    ensures { Builds limit (plain tree) result }
+/// The knot of the node, whose Size is added up from what its parts keep.
+pub(crate) fn within(node: Node, alloc: Global, limit: usize) -> Result<Knot, BuildFault>
+    requires { size_of (plain_node node) ≤ 2 ^ 32 }
+    ensures { Builds limit (plain_node node) result }
+{
+    if node.size() > limit {
+        return Err(BuildFault::Over { limit });
+    }
+    match Knot::new(alloc, node) {
+        Ok(knot) => Ok(knot),
+        Err(_) => Err(BuildFault::Memory),
+    }
+}
+
+pub(crate) fn dead(alloc: Global, limit: usize) -> Result<Knot, BuildFault>
+    ensures { Builds limit dead result }
+{
+    within(Node::Dead, alloc, limit)
+}
+
+pub(crate) fn done(alloc: Global, limit: usize) -> Result<Knot, BuildFault>
+    ensures { Builds limit done result }
+{
+    within(Node::Done, alloc, limit)
+}
+
+/// The tree itself, if its Size is at most the limit.
+pub(crate) fn bounded(tree: Knot, limit: usize) -> Result<Knot, BuildFault>
+    ensures { Builds limit tree result }
 {
     if tree.size() > limit {
         Err(BuildFault::Over { limit })
@@ -21,52 +47,27 @@ pub(crate) fn within(tree: Tree, limit: usize) -> Result<Tree, BuildFault>
     }
 }
 
-pub(crate) fn copied(tree: &Tree, alloc: Global, limit: usize) -> Result<Tree, BuildFault>
-    requires { size_of (plain tree.now) ≤ 2 ^ 32 }
-    ensures { Builds limit (plain tree.now) result }
+pub(crate) fn shared(tree: &Knot, limit: usize) -> Result<Knot, BuildFault>
+    ensures { Builds limit tree.now result }
 {
-    match tree.copy(alloc) {
-        Ok(copy) => within(copy, limit),
+    match tree.share() {
+        Ok(copy) => bounded(copy, limit),
         Err(_) => Err(BuildFault::Memory),
-    }
-}
-
-pub(crate) fn boxed(tree: Tree, alloc: Global) -> Result<Box<Tree>, BuildFault>
-    ensures { MatchResult result (λ boxed. plain boxed.value ≡ plain tree) (λ fault. fault ≡ BuildFault.Memory) }
-{
-    match Box::new(alloc, tree) {
-        Ok(boxed) => Ok(boxed),
-        Err(_) => Err(BuildFault::Memory),
-    }
-}
-
-/// The result of a part is handed to its node unopened: a fault is told here, outside the cycle,
-/// and the functions of the cycle have no path of their own for it.
-#[tactic(none)]
-fn built_box(tree: Result<Tree, BuildFault>, alloc: Global) -> Result<Box<Tree>, BuildFault>
-    requires { IsSmall tree }
-    ensures small { IsSmallBox result }
-    ensures built { (limit : ℕ) (x : Plain) → Builds limit x tree → BuildsBox limit x result }
-{
-    match tree {
-        Ok(tree) => boxed(tree, alloc),
-        Err(fault) => Err(fault),
     }
 }
 
 #[tactic(none)]
 fn both(
-    left: Result<Tree, BuildFault>,
-    right: Result<Tree, BuildFault>,
-    alloc: Global,
-) -> Result<(Box<Tree>, Box<Tree>), BuildFault>
+    left: Result<Knot, BuildFault>,
+    right: Result<Knot, BuildFault>,
+) -> Result<(Knot, Knot), BuildFault>
     requires left { IsSmall left }
     requires right { IsSmall right }
     ensures small { IsSmallBoth result }
     ensures built { (limit : ℕ) (x y : Plain) → Builds limit x left → Builds limit y right → BuildsBoth limit x y result }
 {
-    match built_box(left, alloc) {
-        Ok(left) => match built_box(right, alloc) {
+    match left {
+        Ok(left) => match right {
             Ok(right) => Ok((left, right)),
             Err(fault) => Err(fault),
         },
@@ -77,66 +78,66 @@ fn both(
 /// The flag is false: after an action the word isn't empty.
 #[tactic(none)]
 pub(crate) fn opt_node(
-    inner: Result<Tree, BuildFault>,
+    inner: Result<Knot, BuildFault>,
     alloc: Global,
     limit: usize,
-) -> Result<Tree, BuildFault>
+) -> Result<Knot, BuildFault>
     requires { IsSmall inner }
     ensures { (x : Plain) → Builds limit x inner → Builds limit (opt false x) result }
 {
-    match built_box(inner, alloc) {
-        Ok(inner) => within(Tree::Opt(false, inner), limit),
+    match inner {
+        Ok(inner) => within(Node::Opt(false, inner), alloc, limit),
         Err(fault) => Err(fault),
     }
 }
 
 #[tactic(none)]
 pub(crate) fn or_node(
-    left: Result<Tree, BuildFault>,
-    right: Result<Tree, BuildFault>,
+    left: Result<Knot, BuildFault>,
+    right: Result<Knot, BuildFault>,
     alloc: Global,
     limit: usize,
-) -> Result<Tree, BuildFault>
+) -> Result<Knot, BuildFault>
     requires left { IsSmall left }
     requires right { IsSmall right }
     ensures { (x y : Plain) → Builds limit x left → Builds limit y right → Builds limit (or x y) result }
 {
-    match both(left, right, alloc) {
-        Ok((left, right)) => within(Tree::Or(left, right), limit),
+    match both(left, right) {
+        Ok((left, right)) => within(Node::Or(left, right), alloc, limit),
         Err(fault) => Err(fault),
     }
 }
 
 #[tactic(none)]
 pub(crate) fn and_node(
-    left: Result<Tree, BuildFault>,
-    right: Result<Tree, BuildFault>,
+    left: Result<Knot, BuildFault>,
+    right: Result<Knot, BuildFault>,
     alloc: Global,
     limit: usize,
-) -> Result<Tree, BuildFault>
+) -> Result<Knot, BuildFault>
     requires left { IsSmall left }
     requires right { IsSmall right }
     ensures { (x y : Plain) → Builds limit x left → Builds limit y right → Builds limit (and x y) result }
 {
-    match both(left, right, alloc) {
-        Ok((left, right)) => within(Tree::And(left, right), limit),
+    match both(left, right) {
+        Ok((left, right)) => within(Node::And(left, right), alloc, limit),
         Err(fault) => Err(fault),
     }
 }
 
 #[tactic(none)]
 pub(crate) fn couple_node(
-    left: Result<Tree, BuildFault>,
-    right: Result<Tree, BuildFault>,
+    left: Result<Knot, BuildFault>,
+    right: Result<Knot, BuildFault>,
     alloc: Global,
     limit: usize,
-) -> Result<Tree, BuildFault>
+) -> Result<Knot, BuildFault>
     requires left { IsSmall left }
     requires right { IsSmall right }
     ensures { (x y : Plain) → Builds limit x left → Builds limit y right → Builds limit (couple x y) result }
 {
-    match both(left, right, alloc) {
-        Ok((left, right)) => within(Tree::Couple(left, right), limit),
+    match both(left, right) {
+        Ok((left, right)) => within(Node::Couple(left, right), alloc, limit),
         Err(fault) => Err(fault),
     }
 }

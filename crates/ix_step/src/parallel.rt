@@ -4,8 +4,8 @@ ghost use Rattle.std.specs.Prelude.{◌≡◌, ◌≤◌, true, List, map, flat_
 ghost use Rattle.ix_words.specs.Each.{Each};
 ghost use Rattle.ix_expr.specs.inside.FormOf.{form_of};
 ghost use Rattle.ix_expr.specs.Form.{par, par_star};
-ghost use Rattle.ix_tree.specs.PlainOf.{plain, plain_pair, plain_bag};
-ghost use Rattle.ix_tree.specs.inside.PlainLists.{plain_trees};
+ghost use Rattle.ix_tree.specs.Plain.{listed};
+ghost use Rattle.ix_tree.specs.PlainOf.{plain_pair, plain_bag};
 ghost use Rattle.ix_tree.specs.Size.{size_of};
 ghost use Rattle.ix_can.specs.inside.May.{may};
 ghost use Rattle.ix_can.specs.inside.Moved.{moved};
@@ -17,10 +17,11 @@ ghost use Rattle.ix_step.specs.inside.Ready.{Ready};
 use crate::advance::{advance, advance_again};
 use crate::bags::{par_star_node, put_first, put_moved};
 use crate::fault::BuildFault;
+use crate::nodes::dead;
 use crate::pairs::{par_node, put_left, put_right};
 use ix_alts::AltSet;
 use ix_expr::{Env, Expr};
-use ix_tree::{Bag, Pair, Tree};
+use ix_tree::{Bag, Knot, Node, Pair};
 use ix_values::Action;
 use std::alloc::Global;
 
@@ -29,22 +30,22 @@ use std::alloc::Global;
 pub(crate) fn advance_par(
     y: &Expr,
     z: &Expr,
-    tree: &Tree,
+    tree: &Knot,
     env: &Env,
     action: &Action,
     alloc: Global,
     limit: usize,
-) -> Result<Tree, BuildFault>
-    requires ready { Ready limit (par (form_of y.now) (form_of z.now)) env.now (plain tree.now) }
-    requires may { may (par (form_of y.now) (form_of z.now)) env.now (plain tree.now) action.now ≡ true }
-    ensures { Builds limit (moved (par (form_of y.now) (form_of z.now)) env.now (plain tree.now) action.now) result }
+) -> Result<Knot, BuildFault>
+    requires ready { Ready limit (par (form_of y.now) (form_of z.now)) env.now tree.now }
+    requires may { may (par (form_of y.now) (form_of z.now)) env.now tree.now action.now ≡ true }
+    ensures { Builds limit (moved (par (form_of y.now) (form_of z.now)) env.now tree.now action.now) result }
 {
-    let Tree::Par(pairs) = tree else {
-        return Ok(Tree::Dead);
+    let Node::Par(pairs) = tree.node() else {
+        return dead(alloc, limit);
     };
     let mut set = AltSet::new(alloc, limit);
     let gathered = gather_pairs(y, z, pairs, env, action, alloc, limit, &mut set);
-    par_node(gathered, set, limit)
+    par_node(gathered, set, alloc, limit)
 }
 
 #[cycle(advance)]
@@ -91,34 +92,34 @@ fn gather_pair(
     ensures budget { set.new.budget ≡ set.old.budget }
 {
     let left = advance(y, &pair.first, env, action, alloc, limit);
-    if let Err(fault) = put_left(set, left, &pair.second, alloc) {
+    if let Err(fault) = put_left(set, left, &pair.second) {
         return Err(fault);
     }
     let right = advance(z, &pair.second, env, action, alloc, limit);
-    put_right(set, &pair.first, right, alloc)
+    put_right(set, &pair.first, right)
 }
 
 #[cycle(advance)]
 #[tactic(none)]
 pub(crate) fn advance_par_star(
     y: &Expr,
-    tree: &Tree,
+    tree: &Knot,
     env: &Env,
     action: &Action,
     alloc: Global,
     limit: usize,
-) -> Result<Tree, BuildFault>
-    requires ready { Ready limit (par_star (form_of y.now)) env.now (plain tree.now) }
-    requires may { may (par_star (form_of y.now)) env.now (plain tree.now) action.now ≡ true }
-    ensures { Builds limit (moved (par_star (form_of y.now)) env.now (plain tree.now) action.now) result }
+) -> Result<Knot, BuildFault>
+    requires ready { Ready limit (par_star (form_of y.now)) env.now tree.now }
+    requires may { may (par_star (form_of y.now)) env.now tree.now action.now ≡ true }
+    ensures { Builds limit (moved (par_star (form_of y.now)) env.now tree.now action.now) result }
 {
-    let Tree::ParStar(bags) = tree else {
-        return Ok(Tree::Dead);
+    let Node::ParStar(bags) = tree.node() else {
+        return dead(alloc, limit);
     };
     let mut set = AltSet::new(alloc, limit);
     let first = advance_again(y, true, env, action, alloc, limit);
     let gathered = gather_bags(y, bags, &first, env, action, alloc, limit, &mut set);
-    par_star_node(gathered, set, limit)
+    par_star_node(gathered, set, alloc, limit)
 }
 
 #[cycle(advance)]
@@ -126,7 +127,7 @@ pub(crate) fn advance_par_star(
 fn gather_bags(
     y: &Expr,
     bags: &[Bag],
-    first: &Result<Tree, BuildFault>,
+    first: &Result<Knot, BuildFault>,
     env: &Env,
     action: &Action,
     alloc: Global,
@@ -154,7 +155,7 @@ fn gather_bags(
 fn gather_bag(
     y: &Expr,
     bag: &Bag,
-    first: &Result<Tree, BuildFault>,
+    first: &Result<Knot, BuildFault>,
     env: &Env,
     action: &Action,
     alloc: Global,
@@ -179,18 +180,18 @@ fn gather_bag(
 #[tactic(none)]
 fn gather_picks(
     y: &Expr,
-    items: &[Tree],
+    items: &[Knot],
     env: &Env,
     action: &Action,
     alloc: Global,
     limit: usize,
     set: &mut AltSet<Bag>,
 ) -> Result<(), BuildFault>
-    requires ready { Each (Ready limit (form_of y.now) env.now) (map plain items.now) }
+    requires ready { Each (Ready limit (form_of y.now) env.now) items.now }
     requires range { IsLimit limit }
-    requires size { size_of (plain_trees items.now) ≤ 1000000 }
+    requires size { size_of (listed items.now) ≤ 1000000 }
     requires budget { set.old.budget ≡ limit }
-    ensures gathers { Gathers limit (pick_moves (form_of y.now) env.now action.now (map plain items.now)) (map plain_bag set.old.items) (map plain_bag set.new.items) result }
+    ensures gathers { Gathers limit (pick_moves (form_of y.now) env.now action.now items.now) (map plain_bag set.old.items) (map plain_bag set.new.items) result }
     ensures budget { set.new.budget ≡ set.old.budget }
 {
     for (place, item) in items.iter().enumerate() {

@@ -5,8 +5,7 @@ ghost use Rattle.std.specs.Map.{keys_of};
 ghost use Rattle.ix_expr.specs.inside.FormOf.{form_of};
 ghost use Rattle.ix_expr.specs.Form.{any, every, sync};
 ghost use Rattle.ix_tree.specs.Plain.{Plain, listed, any as any_of, every as every_of, sync as sync_of};
-ghost use Rattle.ix_tree.specs.PlainOf.{plain};
-ghost use Rattle.ix_tree.specs.inside.PlainLists.{plain_entry, plain_entries};
+ghost use Rattle.ix_tree.specs.PlainOf.{plain_entry, plain_entries};
 ghost use Rattle.ix_tree.specs.Size.{size_of};
 ghost use Rattle.ix_can.specs.inside.May.{may};
 ghost use Rattle.ix_can.specs.inside.Moved.{moved};
@@ -18,10 +17,10 @@ ghost use Rattle.ix_step.specs.inside.ValueTrees.{ReadyInside, moved_part, commo
 use crate::advance::{advance, advance_inside};
 use crate::entries::put_tree;
 use crate::fault::BuildFault;
-use crate::nodes::{boxed, within};
+use crate::nodes::{dead, within};
 use ix_entries::at;
 use ix_expr::{Env, Expr};
-use ix_tree::Tree;
+use ix_tree::{Knot, Node};
 use ix_values::{Action, Name, Value};
 use std::alloc::Global;
 
@@ -30,23 +29,23 @@ use std::alloc::Global;
 pub(crate) fn advance_any(
     parameter: &Name,
     y: &Expr,
-    tree: &Tree,
+    tree: &Knot,
     env: &Env,
     action: &Action,
     alloc: Global,
     limit: usize,
-) -> Result<Tree, BuildFault>
-    requires ready { Ready limit (any parameter.now (form_of y.now)) env.now (plain tree.now) }
-    requires may { may (any parameter.now (form_of y.now)) env.now (plain tree.now) action.now ≡ true }
-    ensures { Builds limit (moved (any parameter.now (form_of y.now)) env.now (plain tree.now) action.now) result }
+) -> Result<Knot, BuildFault>
+    requires ready { Ready limit (any parameter.now (form_of y.now)) env.now tree.now }
+    requires may { may (any parameter.now (form_of y.now)) env.now tree.now action.now ≡ true }
+    ensures { Builds limit (moved (any parameter.now (form_of y.now)) env.now tree.now action.now) result }
 {
-    let Tree::Any(common, entries) = tree else {
-        return Ok(Tree::Dead);
+    let Node::Any(common, entries) = tree.node() else {
+        return dead(alloc, limit);
     };
     let parts = advance_parts(
         y, parameter, common, entries, env, action, false, alloc, limit,
     );
-    any_node(parts, limit)
+    any_node(parts, alloc, limit)
 }
 
 #[cycle(advance)]
@@ -54,23 +53,23 @@ pub(crate) fn advance_any(
 pub(crate) fn advance_every(
     parameter: &Name,
     y: &Expr,
-    tree: &Tree,
+    tree: &Knot,
     env: &Env,
     action: &Action,
     alloc: Global,
     limit: usize,
-) -> Result<Tree, BuildFault>
-    requires ready { Ready limit (every parameter.now (form_of y.now)) env.now (plain tree.now) }
-    requires may { may (every parameter.now (form_of y.now)) env.now (plain tree.now) action.now ≡ true }
-    ensures { Builds limit (moved (every parameter.now (form_of y.now)) env.now (plain tree.now) action.now) result }
+) -> Result<Knot, BuildFault>
+    requires ready { Ready limit (every parameter.now (form_of y.now)) env.now tree.now }
+    requires may { may (every parameter.now (form_of y.now)) env.now tree.now action.now ≡ true }
+    ensures { Builds limit (moved (every parameter.now (form_of y.now)) env.now tree.now action.now) result }
 {
-    let Tree::Every(common, entries) = tree else {
-        return Ok(Tree::Dead);
+    let Node::Every(common, entries) = tree.node() else {
+        return dead(alloc, limit);
     };
     let parts = advance_parts(
         y, parameter, common, entries, env, action, false, alloc, limit,
     );
-    every_node(parts, limit)
+    every_node(parts, alloc, limit)
 }
 
 #[cycle(advance)]
@@ -78,23 +77,23 @@ pub(crate) fn advance_every(
 pub(crate) fn advance_sync(
     parameter: &Name,
     y: &Expr,
-    tree: &Tree,
+    tree: &Knot,
     env: &Env,
     action: &Action,
     alloc: Global,
     limit: usize,
-) -> Result<Tree, BuildFault>
-    requires ready { Ready limit (sync parameter.now (form_of y.now)) env.now (plain tree.now) }
-    requires may { may (sync parameter.now (form_of y.now)) env.now (plain tree.now) action.now ≡ true }
-    ensures { Builds limit (moved (sync parameter.now (form_of y.now)) env.now (plain tree.now) action.now) result }
+) -> Result<Knot, BuildFault>
+    requires ready { Ready limit (sync parameter.now (form_of y.now)) env.now tree.now }
+    requires may { may (sync parameter.now (form_of y.now)) env.now tree.now action.now ≡ true }
+    ensures { Builds limit (moved (sync parameter.now (form_of y.now)) env.now tree.now action.now) result }
 {
-    let Tree::Sync(common, entries) = tree else {
-        return Ok(Tree::Dead);
+    let Node::Sync(common, entries) = tree.node() else {
+        return dead(alloc, limit);
     };
     let parts = advance_parts(
         y, parameter, common, entries, env, action, true, alloc, limit,
     );
-    sync_node(parts, limit)
+    sync_node(parts, alloc, limit)
 }
 
 /// Only the values that have entries and the action's own are looked at: every other one moves as
@@ -103,18 +102,18 @@ pub(crate) fn advance_sync(
 fn advance_parts(
     y: &Expr,
     parameter: &Name,
-    common: &Tree,
-    entries: &[(Value, Tree)],
+    common: &Knot,
+    entries: &[(Value, Knot)],
     env: &Env,
     action: &Action,
     only_inside: bool,
     alloc: Global,
     limit: usize,
-) -> Result<(Box<Tree>, Vec<(Value, Tree)>), BuildFault>
-    requires { ReadyInside limit parameter.now (form_of y.now) env.now (plain common.now) (map plain_entry entries.now) }
+) -> Result<(Knot, Vec<(Value, Knot)>), BuildFault>
+    requires { ReadyInside limit parameter.now (form_of y.now) env.now common.now (map plain_entry entries.now) }
     ensures { BuildsParts limit
-        (common_after only_inside parameter.now (form_of y.now) env.now action.now (plain common.now))
-        (tree_after only_inside parameter.now (form_of y.now) env.now action.now (plain common.now) (map plain_entry entries.now))
+        (common_after only_inside parameter.now (form_of y.now) env.now action.now common.now)
+        (tree_after only_inside parameter.now (form_of y.now) env.now action.now common.now (map plain_entry entries.now))
         (touched entries.now action.now)
         result }
 {
@@ -140,24 +139,20 @@ fn advance_parts(
         alloc,
         limit,
     );
-    beside(next, moved, alloc)
+    beside(next, moved)
 }
 
 fn beside(
-    common: Tree,
-    entries: Result<Vec<(Value, Tree)>, BuildFault>,
-    alloc: Global,
-) -> Result<(Box<Tree>, Vec<(Value, Tree)>), BuildFault>
+    common: Knot,
+    entries: Result<Vec<(Value, Knot)>, BuildFault>,
+) -> Result<(Knot, Vec<(Value, Knot)>), BuildFault>
     ensures { (limit : ℕ) (tree : List ℕ → Plain) (values : List (List ℕ))
-        → size_of (plain common) ≤ limit
-        → BuildsEntries limit (plain common) tree values entries
-        → BuildsParts limit (plain common) tree values result }
+        → size_of common ≤ limit
+        → BuildsEntries limit common tree values entries
+        → BuildsParts limit common tree values result }
 {
     match entries {
-        Ok(entries) => match boxed(common, alloc) {
-            Ok(common) => Ok((common, entries)),
-            Err(_) => Err(BuildFault::Memory),
-        },
+        Ok(entries) => Ok((common, entries)),
         Err(fault) => Err(fault),
     }
 }
@@ -167,19 +162,19 @@ fn beside(
 fn trees_after(
     y: &Expr,
     parameter: &Name,
-    common: &Tree,
-    entries: &[(Value, Tree)],
+    common: &Knot,
+    entries: &[(Value, Knot)],
     values: &[Value],
-    next: &Tree,
+    next: &Knot,
     env: &Env,
     action: &Action,
     only_inside: bool,
     alloc: Global,
     limit: usize,
-) -> Result<Vec<(Value, Tree)>, BuildFault>
-    requires { ReadyInside limit parameter.now (form_of y.now) env.now (plain common.now) (map plain_entry entries.now) }
-    ensures { BuildsEntries limit (plain next.now)
-        (tree_after only_inside parameter.now (form_of y.now) env.now action.now (plain common.now) (map plain_entry entries.now))
+) -> Result<Vec<(Value, Knot)>, BuildFault>
+    requires { ReadyInside limit parameter.now (form_of y.now) env.now common.now (map plain_entry entries.now) }
+    ensures { BuildsEntries limit next.now
+        (tree_after only_inside parameter.now (form_of y.now) env.now action.now common.now (map plain_entry entries.now))
         values.now
         result }
 {
@@ -210,18 +205,18 @@ fn trees_after(
 fn value_tree(
     y: &Expr,
     parameter: &Name,
-    common: &Tree,
-    entries: &[(Value, Tree)],
+    common: &Knot,
+    entries: &[(Value, Knot)],
     value: &Value,
     env: &Env,
     action: &Action,
     only_inside: bool,
     alloc: Global,
     limit: usize,
-) -> Result<Tree, BuildFault>
-    requires { ReadyInside limit parameter.now (form_of y.now) env.now (plain common.now) (map plain_entry entries.now) }
+) -> Result<Knot, BuildFault>
+    requires { ReadyInside limit parameter.now (form_of y.now) env.now common.now (map plain_entry entries.now) }
     ensures { Builds limit
-        (tree_after only_inside parameter.now (form_of y.now) env.now action.now (plain common.now) (map plain_entry entries.now) value.now)
+        (tree_after only_inside parameter.now (form_of y.now) env.now action.now common.now (map plain_entry entries.now) value.now)
         result }
 {
     let inside = env.with(*parameter, Some(*value));
@@ -240,15 +235,15 @@ fn value_tree(
 #[cycle(advance)]
 fn advance_part(
     y: &Expr,
-    tree: &Tree,
+    tree: &Knot,
     env: &Env,
     action: &Action,
     only_inside: bool,
     alloc: Global,
     limit: usize,
-) -> Result<Tree, BuildFault>
-    requires { Ready limit (form_of y.now) env.now (plain tree.now) }
-    ensures { Builds limit (moved_part only_inside (form_of y.now) env.now action.now (plain tree.now)) result }
+) -> Result<Knot, BuildFault>
+    requires { Ready limit (form_of y.now) env.now tree.now }
+    ensures { Builds limit (moved_part only_inside (form_of y.now) env.now action.now tree.now) result }
 {
     if only_inside {
         advance_inside(y, tree, env, action, alloc, limit)
@@ -259,7 +254,7 @@ fn advance_part(
 
 /// The values that have entries, and then the action's. A value may come twice.
 fn touched_values(
-    entries: &[(Value, Tree)],
+    entries: &[(Value, Knot)],
     action: &Action,
     alloc: Global,
 ) -> Result<Vec<Value>, BuildFault>
@@ -278,50 +273,50 @@ fn touched_values(
     }
 }
 
-#[tactic(auto, using(ix_tree::specs::lemmas::PlainParts::plain_parts))]
 fn any_node(
-    parts: Result<(Box<Tree>, Vec<(Value, Tree)>), BuildFault>,
+    parts: Result<(Knot, Vec<(Value, Knot)>), BuildFault>,
+    alloc: Global,
     limit: usize,
-) -> Result<Tree, BuildFault>
+) -> Result<Knot, BuildFault>
     requires { AreSmallParts parts }
     ensures { (common : Plain) (tree : List ℕ → Plain) (values : List (List ℕ))
         → BuildsParts limit common tree values parts
         → Builds limit (any_of common (listed (entries_put common tree values))) result }
 {
     match parts {
-        Ok((common, entries)) => within(Tree::Any(common, entries), limit),
+        Ok((common, entries)) => within(Node::Any(common, entries), alloc, limit),
         Err(fault) => Err(fault),
     }
 }
 
-#[tactic(auto, using(ix_tree::specs::lemmas::PlainParts::plain_parts))]
 fn every_node(
-    parts: Result<(Box<Tree>, Vec<(Value, Tree)>), BuildFault>,
+    parts: Result<(Knot, Vec<(Value, Knot)>), BuildFault>,
+    alloc: Global,
     limit: usize,
-) -> Result<Tree, BuildFault>
+) -> Result<Knot, BuildFault>
     requires { AreSmallParts parts }
     ensures { (common : Plain) (tree : List ℕ → Plain) (values : List (List ℕ))
         → BuildsParts limit common tree values parts
         → Builds limit (every_of common (listed (entries_put common tree values))) result }
 {
     match parts {
-        Ok((common, entries)) => within(Tree::Every(common, entries), limit),
+        Ok((common, entries)) => within(Node::Every(common, entries), alloc, limit),
         Err(fault) => Err(fault),
     }
 }
 
-#[tactic(auto, using(ix_tree::specs::lemmas::PlainParts::plain_parts))]
 fn sync_node(
-    parts: Result<(Box<Tree>, Vec<(Value, Tree)>), BuildFault>,
+    parts: Result<(Knot, Vec<(Value, Knot)>), BuildFault>,
+    alloc: Global,
     limit: usize,
-) -> Result<Tree, BuildFault>
+) -> Result<Knot, BuildFault>
     requires { AreSmallParts parts }
     ensures { (common : Plain) (tree : List ℕ → Plain) (values : List (List ℕ))
         → BuildsParts limit common tree values parts
         → Builds limit (sync_of common (listed (entries_put common tree values))) result }
 {
     match parts {
-        Ok((common, entries)) => within(Tree::Sync(common, entries), limit),
+        Ok((common, entries)) => within(Node::Sync(common, entries), alloc, limit),
         Err(fault) => Err(fault),
     }
 }

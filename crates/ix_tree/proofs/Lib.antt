@@ -1,4 +1,4 @@
-pub mod TreeCases
 pub mod PlainLists
+pub mod Ends
 pub mod Equal
 pub mod Alternatives

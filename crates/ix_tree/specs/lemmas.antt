@@ -1,5 +1,5 @@
 -- Lemmas that ghost members cite.
-pub mod DerivedOrder
-pub mod PlainParts
+pub mod Falls
+pub mod PlainCode
 pub mod TreeOrder
 pub mod Weights

@@ -1,14 +1,17 @@
 //! State trees: what they are, their Size and their order.
 #![tactic(auto)]
 
-mod copy;
 pub mod laws;
+mod node;
+mod order;
+mod share;
 mod size;
 mod tree;
 mod weight;
 
-pub use copy::{copy_bags, copy_entries, copy_maps, copy_pairs, copy_trees};
-pub use tree::{Bag, Map, Pair, Tree};
+pub use node::{Bag, Knot, Map, Node, Pair};
+pub use share::{share_entries, share_knots};
+pub use tree::Tree;
 
 #[cfg(test)]
 mod tests;

@@ -1,41 +1,38 @@
-//! The Size of trees and of their parts.
+//! The Size of nodes and of their parts, from the kept Sizes of their knots.
 
-ghost use Rattle.std.specs.Prelude.{◌≡◌, ◌≤◌, ◌^◌};
-ghost use Rattle.ix_tree.specs.PlainOf.{plain, plain_pair, plain_bag, plain_map};
-ghost use Rattle.ix_tree.specs.inside.PlainLists.{plain_trees, plain_pairs, plain_bags, plain_maps, plain_entries};
+ghost use Rattle.std.specs.Prelude.{◌≡◌, ◌≤◌, ◌^◌, map};
+ghost use Rattle.ix_tree.specs.Plain.{listed};
+ghost use Rattle.ix_tree.specs.PlainOf.{plain_pair, plain_bag, plain_map, plain_entries};
+ghost use Rattle.ix_tree.specs.inside.PlainNode.{plain_node};
 ghost use Rattle.ix_tree.specs.Size.{size_of};
 
-use crate::tree::{Bag, Map, Pair, Tree};
+use crate::node::{Bag, Knot, Map, Node, Pair};
 use ix_values::Value;
 
-impl Tree {
-    /// The Size of the tree, which is at most 2^32. Takes no memory.
-    #[cycle(size)]
-    #[tactic(auto, using(crate::specs::lemmas::PlainParts::plain_parts))]
+impl Node {
+    /// The Size of the node, which is at most 2^32.
     pub fn size(&self) -> usize
-        requires { size_of (plain self.now) ≤ 2 ^ 32 }
-        ensures { result ≡ size_of (plain self.now) }
+        requires { size_of (plain_node self.now) ≤ 2 ^ 32 }
+        ensures { result ≡ size_of (plain_node self.now) }
     {
         match self {
-            Tree::Dead | Tree::Start | Tree::Done => 1,
-            Tree::Opt(_, x) => 1 + x.size(),
-            Tree::Seq(x, xs) => 1 + x.size() + trees_size(xs),
-            Tree::Star(_, xs) => 1 + trees_size(xs),
-            Tree::Par(pairs) => 1 + pairs_size(pairs),
-            Tree::ParStar(bags) => 1 + bags_size(bags),
-            Tree::Or(x, y) | Tree::And(x, y) | Tree::Couple(x, y) => 1 + x.size() + y.size(),
-            Tree::Any(x, entries) | Tree::Every(x, entries) | Tree::Sync(x, entries) => {
+            Node::Dead | Node::Start | Node::Done => 1,
+            Node::Opt(_, x) => 1 + x.size(),
+            Node::Seq(x, xs) => 1 + x.size() + knots_size(xs),
+            Node::Star(_, xs) => 1 + knots_size(xs),
+            Node::Par(pairs) => 1 + pairs_size(pairs),
+            Node::ParStar(bags) => 1 + bags_size(bags),
+            Node::Or(x, y) | Node::And(x, y) | Node::Couple(x, y) => 1 + x.size() + y.size(),
+            Node::Any(x, entries) | Node::Every(x, entries) | Node::Sync(x, entries) => {
                 1 + x.size() + entries_size(entries)
             }
-            Tree::All(maps) => 1 + maps_size(maps),
+            Node::All(maps) => 1 + maps_size(maps),
         }
     }
 }
 
 impl Pair {
     /// The Size of the pair: 1 and the Sizes of its trees.
-    #[cycle(size)]
-    #[tactic(auto, using(crate::specs::lemmas::PlainParts::plain_parts))]
     pub fn size(&self) -> usize
         requires { size_of (plain_pair self.now) ≤ 2 ^ 32 }
         ensures { result ≡ size_of (plain_pair self.now) }
@@ -46,20 +43,16 @@ impl Pair {
 
 impl Bag {
     /// The Size of the bag: 1 and the Sizes of its trees.
-    #[cycle(size)]
-    #[tactic(auto, using(crate::specs::lemmas::PlainParts::plain_parts))]
     pub fn size(&self) -> usize
         requires { size_of (plain_bag self.now) ≤ 2 ^ 32 }
         ensures { result ≡ size_of (plain_bag self.now) }
     {
-        1 + trees_size(&self.items)
+        1 + knots_size(&self.items)
     }
 }
 
 impl Map {
     /// The Size of the map: 1, and 1 and the Size of its tree for each entry.
-    #[cycle(size)]
-    #[tactic(auto, using(crate::specs::lemmas::PlainParts::plain_parts))]
     pub fn size(&self) -> usize
         requires { size_of (plain_map self.now) ≤ 2 ^ 32 }
         ensures { result ≡ size_of (plain_map self.now) }
@@ -68,24 +61,20 @@ impl Map {
     }
 }
 
-#[cycle(size)]
-#[tactic(auto, using(crate::specs::lemmas::PlainParts::plain_parts))]
-pub(crate) fn trees_size(trees: &[Tree]) -> usize
-    requires { size_of (plain_trees trees.now) ≤ 2 ^ 32 }
-    ensures { result ≡ size_of (plain_trees trees.now) }
+fn knots_size(knots: &[Knot]) -> usize
+    requires { size_of (listed knots.now) ≤ 2 ^ 32 }
+    ensures { result ≡ size_of (listed knots.now) }
 {
     let mut sum = 0;
-    for tree in trees {
-        sum += tree.size();
+    for knot in knots {
+        sum += knot.size();
     }
     sum
 }
 
-#[cycle(size)]
-#[tactic(auto, using(crate::specs::lemmas::PlainParts::plain_parts))]
-pub(crate) fn pairs_size(pairs: &[Pair]) -> usize
-    requires { size_of (plain_pairs pairs.now) ≤ 2 ^ 32 }
-    ensures { result ≡ size_of (plain_pairs pairs.now) }
+fn pairs_size(pairs: &[Pair]) -> usize
+    requires { size_of (listed (map plain_pair pairs.now)) ≤ 2 ^ 32 }
+    ensures { result ≡ size_of (listed (map plain_pair pairs.now)) }
 {
     let mut sum = 0;
     for pair in pairs {
@@ -94,11 +83,9 @@ pub(crate) fn pairs_size(pairs: &[Pair]) -> usize
     sum
 }
 
-#[cycle(size)]
-#[tactic(auto, using(crate::specs::lemmas::PlainParts::plain_parts))]
-pub(crate) fn bags_size(bags: &[Bag]) -> usize
-    requires { size_of (plain_bags bags.now) ≤ 2 ^ 32 }
-    ensures { result ≡ size_of (plain_bags bags.now) }
+fn bags_size(bags: &[Bag]) -> usize
+    requires { size_of (listed (map plain_bag bags.now)) ≤ 2 ^ 32 }
+    ensures { result ≡ size_of (listed (map plain_bag bags.now)) }
 {
     let mut sum = 0;
     for bag in bags {
@@ -107,11 +94,9 @@ pub(crate) fn bags_size(bags: &[Bag]) -> usize
     sum
 }
 
-#[cycle(size)]
-#[tactic(auto, using(crate::specs::lemmas::PlainParts::plain_parts))]
-pub(crate) fn maps_size(maps: &[Map]) -> usize
-    requires { size_of (plain_maps maps.now) ≤ 2 ^ 32 }
-    ensures { result ≡ size_of (plain_maps maps.now) }
+fn maps_size(maps: &[Map]) -> usize
+    requires { size_of (listed (map plain_map maps.now)) ≤ 2 ^ 32 }
+    ensures { result ≡ size_of (listed (map plain_map maps.now)) }
 {
     let mut sum = 0;
     for map in maps {
@@ -121,9 +106,7 @@ pub(crate) fn maps_size(maps: &[Map]) -> usize
 }
 
 /// Each entry counts 1 and the Size of its tree.
-#[cycle(size)]
-#[tactic(auto, using(crate::specs::lemmas::PlainParts::plain_parts))]
-pub(crate) fn entries_size(entries: &[(Value, Tree)]) -> usize
+fn entries_size(entries: &[(Value, Knot)]) -> usize
     requires { size_of (plain_entries entries.now) ≤ 2 ^ 32 }
     ensures { result ≡ size_of (plain_entries entries.now) }
 {

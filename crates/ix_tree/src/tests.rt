@@ -2,7 +2,6 @@
 
 ghost use Rattle.std.specs.Prelude.{◌≡◌, IfOk, [], ◌∷◌};
 ghost use Rattle.ix_tree.specs.Plain.{start, done, dead, seq, par, par_star, any, pair, bag, entry, none, more};
-ghost use Rattle.ix_tree.specs.PlainOf.{plain};
 
 use super::*;
 use ix_values::Value;
@@ -10,52 +9,49 @@ use std::alloc::{AllocError, Global};
 use std::test::Fail;
 
 /// `a - b` after `a`.
-#[tactic(auto, using(crate::specs::lemmas::PlainParts::plain_parts))]
-fn half(alloc: Global) -> Result<Tree, AllocError>
-    ensures { IfOk result (λ t. plain t ≡ seq done (more start none)) }
+fn half(alloc: Global) -> Result<Knot, AllocError>
+    ensures { IfOk result (λ t. t ≡ seq done (more start none)) }
 {
     let mut rest = Vec::new(alloc);
-    rest.push(Tree::Start)?;
-    Ok(Tree::Seq(Box::new(alloc, Tree::Done)?, rest))
+    rest.push(Knot::new(alloc, Node::Start)?)?;
+    let first = Knot::new(alloc, Node::Done)?;
+    Knot::new(alloc, Node::Seq(first, rest))
 }
 
 /// `a - c` before any action.
-#[tactic(auto, using(crate::specs::lemmas::PlainParts::plain_parts))]
-fn ready(alloc: Global) -> Result<Tree, AllocError>
-    ensures { IfOk result (λ t. plain t ≡ seq start none) }
+fn ready(alloc: Global) -> Result<Knot, AllocError>
+    ensures { IfOk result (λ t. t ≡ seq start none) }
 {
-    Ok(Tree::Seq(Box::new(alloc, Tree::Start)?, Vec::new(alloc)))
+    let first = Knot::new(alloc, Node::Start)?;
+    Knot::new(alloc, Node::Seq(first, Vec::new(alloc)))
 }
 
 /// `#(a - b)` before any action.
-#[tactic(auto, using(crate::specs::lemmas::PlainParts::plain_parts))]
-fn none_begun(alloc: Global) -> Result<Tree, AllocError>
-    ensures { IfOk result (λ t. plain t ≡ par_star (more (bag none) none)) }
+fn none_begun(alloc: Global) -> Result<Knot, AllocError>
+    ensures { IfOk result (λ t. t ≡ par_star (more (bag none) none)) }
 {
     let mut bags = Vec::new(alloc);
     bags.push(Bag {
         items: Vec::new(alloc),
     })?;
-    Ok(Tree::ParStar(bags))
+    Knot::new(alloc, Node::ParStar(bags))
 }
 
 /// `#(a - b)` after `a`.
-#[tactic(auto, using(crate::specs::lemmas::PlainParts::plain_parts))]
-fn one_begun(alloc: Global) -> Result<Tree, AllocError>
-    ensures { IfOk result (λ t. plain t
+fn one_begun(alloc: Global) -> Result<Knot, AllocError>
+    ensures { IfOk result (λ t. t
         ≡ par_star (more (bag (more (seq done (more start none)) none)) none)) }
 {
     let mut items = Vec::new(alloc);
     items.push(half(alloc)?)?;
     let mut bags = Vec::new(alloc);
     bags.push(Bag { items })?;
-    Ok(Tree::ParStar(bags))
+    Knot::new(alloc, Node::ParStar(bags))
 }
 
 /// `#(a - b)` after `a`, `a`.
-#[tactic(auto, using(crate::specs::lemmas::PlainParts::plain_parts))]
-fn two_begun(alloc: Global) -> Result<Tree, AllocError>
-    ensures { IfOk result (λ t. plain t
+fn two_begun(alloc: Global) -> Result<Knot, AllocError>
+    ensures { IfOk result (λ t. t
         ≡ par_star (more (bag (more (seq done (more start none)) (more (seq done (more start none)) none))) none)) }
 {
     let mut items = Vec::new(alloc);
@@ -63,13 +59,12 @@ fn two_begun(alloc: Global) -> Result<Tree, AllocError>
     items.push(half(alloc)?)?;
     let mut bags = Vec::new(alloc);
     bags.push(Bag { items })?;
-    Ok(Tree::ParStar(bags))
+    Knot::new(alloc, Node::ParStar(bags))
 }
 
 /// `(a - b) + (a - c)` after `a`.
-#[tactic(auto, using(crate::specs::lemmas::PlainParts::plain_parts))]
-fn two_sides(alloc: Global) -> Result<Tree, AllocError>
-    ensures { IfOk result (λ t. plain t
+fn two_sides(alloc: Global) -> Result<Knot, AllocError>
+    ensures { IfOk result (λ t. t
         ≡ par (more (pair (seq start none) (seq done (more start none)))
         (more (pair (seq done (more start none)) (seq start none)) none))) }
 {
@@ -82,28 +77,30 @@ fn two_sides(alloc: Global) -> Result<Tree, AllocError>
         first: half(alloc)?,
         second: ready(alloc)?,
     })?;
-    Ok(Tree::Par(pairs))
+    Knot::new(alloc, Node::Par(pairs))
 }
 
 /// `any $p (a - b($p))` after `a`.
-#[tactic(auto, using(crate::specs::lemmas::PlainParts::plain_parts))]
-fn no_value(alloc: Global) -> Result<Tree, AllocError>
-    ensures { IfOk result (λ t. plain t ≡ any (seq done (more start none)) none) }
+fn no_value(alloc: Global) -> Result<Knot, AllocError>
+    ensures { IfOk result (λ t. t ≡ any (seq done (more start none)) none) }
 {
-    Ok(Tree::Any(Box::new(alloc, half(alloc)?)?, Vec::new(alloc)))
+    let common = half(alloc)?;
+    Knot::new(alloc, Node::Any(common, Vec::new(alloc)))
 }
 
 /// `any $p (a - b($p))` after `a`, `b(u)`, for the value `u`.
-#[tactic(auto, using(crate::specs::lemmas::PlainParts::plain_parts))]
-fn one_value(alloc: Global, value: Value) -> Result<Tree, AllocError>
-    ensures { IfOk result (λ t. plain t
+fn one_value(alloc: Global, value: Value) -> Result<Knot, AllocError>
+    ensures { IfOk result (λ t. t
         ≡ any dead (more (entry value (seq dead (more done none))) none)) }
 {
     let mut rest = Vec::new(alloc);
-    rest.push(Tree::Done)?;
+    rest.push(Knot::new(alloc, Node::Done)?)?;
     let mut entries = Vec::new(alloc);
-    entries.push((value, Tree::Seq(Box::new(alloc, Tree::Dead)?, rest)))?;
-    Ok(Tree::Any(Box::new(alloc, Tree::Dead)?, entries))
+    let first = Knot::new(alloc, Node::Dead)?;
+    let own = Knot::new(alloc, Node::Seq(first, rest))?;
+    entries.push((value, own))?;
+    let common = Knot::new(alloc, Node::Dead)?;
+    Knot::new(alloc, Node::Any(common, entries))
 }
 
 #[test]
@@ -119,16 +116,21 @@ fn sizes(rt: HostRuntime) -> Result<(), Fail> {
     Ok(())
 }
 
+/// A copy and a share are equal to what they come from, by whichever way it was built.
 #[test]
 fn copies(rt: HostRuntime) -> Result<(), Fail> {
     let alloc = rt.alloc();
     let value = Value::read(b"u").ok_or("not a value")?;
     let first = one_value(alloc, value)?;
     let second = two_sides(alloc)?;
-    assert!(rt; first.copy(alloc)? == first);
-    assert!(rt; second.copy(alloc)? == second);
+    assert!(rt; first.share()? == first);
+    assert!(rt; first == one_value(alloc, value)?);
+    assert!(rt; second.share()? == second);
     assert!(rt; second < first);
-    assert!(rt; Tree::Dead.is_dead() && !first.is_dead());
+    let tree = Tree::of(second.share()?);
+    assert!(rt; tree.copy(alloc)? == tree);
+    assert!(rt; tree.size() == 13 && !tree.is_dead());
+    assert!(rt; Tree::of(Knot::new(alloc, Node::Dead)?).is_dead());
     Ok(())
 }
 
@@ -136,12 +138,14 @@ fn copies(rt: HostRuntime) -> Result<(), Fail> {
 #[test]
 fn wide(rt: HostRuntime) -> Result<(), Fail> {
     let alloc = rt.alloc();
+    let start = Knot::new(alloc, Node::Start)?;
     let mut items = Vec::new(alloc);
-    for _ in 0..999_999_usize {
-        items.push(Tree::Start)?;
+    for _i in 0..999_999_usize {
+        items.push(start.share()?)?;
     }
-    let tree = Tree::Star(true, items);
-    assert!(rt; tree.copy(alloc)? == tree);
+    let bag = Bag { items };
+    let items = share_knots(alloc, &bag.items)?;
+    assert!(rt; Bag { items } == bag);
     Ok(())
 }
 
@@ -149,11 +153,12 @@ fn wide(rt: HostRuntime) -> Result<(), Fail> {
 #[test]
 fn deep(rt: HostRuntime) -> Result<(), Fail> {
     let alloc = rt.alloc();
-    let mut tree = Tree::Start;
-    for _ in 0..255_usize {
-        tree = Tree::Opt(true, Box::new(alloc, tree).map_err(|_| AllocError)?);
+    let mut tree = Knot::new(alloc, Node::Start)?;
+    for _i in 0..255_usize {
+        tree = Knot::new(alloc, Node::Opt(true, tree))?;
     }
-    assert!(rt; tree.copy(alloc)? == tree);
+    assert!(rt; tree.share()? == tree);
+    assert_eq!(rt; tree.size(), 256);
     Ok(())
 }
 
@@ -162,18 +167,19 @@ fn deep(rt: HostRuntime) -> Result<(), Fail> {
 fn order(rt: HostRuntime) -> Result<(), Fail> {
     let alloc = rt.alloc();
     let mut short = Vec::new(alloc);
-    short.push(Tree::Start)?;
+    short.push(Knot::new(alloc, Node::Start)?)?;
     let mut long = Vec::new(alloc);
-    long.push(Tree::Start)?;
-    long.push(Tree::Dead)?;
-    assert!(rt; Tree::Star(false, short) < Tree::Star(false, long));
+    long.push(Knot::new(alloc, Node::Start)?)?;
+    long.push(Knot::new(alloc, Node::Dead)?)?;
+    let below = Knot::new(alloc, Node::Star(false, short))?;
+    assert!(rt; below < Knot::new(alloc, Node::Star(false, long))?);
     let early = Pair {
-        first: Tree::Start,
-        second: Tree::Done,
+        first: Knot::new(alloc, Node::Start)?,
+        second: Knot::new(alloc, Node::Done)?,
     };
     let late = Pair {
-        first: Tree::Done,
-        second: Tree::Start,
+        first: Knot::new(alloc, Node::Done)?,
+        second: Knot::new(alloc, Node::Start)?,
     };
     assert!(rt; early < late);
     Ok(())

@@ -1,12 +1,27 @@
 //! What trees and their parts weigh among alternatives.
 
-use crate::tree::{Bag, Map, Pair, Tree};
+use crate::node::{Bag, Knot, Map, Pair};
+use crate::tree::Tree;
 use ix_alts::Weight;
 
-impl Weight for Tree {
-    ghost use Rattle.ix_tree.specs.lemmas.Weights.{tree_weight, equal_trees_weigh_alike};
+impl Weight for Knot {
+    ghost use Rattle.ix_tree.specs.Size.{size_of};
+    ghost use Rattle.ix_tree.specs.lemmas.Weights.{equal_trees_weigh_alike};
 
-    ghost weight = { tree_weight };
+    ghost weight = { size_of };
+
+    ghost equal_items_weigh_alike = { equal_trees_weigh_alike };
+
+    fn weight(&self) -> usize {
+        self.size()
+    }
+}
+
+impl Weight for Tree {
+    ghost use Rattle.ix_tree.specs.Size.{size_of};
+    ghost use Rattle.ix_tree.specs.lemmas.Weights.{equal_trees_weigh_alike};
+
+    ghost weight = { size_of };
 
     ghost equal_items_weigh_alike = { equal_trees_weigh_alike };
 
@@ -16,11 +31,13 @@ impl Weight for Tree {
 }
 
 impl Weight for Pair {
-    ghost use Rattle.ix_tree.specs.lemmas.Weights.{pair_weight, equal_pairs_weigh_alike};
+    ghost use Rattle.ix_tree.specs.Size.{size_of};
+    ghost use Rattle.ix_tree.specs.PlainOf.{plain_pair};
+    ghost use Rattle.ix_tree.specs.lemmas.Weights.{equal_trees_weigh_alike};
 
-    ghost weight = { pair_weight };
+    ghost weight = { λ p. size_of (plain_pair p) };
 
-    ghost equal_items_weigh_alike = { equal_pairs_weigh_alike };
+    ghost equal_items_weigh_alike = { λ p q. equal_trees_weigh_alike (plain_pair p) (plain_pair q) };
 
     fn weight(&self) -> usize {
         self.size()
@@ -28,11 +45,13 @@ impl Weight for Pair {
 }
 
 impl Weight for Bag {
-    ghost use Rattle.ix_tree.specs.lemmas.Weights.{bag_weight, equal_bags_weigh_alike};
+    ghost use Rattle.ix_tree.specs.Size.{size_of};
+    ghost use Rattle.ix_tree.specs.PlainOf.{plain_bag};
+    ghost use Rattle.ix_tree.specs.lemmas.Weights.{equal_trees_weigh_alike};
 
-    ghost weight = { bag_weight };
+    ghost weight = { λ b. size_of (plain_bag b) };
 
-    ghost equal_items_weigh_alike = { equal_bags_weigh_alike };
+    ghost equal_items_weigh_alike = { λ b c. equal_trees_weigh_alike (plain_bag b) (plain_bag c) };
 
     fn weight(&self) -> usize {
         self.size()
@@ -40,11 +59,13 @@ impl Weight for Bag {
 }
 
 impl Weight for Map {
-    ghost use Rattle.ix_tree.specs.lemmas.Weights.{map_weight, equal_maps_weigh_alike};
+    ghost use Rattle.ix_tree.specs.Size.{size_of};
+    ghost use Rattle.ix_tree.specs.PlainOf.{plain_map};
+    ghost use Rattle.ix_tree.specs.lemmas.Weights.{equal_trees_weigh_alike};
 
-    ghost weight = { map_weight };
+    ghost weight = { λ m. size_of (plain_map m) };
 
-    ghost equal_items_weigh_alike = { equal_maps_weigh_alike };
+    ghost equal_items_weigh_alike = { λ m k. equal_trees_weigh_alike (plain_map m) (plain_map k) };
 
     fn weight(&self) -> usize {
         self.size()

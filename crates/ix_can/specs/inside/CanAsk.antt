@@ -1,5 +1,5 @@
 -- What the code asks on its way to an answer, and when it may ask: the operand fits, and the trees in it are proper.
-use Rattle.std.specs.Prelude.{ℕ, Bool, not, ◌||◌, List, Some, if◌then◌else◌}
+use Rattle.std.specs.Prelude.{ℕ, Bool, true, false, not, ◌||◌, List, Some, if◌then◌else◌}
 use Rattle.ix_words.specs.Each.{Each}
 use Rattle.ix_entries.specs.inside.Entries.{KeysAscend}
 use Rattle.ix_values.specs.Order.{text_cmp}
@@ -9,14 +9,13 @@ use Rattle.ix_expr.specs.Environment.{Environment, bind}
 use Rattle.ix_expr.specs.Fitting.{FitsInside}
 use Rattle.ix_expr.specs.FormFaults.{Fits}
 use Rattle.ix_tree.specs.Plain.{Plain, dead}
-use Rattle.ix_tree.specs.PlainOf.{plain}
-use Rattle.ix_tree.specs.declared.tree.Tree.{Tree}
-use Rattle.ix_tree.specs.declared.tree.Pair.{Pair}
-use Rattle.ix_tree.specs.declared.tree.Bag.{Bag}
-use Rattle.ix_tree.specs.declared.tree.Map.{Map}
+use Rattle.ix_tree.specs.Order.{first_part}
+use Rattle.ix_tree.specs.PlainOf.{plain_entries}
+use Rattle.ix_can.specs.declared.next.Outside.{Outside}
+use Rattle.ix_can.specs.declared.next.Outside.TheVariants.{Refused, Stays}
 use Rattle.ix_can.specs.Laws.{IsProper}
 use Rattle.ix_can.specs.inside.May.{moves_within, may_first, may, tree_at}
-use Rattle.ix_can.specs.Nodes.{is_dead}
+use Rattle.ix_can.specs.Nodes.{is_dead, items_of}
 use Rattle.ix_can.specs.Tests.{in_alphabet}
 
 -- whether the word of this one action is partial or, where standing still counts, the action is outside the alphabet
@@ -37,38 +36,12 @@ pub record CanAsk (x : Form) (e : Environment) (t : Plain) : Type 0 where
   pub fits : Fits x e
   pub proper : IsProper x t
 
--- the same of each tree of a list
-pub record CanAskEach (x : Form) (e : Environment) (ts : List Tree) : Type 0 where
-  pub fits : Fits x e
-  pub proper : Each (λ t. IsProper x (plain t)) ts
-
--- the same of both sides of each pair
-pub record CanAskPairs (y z : Form) (e : Environment) (ps : List Pair) : Type 0 where
-  pub left : Fits y e
-  pub right : Fits z e
-  pub proper : Each (λ p. IsProper y (plain p.first) × IsProper z (plain p.second)) ps
-
--- the same of each tree in each bag
-pub record CanAskBags (y : Form) (e : Environment) (bs : List Bag) : Type 0 where
-  pub fits : Fits y e
-  pub proper : Each (λ b. Each (λ t. IsProper y (plain t)) b.items.items) bs
-
--- the body of a quantifier fits inside, and the tree is proper
-pub record CanAskAt (p : List ℕ) (y : Form) (e : Environment) (t : Plain) : Type 0 where
-  pub inside : FitsInside p y e
-  pub proper : IsProper y t
-
 -- the entries ascend strictly by their values, and the tree of each is proper
-pub record AreProper (y : Form) (es : List (List ℕ × Tree)) : Type 0 where
+pub record AreProper (y : Form) (es : List (List ℕ × Plain)) : Type 0 where
   pub ascending : KeysAscend text_cmp es
-  pub each : Each (λ x. IsProper y (plain x.1)) es
+  pub each : Each (λ x. IsProper y (first_part x)) (items_of (plain_entries es))
 
--- the body of a quantifier fits inside, and the entries are proper
-pub record CanAskEntries (p : List ℕ) (y : Form) (e : Environment) (es : List (List ℕ × Tree)) : Type 0 where
-  pub inside : FitsInside p y e
-  pub proper : AreProper y es
-
--- the body of a quantifier fits inside, and the entries of each map are proper
-pub record CanAskMaps (p : List ℕ) (y : Form) (e : Environment) (ms : List Map) : Type 0 where
-  pub inside : FitsInside p y e
-  pub proper : Each (λ m. AreProper y m.entries.items) ms
+-- whether the tree stays where the action is outside the alphabet
+abbrev pub stays : Outside → Bool
+stays Refused = false
+stays Stays = true

@@ -1,7 +1,6 @@
 use Rattle.std.proofs.Common.{◌+◌, ◌*◌, ◌≡◌, map, drop, take, flat_map, ◌≤◌}
 use Rattle.ix_expr.specs.inside.FormOf.{form_of}
-use Rattle.ix_tree.specs.PlainOf.{plain, plain_pair, plain_bag, plain_map}
-use Rattle.ix_tree.specs.inside.PlainLists.{plain_entry}
+use Rattle.ix_tree.specs.PlainOf.{plain_pair, plain_bag, plain_map, plain_entry}
 use Rattle.ix_step.specs.inside.Builds.{put_all}
 use Rattle.ix_step.specs.inside.Moves.{live_moves}
 use Rattle.ix_step.proofs.Measure.{form_size}
@@ -9,7 +8,7 @@ use Rattle.ix_step.specs.inside.ParallelMoves.{pair_moves, bag_moves, pick_move}
 use Rattle.ix_can.specs.inside.Moved.{picks}
 use Rattle.ix_values.specs.Order.{text_cmp}
 use Rattle.ix_entries.specs.inside.Entries.{IsProper}
-use Rattle.ix_tree.specs.contracts.tree.TreePartialEq.TheImpl.{ghosts as tree_ghosts}
+use Rattle.ix_tree.specs.contracts.order.KnotPartialEq.TheImpl.{ghosts as tree_ghosts}
 use Rattle.ix_step.specs.inside.EnterTrees.{HoldTrees}
 use Rattle.ix_step.specs.inside.ValueTrees.{tree_after}
 use Rattle.ix_step.specs.inside.MapsAfter.{maps_after, map_after}
@@ -48,7 +47,7 @@ decreases-advance::advance_again l = 8 * form_size (form_of l.expr.now) + 1
 -- what the trees so far gave and those still to come give together is what all give, and the budget is the limit
 abbrev pub invariant-advance::advance_each-loop-tree : goal.invariant-advance::advance_each-loop-tree
 invariant-advance::advance_each-loop-tree l =
-    (put_all (live_moves (form_of l.expr) l.env l.action (map plain (drop l.tree-index l.trees))) (map plain l.set.items) ≡ put_all (live_moves (form_of l.expr) l.env l.action (map plain l.trees)) (map plain l.initial.set.items)) × (l.set.budget ≡ l.limit)
+    (put_all (live_moves (form_of l.expr) l.env l.action ((drop l.tree-index l.trees))) l.set.items ≡ put_all (live_moves (form_of l.expr) l.env l.action l.trees) l.initial.set.items) × (l.set.budget ≡ l.limit)
 
 abbrev pub decreases-parallel::advance_par : goal.decreases-parallel::advance_par
 decreases-parallel::advance_par l = 8 * form_size (form_of l.y.now) + 8 * form_size (form_of l.z.now) + 3
@@ -86,7 +85,7 @@ invariant-parallel::gather_bags-loop-bag l =
 -- the set holds the bags in which one of the trees so far is moved
 abbrev pub invariant-parallel::gather_picks-loop-place : goal.invariant-parallel::gather_picks-loop-place
 invariant-parallel::gather_picks-loop-place l =
-    (map plain_bag l.set.items ≡ put_all (flat_map (pick_move (form_of l.y) l.env l.action) (take l.place (picks (map plain l.items)))) (map plain_bag l.initial.set.items))
+    (map plain_bag l.set.items ≡ put_all (flat_map (pick_move (form_of l.y) l.env l.action) (take l.place (picks l.items))) (map plain_bag l.initial.set.items))
     × (l.set.budget ≡ l.limit)
 
 abbrev pub decreases-quantifiers::advance_any : goal.decreases-quantifiers::advance_any
@@ -125,16 +124,16 @@ decreases-maps::tree_begun l = 8 * form_size (form_of l.y.now) + 1
 abbrev pub invariant-quantifiers::trees_after-loop-value : goal.invariant-quantifiers::trees_after-loop-value
 invariant-quantifiers::trees_after-loop-value l = record {
   proper : IsProper text_cmp tree_ghosts.eq l.next l.built.items;
-  held : HoldTrees (plain l.next) (tree_after l.only_inside l.parameter (form_of l.y) l.env l.action (plain l.common) (map plain_entry l.entries)) (take l.value-index l.values) l.built.items l.total;
+  held : HoldTrees l.next (tree_after l.only_inside l.parameter (form_of l.y) l.env l.action l.common (map plain_entry l.entries)) (take l.value-index l.values) l.built.items l.total;
   within : l.total ≤ l.limit;
 }
 
 -- what the maps so far gave and those still to come give together is what all give, and the budget is the limit
 abbrev pub invariant-maps::advance_maps-loop-state : goal.invariant-maps::advance_maps-loop-state
 invariant-maps::advance_maps-loop-state l =
-    (put_all (flat_map (maps_after l.parameter (form_of l.y) l.env l.action (plain l.first) l.action.values) (map plain_map (drop l.state-index l.maps))) (map plain_map l.set.items) ≡ put_all (flat_map (maps_after l.parameter (form_of l.y) l.env l.action (plain l.first) l.action.values) (map plain_map l.maps)) (map plain_map l.initial.set.items)) × (l.set.budget ≡ l.limit)
+    (put_all (flat_map (maps_after l.parameter (form_of l.y) l.env l.action l.first l.action.values) (map plain_map (drop l.state-index l.maps))) (map plain_map l.set.items) ≡ put_all (flat_map (maps_after l.parameter (form_of l.y) l.env l.action l.first l.action.values) (map plain_map l.maps)) (map plain_map l.initial.set.items)) × (l.set.budget ≡ l.limit)
 
 -- what the values so far gave and those still to come give together is what all give, and the budget is the limit
 abbrev pub invariant-maps::advance_map-loop-value : goal.invariant-maps::advance_map-loop-value
 invariant-maps::advance_map-loop-value l =
-    (put_all (flat_map (map_after l.parameter (form_of l.y) l.env l.action (plain l.first) (plain_map l.state)) (drop l.value-index l.action.values)) (map plain_map l.set.items) ≡ put_all (flat_map (map_after l.parameter (form_of l.y) l.env l.action (plain l.first) (plain_map l.state)) l.action.values) (map plain_map l.initial.set.items)) × (l.set.budget ≡ l.limit)
+    (put_all (flat_map (map_after l.parameter (form_of l.y) l.env l.action l.first (plain_map l.state)) (drop l.value-index l.action.values)) (map plain_map l.set.items) ≡ put_all (flat_map (map_after l.parameter (form_of l.y) l.env l.action l.first (plain_map l.state)) l.action.values) (map plain_map l.initial.set.items)) × (l.set.budget ≡ l.limit)

@@ -5,13 +5,9 @@ use Rattle.std.specs.List.{sum_by}
 use Rattle.std.specs.declared.cmp.Ordering.{Ordering}
 use Rattle.ix_words.specs.Canon.{put_once}
 use Rattle.ix_alts.specs.inside.Alternatives.{Alternatives, HasItem}
-use Rattle.std.proofs.Common.{Global}
-use Rattle.std.specs.declared.boxed.Box.{Box}
 use Rattle.ix_tree.specs.Plain.{Plain, listed, pair}
 use Rattle.ix_tree.specs.Order.{tree_cmp}
 use Rattle.ix_tree.specs.Size.{size_of}
-use Rattle.ix_tree.specs.PlainOf.{plain}
-use Rattle.ix_tree.specs.declared.tree.Tree.{Tree}
 use Rattle.ix_step.specs.declared.fault.BuildFault.{BuildFault}
 use Rattle.ix_step.specs.declared.fault.BuildFault.TheVariants.{Over, Memory}
 
@@ -21,8 +17,8 @@ IsAbove limit x (Over told) = (told ≡ limit) × (limit < size_of x)
 IsAbove limit x Memory = Unit {0}
 
 -- the tree x was built and is within the limit, or it is above the limit, or memory ran out
-abbrev pub Builds : ℕ → Plain → Result Tree BuildFault → Type 0
-Builds limit x (Ok tree) = (plain tree ≡ x) × (size_of x ≤ limit)
+abbrev pub Builds : ℕ → Plain → Result Plain BuildFault → Type 0
+Builds limit x (Ok tree) = (tree ≡ x) × (size_of x ≤ limit)
 Builds limit x (Err fault) = IsAbove limit x fault
 
 -- the list into which the trees are put one by one, each where it is new
@@ -35,29 +31,19 @@ abbrev pub Gathers : ℕ → List Plain → List Plain → List Plain → Result
 Gathers limit trees old new (Ok done) = new ≡ put_all trees old
 Gathers limit trees old new (Err fault) = IsAbove limit (listed (put_all trees old)) fault
 
--- the tree x was built in a box and is within the limit, or it is above the limit, or memory ran out
-abbrev pub BuildsBox : ℕ → Plain → Result (Box Tree Global) BuildFault → Type 0
-BuildsBox limit x (Ok tree) = (plain tree.value ≡ x) × (size_of x ≤ limit)
-BuildsBox limit x (Err fault) = IsAbove limit x fault
-
 -- both trees were built and are within the limit, or together they are above the limit, or memory ran out
-abbrev pub BuildsBoth : ℕ → Plain → Plain → Result (Box Tree Global × Box Tree Global) BuildFault → Type 0
-BuildsBoth limit x y (Ok trees) = (plain trees.0.value ≡ x) × (plain trees.1.value ≡ y)
+abbrev pub BuildsBoth : ℕ → Plain → Plain → Result (Plain × Plain) BuildFault → Type 0
+BuildsBoth limit x y (Ok trees) = (trees.0 ≡ x) × (trees.1 ≡ y)
 BuildsBoth limit x y (Err fault) = IsAbove limit (pair x y) fault
 
 -- a tree that was built has at most this size
-abbrev pub IsSmall : Result Tree BuildFault → Type 0
-IsSmall (Ok tree) = size_of (plain tree) ≤ 1000000
+abbrev pub IsSmall : Result Plain BuildFault → Type 0
+IsSmall (Ok tree) = size_of tree ≤ 1000000
 IsSmall (Err fault) = Unit {0}
 
--- a tree in a box has at most this size, if it was built
-abbrev pub IsSmallBox : Result (Box Tree Global) BuildFault → Type 0
-IsSmallBox (Ok tree) = size_of (plain tree.value) ≤ 1000000
-IsSmallBox (Err fault) = Unit {0}
-
 -- both trees have at most this size, if they were built
-abbrev pub IsSmallBoth : Result (Box Tree Global × Box Tree Global) BuildFault → Type 0
-IsSmallBoth (Ok trees) = (size_of (plain trees.0.value) ≤ 1000000) × (size_of (plain trees.1.value) ≤ 1000000)
+abbrev pub IsSmallBoth : Result (Plain × Plain) BuildFault → Type 0
+IsSmallBoth (Ok trees) = (size_of trees.0 ≤ 1000000) × (size_of trees.1 ≤ 1000000)
 IsSmallBoth (Err fault) = Unit {0}
 
 -- an item was put into a set, or with it the set would weigh more than its budget, or memory ran out

@@ -1,9 +1,8 @@
 -- What it means that the trees of values are put among entries beside a common tree.
 use Rattle.std.specs.Prelude.{◌≡◌, ℕ, Bool, true, false, ◌+◌, ◌<◌, ◌≤◌, List, [], map, Result, Ok, Err}
 use Rattle.ix_tree.specs.Plain.{Plain, listed, pair}
-use Rattle.ix_tree.specs.inside.PlainLists.{plain_entry, plain_entries}
+use Rattle.ix_tree.specs.PlainOf.{plain_entry, plain_entries}
 use Rattle.ix_tree.specs.Size.{size_of}
-use Rattle.ix_tree.specs.declared.tree.Tree.{Tree}
 use Rattle.ix_can.specs.TreeOf.{entries_of}
 use Rattle.ix_step.specs.inside.Builds.{IsAbove, put_all}
 use Rattle.ix_step.specs.declared.fault.BuildFault.{BuildFault}
@@ -14,12 +13,12 @@ abbrev pub entries_put : Plain → (List ℕ → Plain) → List (List ℕ) → 
 entries_put common tree values = put_all (entries_of common tree values) []
 
 -- the entries are those of the values, and together of this Size
-pub record HoldTrees (common : Plain) (tree : List ℕ → Plain) (values : List (List ℕ)) (entries : List (List ℕ × Tree)) (total : ℕ) : Type 0 where
+pub record HoldTrees (common : Plain) (tree : List ℕ → Plain) (values : List (List ℕ)) (entries : List (List ℕ × Plain)) (total : ℕ) : Type 0 where
   pub items : map plain_entry entries ≡ entries_put common tree values
   pub counted : total ≡ size_of (plain_entries entries)
 
 -- the entries of the values are there and within the limit, or with the common tree they are above it, or memory ran out
-abbrev pub EnterTrees : ℕ → Plain → (List ℕ → Plain) → List (List ℕ) → List (List ℕ × Tree) → Result ℕ BuildFault → Type 0
+abbrev pub EnterTrees : ℕ → Plain → (List ℕ → Plain) → List (List ℕ) → List (List ℕ × Plain) → Result ℕ BuildFault → Type 0
 EnterTrees limit common tree values entries (Ok total) = HoldTrees common tree values entries total × (total ≤ limit)
 EnterTrees limit common tree values entries (Err fault) = IsAbove limit (pair common (listed (entries_put common tree values))) fault
 

@@ -1,17 +1,14 @@
 -- The trees of an operand under each value of a quantifier's parameter, and what is asked of them before they are moved.
 use Rattle.std.specs.Prelude.{◌≡◌, ℕ, Bool, ◌+◌, ◌≤◌, List, ◌++◌, map, Some, None, Result, Ok, Err, if◌then◌else◌}
 use Rattle.std.specs.Map.{keys_of}
-use Rattle.std.specs.declared.boxed.Box.{Box}
 use Rattle.std.proofs.Common.{Global, Vec}
 use Rattle.ix_values.specs.PlainAction.{PlainAction}
 use Rattle.ix_expr.specs.Form.{Form}
 use Rattle.ix_expr.specs.Environment.{Environment, bind}
 use Rattle.ix_expr.specs.Fitting.{FitsInside}
 use Rattle.ix_tree.specs.Plain.{Plain, listed, pair}
-use Rattle.ix_tree.specs.PlainOf.{plain}
-use Rattle.ix_tree.specs.inside.PlainLists.{plain_entry, plain_entries}
+use Rattle.ix_tree.specs.PlainOf.{plain_entry, plain_entries}
 use Rattle.ix_tree.specs.Size.{size_of}
-use Rattle.ix_tree.specs.declared.tree.Tree.{Tree}
 use Rattle.ix_can.specs.Tests.{in_alphabet}
 use Rattle.ix_can.specs.Laws.{IsProper, ProperEntries}
 use Rattle.ix_can.specs.inside.May.{tree_at}
@@ -43,23 +40,23 @@ abbrev pub tree_after : Bool → List ℕ → Form → Environment → PlainActi
 tree_after only_inside p y e a common entries v = moved_part only_inside y (bind p (Some v) e) a (tree_at v common entries)
 
 -- the values that have entries, and those of the action
-abbrev pub touched : List (List ℕ × Tree) → PlainAction → List (List ℕ)
+abbrev pub touched : List (List ℕ × Plain) → PlainAction → List (List ℕ)
 touched entries a = keys_of entries ++ a.values
 
 -- the entries of the values were built and are within the limit, or with the common tree they are above it, or memory ran out
-abbrev pub BuildsEntries : ℕ → Plain → (List ℕ → Plain) → List (List ℕ) → Result (Vec (List ℕ × Tree) Global) BuildFault → Type 0
+abbrev pub BuildsEntries : ℕ → Plain → (List ℕ → Plain) → List (List ℕ) → Result (Vec (List ℕ × Plain) Global) BuildFault → Type 0
 BuildsEntries limit common tree values (Ok entries) =
     (map plain_entry entries.items ≡ entries_put common tree values) × (size_of (plain_entries entries.items) ≤ limit)
 BuildsEntries limit common tree values (Err fault) = IsAbove limit (pair common (listed (entries_put common tree values))) fault
 
 -- the common tree and the entries of the values were built, or together they are above the limit, or memory ran out
-abbrev pub BuildsParts : ℕ → Plain → (List ℕ → Plain) → List (List ℕ) → Result (Box Tree Global × Vec (List ℕ × Tree) Global) BuildFault → Type 0
+abbrev pub BuildsParts : ℕ → Plain → (List ℕ → Plain) → List (List ℕ) → Result (Plain × Vec (List ℕ × Plain) Global) BuildFault → Type 0
 BuildsParts limit common tree values (Ok parts) =
-    (plain parts.0.value ≡ common) × (map plain_entry parts.1.items ≡ entries_put common tree values)
+    (parts.0 ≡ common) × (map plain_entry parts.1.items ≡ entries_put common tree values)
     × (size_of common ≤ limit) × (size_of (plain_entries parts.1.items) ≤ limit)
 BuildsParts limit common tree values (Err fault) = IsAbove limit (pair common (listed (entries_put common tree values))) fault
 
 -- the common tree and the entries have at most this size, if they were built
-abbrev pub AreSmallParts : Result (Box Tree Global × Vec (List ℕ × Tree) Global) BuildFault → Type 0
-AreSmallParts (Ok parts) = (size_of (plain parts.0.value) ≤ 1000000) × (size_of (plain_entries parts.1.items) ≤ 1000000)
+abbrev pub AreSmallParts : Result (Plain × Vec (List ℕ × Plain) Global) BuildFault → Type 0
+AreSmallParts (Ok parts) = (size_of parts.0 ≤ 1000000) × (size_of (plain_entries parts.1.items) ≤ 1000000)
 AreSmallParts (Err fault) = Unit {0}

@@ -10,4 +10,4 @@ use Rattle.ix_can.proofs.completion.is_final.Goals as goal
 pub returns-clause-tells : goal.returns-clause-tells
 returns-clause-tells c = λ e w fits here.
     let x = form_of c.args.expr.now in
-    same_test (c.completes.ensures ∙ ap (is_final x) here) (tree_tells x (fits_name x e fits) e w).complete
+    same_test (c.completes.ensures ∙ ap (is_final x) (c.knot.ensures ∙ here)) (tree_tells x (fits_name x e fits) e w).complete

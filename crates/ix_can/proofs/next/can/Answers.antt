@@ -11,4 +11,4 @@ returns-clause-tells c = λ w here.
     let x = form_of c.args.expr.now in
     let e = c.args.env.now in
     let a = c.args.action.now in
-    same_test (c.goes_on.ensures ∙ ap (λ t. may x e t a) here) ((each_step x e a c.requires.fits).next w)
+    same_test (c.goes_on.ensures ∙ ap (λ t. may x e t a) (c.knot.ensures ∙ here)) ((each_step x e a c.requires.fits).next w)

@@ -1,8 +1,7 @@
-use Rattle.std.proofs.Common.{◌≡◌, [], ◌∷◌, ◌++◌, map, ap, ◌∙◌, subst, arith}
+use Rattle.std.proofs.Common.{◌≡◌, [], ◌∷◌, ◌++◌, map, ap, ◌∙◌, subst, arith, refl}
 use Rattle.ix_words.specs.Canon.{when}
 use Rattle.ix_expr.specs.inside.FormOf.{form_of}
 use Rattle.ix_tree.specs.Plain.{seq, listed}
-use Rattle.ix_tree.specs.PlainOf.{plain}
 use Rattle.ix_can.specs.Nodes.{set_of}
 use Rattle.ix_can.specs.TreeOf.{is_final}
 use Rattle.ix_step.specs.inside.Builds.{Builds, IsAbove, put_all}
@@ -25,16 +24,19 @@ seq_of_set-requires-clause-first c = c.requires.first
 
 pub returns-in-Ok : goal.returns-in-Ok
 returns-in-Ok c = λ ms e.
-    let second = when (is_final (form_of c.args.y.now) (plain c.args.first)) (initial_tree (form_of c.args.z.now) ∷ []) in
-    let put : map plain c.put_first.new.set.items ≡ put_all second (map plain c.args.set.items) = c.in-Ok.ensures.gathers ∙ ap (λ b. put_all (when b (initial_tree (form_of c.args.z.now) ∷ [])) (map plain c.args.set.items)) c.is_final.ensures.by_tree in
-    subst (λ l. Builds c.args.limit (seq (plain c.args.first) (listed l)) c.seq_of_set.result)
-    (set_is ms second (map plain c.args.set.items) (map plain c.put_first.new.set.items) e put) c.seq_of_set.ensures
+    let second = when (is_final (form_of c.args.y.now) c.args.first) (initial_tree (form_of c.args.z.now) ∷ []) in
+    let put : c.put_first.new.set.items ≡ put_all second c.args.set.items = c.in-Ok.ensures.gathers ∙ ap (λ b. put_all (when b (initial_tree (form_of c.args.z.now) ∷ [])) c.args.set.items) c.completes.ensures in
+    subst (λ l. Builds c.args.limit (seq c.args.first (listed l)) c.seq_of_set.result)
+    (set_is ms second c.args.set.items c.put_first.new.set.items e put) c.seq_of_set.ensures
 
 pub returns-in-Err : goal.returns-in-Err
 returns-in-Err c = λ ms e.
-    let second = when (is_final (form_of c.args.y.now) (plain c.args.first)) (initial_tree (form_of c.args.z.now) ∷ []) in
-    let fault : IsAbove c.args.limit (listed (put_all second (map plain c.args.set.items))) c.in-Err.fault =
-    subst (λ b. IsAbove c.args.limit (listed (put_all (when b (initial_tree (form_of c.args.z.now) ∷ [])) (map plain c.args.set.items))) c.in-Err.fault) c.is_final.ensures.by_tree
-    (subst (λ n. IsAbove n (listed (put_all (when c.is_final.result (initial_tree (form_of c.args.z.now) ∷ [])) (map plain c.args.set.items))) c.in-Err.fault) c.requires.budget c.in-Err.ensures.gathers) in
-    above_grows c.args.limit (set_of (ms ++ second)) (seq (plain c.args.first) (set_of (ms ++ second))) c.in-Err.fault (omega arith)
-    (last_fault c.args.limit ms second (map plain c.args.set.items) c.in-Err.fault e fault)
+    let second = when (is_final (form_of c.args.y.now) c.args.first) (initial_tree (form_of c.args.z.now) ∷ []) in
+    let fault : IsAbove c.args.limit (listed (put_all second c.args.set.items)) c.in-Err.fault =
+    subst (λ b. IsAbove c.args.limit (listed (put_all (when b (initial_tree (form_of c.args.z.now) ∷ [])) c.args.set.items)) c.in-Err.fault) c.completes.ensures
+    (subst (λ n. IsAbove n (listed (put_all (when c.completes.result (initial_tree (form_of c.args.z.now) ∷ [])) c.args.set.items)) c.in-Err.fault) c.requires.budget c.in-Err.ensures.gathers) in
+    above_grows c.args.limit (set_of (ms ++ second)) (seq c.args.first (set_of (ms ++ second))) c.in-Err.fault (omega arith)
+    (last_fault c.args.limit ms second c.args.set.items c.in-Err.fault e fault)
+
+pub same-first : goal.same-first
+same-first c = refl

@@ -2,7 +2,6 @@ use Rattle.std.proofs.Common.{◌≡◌, [], ◌∷◌, ◌++◌, map, subst, ar
 use Rattle.ix_words.specs.Canon.{when}
 use Rattle.ix_expr.specs.inside.FormOf.{form_of}
 use Rattle.ix_tree.specs.Plain.{seq}
-use Rattle.ix_tree.specs.PlainOf.{plain}
 use Rattle.ix_can.specs.Nodes.{set_of}
 use Rattle.ix_can.specs.TreeOf.{is_final}
 use Rattle.ix_step.specs.inside.Builds.{Builds, Gathers, IsSmall}
@@ -25,9 +24,9 @@ seq_begun-requires-clause-first c = subst IsSmall c.in-Ok-first.is c.requires.fi
 
 pub returns-in-Ok-first : goal.returns-in-Ok-first
 returns-in-Ok-first c = λ x ms f g.
-    let same : plain c.in-Ok-first.first ≡ x = (subst (Builds c.args.limit x) c.in-Ok-first.is f).0 in
+    let same : c.in-Ok-first.first ≡ x = (subst (Builds c.args.limit x) c.in-Ok-first.is f).0 in
     subst (λ t. Builds c.args.limit (seq t (set_of (ms ++ when (is_final (form_of c.args.y.now) t) (initial_tree (form_of c.args.z.now) ∷ [])))) c.seq_begun.result) same
-    (c.seq_begun.ensures ms (subst (Gathers c.args.limit ms [] (map plain c.args.set.items)) c.in-Ok.is g))
+    (c.seq_begun.ensures ms (subst (Gathers c.args.limit ms [] c.args.set.items) c.in-Ok.is g))
 
 pub returns-in-Err-first : goal.returns-in-Err-first
 returns-in-Err-first c = λ x ms f g.
@@ -38,4 +37,4 @@ pub returns-in-Err : goal.returns-in-Err
 returns-in-Err c = λ x ms f g.
     let second = when (is_final (form_of c.args.y.now) x) (initial_tree (form_of c.args.z.now) ∷ []) in
     above_grows c.args.limit (set_of (ms ++ second)) (seq x (set_of (ms ++ second))) c.in-Err.fault (omega arith)
-    (set_fault c.args.limit ms second c.in-Err.fault (subst (Gathers c.args.limit ms [] (map plain c.args.set.items)) c.in-Err.is g))
+    (set_fault c.args.limit ms second c.in-Err.fault (subst (Gathers c.args.limit ms [] c.args.set.items) c.in-Err.is g))

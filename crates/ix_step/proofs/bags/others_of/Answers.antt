@@ -1,11 +1,7 @@
 use Rattle.std.proofs.Common.{map, ap, ◌∙◌}
 use Rattle.std.specs.List.{remove}
-use Rattle.ix_tree.specs.PlainOf.{plain}
 use Rattle.ix_step.proofs.BagsPut.{map-remove}
 use Rattle.ix_step.proofs.bags.others_of.Goals as goal
 
 pub returns : goal.returns
-returns c =
-    ap (map plain) c.remove.ensures.items
-    ∙ map-remove plain c.in_ok-others.others.items c.args.place
-    ∙ ap (λ l. remove l c.args.place) c.in_ok-others.ensures
+returns c = c.remove.ensures.items ∙ ap (λ l. remove l c.args.place) c.in_ok-others.ensures

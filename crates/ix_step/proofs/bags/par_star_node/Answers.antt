@@ -1,9 +1,10 @@
-use Rattle.std.proofs.Common.{map, refl, ap, ◌∙◌}
+use Rattle.std.proofs.Common.{ap, arith, map, refl, subst, ◌∙◌, ◌≡◌}
 use Rattle.ix_tree.specs.Plain.{listed, par_star}
 use Rattle.ix_tree.specs.PlainOf.{plain_bag}
-use Rattle.ix_tree.specs.lemmas.PlainParts.{plain-ParStar}
 use Rattle.ix_tree.proofs.Alternatives.{weight_of-list}
 use Rattle.ix_step.proofs.ParallelArms.{node_fails, node_items, node_above, node_within}
+use Rattle.ix_tree.specs.Size.{size_of}
+use Rattle.ix_step.specs.inside.Builds.{Builds}
 use Rattle.ix_step.proofs.bags.par_star_node.Goals as goal
 
 pub returns-in-Err : goal.returns-in-Err
@@ -20,11 +21,13 @@ returns-then-total-limit c = λ xs h. (
 pub same-set : goal.same-set
 same-set c = refl
 
+pub within-requires : goal.within-requires
+within-requires c =
+    let sum : c.total.result ≡ size_of (listed (map plain_bag c.args.set.items)) = c.total.ensures.total ∙ weight_of-list plain_bag c.args.set.items in
+    omega (arith, sum, c.if-total-limit.false, c.requires.limit, ap (λ l. size_of (listed (map plain_bag l))) c.into_items.ensures.items)
+
 pub returns : goal.returns
-returns c = λ xs h. (
-  plain-ParStar c.into_items.result
-      ∙ ap (λ l. par_star (listed (map plain_bag l))) c.into_items.ensures.items
-      ∙ ap par_star (node_items c.args.limit par_star (λ l. refl) xs (map plain_bag c.args.set.items) c.args.gathered h c.in_default.field-0 c.in_default.is),
-  node_within c.args.limit par_star (λ l. refl) xs (map plain_bag c.args.set.items) c.args.gathered h c.in_default.field-0 c.total.result c.in_default.is
-      (c.total.ensures.total ∙ weight_of-list plain_bag c.args.set.items) c.if-total-limit.false,
-)
+returns c = λ xs h.
+    subst (λ p. Builds c.args.limit p c.within.result)
+    (ap (λ l. par_star (listed (map plain_bag l))) c.into_items.ensures.items
+    ∙ ap par_star (node_items c.args.limit par_star (λ l. refl) xs (map plain_bag c.args.set.items) c.args.gathered h c.in_default.field-0 c.in_default.is)) c.within.ensures

@@ -1,8 +1,7 @@
 use Rattle.std.proofs.Common.{◌≡◌, map}
-use Rattle.ix_tree.specs.PlainOf.{plain}
 use Rattle.ix_can.specs.Nodes.{put_in}
 use Rattle.ix_step.proofs.BagsPut.{placed_after}
 use Rattle.ix_step.proofs.bags.place_of.Given as goal
 
 abbrev pub invariant-loop-place : goal.invariant-loop-place
-invariant-loop-place l = put_in (plain l.tree) (map plain l.others) ≡ placed_after (plain l.tree) (map plain l.others) l.place
+invariant-loop-place l = put_in l.tree l.others ≡ placed_after l.tree l.others l.place

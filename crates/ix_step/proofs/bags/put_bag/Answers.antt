@@ -1,15 +1,14 @@
 use Rattle.std.proofs.Common.{◌≡◌, [], ◌∷◌, length, map, refl, sym, ap, ◌∙◌, subst, arith, rules}
 use Rattle.std.specs.List.{insert}
 use Rattle.ix_tree.specs.Plain.{bag, listed}
-use Rattle.ix_tree.specs.PlainOf.{plain, plain_bag}
-use Rattle.ix_tree.specs.lemmas.PlainParts.{plain-Bag}
+use Rattle.ix_tree.specs.PlainOf.{plain_bag}
 use Rattle.ix_tree.specs.Size.{size_of}
-use Rattle.ix_tree.specs.lemmas.DerivedOrder.{bag_order_is}
-use Rattle.ix_tree.specs.declared.tree.Bag.{Bag, roll-Bag}
+use Rattle.ix_tree.specs.declared.node.Bag.{Bag}
 use Rattle.ix_can.specs.Nodes.{put_in}
 use Rattle.ix_step.specs.inside.Builds.{Gathers}
 use Rattle.ix_step.proofs.BagsPut.{map-insert, size-put_in}
 use Rattle.ix_step.proofs.Gathered.{gathers_put}
+use Rattle.ix_tree.specs.Order.{tree_cmp}
 use Rattle.ix_step.proofs.bags.put_bag.Goals as goal
 
 pub insert-requires : goal.insert-requires
@@ -19,29 +18,27 @@ insert-requires c =
 
 pub put-requires : goal.put-requires
 put-requires c =
-    let b : Bag = roll-Bag record { items = c.insert.new.self } in
-    let items : map plain c.insert.new.self.items ≡ put_in (plain c.args.tree) (map plain c.args.others.items) =
-    ap (map plain) c.in-Ok.ensures.items
-    ∙ map-insert plain c.args.others.items c.place_of-place.result c.args.tree
-    ∙ ap (λ l. insert (map plain l) c.place_of-place.result (plain c.args.tree)) (sym c.as_slice.ensures.value)
+    let b : Bag = record { items = c.insert.new.self } in
+    let items : c.insert.new.self.items ≡ put_in c.args.tree c.args.others.items =
+    c.in-Ok.ensures.items
+    ∙ ap (λ l. insert l c.place_of-place.result c.args.tree) (sym c.as_slice.ensures.value)
     ∙ sym c.place_of-place.ensures.place
-    ∙ ap (λ l. put_in (plain c.args.tree) (map plain l)) c.as_slice.ensures.value in
-    let size : size_of (plain_bag b) ≡ size_of (bag (listed (put_in (plain c.args.tree) (map plain c.args.others.items)))) =
-    ap size_of (plain-Bag b ∙ ap (λ l. bag (listed l)) items) in
-    omega (arith, size, size-put_in (plain c.args.tree) (map plain c.args.others.items), c.requires)
+    ∙ ap (λ l. put_in c.args.tree l) c.as_slice.ensures.value in
+    let size : size_of (plain_bag b) ≡ size_of (bag (listed (put_in c.args.tree c.args.others.items))) =
+    ap size_of (ap (λ l. bag (listed l)) items) in
+    omega (arith, size, size-put_in c.args.tree c.args.others.items, c.requires)
 
 pub returns-in-Ok-clause-gathers : goal.returns-in-Ok-clause-gathers
 returns-in-Ok-clause-gathers c =
-    let b : Bag = roll-Bag record { items = c.insert.new.self } in
-    let items : map plain c.insert.new.self.items ≡ put_in (plain c.args.tree) (map plain c.args.others.items) =
-    ap (map plain) c.in-Ok.ensures.items
-    ∙ map-insert plain c.args.others.items c.place_of-place.result c.args.tree
-    ∙ ap (λ l. insert (map plain l) c.place_of-place.result (plain c.args.tree)) (sym c.as_slice.ensures.value)
+    let b : Bag = record { items = c.insert.new.self } in
+    let items : c.insert.new.self.items ≡ put_in c.args.tree c.args.others.items =
+    c.in-Ok.ensures.items
+    ∙ ap (λ l. insert l c.place_of-place.result c.args.tree) (sym c.as_slice.ensures.value)
     ∙ sym c.place_of-place.ensures.place
-    ∙ ap (λ l. put_in (plain c.args.tree) (map plain l)) c.as_slice.ensures.value in
+    ∙ ap (λ l. put_in c.args.tree l) c.as_slice.ensures.value in
     subst (λ t. Gathers c.args.set.now.budget (t ∷ []) (map plain_bag c.args.set.now.items) (map plain_bag c.put.new.set.items) c.put.result)
-    (plain-Bag b ∙ ap (λ l. bag (listed l)) items)
-    (gathers_put plain_bag _ bag_order_is c.args.set.now c.put.new.set.items b c.put.result c.put.ensures.put)
+    (ap (λ l. bag (listed l)) items)
+    (gathers_put plain_bag (λ b d. tree_cmp (plain_bag b) (plain_bag d)) (λ b d. refl) c.args.set.now c.put.new.set.items b c.put.result c.put.ensures.put)
 
 pub returns-in-Ok-clause-budget : goal.returns-in-Ok-clause-budget
 returns-in-Ok-clause-budget c = c.put.ensures.budget

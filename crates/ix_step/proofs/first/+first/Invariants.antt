@@ -6,11 +6,5 @@ use Rattle.ix_step.proofs.first.+first.Given as goal
 abbrev pub decreases-first_tree : goal.decreases-first_tree
 decreases-first_tree l = 3 * form_size (form_of l.expr.now)
 
-abbrev pub decreases-first_box : goal.decreases-first_box
-decreases-first_box l = 3 * form_size (form_of l.expr.now) + 1
-
 abbrev pub decreases-first_seq : goal.decreases-first_seq
 decreases-first_seq l = 3 * form_size (form_of l.y.now) + 3 * form_size (form_of l.z.now) + 2
-
-abbrev pub decreases-first_rest : goal.decreases-first_rest
-decreases-first_rest l = 3 * form_size (form_of l.z.now) + 1

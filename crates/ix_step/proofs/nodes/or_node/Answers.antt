@@ -1,9 +1,5 @@
-use Rattle.std.proofs.Common.{◌≡◌, ap, ◌∙◌, arith}
+use Rattle.std.proofs.Common.{arith, ap, ◌∙◌}
 use Rattle.ix_tree.specs.Plain.{or, pair}
-use Rattle.ix_tree.specs.PlainOf.{plain}
-use Rattle.ix_tree.specs.lemmas.PlainParts.{plain-Or}
-use Rattle.ix_tree.specs.Size.{size_of}
-use Rattle.ix_tree.specs.declared.tree.Tree.{Or}
 use Rattle.ix_step.proofs.Limits.{above_grows, builds_node}
 use Rattle.ix_step.proofs.nodes.or_node.Goals as goal
 
@@ -14,15 +10,13 @@ pub both-requires-clause-right : goal.both-requires-clause-right
 both-requires-clause-right c = c.requires.right
 
 pub within-requires : goal.within-requires
-within-requires c =
-    let same : plain (Or c.in-Ok.left c.in-Ok.right) ≡ or (plain c.in-Ok.left.value) (plain c.in-Ok.right.value) = plain-Or c.in-Ok.left c.in-Ok.right in
-    omega (arith, ap size_of same, c.in-Ok.ensures.small.0, c.in-Ok.ensures.small.1)
+within-requires c = omega (arith, c.in-Ok.ensures.small.0, c.in-Ok.ensures.small.1)
 
 pub returns-in-Ok : goal.returns-in-Ok
 returns-in-Ok c = λ x y f g.
     let parts = c.in-Ok.ensures.built c.args.limit x y f g in
-    builds_node c.args.limit (plain (Or c.in-Ok.left c.in-Ok.right)) (or x y) c.within.result
-    (plain-Or c.in-Ok.left c.in-Ok.right ∙ ap (λ t. or t (plain c.in-Ok.right.value)) parts.0 ∙ ap (or x) parts.1) c.within.ensures
+    builds_node c.args.limit (or c.in-Ok.left c.in-Ok.right) (or x y) c.within.result
+    (ap (λ t. or t c.in-Ok.right) parts.0 ∙ ap (or x) parts.1) c.within.ensures
 
 pub returns-in-Err : goal.returns-in-Err
 returns-in-Err c = λ x y f g. above_grows c.args.limit (pair x y) (or x y) c.in-Err.fault (omega arith) (c.in-Err.ensures.built c.args.limit x y f g)

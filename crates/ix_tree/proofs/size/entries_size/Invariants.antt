@@ -1,0 +1,8 @@
+use Rattle.std.proofs.Common.{◌≡◌, ◌+◌, drop, map}
+use Rattle.ix_tree.specs.Plain.{listed}
+use Rattle.ix_tree.specs.PlainOf.{plain_pair, plain_bag, plain_map, plain_entries}
+use Rattle.ix_tree.specs.Size.{size_of}
+use Rattle.ix_tree.proofs.size.entries_size.Given as goal
+
+abbrev pub invariant-loop-entry : goal.invariant-loop-entry
+invariant-loop-entry l = l.sum + size_of (plain_entries (drop l.entry-index l.entries)) ≡ size_of (plain_entries l.entries)

@@ -1,0 +1,8 @@
+use Rattle.std.proofs.Common.{◌≡◌, ◌+◌, drop, map}
+use Rattle.ix_tree.specs.Plain.{listed}
+use Rattle.ix_tree.specs.PlainOf.{plain_pair, plain_bag, plain_map, plain_entries}
+use Rattle.ix_tree.specs.Size.{size_of}
+use Rattle.ix_tree.proofs.size.knots_size.Given as goal
+
+abbrev pub invariant-loop-knot : goal.invariant-loop-knot
+invariant-loop-knot l = l.sum + size_of (listed (drop l.knot-index l.knots)) ≡ size_of (listed l.knots)

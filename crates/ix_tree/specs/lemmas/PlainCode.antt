@@ -1,0 +1,123 @@
+-- By which code a proof tells plain trees apart: the place and the key of each node, before its parts.
+use Rattle.std.specs.Prelude.{◌≡◌, ℕ, ◌==◌, true, false, Bool, List, [], ◌∷◌, ◌++◌, if◌then◌else◌}
+use Rattle.std.specs.Coded.{Coded, code_by, coded×, coded_ℕ, coded_list}
+use Rattle.std.proofs.Common.{refl, sym, ap, ◌∙◌, append_assoc, append-nil}
+use Rattle.ix_tree.specs.Plain.{Plain, dead, start, done, opt, seq, star, par, par_star, or, and, couple, any, every, sync, all, pair, bag, map, entry, none, more}
+use Rattle.ix_tree.specs.Order.{place, key}
+
+-- the place and the key of each node, in the order of a reader
+abbrev written : Plain → List (ℕ × List ℕ)
+written none = (19, []) ∷ []
+written dead = (0, []) ∷ []
+written start = (1, []) ∷ []
+written done = (2, []) ∷ []
+written (opt b x) = (3, key (opt b x)) ∷ written x
+written (seq x y) = (4, []) ∷ (written x ++ written y)
+written (star b x) = (5, key (star b x)) ∷ written x
+written (par x) = (6, []) ∷ written x
+written (par_star x) = (7, []) ∷ written x
+written (or x y) = (8, []) ∷ (written x ++ written y)
+written (and x y) = (9, []) ∷ (written x ++ written y)
+written (couple x y) = (10, []) ∷ (written x ++ written y)
+written (any x y) = (11, []) ∷ (written x ++ written y)
+written (every x y) = (12, []) ∷ (written x ++ written y)
+written (sync x y) = (13, []) ∷ (written x ++ written y)
+written (all x) = (14, []) ∷ written x
+written (pair x y) = (15, []) ∷ (written x ++ written y)
+written (bag x) = (16, []) ∷ written x
+written (map x) = (17, []) ∷ written x
+written (entry v x) = (18, v) ∷ written x
+written (more x y) = (20, []) ∷ (written x ++ written y)
+
+-- the first of some trees
+abbrev top : List Plain → Plain
+top [] = none
+top (x ∷ xs) = x
+
+-- the others
+abbrev under : List Plain → List Plain
+under [] = []
+under (x ∷ xs) = xs
+
+-- the flag that a key tells
+abbrev flag : List ℕ → Bool
+flag [] = false
+flag (n ∷ ns) = n == 1
+
+-- a node of one part
+abbrev of_one : ℕ → List ℕ → Plain → Plain
+of_one n k x =
+    if n == 3 then opt (flag k) x else (if n == 5 then star (flag k) x else (if n == 6 then par x else (if n == 7 then par_star x else
+    (if n == 14 then all x else (if n == 16 then bag x else (if n == 17 then map x else entry k x))))))
+
+-- a node of two parts
+abbrev of_two : ℕ → Plain → Plain → Plain
+of_two n x y =
+    if n == 4 then seq x y else (if n == 8 then or x y else (if n == 9 then and x y else (if n == 10 then couple x y else
+    (if n == 11 then any x y else (if n == 12 then every x y else (if n == 13 then sync x y else (if n == 15 then pair x y else more x y)))))))
+
+-- how many parts the nodes of a place have
+abbrev leaf : ℕ → Bool
+leaf n = if n == 0 then true else (if n == 1 then true else (if n == 2 then true else n == 19))
+
+abbrev single : ℕ → Bool
+single n =
+    if n == 3 then true else (if n == 5 then true else (if n == 6 then true else (if n == 7 then true else
+    (if n == 14 then true else (if n == 16 then true else (if n == 17 then true else n == 18))))))
+
+-- a node without parts
+abbrev of_none : ℕ → Plain
+of_none n = if n == 0 then dead else (if n == 1 then start else (if n == 2 then done else none))
+
+-- the trees, after the node of one place and key took its parts from them
+abbrev taken : ℕ → List ℕ → List Plain → List Plain
+taken n k xs =
+    if leaf n then of_none n ∷ xs else (if single n then of_one n k (top xs) ∷ under xs else of_two n (top xs) (top (under xs)) ∷ under (under xs))
+
+-- the trees that are written there
+abbrev read : List (ℕ × List ℕ) → List Plain
+read [] = []
+read (t ∷ ts) = taken t.0 t.1 (read ts)
+
+-- one part reads back
+one_reads : (n : ℕ) (k : List ℕ) (x : Plain) (ts : List (ℕ × List ℕ)) → read (written x ++ ts) ≡ x ∷ read ts → taken n k (read (written x ++ ts)) ≡ taken n k (x ∷ read ts)
+one_reads n k x ts e = ap (taken n k) e
+
+-- two parts read back
+two_read : (n : ℕ) (k : List ℕ) (x y : Plain) (ts : List (ℕ × List ℕ)) → ((rest : List (ℕ × List ℕ)) → read (written x ++ rest) ≡ x ∷ read rest) → read (written y ++ ts) ≡ y ∷ read ts →
+    taken n k (read ((written x ++ written y) ++ ts)) ≡ taken n k (x ∷ y ∷ read ts)
+two_read n k x y ts f e = ap (λ l. taken n k (read l)) (append_assoc (written x) (written y) ts) ∙ ap (taken n k) (f (written y ++ ts) ∙ ap (λ l. x ∷ l) e)
+
+-- a tree reads back
+reads : (x : Plain) (ts : List (ℕ × List ℕ)) → read (written x ++ ts) ≡ x ∷ read ts
+reads none ts = refl
+reads dead ts = refl
+reads start ts = refl
+reads done ts = refl
+reads (opt true x) ts = one_reads 3 (1 ∷ []) x ts (reads x ts)
+reads (opt false x) ts = one_reads 3 (0 ∷ []) x ts (reads x ts)
+reads (seq x y) ts = two_read 4 [] x y ts (reads x) (reads y ts)
+reads (star true x) ts = one_reads 5 (1 ∷ []) x ts (reads x ts)
+reads (star false x) ts = one_reads 5 (0 ∷ []) x ts (reads x ts)
+reads (par x) ts = one_reads 6 [] x ts (reads x ts)
+reads (par_star x) ts = one_reads 7 [] x ts (reads x ts)
+reads (or x y) ts = two_read 8 [] x y ts (reads x) (reads y ts)
+reads (and x y) ts = two_read 9 [] x y ts (reads x) (reads y ts)
+reads (couple x y) ts = two_read 10 [] x y ts (reads x) (reads y ts)
+reads (any x y) ts = two_read 11 [] x y ts (reads x) (reads y ts)
+reads (every x y) ts = two_read 12 [] x y ts (reads x) (reads y ts)
+reads (sync x y) ts = two_read 13 [] x y ts (reads x) (reads y ts)
+reads (all x) ts = one_reads 14 [] x ts (reads x ts)
+reads (pair x y) ts = two_read 15 [] x y ts (reads x) (reads y ts)
+reads (bag x) ts = one_reads 16 [] x ts (reads x ts)
+reads (map x) ts = one_reads 17 [] x ts (reads x ts)
+reads (entry v x) ts = one_reads 18 v x ts (reads x ts)
+reads (more x y) ts = two_read 20 [] x y ts (reads x) (reads y ts)
+
+-- one tree alone
+pub alone : (x : Plain) → top (read (written x)) ≡ x
+alone x = ap (λ l. top (read l)) (sym (append-nil (written x))) ∙ ap top (reads x [])
+
+-- a plain tree is stored as its nodes
+abbrev pub plain_code : Coded Plain
+plain_code = code_by (List (ℕ × List ℕ)) (coded_list (coded× coded_ℕ (coded_list coded_ℕ))) written (λ ts. top (read ts)) alone
