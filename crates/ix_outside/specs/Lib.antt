@@ -1,5 +1,7 @@
 pub mod Contents
 pub mod Counts
+pub mod Crashes
+pub mod Disk
 pub mod Event
 pub mod Files
 pub mod FilesState
@@ -8,3 +10,4 @@ pub mod Sink
 pub mod SinkState
 pub mod SiteState
 pub mod inside
+pub mod lemmas

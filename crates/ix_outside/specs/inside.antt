@@ -1,3 +1,4 @@
 -- What contracts between crates and private ones cite, and no claim of the program or law reaches.
+pub mod DiskCalls
 pub mod NoFewer
 pub mod NothingTold

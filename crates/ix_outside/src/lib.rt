@@ -9,12 +9,14 @@
 mod event;
 mod faults;
 mod files;
+mod history;
 mod sink;
 mod site;
 
 pub use event::{Event, EventKind};
 pub use faults::{DiskFailed, Failed, Gone, LoadFault, WireFailed};
 pub use files::Files;
+pub use history::History;
 pub use sink::Sink;
 pub use site::Site;
 

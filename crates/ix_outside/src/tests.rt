@@ -1,7 +1,8 @@
 //! Small objects of the three traits, which show that the contracts can be met.
-ghost use Rattle.std.specs.Prelude.{◌≡◌, [], ◌∷◌, false, Some};
+ghost use Rattle.std.specs.Prelude.{◌≡◌, [], ◌∷◌, false, Some, None, refl};
 ghost use Rattle.ix_outside.specs.Loans.{free};
 ghost use Rattle.ix_outside.specs.inside.NothingTold.{nothing_told};
+ghost use Rattle.ix_outside.specs.lemmas.Untold.{untold_is_lawful};
 
 use super::*;
 use std::alloc::{AllocError, Global};
@@ -72,9 +73,13 @@ impl Site for Idle {
     ghost state = { λ site. record {
       counts = record { disk = site.disk; wire = site.wire; send = site.send };
       attached = site.attached;
+      tick = 0;
       contents = nothing_told;
+      disk = None;
       held = free;
     } };
+
+    ghost lawful = { λ _. untold_is_lawful _ refl refl };
 
     fn listen(&mut self, _name: &str) -> Result<(), WireFailed> {
         self.wire = self.wire.saturating_add(1);
