@@ -3,4 +3,6 @@ pub mod Spanning
 pub mod GivingNext
 pub mod TakingAll
 pub mod SendingPart
+pub mod Tearing
 pub mod Calling
+pub mod Moments

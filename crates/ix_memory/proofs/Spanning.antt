@@ -24,11 +24,14 @@ text_at-last bytes text span at_start at_end =
     ap (take (span.end - span.start)) (drop_at bytes text span.start (sym at_start))
     ∙ take_all (span.end - span.start) text all
 
+pub IsWithin-more : (count more : ℕ) (span : Span) → count ≤ more → IsWithin count span → IsWithin more span
+IsWithin-more count more span le within =
+    record { in_order = within.in_order; within = let end = within.within in omega arith }
+
 pub AreWithin-more : (count more : ℕ) (spans : List Span) → count ≤ more → AreWithin count spans → AreWithin more spans
 AreWithin-more count more [] le within = tt
 AreWithin-more count more (span ∷ spans) le within =
-    let first : IsWithin more span = record { in_order = within.0.in_order; within = omega (arith, within.0.within) } in
-    (first, AreWithin-more count more spans le within.1)
+    (IsWithin-more count more span le within.0, AreWithin-more count more spans le within.1)
 
 pub AreWithin-push : (count : ℕ) (spans : List Span) (span : Span) → AreWithin count spans → IsWithin count span
     → AreWithin count (spans ++ span ∷ [])
@@ -82,42 +85,51 @@ names-push bytes text spans span within at_start at_end =
     ∙ ap (λ (xs : List (List ℕ)). xs ++ text_at (bytes ++ text) span ∷ []) (names-more bytes text spans within)
     ∙ ap (λ (x : List ℕ). map (text_at bytes) spans ++ x ∷ []) (text_at-last bytes text span at_start at_end)
 
-pub sends_of-pair : (bytes text : List ℕ) (pairs : List Pair) (gone : List ℕ) (heard : List Span) (conn : ℕ) (span : Span)
-    → AreKept (length bytes) pairs heard
+pub sends_of-pair : (bytes text : List ℕ) (pairs : List Pair) (gone : List ℕ) (heard : List Span) (name : Span) (conn : ℕ) (span : Span)
+    → AreKept (length bytes) pairs heard name
     → span.start ≡ length bytes → span.end ≡ length bytes + length text
     → sends_of (bytes ++ text) (pairs ++ record { conn = conn; span = span } ∷ []) gone heard
     ≡ with_pair conn text (sends_of bytes pairs gone heard)
-sends_of-pair bytes text pairs gone heard conn span kept at_start at_end =
+sends_of-pair bytes text pairs gone heard name conn span kept at_start at_end =
     ap (λ (sent : List SentBytes). record { sent = sent; gone = gone; heard = map (text_at (bytes ++ text)) heard })
     (pairs-push bytes text pairs conn span kept.of_pairs at_start at_end)
     ∙ ap (λ (names : List (List ℕ)). record { sent = map (sent_of bytes) pairs ++ record { conn = conn; bytes = text } ∷ []; gone = gone; heard = names })
     (names-more bytes text heard kept.of_heard)
 
-pub sends_of-gone : (bytes text : List ℕ) (pairs : List Pair) (gone : List ℕ) (heard : List Span) (conn place : ℕ) (span : Span)
-    → AreKept (length bytes) pairs heard → place ≡ length pairs
+pub sends_of-gone : (bytes text : List ℕ) (pairs : List Pair) (gone : List ℕ) (heard : List Span) (name : Span) (conn place : ℕ) (span : Span)
+    → AreKept (length bytes) pairs heard name → place ≡ length pairs
     → span.start ≡ length bytes → span.end ≡ length bytes + length text
     → sends_of (bytes ++ text) (pairs ++ record { conn = conn; span = span } ∷ []) (gone ++ place ∷ []) heard
     ≡ with_gone conn text (sends_of bytes pairs gone heard)
-sends_of-gone bytes text pairs gone heard conn place span kept here at_start at_end =
-    sends_of-pair bytes text pairs (gone ++ place ∷ []) heard conn span kept at_start at_end
+sends_of-gone bytes text pairs gone heard name conn place span kept here at_start at_end =
+    sends_of-pair bytes text pairs (gone ++ place ∷ []) heard name conn span kept at_start at_end
     ∙ ap (λ (at : ℕ). record (with_pair conn text (sends_of bytes pairs gone heard)) { gone = gone ++ at ∷ [] })
     (here ∙ sym (length-map pairs (sent_of bytes)))
 
-pub sends_of-heard : (bytes text : List ℕ) (pairs : List Pair) (gone : List ℕ) (heard : List Span) (span : Span)
-    → AreKept (length bytes) pairs heard
+pub sends_of-heard : (bytes text : List ℕ) (pairs : List Pair) (gone : List ℕ) (heard : List Span) (name span : Span)
+    → AreKept (length bytes) pairs heard name
     → span.start ≡ length bytes → span.end ≡ length bytes + length text
     → sends_of (bytes ++ text) pairs gone (heard ++ span ∷ []) ≡ with_heard text (sends_of bytes pairs gone heard)
-sends_of-heard bytes text pairs gone heard span kept at_start at_end =
+sends_of-heard bytes text pairs gone heard name span kept at_start at_end =
     ap (λ (sent : List SentBytes). record { sent = sent; gone = gone; heard = map (text_at (bytes ++ text)) (heard ++ span ∷ []) })
     (pairs-more bytes text pairs kept.of_pairs)
     ∙ ap (λ (names : List (List ℕ)). record { sent = map (sent_of bytes) pairs; gone = gone; heard = names })
     (names-push bytes text heard span kept.of_heard at_start at_end)
 
-pub AreKept-pair : (bytes text : List ℕ) (pairs : List Pair) (heard : List Span) (conn : ℕ) (span : Span)
-    → AreKept (length bytes) pairs heard
+-- more bytes behind don't change the sends
+pub sends_of-more : (bytes text : List ℕ) (pairs : List Pair) (gone : List ℕ) (heard : List Span) (name : Span)
+    → AreKept (length bytes) pairs heard name → sends_of (bytes ++ text) pairs gone heard ≡ sends_of bytes pairs gone heard
+sends_of-more bytes text pairs gone heard name kept =
+    ap (λ (sent : List SentBytes). record { sent = sent; gone = gone; heard = map (text_at (bytes ++ text)) heard })
+    (pairs-more bytes text pairs kept.of_pairs)
+    ∙ ap (λ (names : List (List ℕ)). record { sent = map (sent_of bytes) pairs; gone = gone; heard = names })
+    (names-more bytes text heard kept.of_heard)
+
+pub AreKept-pair : (bytes text : List ℕ) (pairs : List Pair) (heard : List Span) (name : Span) (conn : ℕ) (span : Span)
+    → AreKept (length bytes) pairs heard name
     → span.start ≡ length bytes → span.end ≡ length bytes + length text
-    → AreKept (length (bytes ++ text)) (pairs ++ record { conn = conn; span = span } ∷ []) heard
-AreKept-pair bytes text pairs heard conn span kept at_start at_end =
+    → AreKept (length (bytes ++ text)) (pairs ++ record { conn = conn; span = span } ∷ []) heard name
+AreKept-pair bytes text pairs heard name conn span kept at_start at_end =
     let more : length bytes ≤ length (bytes ++ text) = omega (arith, length-append bytes text) in
     let P : List Span → Type 0 = λ spans. AreWithin (length (bytes ++ text)) spans in
     record {
@@ -125,18 +137,33 @@ AreKept-pair bytes text pairs heard conn span kept at_start at_end =
           (AreWithin-push _ _ span (AreWithin-more (length bytes) (length (bytes ++ text)) _ more kept.of_pairs)
           (IsWithin-last bytes text span at_start at_end));
       of_heard = AreWithin-more (length bytes) (length (bytes ++ text)) heard more kept.of_heard;
+      of_name = IsWithin-more (length bytes) (length (bytes ++ text)) name more kept.of_name;
     }
 
-pub AreKept-heard : (bytes text : List ℕ) (pairs : List Pair) (heard : List Span) (span : Span)
-    → AreKept (length bytes) pairs heard
+pub AreKept-heard : (bytes text : List ℕ) (pairs : List Pair) (heard : List Span) (name span : Span)
+    → AreKept (length bytes) pairs heard name
     → span.start ≡ length bytes → span.end ≡ length bytes + length text
-    → AreKept (length (bytes ++ text)) pairs (heard ++ span ∷ [])
-AreKept-heard bytes text pairs heard span kept at_start at_end =
+    → AreKept (length (bytes ++ text)) pairs (heard ++ span ∷ []) name
+AreKept-heard bytes text pairs heard name span kept at_start at_end =
     let more : length bytes ≤ length (bytes ++ text) = omega (arith, length-append bytes text) in
     record {
       of_pairs = AreWithin-more (length bytes) (length (bytes ++ text)) _ more kept.of_pairs;
       of_heard = AreWithin-push _ _ span (AreWithin-more (length bytes) (length (bytes ++ text)) heard more kept.of_heard)
           (IsWithin-last bytes text span at_start at_end);
+      of_name = IsWithin-more (length bytes) (length (bytes ++ text)) name more kept.of_name;
+    }
+
+-- the name, whose text was put behind the bytes
+pub AreKept-name : (bytes text : List ℕ) (pairs : List Pair) (heard : List Span) (name span : Span)
+    → AreKept (length bytes) pairs heard name
+    → span.start ≡ length bytes → span.end ≡ length bytes + length text
+    → AreKept (length (bytes ++ text)) pairs heard span
+AreKept-name bytes text pairs heard name span kept at_start at_end =
+    let more : length bytes ≤ length (bytes ++ text) = omega (arith, length-append bytes text) in
+    record {
+      of_pairs = AreWithin-more (length bytes) (length (bytes ++ text)) _ more kept.of_pairs;
+      of_heard = AreWithin-more (length bytes) (length (bytes ++ text)) heard more kept.of_heard;
+      of_name = IsWithin-last bytes text span at_start at_end;
     }
 
 -- the pair at a place lies within the bytes

@@ -3,3 +3,4 @@ pub mod Plan
 pub mod PlanState
 pub mod CallRuns
 pub mod inside
+pub mod lemmas

@@ -5,8 +5,10 @@ pub mod Fate
 pub mod MemoryFilesState
 pub mod MemorySinkState
 pub mod MemorySiteState
+pub mod Moments
 pub mod NextEvent
 pub mod NextPiece
+pub mod PastCalls
 pub mod Room
 pub mod SentState
 pub mod Spans

@@ -9,6 +9,7 @@ mod events;
 mod files;
 mod image;
 pub mod laws;
+mod past;
 mod plan;
 mod room;
 mod sent;

@@ -1,5 +1,6 @@
-//! What a site sent, and the names that it heard.
-ghost use Rattle.std.specs.Prelude.{◌≡◌, ◌≤◌, ◌<◌, ◌+◌, ◌++◌, length, slice_get, vec_len, vec_capacity, IfOk, Some};
+//! What a site sent, the names that it heard, and the name of its file.
+ghost use Rattle.std.specs.Prelude.{◌≡◌, ◌≤◌, ◌<◌, ◌+◌, ◌++◌, [], length, slice_get};
+ghost use Rattle.std.specs.Prelude.{vec_len, vec_capacity, IfOk, Some};
 ghost use Rattle.ix_outside.specs.Contents.{with_pair, with_gone};
 ghost use Rattle.ix_memory.specs.inside.SentState.{no_sends, with_heard};
 ghost use Rattle.ix_memory.specs.inside.Spans.{text_at};
@@ -22,35 +23,40 @@ pub(crate) struct Pair {
     pub span: Span,
 }
 
-/// The sends in order, those of them that answered Gone, and the names that were heard.
+/// The sends in order, those of them that answered Gone, the names that were heard, and the name of
+/// the file, with no bytes until one was attached.
 #[derive(Drop)]
 pub(crate) struct Sent {
     bytes: Vec<u8>,
     pairs: Vec<Pair>,
     gone: Vec<usize>,
     heard: Vec<Span>,
+    name: Span,
 }
 
 impl Model for Sent {
     ghost use Rattle.std.specs.Prelude.{◌-◌, min, length, vec_capacity, vec_len};
     ghost use Rattle.ix_memory.specs.inside.SentState.{SentState, sends_of, AreKept};
+    ghost use Rattle.ix_memory.specs.inside.Spans.{text_at};
 
     ghost Value = { SentState };
 
     ghost view = { λ s. record {
       sends = sends_of s.bytes.items s.pairs.items s.gone.items s.heard.items;
+      name = text_at s.bytes.items s.name;
       spare_bytes = vec_capacity s.bytes - vec_len s.bytes;
       spare_records = min (vec_capacity s.pairs - vec_len s.pairs)
           (min (vec_capacity s.gone - vec_len s.gone) (vec_capacity s.heard - vec_len s.heard));
     } };
 
-    ghost invariant = { λ s. AreKept (length s.bytes.items) s.pairs.items s.heard.items };
+    ghost invariant = { λ s. AreKept (length s.bytes.items) s.pairs.items s.heard.items s.name };
 }
 
 impl Sent {
     /// No sends and no names, with the memory for so many bytes and so many records of each kind.
     pub(crate) fn new(alloc: Global, bytes: usize, records: usize) -> Result<Sent, AllocError>
         ensures sends { IfOk result (λ s. s.sends ≡ no_sends) }
+        ensures name { IfOk result (λ s. s.name ≡ []) }
         ensures bytes { IfOk result (λ s. bytes ≤ s.spare_bytes) }
         ensures records { IfOk result (λ s. records ≤ s.spare_records) }
     {
@@ -59,6 +65,7 @@ impl Sent {
             pairs: Vec::with_capacity(alloc, records)?,
             gone: Vec::with_capacity(alloc, records)?,
             heard: Vec::with_capacity(alloc, records)?,
+            name: Span { start: 0, end: 0 },
         })
     }
 
@@ -80,6 +87,7 @@ impl Sent {
         requires bytes { length bytes.now ≤ self.old.spare_bytes }
         requires records { 1 ≤ self.old.spare_records }
         ensures sends { self.new.sends ≡ with_pair conn bytes.now self.old.sends }
+        ensures name { self.new.name ≡ self.old.name }
         ensures bytes { self.old.spare_bytes ≤ self.new.spare_bytes + length bytes.now }
         ensures records { self.old.spare_records ≤ self.new.spare_records + 1 }
     {
@@ -91,6 +99,7 @@ impl Sent {
         requires bytes { length bytes.now ≤ self.old.spare_bytes }
         requires records { 1 ≤ self.old.spare_records }
         ensures sends { self.new.sends ≡ with_gone conn bytes.now self.old.sends }
+        ensures name { self.new.name ≡ self.old.name }
         ensures bytes { self.old.spare_bytes ≤ self.new.spare_bytes + length bytes.now }
         ensures records { self.old.spare_records ≤ self.new.spare_records + 1 }
     {
@@ -104,11 +113,23 @@ impl Sent {
         requires bytes { length name.now ≤ self.old.spare_bytes }
         requires records { 1 ≤ self.old.spare_records }
         ensures sends { self.new.sends ≡ with_heard name.now self.old.sends }
+        ensures name { self.new.name ≡ self.old.name }
         ensures bytes { self.old.spare_bytes ≤ self.new.spare_bytes + length name.now }
         ensures records { self.old.spare_records ≤ self.new.spare_records + 1 }
     {
         let span = kept(&mut self.bytes, name);
         put(&mut self.heard, span);
+    }
+
+    pub(crate) fn open(&mut self, name: &[u8])
+        requires { length name.now ≤ self.old.spare_bytes }
+        ensures sends { self.new.sends ≡ self.old.sends }
+        ensures name { self.new.name ≡ name.now }
+        ensures bytes { self.old.spare_bytes ≤ self.new.spare_bytes + length name.now }
+        ensures records { self.new.spare_records ≡ self.old.spare_records }
+    {
+        let span = kept(&mut self.bytes, name);
+        self.name = span;
     }
 }
 

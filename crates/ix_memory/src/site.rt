@@ -2,18 +2,25 @@
 ghost use Rattle.std.specs.Prelude.{◌≡◌, ◌≤◌, ◌<◌, ◌+◌, ◌-◌, ◌*◌, ◌&&◌, ◌++◌, [], ◌∷◌, length as list_length, nat_le, true, false, min, length, take, drop, not, is_ok, slice_get, Some, IfOk, OnOk, OnErr};
 ghost use Rattle.ix_outside.specs.Contents.{piece_of, with_pair, Listens, Gives, SendsBytes};
 ghost use Rattle.ix_outside.specs.Counts.{Rose};
+ghost use Rattle.ix_outside.specs.Crashes.{OneCall, LeavesTheSame, LeavesBy, Settles};
+ghost use Rattle.ix_outside.specs.Disk.{OfFile, MakesFile, Stays, Torn, MaybeCut};
+ghost use Rattle.ix_outside.specs.Disk.{Writes, Cuts, Attaches};
 ghost use Rattle.ix_outside.specs.Event.{FitsBuffer};
 ghost use Rattle.ix_outside.specs.SiteState.{OnlyDisk, OnlyWire, OnlySend};
 ghost use Rattle.ix_memory.specs.inside.NextEvent.{next_event, then_coming};
 ghost use Rattle.ix_memory.specs.Plan.{fails_at, is_full};
 ghost use Rattle.ix_memory.specs.inside.SentState.{with_heard};
-ghost use Rattle.ix_memory.specs.inside.MemorySiteState.{fresh_site, state_of, called};
+ghost use Rattle.ix_memory.specs.inside.MemorySiteState.{fresh_site, state_of, crashes_of, called};
 ghost use Rattle.ix_memory.specs.inside.MemorySiteState.{wire_failed, disk_failed, send_failed};
 ghost use Rattle.ix_memory.specs.inside.MemorySiteState.{half_sent, half_written, written};
 ghost use Rattle.ix_memory.specs.inside.CanCome.{CanAllCome, events_beside};
+ghost use Rattle.ix_memory.specs.declared.past.Effect.TheVariants.{Kept, Wrote, Cut};
+ghost use Rattle.ix_memory.specs.declared.past.Effect.TheVariants.{Synced, Attached};
+ghost use Rattle.ix_memory.specs.lemmas.Lawful.{memory_is_lawful};
 
 use crate::events::Events;
 use crate::image;
+use crate::past::{Effect, Past};
 use crate::plan::{Fate, Plan};
 use crate::sent::Sent;
 use ix_outside::{DiskFailed, Event, Gone, Site, WireFailed};
@@ -31,6 +38,9 @@ const LEAST_COST: usize = 16;
 /// were made, or where its cost and that of all calls before it are together above the room. One
 /// that fails by the room changes nothing but its count of faults. `write_at` beyond the end and
 /// `cut` to more than the length fail too.
+///
+/// Each call is a tick. A crash may leave all that the trait allows: any bytes in the range of a
+/// write since the last sync, and each cut since then taken or not.
 #[derive(Drop)]
 pub struct MemorySite {
     plan: Plan,
@@ -38,6 +48,7 @@ pub struct MemorySite {
     sent: Sent,
     image: Vec<u8>,
     attached: bool,
+    past: Past,
     told: bool,
     disk: u64,
     wire: u64,
@@ -60,6 +71,8 @@ impl Model for MemorySite {
       sends = s.sent.sends;
       image = s.image.items;
       attached = s.attached;
+      name = s.sent.name;
+      past = s.past;
       told = s.told;
       counts = record { disk = s.disk; wire = s.wire; send = s.send };
     } };
@@ -91,6 +104,7 @@ impl MemorySite {
             sent: Sent::new(alloc, room, records)?,
             image,
             attached: false,
+            past: Past::new(),
             told: true,
             disk: 0,
             wire: 0,
@@ -131,18 +145,29 @@ impl MemorySite {
 impl Site for MemorySite {
     ghost state = { state_of };
 
+    ghost crashes = { crashes_of };
+
+    ghost lawful = { memory_is_lawful };
+
     /// The name is heard. It costs 16 and the number of its bytes.
     fn listen(&mut self, name: &str) -> Result<(), WireFailed>
         ensures exactly { is_ok result ≡ not (fails_at self.old.plan (16 + length name.now)) }
         ensures ok { OnOk result (self.new
-            ≡ record (called (16 + length name.now) self.old) { sends = with_heard name.now self.old.sends }) }
-        ensures err { OnErr result (self.new ≡ wire_failed (called (16 + length name.now) self.old)) }
+            ≡ record (called (16 + length name.now) Kept self.old) {
+              sends = with_heard name.now self.old.sends;
+            }) }
+        ensures err { OnErr result (self.new
+            ≡ wire_failed (called (16 + length name.now) Kept self.old)) }
 
         ensures failed { OnErr result (Rose self.old.counts.wire self.new.counts.wire) }
         ensures contents { Listens name.now result
             (state_of self.old).contents (state_of self.new).contents }
+        ensures now { LeavesTheSame (crashes_of self.old).now (crashes_of self.new).now }
+        ensures call { OneCall (state_of self.old) (state_of self.new)
+            (crashes_of self.old) (crashes_of self.new) }
         ensures rest { OnlyWire (state_of self.old) (state_of self.new) }
     {
+        self.past.add(Effect::Kept, &self.image, &self.sent);
         match self.plan.make(LEAST_COST + name.len()) {
             Fate::Works => {
                 self.sent.hear(name.as_bytes());
@@ -163,18 +188,22 @@ impl Site for MemorySite {
         ensures exactly { is_ok result ≡ not (fails_at self.old.plan 16) }
         ensures next { IfOk result (λ event. record { event = event; bytes = piece_of event.kind buf.new }
             ≡ next_event (length buf.old) self.old.last self.old.coming) }
-        ensures ok { IfOk result (λ event. self.new ≡ record (called 16 self.old) {
+        ensures ok { IfOk result (λ event. self.new ≡ record (called 16 Kept self.old) {
           coming = then_coming (length buf.old) self.old.coming;
           given = self.old.given ++ record { event = event; bytes = piece_of event.kind buf.new } ∷ [];
         }) }
-        ensures err { OnErr result (self.new ≡ wire_failed (called 16 self.old)) }
+        ensures err { OnErr result (self.new ≡ wire_failed (called 16 Kept self.old)) }
 
         ensures event { IfOk result (FitsBuffer (length buf.old)) }
         ensures failed { OnErr result (Rose self.old.counts.wire self.new.counts.wire) }
         ensures contents { Gives buf.new result
             (state_of self.old).contents (state_of self.new).contents }
+        ensures now { LeavesTheSame (crashes_of self.old).now (crashes_of self.new).now }
+        ensures call { OneCall (state_of self.old) (state_of self.new)
+            (crashes_of self.old) (crashes_of self.new) }
         ensures rest { OnlyWire (state_of self.old) (state_of self.new) }
     {
+        self.past.add(Effect::Kept, &self.image, &self.sent);
         match self.plan.make(LEAST_COST) {
             Fate::Works => Ok(self.events.next(buf)),
             Fate::Fails | Fate::Full => {
@@ -190,15 +219,22 @@ impl Site for MemorySite {
     fn send(&mut self, conn: u8, bytes: &[u8]) -> Result<(), Gone>
         ensures exactly { is_ok result ≡ not (fails_at self.old.plan (16 + length bytes.now)) }
         ensures ok { OnOk result (self.new
-            ≡ record (called (16 + length bytes.now) self.old) { sends = with_pair conn bytes.now self.old.sends }) }
+            ≡ record (called (16 + length bytes.now) Kept self.old) {
+              sends = with_pair conn bytes.now self.old.sends;
+            }) }
         ensures err { OnErr result (self.new ≡ send_failed (half_sent (is_full self.old.plan (16 + length bytes.now))
-            conn bytes.now (called (16 + length bytes.now) self.old))) }
+            conn bytes.now (called (16 + length bytes.now) Kept self.old))) }
 
         ensures failed { OnErr result (Rose self.old.counts.send self.new.counts.send) }
         ensures contents { SendsBytes conn bytes.now result
             (state_of self.old).contents (state_of self.new).contents }
+        ensures disk { OnOk result ((state_of self.new).disk ≡ (state_of self.old).disk) }
+        ensures now { LeavesTheSame (crashes_of self.old).now (crashes_of self.new).now }
+        ensures call { OneCall (state_of self.old) (state_of self.new)
+            (crashes_of self.old) (crashes_of self.new) }
         ensures rest { OnlySend (state_of self.old) (state_of self.new) }
     {
+        self.past.add(Effect::Kept, &self.image, &self.sent);
         match self.plan.make(LEAST_COST + bytes.len()) {
             Fate::Works => {
                 self.sent.send(conn, bytes);
@@ -211,19 +247,35 @@ impl Site for MemorySite {
         Err(Gone)
     }
 
-    /// The file is attached, whatever the name. It costs 16 and the number of the name's bytes.
+    /// The file is attached under this name, whatever it is. It costs 16 and the number of the
+    /// name's bytes.
     fn attach(&mut self, name: &str) -> Result<(), DiskFailed>
         requires { self.old.attached ≡ false }
         ensures exactly { is_ok result ≡ not (fails_at self.old.plan (16 + length name.now)) }
-        ensures ok { OnOk result (self.new ≡ record (called (16 + length name.now) self.old) { attached = true }) }
-        ensures err { OnErr result (self.new ≡ disk_failed (called (16 + length name.now) self.old)) }
+        ensures ok { OnOk result (self.new
+            ≡ record (called (16 + length name.now) Attached self.old) {
+              attached = true;
+              name = name.now;
+            }) }
+        ensures err { OnErr result (self.new
+            ≡ disk_failed (called (16 + length name.now) Kept self.old)) }
 
         ensures failed { OnErr result (Rose self.old.counts.disk self.new.counts.disk) }
         ensures attached { self.new.attached ≡ is_ok result }
+        ensures file { Attaches name.now result (state_of self.new).tick
+            (state_of self.old).disk (state_of self.new).disk }
+        ensures now { Settles result (state_of self.new).disk
+            (crashes_of self.old).now (crashes_of self.new).now }
+        ensures call { OneCall (state_of self.old) (state_of self.new)
+            (crashes_of self.old) (crashes_of self.new) }
         ensures rest { OnlyDisk (state_of self.old) (state_of self.new) }
     {
-        match self.plan.make(LEAST_COST + name.len()) {
+        let fate = self.plan.make(LEAST_COST + name.len());
+        self.past
+            .add(Effect::Attached.if_works(fate), &self.image, &self.sent);
+        match fate {
             Fate::Works => {
+                self.sent.open(name.as_bytes());
                 self.attached = true;
                 Ok(())
             }
@@ -238,14 +290,21 @@ impl Site for MemorySite {
     fn length(&mut self) -> Result<u64, DiskFailed>
         requires { self.old.attached ≡ true }
         ensures exactly { is_ok result ≡ not (fails_at self.old.plan 16) }
-        ensures value { IfOk result (λ count. count ≡ length self.old.image) }
-        ensures ok { OnOk result (self.new ≡ called 16 self.old) }
-        ensures err { OnErr result (self.new ≡ disk_failed (called 16 self.old)) }
+        ensures count { IfOk result (λ count. count ≡ length self.old.image) }
+        ensures ok { OnOk result (self.new ≡ called 16 Kept self.old) }
+        ensures err { OnErr result (self.new ≡ disk_failed (called 16 Kept self.old)) }
 
         ensures failed { OnErr result (Rose self.old.counts.disk self.new.counts.disk) }
         ensures attached { self.new.attached ≡ true }
+        ensures value { IfOk result
+            (λ count. OfFile (λ file. count ≡ length file) (state_of self.old).disk) }
+        ensures file { MakesFile Stays (state_of self.old).disk (state_of self.new).disk }
+        ensures now { LeavesTheSame (crashes_of self.old).now (crashes_of self.new).now }
+        ensures call { OneCall (state_of self.old) (state_of self.new)
+            (crashes_of self.old) (crashes_of self.new) }
         ensures rest { OnlyDisk (state_of self.old) (state_of self.new) }
     {
+        self.past.add(Effect::Kept, &self.image, &self.sent);
         match self.plan.make(LEAST_COST) {
             Fate::Works => Ok(self.image.len() as u64),
             Fate::Fails | Fate::Full => {
@@ -259,16 +318,26 @@ impl Site for MemorySite {
     fn read_at(&mut self, at: u64, buf: &mut [u8]) -> Result<usize, DiskFailed>
         requires { self.old.attached ≡ true }
         ensures exactly { is_ok result ≡ not (fails_at self.old.plan 16) }
-        ensures value { IfOk result (λ count. count ≡ min (length buf.old) (length self.old.image - at)) }
+        ensures count { IfOk result
+            (λ count. count ≡ min (length buf.old) (length self.old.image - at)) }
         ensures read { IfOk result (λ count. take count buf.new ≡ take count (drop at self.old.image)) }
         ensures behind { IfOk result (λ count. drop count buf.new ≡ drop count buf.old) }
-        ensures ok { OnOk result (self.new ≡ called 16 self.old) }
-        ensures err { OnErr result (self.new ≡ disk_failed (called 16 self.old)) }
+        ensures ok { OnOk result (self.new ≡ called 16 Kept self.old) }
+        ensures err { OnErr result (self.new ≡ disk_failed (called 16 Kept self.old)) }
 
         ensures failed { OnErr result (Rose self.old.counts.disk self.new.counts.disk) }
         ensures attached { self.new.attached ≡ true }
+        ensures value { IfOk result (λ count. OfFile
+            (λ file. count ≡ min (length buf.old) (length file - at)) (state_of self.old).disk) }
+        ensures bytes { IfOk result (λ count. OfFile
+            (λ file. take count buf.new ≡ take count (drop at file)) (state_of self.old).disk) }
+        ensures file { MakesFile Stays (state_of self.old).disk (state_of self.new).disk }
+        ensures now { LeavesTheSame (crashes_of self.old).now (crashes_of self.new).now }
+        ensures call { OneCall (state_of self.old) (state_of self.new)
+            (crashes_of self.old) (crashes_of self.new) }
         ensures rest { OnlyDisk (state_of self.old) (state_of self.new) }
     {
+        self.past.add(Effect::Kept, &self.image, &self.sent);
         match self.plan.make(LEAST_COST) {
             Fate::Works => Ok(image::read(&self.image, at, buf)),
             Fate::Fails | Fate::Full => {
@@ -286,25 +355,37 @@ impl Site for MemorySite {
         ensures exactly { is_ok result
             ≡ (not (fails_at self.old.plan (16 + length bytes.now)) && nat_le at (length self.old.image)) }
         ensures ok { OnOk result (self.new
-            ≡ record (called (16 + length bytes.now) self.old) { image = written at bytes.now self.old.image }) }
+            ≡ record (called (16 + length bytes.now) (Wrote at (length bytes.now)) self.old) {
+              image = written at bytes.now self.old.image;
+            }) }
         ensures err { OnErr result (self.new ≡ disk_failed (half_written (is_full self.old.plan (16 + length bytes.now))
-            at bytes.now (called (16 + length bytes.now) self.old))) }
+            at bytes.now self.old)) }
 
         ensures failed { OnErr result (Rose self.old.counts.disk self.new.counts.disk) }
         ensures attached { self.new.attached ≡ true }
+        ensures file { Writes at bytes.now result
+            (state_of self.old).disk (state_of self.new).disk }
+        ensures now { LeavesBy (Torn at (length bytes.now)) result
+            (crashes_of self.old).now (crashes_of self.new).now }
+        ensures call { OneCall (state_of self.old) (state_of self.new)
+            (crashes_of self.old) (crashes_of self.new) }
         ensures rest { OnlyDisk (state_of self.old) (state_of self.new) }
     {
         let fate = self.plan.make(LEAST_COST + bytes.len());
         let start = at as usize;
-        if start <= self.image.len() {
-            match fate {
-                Fate::Works => {
-                    image::write(&mut self.image, start, bytes);
-                    return Ok(());
-                }
-                Fate::Fails => image::write(&mut self.image, start, &bytes[..bytes.len() / 2]),
-                Fate::Full => {}
+        match fate {
+            Fate::Works if start <= self.image.len() => {
+                self.past
+                    .add(Effect::Wrote(at, bytes.len()), &self.image, &self.sent);
+                image::write(&mut self.image, start, bytes);
+                return Ok(());
             }
+            Fate::Fails if start <= self.image.len() => {
+                self.past
+                    .add(Effect::Wrote(at, bytes.len()), &self.image, &self.sent);
+                image::write(&mut self.image, start, &bytes[..bytes.len() / 2]);
+            }
+            _ => self.past.add(Effect::Kept, &self.image, &self.sent),
         }
         self.disk = self.disk.saturating_add(1);
         Err(DiskFailed)
@@ -314,39 +395,56 @@ impl Site for MemorySite {
     fn cut(&mut self, length: u64) -> Result<(), DiskFailed>
         requires { self.old.attached ≡ true }
         ensures exactly { is_ok result ≡ (not (fails_at self.old.plan 16) && nat_le length (list_length self.old.image)) }
-        ensures ok { OnOk result (self.new ≡ record (called 16 self.old) { image = take length self.old.image }) }
-        ensures err { OnErr result (self.new ≡ disk_failed (called 16 self.old)) }
+        ensures ok { OnOk result (self.new ≡ record (called 16 (Cut length) self.old) {
+          image = take length self.old.image;
+        }) }
+        ensures err { OnErr result (self.new ≡ disk_failed (called 16 Kept self.old)) }
 
         ensures failed { OnErr result (Rose self.old.counts.disk self.new.counts.disk) }
         ensures attached { self.new.attached ≡ true }
+        ensures file { Cuts length result (state_of self.old).disk (state_of self.new).disk }
+        ensures now { LeavesBy (MaybeCut length) result
+            (crashes_of self.old).now (crashes_of self.new).now }
+        ensures call { OneCall (state_of self.old) (state_of self.new)
+            (crashes_of self.old) (crashes_of self.new) }
         ensures rest { OnlyDisk (state_of self.old) (state_of self.new) }
     {
         let fate = self.plan.make(LEAST_COST);
         let end = length as usize;
         match fate {
             Fate::Works if end <= self.image.len() => {
+                self.past.add(Effect::Cut(length), &self.image, &self.sent);
                 self.image.truncate(end);
                 Ok(())
             }
             _ => {
+                self.past.add(Effect::Kept, &self.image, &self.sent);
                 self.disk = self.disk.saturating_add(1);
                 Err(DiskFailed)
             }
         }
     }
 
-    /// Nothing changes but the number of calls. It costs 16.
+    /// The file is on the disk as it reads; a failed one leaves what was pending. It costs 16.
     fn sync(&mut self) -> Result<(), DiskFailed>
         requires { self.old.attached ≡ true }
         ensures exactly { is_ok result ≡ not (fails_at self.old.plan 16) }
-        ensures ok { OnOk result (self.new ≡ called 16 self.old) }
-        ensures err { OnErr result (self.new ≡ disk_failed (called 16 self.old)) }
+        ensures ok { OnOk result (self.new ≡ called 16 Synced self.old) }
+        ensures err { OnErr result (self.new ≡ disk_failed (called 16 Kept self.old)) }
 
         ensures failed { OnErr result (Rose self.old.counts.disk self.new.counts.disk) }
         ensures attached { self.new.attached ≡ true }
+        ensures file { MakesFile Stays (state_of self.old).disk (state_of self.new).disk }
+        ensures now { Settles result (state_of self.new).disk
+            (crashes_of self.old).now (crashes_of self.new).now }
+        ensures call { OneCall (state_of self.old) (state_of self.new)
+            (crashes_of self.old) (crashes_of self.new) }
         ensures rest { OnlyDisk (state_of self.old) (state_of self.new) }
     {
-        match self.plan.make(LEAST_COST) {
+        let fate = self.plan.make(LEAST_COST);
+        self.past
+            .add(Effect::Synced.if_works(fate), &self.image, &self.sent);
+        match fate {
             Fate::Works => Ok(()),
             Fate::Fails | Fate::Full => {
                 self.disk = self.disk.saturating_add(1);

@@ -1,8 +1,9 @@
 //! Devices in memory, with answers worked out by hand.
-ghost use Rattle.std.specs.Prelude.{◌≡◌, ◌<◌, length, IfOk, false, true};
+ghost use Rattle.std.specs.Prelude.{◌≡◌, ◌<◌, length, IfOk, OnOk, false, true};
+ghost use Rattle.ix_outside.specs.Crashes.{LeavesTheFile};
 
 use super::*;
-use ix_outside::{Event, EventKind, Files, LoadFault, Sink, Site};
+use ix_outside::{DiskFailed, Event, EventKind, Files, LoadFault, Sink, Site};
 use std::alloc::{AllocError, Global};
 use std::test::Fail;
 
@@ -235,33 +236,48 @@ fn sends_fail_where_they_are_told_and_beyond_the_room(rt: HostRuntime) -> Result
     Ok(())
 }
 
-/// What the calls of the disk answered, and the file then.
+/// Which calls of the disk a site took, the file after each of them, and what was read behind them.
 #[derive(Drop)]
 struct Disk {
-    wrote: [bool; 4],
+    took: [bool; 6],
+    images: Vec<Vec<u8>>,
     read: usize,
     front: [u8; 4],
-    image: Vec<u8>,
+}
+
+fn note(alloc: Global, site: &MemorySite, images: &mut Vec<Vec<u8>>) -> Result<(), AllocError> {
+    images
+        .push(site.image().to_vec(alloc)?)
+        .map_err(|_| AllocError)
 }
 
 fn use_disk(alloc: Global, site: &mut MemorySite) -> Result<Disk, AllocError>
     requires { site.old.attached ≡ false }
 {
-    let mut front = [0; 4];
-    let mut wrote = [false; 4];
+    let mut took = [false; 6];
+    let mut images = Vec::new(alloc);
     let mut read = 0;
+    let mut front = [0; 4];
     if site.attach("journal").is_ok() {
-        wrote[0] = site.write_at(0, b"abcd").is_ok();
-        wrote[1] = site.write_at(2, b"vwxyz").is_ok();
-        wrote[2] = site.write_at(9, b"far").is_ok();
-        wrote[3] = site.cut(4).is_ok() && site.sync().is_ok();
+        took[0] = true;
+        note(alloc, site, &mut images)?;
+        took[1] = site.write_at(0, b"abcd").is_ok();
+        note(alloc, site, &mut images)?;
+        took[2] = site.write_at(2, b"vwxyz").is_ok();
+        note(alloc, site, &mut images)?;
+        took[3] = site.write_at(9, b"far").is_ok();
+        note(alloc, site, &mut images)?;
+        took[4] = site.cut(4).is_ok();
+        note(alloc, site, &mut images)?;
+        took[5] = site.sync().is_ok();
+        note(alloc, site, &mut images)?;
         read = site.read_at(1, &mut front).unwrap_or(0);
     }
     Ok(Disk {
-        wrote,
+        took,
+        images,
         read,
         front,
-        image: site.image().to_vec(alloc)?,
     })
 }
 
@@ -271,22 +287,51 @@ fn disk_of(alloc: Global, fail: &[u64]) -> Result<Disk, AllocError> {
 }
 
 #[test]
-fn the_disk_reads_what_was_written(rt: HostRuntime) -> Result<(), Fail> {
+fn the_disk_holds_what_was_written(rt: HostRuntime) -> Result<(), Fail> {
     let alloc = rt.alloc();
-    let cases: [(&[u64], [bool; 4], &[u8], &[u8]); 4] = [
-        (&[], [true, true, false, true], b"bvw", b"abvw"),
-        (&[2], [true, false, false, true], b"bvw", b"abvw"),
-        (&[4], [true, true, false, false], b"bvwx", b"abvwxyz"),
-        (&[1, 2, 4], [false, false, false, false], b"bvw", b"abvw"),
+    let whole: [&[u8]; 6] = [b"", b"abcd", b"abvwxyz", b"abvwxyz", b"abvw", b"abvw"];
+    let front: [&[u8]; 6] = [b"", b"ab", b"abvwxyz", b"abvwxyz", b"abvw", b"abvw"];
+    let halves: [&[u8]; 6] = [b"", b"ab", b"abvw", b"abvw", b"abvw", b"abvw"];
+    let cases: [(&[u64], [bool; 6], &[&[u8]]); 5] = [
+        (&[], [true, true, true, false, true, true], &whole),
+        (&[1], [true, false, true, false, true, true], &front),
+        (
+            &[1, 2, 4],
+            [true, false, false, false, false, true],
+            &halves,
+        ),
+        (&[5], [true, true, true, false, true, false], &whole),
+        (&[0], [false; 6], &[]),
     ];
-    for (fail, wrote, front, image) in cases {
+    for (fail, took, images) in cases {
         let seen = disk_of(alloc, fail)?;
-        assert!(rt; seen.wrote == wrote, "{fail:?}");
-        assert!(rt;
-            seen.front.starts_with(front) && seen.read == front.len(),
-            "{fail:?}"
-        );
-        assert!(rt; seen.image.as_slice() == image, "{fail:?}");
+        assert!(rt; seen.took == took, "{fail:?}");
+        assert!(rt; seen.images.len() == images.len(), "{fail:?}");
+        for (image, expected) in seen.images.iter().zip(images) {
+            assert!(rt; image.as_slice() == *expected, "{fail:?}");
+        }
+        let count = if took[0] { 3 } else { 0 };
+        assert!(rt; seen.read == count, "{fail:?}");
+        assert!(rt; count == 0 || seen.front.starts_with(b"bvw"), "{fail:?}");
     }
+    Ok(())
+}
+
+/// Attaches the file and writes over its front; once this answers Ok the bytes stay.
+fn keep<S: Site>(site: &mut S, bytes: &[u8]) -> Result<(), DiskFailed>
+    requires { (S.state site.old).attached ≡ false }
+    ensures { OnOk result (LeavesTheFile (S.state site.new).disk (S.crashes site.new).now) }
+{
+    site.attach("journal")?;
+    site.write_at(0, bytes)?;
+    site.sync()
+}
+
+#[test]
+fn a_synced_write_stays(rt: HostRuntime) -> Result<(), Fail> {
+    let alloc = rt.alloc();
+    let mut site = site(alloc, 1000, &[], None)?;
+    assert!(rt; keep(&mut site, b"abc").is_ok());
+    assert!(rt; site.image() == b"abc".as_slice());
     Ok(())
 }

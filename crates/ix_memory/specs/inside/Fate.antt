@@ -2,6 +2,8 @@
 use Rattle.std.specs.Prelude.{◌≡◌, ℕ, ◌+◌, ◌||◌, if◌then◌else◌, Bool, true, false, unwrap_or}
 use Rattle.ix_memory.specs.Calls.{is_told}
 use Rattle.ix_memory.specs.PlanState.{PlanState}
+use Rattle.ix_memory.specs.declared.past.Effect.{Effect}
+use Rattle.ix_memory.specs.declared.past.Effect.TheVariants.{Kept}
 use Rattle.ix_memory.specs.declared.plan.Fate.{Fate}
 use Rattle.ix_memory.specs.declared.plan.Fate.TheVariants.{Works, Fails, Full}
 use Rattle.ix_memory.specs.Plan.{is_spent_by, is_full, fails_at}
@@ -33,3 +35,9 @@ abbrev pub Tells : Fate → PlanState → ℕ → Type 0
 Tells Works plan cost = TellsFate plan cost false false
 Tells Fails plan cost = TellsFate plan cost true false
 Tells Full plan cost = TellsFate plan cost true true
+
+-- a call that doesn't work has no effect
+abbrev pub effect_where : Fate → Effect → Effect
+effect_where Works effect = effect
+effect_where Fails effect = Kept
+effect_where Full effect = Kept

@@ -1,13 +1,15 @@
--- What a site keeps of its sends and of the names that it heard.
+-- What a site keeps of its sends and of names.
 use Rattle.std.specs.Prelude.{ℕ, List, [], ◌∷◌, ◌++◌, map}
 use Rattle.ix_outside.specs.Contents.{SentBytes, Sends}
 use Rattle.ix_memory.specs.declared.sent.Pair.{Pair}
 use Rattle.ix_memory.specs.declared.sent.Span.{Span}
-use Rattle.ix_memory.specs.inside.Spans.{text_at, AreWithin}
+use Rattle.ix_memory.specs.inside.Spans.{text_at, IsWithin, AreWithin}
 
--- the sends, and how many more bytes and how many more of them have their memory already
+-- the sends, the name of the file, and how many more bytes and how many more sends have their
+-- memory already
 pub record SentState : Type 0 where
   pub sends : Sends
+  pub name : List ℕ
   pub spare_bytes : ℕ
   pub spare_records : ℕ
 
@@ -25,9 +27,10 @@ sends_of bytes pairs gone heard =
     record { sent = map (sent_of bytes) pairs; gone = gone; heard = map (text_at bytes) heard }
 
 -- each pair and each name is within the bytes
-pub record AreKept (count : ℕ) (pairs : List Pair) (heard : List Span) : Type 0 where
+pub record AreKept (count : ℕ) (pairs : List Pair) (heard : List Span) (name : Span) : Type 0 where
   pub of_pairs : AreWithin count (map (λ (pair : Pair). pair.span) pairs)
   pub of_heard : AreWithin count heard
+  pub of_name : IsWithin count name
 
 -- with one more name behind those heard
 abbrev pub with_heard : List ℕ → Sends → Sends
