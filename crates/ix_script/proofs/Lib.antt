@@ -1,4 +1,3 @@
-pub mod Walks
 pub mod EventLists
 pub mod LineParts
 pub mod LeftEvents

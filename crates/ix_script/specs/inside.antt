@@ -3,3 +3,4 @@ pub mod Cursor
 pub mod NextPiece
 pub mod Progress
 pub mod Site
+pub mod WithoutSends

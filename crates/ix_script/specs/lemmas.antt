@@ -1,2 +1,3 @@
 -- Lemmas that ghost members cite.
+pub mod OtherDisk
 pub mod Sets

@@ -5,7 +5,6 @@
 #![tactic(auto)]
 
 mod cursor;
-mod history;
 mod line;
 mod put;
 mod script;

@@ -5,10 +5,9 @@ ghost use Rattle.ix_script.specs.inside.Progress.{events_of, left_by};
 ghost use Rattle.ix_script.specs.lemmas.Sets.{events_equal};
 
 use crate::cursor::Cursor;
-use crate::history::History;
 use crate::put::put_send;
 use crate::script::Script;
-use ix_outside::{DiskFailed, Event, Failed, Gone, Sink, Site, WireFailed};
+use ix_outside::{DiskFailed, Event, Failed, Gone, History, Sink, Site, WireFailed};
 
 /// A site that gives the events of a script. What it sends goes to the sink that it was lent: the
 /// connection's number, a space and the bytes. Its disk is that of the site that it was lent.
@@ -76,11 +75,14 @@ impl<'a, S: Site, K: Sink> ScriptSite<'a, S, K> {
 }
 
 impl<'a, S: Site, K: Sink> Site for ScriptSite<'a, S, K> {
-    ghost use Rattle.std.specs.Prelude.{Some, None};
+    ghost use Rattle.std.specs.Prelude.{Some, None, refl};
     ghost use Rattle.ix_outside.specs.Loans.{free, lent, reads, unused_wire};
+    ghost use Rattle.ix_script.specs.inside.WithoutSends.{without_sends};
+    ghost use Rattle.ix_script.specs.lemmas.OtherDisk.{lawful_without_sends};
     ghost use Rattle.ix_script.specs.inside.Site.{given_of};
 
-    // The disk is that of the lent site, the wire is the script, and the sends are the sink's puts.
+    // The disk is that of the lent site, and its calls alone are ticks; the wire is the script, and
+    // the sends are the sink's puts.
     ghost state = { λ it. record {
       counts = record {
         disk = (S.state it.site.now).counts.disk;
@@ -88,18 +90,25 @@ impl<'a, S: Site, K: Sink> Site for ScriptSite<'a, S, K> {
         send = (K.state it.sink.now).faults;
       };
       attached = (S.state it.site.now).attached;
+      tick = (S.state it.site.now).tick;
       contents = record {
         given = Some (given_of it);
         sends = None;
         text = (K.state it.sink.now).written;
         lost = Some it.sink_failed;
       };
+      disk = (S.state it.site.now).disk;
       held = reads it.cursor.bytes.now
           (unused_wire (S.state it.site.now).counts.wire (S.state it.site.now).counts.send
           (S.state it.site.now).contents
           (lent it.site.ghost_name (S.state it.site.now).held
           (lent it.sink.ghost_name (K.state it.sink.now).held free)));
     } };
+
+    ghost crashes = { λ it. without_sends (S.crashes it.site.now) };
+
+    ghost lawful = { λ it. lawful_without_sends (S.state it.site.now) _ (S.crashes it.site.now)
+        refl refl refl (S.lawful it.site.now) };
 
     fn listen(&mut self, _name: &str) -> Result<(), WireFailed> {
         Ok(())

@@ -1,9 +1,10 @@
 //! Scripts, good and bad, and a script's site as its callers see it.
-ghost use Rattle.std.specs.Prelude.{◌≡◌, ◌<◌, ◌≤◌, ◌⊎◌, List, [], false, Some, None};
+ghost use Rattle.std.specs.Prelude.{◌≡◌, ◌<◌, ◌≤◌, ◌⊎◌, List, [], false, Some, None, refl};
 ghost use Rattle.ix_outside.specs.Contents.{GivenEvent};
 ghost use Rattle.ix_outside.specs.Loans.{free};
 ghost use Rattle.ix_outside.specs.SinkState.{OnlyPuts};
 ghost use Rattle.ix_outside.specs.inside.NothingTold.{nothing_told};
+ghost use Rattle.ix_outside.specs.lemmas.Untold.{untold_is_lawful};
 ghost use Rattle.ix_script.specs.Events.{HasEvents};
 ghost use Rattle.ix_script.specs.Pieces.{pieces_of};
 ghost use Rattle.ix_script.specs.inside.Site.{given_of};
@@ -51,9 +52,13 @@ impl Site for Idle {
     ghost state = { λ site. record {
       counts = record { disk = site.disk; wire = site.wire; send = site.send };
       attached = site.attached;
+      tick = 0;
       contents = nothing_told;
+      disk = None;
       held = free;
     } };
+
+    ghost lawful = { λ _. untold_is_lawful _ refl refl };
 
     fn listen(&mut self, _name: &str) -> Result<(), WireFailed> {
         self.wire = self.wire.saturating_add(1);
