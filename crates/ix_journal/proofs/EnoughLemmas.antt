@@ -22,11 +22,11 @@ slice_get-take (suc n) i [] h = refl
 slice_get-take (suc n) zero (x ∷ xs) h = refl
 slice_get-take (suc n) (suc i) (x ∷ xs) h = slice_get-take n i xs (omega arith)
 
--- a record that ends within the bytes is there in a front of them too
-record_in_front : (m : ℕ) (bytes : List ℕ) (action : PlainAction) → 168 ≤ m
+-- a record that ends within a front of the bytes is there in the front too
+pub record_in_front : (m : ℕ) (bytes : List ℕ) (action : PlainAction)
+    → length (record_of action) < m
     → BeginsWithRecord bytes action → BeginsWithRecord (take m bytes) action
 record_in_front m bytes action room w =
-    let short = text_short action w.valid in
     let left = m - length (record_of action) in
     let sum : m ≡ length (record_of action) + left = omega arith in
     let some = w.gate in
@@ -82,7 +82,8 @@ module _ (bytes : List ℕ) (read : ℕ) (enough : 168065543 ≤ read) where
         ap (λ (n : ℕ). drop (gate + 1) (take n bytes)) (sym sum)
         ∙ drop-take (gate + 1) (read - (gate + 1)) bytes in
         none action (subst (λ (b : List ℕ). BeginsWithRecord b action) (sym cut)
-        (record_in_front (read - (gate + 1)) (drop (gate + 1) bytes) action room w))
+        (record_in_front (read - (gate + 1)) (drop (gate + 1) bytes) action
+        (omega (arith, text_short action w.valid)) w))
 
   journal : (text : List ℕ) (history : Word) (gate : ℕ)
       → IsJournal (take read bytes) text history gate → IsJournal bytes text history gate

@@ -11,3 +11,7 @@ pub mod SameFronts
 pub mod WritingLaws
 pub mod LentTexts
 pub mod EnoughLemmas
+pub mod SlideLemmas
+pub mod SlideLaws
+pub mod PassedTexts
+pub mod SlideSteps

@@ -1,6 +1,6 @@
 -- What a step over the records of a journal gives.
-use Rattle.std.specs.Prelude.{◌≡◌, ℕ, ◌+◌, Bool, true, false, ◌⊎◌, List, [], ◌∷◌, length, drop}
-use Rattle.std.specs.Prelude.{Option, Some, None, Result, Ok, Err}
+use Rattle.std.specs.Prelude.{◌≡◌, ◌⊎◌, ℕ, ◌+◌, Bool, true, false, List, [], ◌∷◌, ◌++◌, length}
+use Rattle.std.specs.Prelude.{drop, Option, Some, None, Result, Ok, Err}
 use Rattle.std.specs.Borrow.{Bor}
 use Rattle.ix_values.specs.PlainAction.{PlainAction, text_of}
 use Rattle.ix_journal.specs.declared.records.Damaged.{Damaged}
@@ -46,3 +46,10 @@ pub data Lends : Standing → List (List ℕ) → Standing → Type 0 where
   at_end : (old new : Standing) → Gives old None new → Lends old [] new
   going_on : (old next new : Standing) (text : Bor (List ℕ)) (texts : List (List ℕ))
       → Gives old (Some (Ok text)) next → Lends next texts new → Lends old (text.now ∷ texts) new
+
+-- step after step the records give these texts, and then they stand there
+pub data Passes : Standing → List (List ℕ) → Standing → Type 0 where
+  at_first : (old : Standing) → Passes old [] old
+  one_more : (old next new : Standing) (texts : List (List ℕ)) (text : Bor (List ℕ))
+      → Passes old texts next → Gives next (Some (Ok text)) new
+      → Passes old (texts ++ text.now ∷ []) new

@@ -1,13 +1,16 @@
 -- What holds of journals.
 use Rattle.std.specs.Prelude.{◌≡◌, ◌≢◌, ◌⊎◌, ℕ, ◌+◌, ◌*◌, ◌<◌, ◌≤◌, List, [], ◌∷◌, ◌++◌, length}
-use Rattle.std.specs.Prelude.{take, drop, map}
+use Rattle.std.specs.Prelude.{take, drop, map, true}
 use Rattle.ix_values.specs.PlainAction.{PlainAction, Word, text_of}
 use Rattle.ix_values.specs.Texts.{IsAction}
 use Rattle.ix_journal.specs.declared.TheConstants.{OPEN, MOST_RECORDS}
 use Rattle.ix_journal.specs.Format.{IsOpen, IsClosed, header, record_of}
 use Rattle.ix_journal.specs.Kinds.{IsUnfinished, IsUnopened, IsReady, Kind, HasKind}
 use Rattle.ix_journal.specs.Records.{BeginsWithRecord, Holds}
-use Rattle.ix_journal.specs.Answers.{Standing, at_gate, Lends}
+use Rattle.ix_journal.specs.declared.slide.Slid.{Slid}
+use Rattle.ix_journal.specs.Answers.{Standing, at_gate, Lends, Passes}
+use Rattle.ix_journal.specs.Kept.{Kept}
+use Rattle.ix_journal.specs.Slide.{ComesTo, Tells, RecordsGive}
 use Rattle.ix_journal.specs.Recovery.{IsJournal, IsDamaged, IsMany, Recovers}
 
 -- a file has one kind at most
@@ -49,6 +52,12 @@ LendsTheHistory = (bytes text : List ℕ) (first : ℕ) (texts : List (List ℕ)
     → IsReady bytes text first → Lends (at_gate bytes first) texts end → length texts ≤ MOST_RECORDS
     → (history : Word) × (texts ≡ map text_of history) × IsJournal bytes text history end.gate
 
+-- the texts given from a gate up to another are those of the records between
+abbrev pub PassesTheHistory : Type 0
+PassesTheHistory = (bytes : List ℕ) (first gate : ℕ) (texts : List (List ℕ)) → first < length bytes
+    → Passes (at_gate bytes first) texts (at_gate bytes gate)
+    → (history : Word) × (texts ≡ map text_of history) × Holds bytes first history gate
+
 -- with its head gate opened, a header and a closed gate are a journal without records
 abbrev pub Opened : Type 0
 Opened = (text : List ℕ) (gate : ℕ) (rest : List ℕ) → length text < 65536 → gate ≢ OPEN
@@ -88,3 +97,19 @@ EnoughBytes = (bytes : List ℕ) (read : ℕ) → 168065543 ≤ read
     × ((at : ℕ) → IsDamaged (take read bytes) at → IsDamaged bytes at)
     × (IsMany (take read bytes) → IsMany bytes)
     × ((kind : Kind) → HasKind (take read bytes) kind → HasKind bytes kind)
+
+-- the records of the file from this first gate on give the texts, and at the gate where they then
+-- stand the answer, with places counted in the file
+pub record AreOfTheFile (file : List ℕ) (first : ℕ) (texts : List (List ℕ)) (gate : ℕ)
+    (answer : Slid) : Type 0 where
+  pub lent : Passes (at_gate file first) texts (at_gate file gate)
+  pub last : RecordsGive 0 file gate answer
+
+-- whatever pieces a Slide took behind a file's front, what it lent and answers is of the file, and
+-- would be with other bytes behind those taken unless the end was told
+abbrev pub PiecesDoNotMatter : Type 0
+PiecesDoNotMatter = (front taken rest : List ℕ) (texts : List (List ℕ)) (kept : Kept)
+    (answer : Slid)
+    → ComesTo (length front) taken texts kept → (kept.ended ≡ true → rest ≡ [])
+    → Tells kept answer
+    → AreOfTheFile (front ++ (taken ++ rest)) (length front) texts kept.gate answer

@@ -1,7 +1,9 @@
 pub mod Format
 pub mod Kinds
 pub mod Records
+pub mod Kept
 pub mod Recovery
 pub mod Answers
+pub mod Slide
 pub mod Laws
 pub mod inside

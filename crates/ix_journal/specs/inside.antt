@@ -3,3 +3,5 @@ pub mod Answers
 pub mod Counting
 pub mod Fronts
 pub mod KindOf
+pub mod SlideBuffer
+pub mod Sliding

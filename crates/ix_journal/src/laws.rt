@@ -3,7 +3,7 @@
 ghost use Rattle.ix_journal.specs.Laws.{OneKind, OneJournal, OneHistory, OneOutcome};
 ghost use Rattle.ix_journal.specs.Laws.{HoldsNone, HoldsMore, LendsTheHistory};
 ghost use Rattle.ix_journal.specs.Laws.{Opened, Begun, GateIsNear, IgnoresTheRest, Appended};
-ghost use Rattle.ix_journal.specs.Laws.{EnoughBytes};
+ghost use Rattle.ix_journal.specs.Laws.{EnoughBytes, PassesTheHistory, PiecesDoNotMatter};
 
 /// A file has one kind at most, with one text and one first gate.
 pub fn one_kind()
@@ -72,4 +72,18 @@ pub fn appended()
 /// The first 168,065,543 bytes of a file tell what it is.
 pub fn enough_bytes()
     ensures { EnoughBytes }
+{}
+
+/// The texts that are given one after another from a gate up to another are those of the records
+/// that stand between them.
+pub fn passes_the_history()
+    ensures { PassesTheHistory }
+{}
+
+/// The pieces in which a Slide takes bytes don't matter: the records that it lent, and its answer,
+/// are those of the records over the whole file from the first gate on, up to the gate at which it
+/// stands, with places counted in the file. So they are whatever follows the bytes taken, unless
+/// the end was told.
+pub fn pieces_do_not_matter()
+    ensures { PiecesDoNotMatter }
 {}

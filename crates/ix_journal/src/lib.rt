@@ -14,12 +14,14 @@ pub mod laws;
 mod outcome;
 mod records;
 mod scanning;
+mod slide;
 mod writing;
 
 pub use header::{Head, header_of};
 pub use outcome::{JournalFault, Scan};
 pub use records::{Damaged, Records};
 pub use scanning::scan;
+pub use slide::{SLIDE_ROOM, Slid, Slide};
 pub use writing::{header_bytes, record_bytes};
 
 #[cfg(test)]
@@ -33,6 +35,9 @@ pub const CLOSED: u8 = 0;
 
 /// The most records of a journal that are open.
 pub const MOST_RECORDS: usize = 1_000_000;
+
+/// The most bytes of an action's text.
+pub(crate) const MOST_TEXT: usize = 165;
 
 /// What a header begins with.
 pub(crate) const MAGIC: [u8; 4] = *b"IXJ1";

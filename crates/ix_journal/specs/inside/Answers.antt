@@ -4,7 +4,6 @@ use Rattle.std.specs.Prelude.{Option, Some, None, if◌then◌else◌}
 use Rattle.std.specs.Iterator.{Count, at_most}
 use Rattle.ix_values.specs.PlainAction.{Word}
 use Rattle.ix_journal.specs.declared.records.Records.{Records}
-use Rattle.ix_journal.specs.declared.records.Damaged.{Damaged}
 use Rattle.ix_journal.specs.declared.outcome.JournalFault.{JournalFault}
 use Rattle.ix_journal.specs.declared.outcome.JournalFault.TheVariants as fault
 use Rattle.ix_journal.specs.Kinds.{IsUnfinished, IsUnopened, IsForeign}

@@ -1,0 +1,66 @@
+-- What a Slide keeps of a journal that comes in pieces, and what it answers.
+use Rattle.std.specs.Prelude.{◌≡◌, ℕ, ◌+◌, ◌*◌, ◌≤◌, false, List, [], ◌∷◌, ◌++◌, length}
+use Rattle.std.specs.Prelude.{Some, None, Ok, Err}
+use Rattle.std.specs.Borrow.{Bor}
+use Rattle.ix_journal.specs.declared.TheConstants.{OPEN, MOST_TEXT}
+use Rattle.ix_journal.specs.declared.records.Damaged.{Damaged}
+use Rattle.ix_journal.specs.declared.slide.Slid.{Slid}
+use Rattle.ix_journal.specs.declared.slide.Slid.TheVariants as slid
+use Rattle.ix_journal.specs.Answers.{Standing, at_gate, Gives}
+use Rattle.ix_journal.specs.Kept.{Kept, extended, finished, moved, empty_at}
+
+-- the bytes don't tell what stands at their first gate: there is none, or it is open and not both
+-- bytes of the record's length are there, or the length may be an action's and the further gate
+-- isn't there
+abbrev pub WantMore : List ℕ → Type 0
+WantMore [] = Unit {0}
+WantMore (gate ∷ []) = gate ≡ OPEN
+WantMore (gate ∷ high ∷ []) = gate ≡ OPEN
+WantMore (gate ∷ high ∷ low ∷ rest) =
+    let text_length = 256 * high + low in
+    (gate ≡ OPEN) × (text_length ≤ MOST_TEXT) × (length rest ≤ text_length)
+
+-- the end wasn't told, and more bytes are wanted
+abbrev pub IsShort : Kept → Type 0
+IsShort kept = (kept.ended ≡ false) × WantMore kept.bytes
+
+-- the records at this gate of the bytes give the answer next, `base` added to each place; of `More`
+-- they say nothing
+abbrev pub RecordsGive : ℕ → List ℕ → ℕ → Slid → Type 0
+RecordsGive base bytes gate (slid.Record text) =
+    Gives (at_gate bytes gate) (Some (Ok text)) (at_gate bytes (gate + (3 + length text.now)))
+RecordsGive base bytes gate slid.More = Unit {0}
+RecordsGive base bytes gate (slid.Closed place) =
+    (place ≡ base + gate) × Gives (at_gate bytes gate) None (at_gate bytes gate)
+RecordsGive base bytes gate (slid.Damaged at) =
+    (damage : Damaged) × (at ≡ base + damage.at)
+    × ((new : Standing) × Gives (at_gate bytes gate) (Some (Err damage)) new)
+
+-- what a Slide answers: `More` exactly where it is short, else what the records over the kept bytes
+-- give from their first gate on, with the place of the Slide's gate added
+abbrev pub Tells : Kept → Slid → Type 0
+Tells old slid.More = IsShort old
+Tells old (slid.Record text) =
+    (¬ IsShort old) × RecordsGive old.gate old.bytes 0 (slid.Record text)
+Tells old (slid.Closed place) =
+    (¬ IsShort old) × RecordsGive old.gate old.bytes 0 (slid.Closed place)
+Tells old (slid.Damaged at) =
+    (¬ IsShort old) × RecordsGive old.gate old.bytes 0 (slid.Damaged at)
+
+-- what is kept after an answer: behind a record what stands from its further gate on, else the same
+abbrev pub after : Kept → Slid → Kept
+after old (slid.Record text) = moved old (3 + length text.now)
+after old slid.More = old
+after old (slid.Closed place) = old
+after old (slid.Damaged at) = old
+
+-- what a Slide at the first gate comes to by the bytes that it took and the texts that it lent
+pub data ComesTo (first : ℕ) : List ℕ → List (List ℕ) → Kept → Type 0 where
+  begun : ComesTo first [] [] (empty_at first)
+  took : (taken : List ℕ) (texts : List (List ℕ)) (kept : Kept) (piece : List ℕ)
+      → ComesTo first taken texts kept → ComesTo first (taken ++ piece) texts (extended kept piece)
+  told_the_end : (taken : List ℕ) (texts : List (List ℕ)) (kept : Kept)
+      → ComesTo first taken texts kept → ComesTo first taken texts (finished kept)
+  lent : (taken : List ℕ) (texts : List (List ℕ)) (kept : Kept) (text : Bor (List ℕ))
+      → ComesTo first taken texts kept → Tells kept (slid.Record text)
+      → ComesTo first taken (texts ++ text.now ∷ []) (after kept (slid.Record text))
