@@ -1,0 +1,131 @@
+-- What an append leaves, from call to call.
+use Rattle.std.proofs.Common.{◌≡◌, ℕ, ◌+◌, ◌<◌, ◌≤◌, List, [], ◌∷◌, ◌++◌, length, Some}
+use Rattle.std.proofs.Common.{sym, ◌∙◌, ap, subst, arith, inl, inr}
+use Rattle.std.proofs.lemmas.List.{length_push}
+use Rattle.ix_values.specs.PlainAction.{PlainAction, Word}
+use Rattle.ix_values.specs.Texts.{IsAction}
+use Rattle.ix_outside.specs.Crashes.{Crashes, AreLawful, LeavesTheFile}
+use Rattle.ix_outside.specs.Disk.{Disk, OfFile, MakesFile, Overwrites, Torn}
+use Rattle.ix_outside.specs.SiteState.{SiteState}
+use Rattle.ix_outside.specs.inside.DiskCalls.{DiskCalls, LeavesOnly}
+use Rattle.ix_journal.specs.Format.{record_of}
+use Rattle.ix_journal.specs.Recovery.{IsJournal}
+use Rattle.ix_store.specs.inside.Keeping.{Fits, IsWithOrWithout}
+use Rattle.ix_store.specs.Keeping.{Keeping}
+use Rattle.ix_store.specs.inside.Steps.{MaybeTorn}
+use Rattle.ix_store.proofs.Told.{of_told, to_told, made, came, just}
+use Rattle.ix_store.proofs.Calls.{now_has, calls_more, torn_has}
+use Rattle.ix_store.proofs.Appending.{torn_behind, staged, torn_gate, opened_gate}
+
+-- the file as it reads is the journal too
+fitting_file : (old : SiteState) (was : Crashes) (store : Keeping) (text : List ℕ) (history : Word)
+    → AreLawful old was → Fits old was store text history → (told : Disk) → old.disk ≡ Some told
+    → IsJournal told.file text history store.gate
+fitting_file old was store text history lawful fits told is =
+    fits.images told is told.file (of_told was.now old.disk told is lawful.file)
+
+-- the place behind the gate is in the file
+pub place_behind : (old : SiteState) (was : Crashes) (store : Keeping) (text : List ℕ)
+    (history : Word)
+    → AreLawful old was → Fits old was store text history
+    → OfFile (λ file. store.gate + 1 ≤ length file) old.disk
+place_behind old was store text history lawful fits =
+    to_told (λ file. store.gate + 1 ≤ length file) old.disk (λ told is.
+    let journal = fitting_file old was store text history lawful fits told is in
+    let within = journal.closes.records.within in omega arith)
+
+-- `mid` is behind the call that writes the record
+module _ (old mid : SiteState) (was then : Crashes) (calls : DiskCalls old mid was then)
+    (lawful : AreLawful old was) (lawful' : AreLawful mid then)
+    (store : Keeping) (text : List ℕ) (history : Word) (fits : Fits old was store text history)
+    (bytes : List ℕ) (images : (disk : Disk) → old.disk ≡ Some disk
+    → LeavesOnly (MaybeTorn (store.gate + 1) (length bytes) was.now) old then)
+  where
+    abbrev Same : List ℕ → Type 0
+    Same image = IsJournal image text history store.gate
+
+    -- what is left while the record is written
+    recorded : (disk : Disk) → old.disk ≡ Some disk → LeavesOnly Same old then
+    recorded disk told image left = elim (images disk told image left) [
+      | inl now ↦ fits.images disk told image now
+      | inr torn ↦ torn_behind text history store.gate (length bytes) torn.0 image
+          (fits.images disk told torn.0 torn.1) torn.2
+    ]
+
+    pub recorded_images : (action : PlainAction) (disk : Disk) → old.disk ≡ Some disk
+        → LeavesOnly (IsWithOrWithout text history action) old then
+    recorded_images action disk told image left = (store.gate, inl (recorded disk told image left))
+
+    -- the gate's own place is in the file
+    pub place_gate : OfFile (λ file. store.gate ≤ length file) mid.disk
+    place_gate = to_told (λ file. store.gate ≤ length file) mid.disk (λ told is.
+        let before = came _ old.disk mid.disk told is calls.opened in
+        let now = of_told then.now mid.disk told is lawful'.file in
+        let journal =
+        now_has Same old mid was then calls
+        (recorded before.disk before.told) lawful' told.file now in
+        let within = journal.closes.records.within in omega arith)
+
+    -- `new` is behind the call that opens the gate
+    module _ (action : PlainAction) (valid : IsAction action) (few : store.count < 1000000)
+        (spelled : bytes ≡ record_of action ++ 0 ∷ [])
+        (written : MakesFile (Overwrites (store.gate + 1) bytes) old.disk mid.disk)
+        (settled : LeavesTheFile mid.disk then.now) (new : SiteState) (is : Crashes)
+      where
+        abbrev both : List ℕ → Type 0
+        both image = IsWithOrWithout text history action image
+
+        fewer : length history < 1000000
+        fewer = let counts = fits.count in omega arith
+
+        module _ (disk : Disk) (told : old.disk ≡ Some disk) where
+          journal : IsJournal disk.file text history store.gate
+          journal = fitting_file old was store text history lawful fits disk told
+
+          abbrev staged_file : List ℕ
+          staged_file = staged text history store.gate disk.file (record_of action ++ 0 ∷ [])
+
+          -- the file with the record behind the gate
+          middle : (there : Disk) → Overwrites (store.gate + 1) bytes disk.file there.file
+              → there.file ≡ staged_file
+          middle there makes =
+              subst (λ (b : List ℕ). there.file ≡ staged text history store.gate disk.file b)
+              spelled makes
+
+          pub gated_images : DiskCalls mid new then is
+              → ((disk : Disk) → mid.disk ≡ Some disk
+              → LeavesOnly (MaybeTorn store.gate 1 then.now) mid is)
+              → LeavesOnly both old is
+          gated_images calls' images' =
+              let there = made _ old.disk mid.disk disk told written in
+              let before = recorded_images action disk told in
+              calls_more both old mid was then calls before new is calls' (λ image left.
+              torn_has both store.gate 1 mid.disk there.disk then.now there.told settled
+              (now_has both old mid was then calls before lawful')
+              (λ after torn. torn_gate text history store.gate disk.file journal action valid fewer
+              after
+              (subst (λ (f : List ℕ). Torn store.gate 1 f after)
+              (middle there.disk there.makes) torn))
+              image (images' there.disk there.told image left))
+
+        -- after the gate is opened the store fits with one action more
+        pub fits_more : MakesFile (Overwrites store.gate (165 ∷ [])) mid.disk new.disk
+            → LeavesTheFile new.disk is.now → (after : Keeping)
+            → after.gate ≡ store.gate + length bytes
+            → after.count ≡ store.count + 1 → Fits new is after text (history ++ action ∷ [])
+        fits_more opened settled' after gate count =
+            let more : Word = history ++ action ∷ [] in
+            record {
+              count = let counts = fits.count in omega (arith, length_push history action);
+              images = λ last told image now.
+                  let there = came _ mid.disk new.disk last told opened in
+                  let first = came _ old.disk mid.disk there.disk there.told written in
+                  let same = just new.disk last is.now told settled' image now in
+                  let over = subst (λ (f : List ℕ). Overwrites store.gate (165 ∷ []) f image)
+                  (middle first.disk first.told there.disk first.makes) (same ∙ there.makes) in
+                  let place = gate ∙ ap (λ (b : List ℕ). store.gate + length b) spelled in
+                  subst (IsJournal image text more) (sym place)
+                  (opened_gate text history store.gate first.disk.file
+                  (journal first.disk first.told)
+                  action valid fewer image over);
+            }

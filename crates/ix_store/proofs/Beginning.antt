@@ -1,0 +1,140 @@
+-- What the steps that make a journal anew may leave.
+use Rattle.std.proofs.Common.{◌≡◌, ℕ, ◌+◌, ◌<◌, ◌≤◌, Bool, true, false, List, [], ◌∷◌, ◌++◌, length}
+use Rattle.std.proofs.Common.{get_or, take, drop, Option, Some, Result}
+use Rattle.std.proofs.Common.{sym, ◌∙◌, ap, subst, arith, inl, inr}
+use Rattle.std.proofs.lemmas.List.{append-nil, drop_all, drop_more, length-take, length-drop}
+use Rattle.std.proofs.lemmas.Bool.Decides.{Decides-eqb}
+use Rattle.std.proofs.lemmas.Slice.Eq.{starts_is}
+use Rattle.std.specs.Prelude.{slice_get, nat_eq, unwrap_or}
+use Rattle.std.specs.List.{starts_with}
+use Rattle.ix_outside.specs.Crashes.{LeavesBy, LeavesTheFile}
+use Rattle.ix_outside.specs.Disk.{Disk, Torn, MaybeCut, Overwrites}
+use Rattle.ix_journal.specs.Format.{header}
+use Rattle.ix_journal.specs.Kinds.{IsUnfinished}
+use Rattle.ix_journal.proofs.WritingLaws.{begun}
+use Rattle.ix_store.specs.Opening.{IsNew}
+use Rattle.ix_store.specs.inside.Steps.{IsBegun}
+use Rattle.ix_store.proofs.Calls.{torn_now}
+use Rattle.ix_store.proofs.Told.{just}
+
+-- a header and one closed gate behind any head gate
+begun_behind : (head : ℕ) (text : List ℕ) (gate : ℕ) → length text < 65536 → (gate ≡ 165 → ⊥)
+    → IsBegun text (head ∷ (header text ++ gate ∷ []))
+begun_behind head text gate short closed = elim (begun head text gate short closed) [
+  | inl unfinished ↦ inl (inl unfinished)
+  | inr more ↦ elim more [ inl unopened ↦ inl (inr unopened) | inr journal ↦ inr journal ]
+]
+
+-- the bytes behind another first byte
+first_torn : (file image : List ℕ) → 0 < length file → Torn 0 1 file image
+    → image ≡ get_or image 0 0 ∷ drop 1 file
+first_torn file image some torn =
+    drop_more image 0 0 (let long = torn.no_shorter in omega arith)
+    ∙ ap (λ (l : List ℕ). get_or image 0 0 ∷ l) torn.behind
+
+-- with 00 in the place of the first byte
+begins_closed : (image : List ℕ) → take 1 image ≡ 0 ∷ [] → IsUnfinished image
+begins_closed [] is = inl (omega arith)
+begins_closed (x ∷ image) is = inr (ap (λ (l : List ℕ). slice_get l 0) is)
+
+module _ (text : List ℕ) (short : length text < 65536) where
+  -- a new journal whose first byte isn't 00, while 00 is written there
+  pub closing : (file image : List ℕ) → IsNew file text → (slice_get file 0 ≡ Some 0 → ⊥)
+      → Torn 0 1 file image
+      → IsBegun text image
+  closing file image (inl (inl few)) other torn =
+      inl (inl (inl (let long = torn.no_longer in omega arith)))
+  closing file image (inl (inr first)) other torn = absurd (other first)
+  closing file image (inr unopened) other torn =
+      let is = unopened.header.spells in
+      let whole : image ≡ get_or image 0 0 ∷ (header text ++ unopened.gate ∷ []) =
+      first_torn file image (omega (arith, ap length is)) torn
+      ∙ ap (λ (l : List ℕ). get_or image 0 0 ∷ drop 1 l) is in
+      subst (IsBegun text) (sym whole)
+      (begun_behind (get_or image 0 0) text unopened.gate short unopened.closed)
+
+  -- a cut behind the first byte
+  pub cutting : (before image : List ℕ) → IsBegun text before → MaybeCut 1 before image
+      → IsBegun text image
+  cutting before image begins (inl same) = subst (IsBegun text) (sym same) begins
+  cutting before image begins (inr cut) =
+      inl (inl (inl (let n = length-take 1 before in omega (arith, ap length cut))))
+
+  -- the header is written behind 00
+  pub heading : (count : ℕ) (image : List ℕ) → Torn 1 count (0 ∷ []) image → IsBegun text image
+  heading count image torn = inl (inl (begins_closed image torn.before))
+
+  -- the file with the header behind 00
+  pub headed : (bytes before file : List ℕ) → before ≡ 0 ∷ [] → bytes ≡ header text ++ 0 ∷ []
+      → Overwrites 1 bytes before file → file ≡ 0 ∷ (header text ++ 0 ∷ [])
+  headed bytes before file cleared spelled writes =
+      writes ∙ ap (λ (f : List ℕ). take 1 f ++ bytes ++ drop (1 + length bytes) f) cleared
+      ∙ ap (λ (l : List ℕ). (0 ∷ bytes) ++ l) (drop_all (1 + length bytes) (0 ∷ []) (omega arith))
+      ∙ append-nil (0 ∷ bytes) ∙ ap (λ (l : List ℕ). 0 ∷ l) spelled
+
+  -- any byte is in the place of the head gate
+  pub opening : (image : List ℕ) → Torn 0 1 (0 ∷ (header text ++ 0 ∷ [])) image → IsBegun text image
+  opening image torn =
+      let whole = first_torn (0 ∷ (header text ++ 0 ∷ [])) image (omega arith) torn in
+      subst (IsBegun text) (sym whole) (begun_behind (get_or image 0 0) text 0 short (omega arith))
+
+-- what was read tells whether the file begins with 00
+module _ (bytes file : List ℕ) (r : Bool) (starts : r ≡ starts_with nat_eq bytes (0 ∷ []))
+    (read : bytes ≡ take 168065543 file) where
+  first_read : r ≡ true → bytes ≡ 0 ∷ drop 1 bytes
+  first_read passed = (starts_is Decides-eqb bytes (0 ∷ []) r starts).0 passed
+
+  -- it does
+  pub closed_there : r ≡ true → file ≡ 0 ∷ drop 1 file
+  closed_there passed = first_of_front file (sym read ∙ first_read passed)
+    where
+      first_of_front : (f : List ℕ) → take 168065543 f ≡ 0 ∷ drop 1 bytes → f ≡ 0 ∷ drop 1 f
+      first_of_front [] e = absurd cc
+      first_of_front (x ∷ f) e = ap (λ (n : ℕ). n ∷ f) (ap (λ (l : List ℕ). get_or l 0 1) e)
+
+  -- it doesn't
+  pub other_there : r ≡ false → slice_get file 0 ≡ Some 0 → ⊥
+  other_there failed first =
+      let passed : r ≡ true =
+      (starts_is Decides-eqb bytes (0 ∷ []) r starts).1 (drop 1 (take 168065543 file))
+      (read ∙ front_of_first file first) in
+      absurd cc
+    where
+      front_of_first : (f : List ℕ) → slice_get f 0 ≡ Some 0
+          → take 168065543 f ≡ 0 ∷ drop 1 (take 168065543 f)
+      front_of_first [] e = absurd cc
+      front_of_first (x ∷ f) e =
+          ap (λ (n : ℕ). n ∷ take 168065542 f) (ap (λ (o : Option ℕ). unwrap_or o 0) e)
+
+-- a file that is longer than its first byte was so as it was read
+pub longer_read : (bytes file : List ℕ) → bytes ≡ take 168065543 file → length bytes ≤ 1
+    → length file ≤ 1
+longer_read bytes file read few = let n =
+    length-take 168065543 file in omega (arith, ap length read)
+
+-- nor is it longer once its first byte is closed
+pub longer_closed : (bytes before file : List ℕ) → bytes ≡ take 168065543 before
+    → file ≡ 0 ∷ drop 1 before
+    → length bytes ≤ 1 → length file ≤ 1
+longer_closed bytes before file read closed few =
+    let short =
+    longer_read bytes before read few in omega (arith, ap length closed, length-drop 1 before)
+
+module _ (text : List ℕ) (short : length text < 65536) (disk : Option Disk) (told : Disk)
+    (is : disk ≡ Some told)
+    (was : List ℕ → Type 0) (settled : LeavesTheFile disk was) (new : IsNew told.file text) where
+  -- a new journal, and nothing pending
+  pub new_now : (image : List ℕ) → was image → IsBegun text image
+  new_now image now = subst (IsBegun text) (sym (just disk told was is settled image now)) (inl new)
+
+  -- and then while 00 is written at its first byte
+  pub close_now : {T E : Type 0} (result : Result T E) (now : List ℕ → Type 0)
+      → (slice_get told.file 0 ≡ Some 0 → ⊥) → LeavesBy (Torn 0 1) result was now
+      → (image : List ℕ) → now image → IsBegun text image
+  close_now result now other leaves image here =
+      elim (torn_now 0 1 result was now leaves image here) [
+        | inl before ↦ new_now image before
+        | inr torn ↦ closing text short told.file image new other
+            (subst (λ (f : List ℕ). Torn 0 1 f image)
+            (just disk told was is settled torn.0 torn.1) torn.2)
+      ]

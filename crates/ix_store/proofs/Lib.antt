@@ -1,0 +1,8 @@
+mod Told
+mod Calls
+mod Appending
+mod Appended
+mod Reading
+mod Beginning
+mod Begun
+mod Opened

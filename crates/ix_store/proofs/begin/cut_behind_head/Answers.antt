@@ -1,0 +1,12 @@
+use Rattle.ix_outside.proofs.Passing.{DiskCalls-none}
+use Rattle.ix_store.proofs.Calls.{one}
+use Rattle.ix_store.proofs.Told.{cuts_keep}
+use Rattle.ix_store.proofs.begin.cut_behind_head.Goals as goal
+
+pub returns-then-bytes-le1-clause-calls : goal.returns-then-bytes-le1-clause-calls
+returns-then-bytes-le1-clause-calls g c = DiskCalls-none _ _ (g.met.S.Site.lawful c.args.site.now)
+
+pub returns-clause-calls : goal.returns-clause-calls
+returns-clause-calls g c =
+    one _ _ _ _ c.requires.attached c.cut.ensures.attached c.cut.ensures.call c.cut.ensures.rest
+    (cuts_keep 1 c.cut.result _ _ c.cut.ensures.file)

@@ -1,0 +1,7 @@
+-- What contracts between crates and private ones cite, and no claim of the program or law reaches.
+pub mod Keeping
+pub mod KeptBy
+pub mod Opens
+pub mod Refusals
+pub mod Starting
+pub mod Steps

@@ -1,0 +1,125 @@
+//! A journal that is made anew.
+
+ghost use Rattle.std.specs.Prelude.{◌≡◌, ◌<◌, ◌≤◌, [], ◌∷◌, ◌++◌, true, ℕ, List, length, take};
+ghost use Rattle.std.specs.Prelude.{drop, OnOk, OnErr, IfErr, IsErrOf};
+ghost use Rattle.std.specs.Option.{ForSome};
+ghost use Rattle.ix_outside.specs.Counts.{Rose};
+ghost use Rattle.ix_outside.specs.Crashes.{LeavesTheFile};
+ghost use Rattle.ix_outside.specs.Disk.{OfFile, MakesFile};
+ghost use Rattle.ix_outside.specs.inside.DiskCalls.{DiskCalls, LeavesOnly};
+ghost use Rattle.ix_journal.specs.Format.{header};
+ghost use Rattle.ix_store.specs.Opening.{IsNew};
+ghost use Rattle.ix_store.specs.inside.Steps.{IsBegun, TellsNothing};
+
+use crate::OpenFault;
+use crate::read::MOST_BYTES;
+use crate::write::write_through;
+use ix_journal::{CLOSED, OPEN, header_bytes};
+use ix_outside::{DiskFailed, Site};
+use std::alloc::Global;
+
+/// Makes the journal of this text anew, without records, over a file that begins with these bytes.
+/// Its head gate is opened last.
+pub(crate) fn begin<S: Site>(
+    alloc: Global,
+    site: &mut S,
+    bytes: &[u8],
+    text: &[u8],
+) -> Result<(), OpenFault>
+    requires attached { (S.state site.old).attached ≡ true }
+    requires short { length text.now < 65536 }
+    requires read { OfFile (λ file. bytes.now ≡ take MOST_BYTES file) (S.state site.old).disk }
+    requires is_new { OfFile (λ file. IsNew file text.now) (S.state site.old).disk }
+    requires settled { LeavesTheFile (S.state site.old).disk (S.crashes site.old).now }
+    ensures begun { OnOk result (MakesFile
+        (λ _ file. file ≡ OPEN ∷ header text.now ++ CLOSED ∷ [])
+        (S.state site.old).disk (S.state site.new).disk) }
+    ensures settled { OnOk result
+        (LeavesTheFile (S.state site.new).disk (S.crashes site.new).now) }
+    ensures images { ForSome (S.state site.old).disk (λ _.
+        LeavesOnly (IsBegun text.now) (S.state site.old) (S.crashes site.new)) }
+    ensures fault { IfErr result TellsNothing }
+    ensures failed { IsErrOf result OpenFault.Disk
+        → Rose (S.state site.old).counts.disk (S.state site.new).counts.disk }
+    ensures calls { DiskCalls (S.state site.old) (S.state site.new)
+        (S.crashes site.old) (S.crashes site.new) }
+{
+    let Ok(header) = header_bytes(alloc, text) else {
+        return Err(OpenFault::Memory);
+    };
+    let Ok(()) = clear(site, bytes) else {
+        return Err(OpenFault::Disk);
+    };
+    let Ok(()) = write_through(site, 1, &header) else {
+        return Err(OpenFault::Disk);
+    };
+    let Ok(()) = write_through(site, 0, &[OPEN]) else {
+        return Err(OpenFault::Disk);
+    };
+    Ok(())
+}
+
+/// Leaves a closed head gate of a file that begins with these bytes, and nothing else.
+fn clear<S: Site>(site: &mut S, bytes: &[u8]) -> Result<(), DiskFailed>
+    requires attached { (S.state site.old).attached ≡ true }
+    requires read { OfFile (λ file. bytes.now ≡ take MOST_BYTES file) (S.state site.old).disk }
+    requires settled { LeavesTheFile (S.state site.old).disk (S.crashes site.old).now }
+    ensures cleared { OnOk result (MakesFile (λ _ file. file ≡ CLOSED ∷ [])
+        (S.state site.old).disk (S.state site.new).disk) }
+    ensures settled { OnOk result
+        (LeavesTheFile (S.state site.new).disk (S.crashes site.new).now) }
+    ensures images { ForSome (S.state site.old).disk (λ disk. (text : List ℕ)
+        → length text < 65536 → IsNew disk.file text
+        → LeavesOnly (IsBegun text) (S.state site.old) (S.crashes site.new)) }
+    ensures failed { OnErr result
+        (Rose (S.state site.old).counts.disk (S.state site.new).counts.disk) }
+    ensures calls { DiskCalls (S.state site.old) (S.state site.new)
+        (S.crashes site.old) (S.crashes site.new) }
+{
+    close_head(site, bytes)?;
+    cut_behind_head(site, bytes)?;
+    site.sync()
+}
+
+/// Closes the head gate of a file that begins with these bytes, unless it holds 00.
+fn close_head<S: Site>(site: &mut S, bytes: &[u8]) -> Result<(), DiskFailed>
+    requires attached { (S.state site.old).attached ≡ true }
+    requires read { OfFile (λ file. bytes.now ≡ take MOST_BYTES file) (S.state site.old).disk }
+    requires settled { LeavesTheFile (S.state site.old).disk (S.crashes site.old).now }
+    ensures closed { OnOk result (MakesFile (λ before after. after ≡ CLOSED ∷ drop 1 before)
+        (S.state site.old).disk (S.state site.new).disk) }
+    ensures images { ForSome (S.state site.old).disk (λ disk. (text : List ℕ)
+        → length text < 65536 → IsNew disk.file text
+        → LeavesOnly (IsBegun text) (S.state site.old) (S.crashes site.new)) }
+    ensures failed { OnErr result
+        (Rose (S.state site.old).counts.disk (S.state site.new).counts.disk) }
+    ensures calls { DiskCalls (S.state site.old) (S.state site.new)
+        (S.crashes site.old) (S.crashes site.new) }
+{
+    if bytes.starts_with(&[CLOSED]) {
+        return Ok(());
+    }
+    site.write_at(0, &[CLOSED])
+}
+
+/// Cuts the file behind its head gate, if it was longer as it was read.
+fn cut_behind_head<S: Site>(site: &mut S, bytes: &[u8]) -> Result<(), DiskFailed>
+    requires attached { (S.state site.old).attached ≡ true }
+    requires head { OfFile (λ file. 1 ≤ length file) (S.state site.old).disk }
+    requires read { OfFile (λ file. length bytes.now ≤ 1 → length file ≤ 1)
+        (S.state site.old).disk }
+    ensures cut { OnOk result (MakesFile (λ before after. after ≡ take 1 before)
+        (S.state site.old).disk (S.state site.new).disk) }
+    ensures images { (text : List ℕ)
+        → ((image : List ℕ) → (S.crashes site.old).now image → IsBegun text image)
+        → LeavesOnly (IsBegun text) (S.state site.old) (S.crashes site.new) }
+    ensures failed { OnErr result
+        (Rose (S.state site.old).counts.disk (S.state site.new).counts.disk) }
+    ensures calls { DiskCalls (S.state site.old) (S.state site.new)
+        (S.crashes site.old) (S.crashes site.new) }
+{
+    if bytes.len() <= 1 {
+        return Ok(());
+    }
+    site.cut(1)
+}

@@ -1,0 +1,146 @@
+//! The store.
+
+ghost use Rattle.std.specs.Prelude.{◌≡◌, ◌+◌, ◌*◌, ◌<◌, ◌≤◌};
+
+use crate::OpenFault;
+use crate::begin::begin;
+use crate::judge::judge;
+use crate::read::read_file;
+use crate::write::write_through;
+use arrayvec::ArrayVec;
+use ix_journal::{MOST_RECORDS, OPEN, record_bytes};
+use ix_outside::{DiskFailed, Site};
+use ix_values::Action;
+use std::alloc::Global;
+
+/// The place of the first closed gate of a site's journal, and how many records stand in front of
+/// it. A store whose append failed takes no other: the journal is to be opened again.
+#[derive(Drop, Debug)]
+pub struct Store {
+    gate: u64,
+    count: usize,
+    failed: bool,
+    ghost near: { gate ≤ 65542 + 168 * count },
+}
+
+impl Store {
+    ghost use Rattle.std.specs.Prelude.{ℕ, List, [], ◌∷◌, ◌++◌, true, false, length, IfOk, IfErr};
+    ghost use Rattle.std.specs.Prelude.{OnOk, OnErr, IsErrOf, All, is_err};
+    ghost use Rattle.std.specs.Option.{ForSome};
+    ghost use Rattle.ix_values.specs.PlainAction.{Word};
+    ghost use Rattle.ix_values.specs.Texts.{IsAction};
+    ghost use Rattle.ix_outside.specs.Counts.{Rose};
+    ghost use Rattle.ix_outside.specs.inside.DiskCalls.{DiskCalls, LeavesOnly};
+    ghost use Rattle.ix_store.specs.inside.Opens.{Opens};
+    ghost use Rattle.ix_store.specs.inside.Keeping.{Fits, IsWithOrWithout};
+    ghost use Rattle.ix_store.specs.inside.KeptBy.{kept};
+    ghost use Rattle.ix_store.specs.inside.Refusals.{Refuses};
+    ghost use Rattle.ix_store.specs.inside.Starting.{LeavesOnStart};
+
+    /// Opens the attached file as the journal of an expression with this text, and gives the
+    /// history that it keeps. A journal that was never opened is made anew. Any other file stays.
+    ///
+    /// What was left unsynced before is brought to the disk first. The text is compared before the
+    /// records are read.
+    pub fn start<S: Site>(
+        alloc: Global,
+        site: &mut S,
+        text: &[u8],
+    ) -> Result<(Store, Vec<Action>), OpenFault>
+        requires attached { (S.state site.old).attached ≡ true }
+        requires short { length text.now < 65536 }
+
+        // What the file is, as it reads at the call.
+        ensures opened { IfOk result (λ opened. ForSome (S.state site.old).disk (λ disk.
+            Opens disk.file text.now opened.1.items)) }
+        ensures refused { IfErr result (λ fault. ForSome (S.state site.old).disk (λ disk.
+            Refuses disk.file text.now fault)) }
+
+        // The store and the history.
+        ensures fits { IfOk result (λ opened. Fits (S.state site.new) (S.crashes site.new)
+            (kept opened.0) text.now opened.1.items) }
+        ensures works { IfOk result (λ opened. (kept opened.0).failed ≡ false) }
+        ensures valid { IfOk result (λ opened. All IsAction opened.1.items) }
+
+        // What the disk is left with, whatever the answer.
+        ensures images { ForSome (S.state site.old).disk (λ disk. LeavesOnStart text.now disk.file
+            (S.state site.old) (S.state site.new) (S.crashes site.old) (S.crashes site.new)) }
+        ensures failed { IsErrOf result OpenFault.Disk
+            → Rose (S.state site.old).counts.disk (S.state site.new).counts.disk }
+        ensures calls { DiskCalls (S.state site.old) (S.state site.new)
+            (S.crashes site.old) (S.crashes site.new) }
+    {
+        let bytes = match read_file(alloc, site) {
+            Ok(bytes) => bytes,
+            Err(fault) => return Err(fault),
+        };
+        match judge(alloc, &bytes, text) {
+            Ok(Some(kept)) => {
+                let store = Store {
+                    gate: kept.gate as u64,
+                    count: kept.history.len(),
+                    failed: false,
+                };
+                Ok((store, kept.history))
+            }
+            Ok(None) => match begin(alloc, site, &bytes, text) {
+                Ok(()) => {
+                    let store = Store {
+                        gate: 7 + text.len() as u64,
+                        count: 0,
+                        failed: false,
+                    };
+                    Ok((store, Vec::new(alloc)))
+                }
+                Err(fault) => Err(fault),
+            },
+            Err(fault) => Err(fault),
+        }
+    }
+
+    /// Appends an action to the journal. After Ok it is kept. After a fault it may be kept or not,
+    /// and the journal is to be opened again. No memory is taken.
+    pub fn append<S: Site>(&mut self, site: &mut S, action: &Action) -> Result<(), DiskFailed>
+        requires attached { (S.state site.old).attached ≡ true }
+        requires works { (kept self.old).failed ≡ false }
+        requires few { (kept self.old).count < MOST_RECORDS }
+        requires fits { (text : List ℕ) × (history : Word)
+            × Fits (S.state site.old) (S.crashes site.old) (kept self.old) text history }
+
+        ensures appended { OnOk result ((text : List ℕ) (history : Word)
+            → Fits (S.state site.old) (S.crashes site.old) (kept self.old) text history
+            → Fits (S.state site.new) (S.crashes site.new) (kept self.new) text
+            (history ++ action.now ∷ [])) }
+        ensures works { (kept self.new).failed ≡ is_err result }
+
+        // What the disk is left with, whatever the answer.
+        ensures images { (text : List ℕ) (history : Word)
+            → Fits (S.state site.old) (S.crashes site.old) (kept self.old) text history
+            → ForSome (S.state site.old).disk (λ _.
+            LeavesOnly (IsWithOrWithout text history action.now)
+            (S.state site.old) (S.crashes site.new)) }
+        ensures failed { OnErr result
+            (Rose (S.state site.old).counts.disk (S.state site.new).counts.disk) }
+        ensures calls { DiskCalls (S.state site.old) (S.state site.new)
+            (S.crashes site.old) (S.crashes site.new) }
+    {
+        let mut bytes = ArrayVec::new();
+        record_bytes(action, &mut bytes);
+        let gate = self.gate;
+        self.failed = true;
+        write_through(site, gate + 1, bytes.as_slice())?;
+        // The record is on the disk before the gate in front of it is opened.
+        write_through(site, gate, &[OPEN])?;
+        self.gate = gate + bytes.len() as u64;
+        self.count += 1;
+        self.failed = false;
+        Ok(())
+    }
+
+    /// Whether an append failed.
+    pub fn has_failed(&self) -> bool
+        ensures { result ≡ (kept self.now).failed }
+    {
+        self.failed
+    }
+}

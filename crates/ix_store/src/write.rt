@@ -1,0 +1,31 @@
+//! Bytes that are written and brought to the disk.
+
+ghost use Rattle.std.specs.Prelude.{◌≡◌, ◌≤◌, true, length, OnOk, OnErr};
+ghost use Rattle.std.specs.Option.{ForSome};
+ghost use Rattle.ix_outside.specs.Counts.{Rose};
+ghost use Rattle.ix_outside.specs.Crashes.{LeavesTheFile};
+ghost use Rattle.ix_outside.specs.Disk.{OfFile, MakesFile, Overwrites};
+ghost use Rattle.ix_outside.specs.inside.DiskCalls.{DiskCalls, LeavesOnly};
+ghost use Rattle.ix_store.specs.inside.Steps.{MaybeTorn};
+
+use ix_outside::{DiskFailed, Site};
+
+/// Writes the bytes at this place, and syncs. After Ok just the file with these bytes may be left.
+pub(crate) fn write_through<S: Site>(site: &mut S, at: u64, bytes: &[u8]) -> Result<(), DiskFailed>
+    requires attached { (S.state site.old).attached ≡ true }
+    requires place { OfFile (λ file. at ≤ length file) (S.state site.old).disk }
+    ensures written { OnOk result (MakesFile (Overwrites at bytes.now)
+        (S.state site.old).disk (S.state site.new).disk) }
+    ensures settled { OnOk result
+        (LeavesTheFile (S.state site.new).disk (S.crashes site.new).now) }
+    ensures images { ForSome (S.state site.old).disk (λ _.
+        LeavesOnly (MaybeTorn at (length bytes.now) (S.crashes site.old).now)
+        (S.state site.old) (S.crashes site.new)) }
+    ensures failed { OnErr result
+        (Rose (S.state site.old).counts.disk (S.state site.new).counts.disk) }
+    ensures calls { DiskCalls (S.state site.old) (S.state site.new)
+        (S.crashes site.old) (S.crashes site.new) }
+{
+    site.write_at(at, bytes)?;
+    site.sync()
+}
