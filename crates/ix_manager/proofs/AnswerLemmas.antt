@@ -1,8 +1,10 @@
 -- What the machine's answers make of lines.
-use Rattle.std.proofs.Common.{◌≡◌, ℕ, List, [], ◌∷◌, refl, sym, ◌∙◌, ap, subst, arith}
+use Rattle.std.proofs.Common.{◌≡◌, ℕ, ◌+◌, ◌<◌, ◌≤◌, List, [], ◌∷◌, refl, sym, ◌∙◌, ap, subst, arith}
+use Rattle.ix_values.specs.PlainAction.{PlainAction}
+use Rattle.ix_lease.specs.declared.Slot.TheVariants.{Held}
 use Rattle.ix_lines.specs.Items.{line, too_long}
 use Rattle.ix_watch.specs.inside.Watches.{changes_of}
-use Rattle.ix_proto.specs.Requests.{PlainRequest, ask, confirm, cancel, may, watch, drop_watch, poll, status, log, stop}
+use Rattle.ix_proto.specs.Requests.{PlainRequest, IsRequest, request_words, ask, confirm, cancel, may, watch, drop_watch, poll, status, log, stop}
 use Rattle.ix_proto.specs.inside.Lends.{Lends, Reads}
 use Rattle.ix_proto.specs.RequestFaults.{IsRequestFault}
 use Rattle.ix_lines.specs.Words.{words_of}
@@ -12,9 +14,12 @@ use Rattle.ix_proto.specs.declared.request.Request.{Request}
 use Rattle.ix_proto.specs.declared.request.Request.TheVariants.{Ask, Confirm, Cancel, May, Watch, Drop, Poll, Status, Log, Stop}
 use Rattle.ix_manager.specs.declared.faults.Go.{Go}
 use Rattle.ix_manager.specs.Machine.{MachineState, Step, polled}
-use Rattle.ix_manager.specs.Runs.{going, ending_of, ItemStep, requested, refused, over_long}
-use Rattle.ix_manager.specs.inside.EndingAfter.{ending_after}
-use Rattle.ix_manager.specs.inside.Core.{Core, TellsPoll}
+use Rattle.ix_manager.specs.Refusals.{disk}
+use Rattle.ix_manager.specs.Runs.{Ending, going, failed, ending_of, ItemStep, requested, refused, over_long, disk_failed}
+use Rattle.ix_manager.specs.declared.machine.Answer.TheVariants as answer
+use Rattle.ix_manager.specs.inside.OverSite.{ending_after}
+use Rattle.ix_manager.specs.inside.Core.{Core, MachineAnswers, TellsPoll}
+use Rattle.ix_manager.specs.inside.Does.{Does}
 use Rattle.ix_manager.specs.inside.WireState.{WireState, SendsAll, AnswersItem, AnswersRequest, request_ending, poll_replies}
 
 -- a request that lends a poll's name lends no other request's texts
@@ -59,14 +64,41 @@ poll_step old between new name plain state form limit tells is =
     let fifth = subst (λ x. Step x old.limit old.state (poll name) replies new.state) form fourth in
     subst (λ p. Step old.form old.limit old.state p replies new.state) (sym is) fifth
 
+-- each line of a request that lends so makes the step that ends so
+line_steps : (old new : Core) (request : Request) (go : Go) (replies : List Reply)
+    → ((plain : PlainRequest) → IsRequest plain → Lends request plain → Step old.form old.limit old.state plain replies new.state)
+    → ending_after go ≡ request_ending request
+    → (plain : PlainRequest) → IsRequest plain → Lends request plain → (bytes : List ℕ) → words_of bytes ≡ request_words plain
+    → ItemStep old.form old.limit old.state (line bytes) replies new.state (ending_after go)
+line_steps old new request go replies steps ends plain valid lends bytes same =
+    let is : ending_of plain ≡ ending_after go = sym (ends ∙ lends_ending request plain lends) in
+    subst (λ e. ItemStep old.form old.limit old.state (line bytes) replies new.state e) is
+    (requested plain valid same (steps plain valid lends))
+
+-- a request is answered by one reply
+pub one_answered : (conn : ℕ) (request : Request) (go : Go) (reply : Reply) (old new : Core) (before after : WireState)
+    → MachineAnswers old request (answer.One reply) new → ending_after go ≡ request_ending request
+    → SendsAll conn (reply ∷ []) before after → new.form ≡ old.form → new.limit ≡ old.limit → new.state.ticket ≤ old.state.ticket + 1
+    → AnswersRequest conn request (ending_after go) old new before after
+one_answered conn request go reply old new before after answers ends sends form limit ticket = record {
+  replies = reply ∷ [];
+  step = line_steps old new request go (reply ∷ []) answers.0 ends;
+  sends = sends;
+  form = form;
+  limit = limit;
+  ticket = ticket;
+}
+
 -- a poll is answered
-pub poll_answered : (conn : ℕ) (request : Request) (name : List ℕ) (old between new : Core) (before after : WireState)
-    → Lends request (poll name) → between.state ≡ old.state → between.form ≡ old.form → between.limit ≡ old.limit
+pub poll_answered : (conn : ℕ) (request : Request) (go : Go) (name : List ℕ) (old between new : Core) (before after : WireState)
+    → Lends request (poll name) → ending_after go ≡ request_ending request
+    → between.state ≡ old.state → between.form ≡ old.form → between.limit ≡ old.limit
     → TellsPoll between name new → SendsAll conn (poll_replies (changes_of name between.noted)) before after
-    → AnswersRequest conn request old new before after
-poll_answered conn request name old between new before after lends state form limit tells sends = record {
+    → AnswersRequest conn request (ending_after go) old new before after
+poll_answered conn request go name old between new before after lends ends state form limit tells sends = record {
   replies = poll_replies (changes_of name between.noted);
-  step = λ plain valid lent. poll_step old between new name plain state form limit tells (lends_poll request name plain lends lent);
+  step = line_steps old new request go (poll_replies (changes_of name between.noted))
+      (λ plain valid lent. poll_step old between new name plain state form limit tells (lends_poll request name plain lends lent)) ends;
   sends = sends;
   form = tells.form ∙ form;
   limit = tells.limit ∙ limit;
@@ -75,22 +107,57 @@ poll_answered conn request name old between new before after lends state form li
       omega (arith, same);
 }
 
+-- a confirm lends a confirm of its ticket
+lends_confirm : (ticket : ℕ) (P : PlainRequest → Type 0) → P (confirm ticket) → (plain : PlainRequest) → Lends (Confirm ticket) plain → P plain
+lends_confirm ticket P p (confirm other) lends = subst (λ (n : ℕ). P (confirm n)) lends p
+lends_confirm ticket P p _ lends = absurd lends
+
+-- a confirm is answered
+pub confirm_answered : (conn ticket : ℕ) (reply : Reply) (old new : Core) (before after : WireState)
+    → Does old (confirm ticket) reply new → SendsAll conn (reply ∷ []) before after
+    → AnswersRequest conn (Confirm ticket) going old new before after
+confirm_answered conn ticket reply old new before after does sends = record {
+  replies = reply ∷ [];
+  step = λ plain valid lends.
+      lends_confirm ticket (λ plain. IsRequest plain → (bytes : List ℕ) → words_of bytes ≡ request_words plain
+      → ItemStep old.form old.limit old.state (line bytes) (reply ∷ []) new.state going)
+      (λ right bytes same. requested (confirm ticket) right same does.step) plain lends valid;
+  sends = sends;
+  form = does.form;
+  limit = does.limit;
+  ticket = does.ticket;
+}
+
+-- a confirm failed
+pub confirm_failed : (conn ticket : ℕ) (a : PlainAction) (deadline : ℕ) (reply : Reply) (old new : Core) (before after : WireState)
+    → old.state.slot ≡ Held ticket a deadline → old.state.moment < deadline → new ≡ old → reply ≡ disk
+    → SendsAll conn (reply ∷ []) before after
+    → AnswersRequest conn (Confirm ticket) (failed a) old new before after
+confirm_failed conn ticket a deadline reply old new before after held open_still same is sends = record {
+  replies = disk ∷ [];
+  step = λ plain valid lends.
+      lends_confirm ticket (λ plain. IsRequest plain → (bytes : List ℕ) → words_of bytes ≡ request_words plain
+      → ItemStep old.form old.limit old.state (line bytes) (disk ∷ []) new.state (failed a))
+      (λ right bytes reads. subst (λ (core : Core). ItemStep old.form old.limit old.state (line bytes) (disk ∷ []) core.state (failed a)) (sym same)
+      (disk_failed right reads held open_still)) plain lends valid;
+  sends = subst (λ r. SendsAll conn (r ∷ []) before after) is sends;
+  form = ap (λ (core : Core). core.form) same;
+  limit = ap (λ (core : Core). core.limit) same;
+  ticket = let t : new.state.ticket ≡ old.state.ticket = ap (λ (core : Core). core.state.ticket) same in omega (arith, t);
+}
+
 -- a line that is a request is answered
-pub line_answered : (conn : ℕ) (bytes : List ℕ) (request : Request) (go : Go) (old new : Core) (before after : WireState)
-    → Reads (words_of bytes) request → ending_after go ≡ request_ending request → AnswersRequest conn request old new before after
-    → AnswersItem conn (line bytes) (ending_after go) old new before after
-line_answered conn bytes request go old new before after reads ends answers =
-    let step : ItemStep old.form old.limit old.state (line bytes) answers.replies new.state (ending_of reads.plain) =
-    requested reads.plain reads.valid reads.same (answers.step reads.plain reads.valid reads.lends) in
-    let same : ending_of reads.plain ≡ ending_after go = sym (ends ∙ lends_ending request reads.plain reads.lends) in
-    record {
-      replies = answers.replies;
-      step = subst (λ e. ItemStep old.form old.limit old.state (line bytes) answers.replies new.state e) same step;
-      sends = answers.sends;
-      form = answers.form;
-      limit = answers.limit;
-      ticket = answers.ticket;
-    }
+pub line_answered : (conn : ℕ) (bytes : List ℕ) (request : Request) (ending : Ending) (old new : Core) (before after : WireState)
+    → Reads (words_of bytes) request → AnswersRequest conn request ending old new before after
+    → AnswersItem conn (line bytes) ending old new before after
+line_answered conn bytes request ending old new before after reads answers = record {
+  replies = answers.replies;
+  step = answers.step reads.plain reads.valid reads.lends bytes reads.same;
+  sends = answers.sends;
+  form = answers.form;
+  limit = answers.limit;
+  ticket = answers.ticket;
+}
 
 -- a line that is no request is refused
 pub line_refused : (conn : ℕ) (bytes : List ℕ) (code : ℕ) (told : Reply) (core : Core) (before after : WireState)

@@ -1,15 +1,25 @@
 -- Events, handled.
-use Rattle.std.proofs.Common.{◌≡◌, ℕ, false, List, [], get_or, set, sym, ◌∙◌, ap, subst}
+use Rattle.std.proofs.Common.{◌≡◌, ℕ, false, List, [], get_or, set, Result, Ok, Err, OnOk, OnErr, refl, sym, ◌∙◌, ap, subst}
 use Rattle.std.proofs.lemmas.List.{set-get_or}
 use Rattle.ix_lines.specs.Feeding.{unfinished}
 use Rattle.ix_outside.specs.Contents.{Contents}
+use Rattle.ix_outside.specs.Counts.{Rose}
+use Rattle.ix_outside.specs.Crashes.{Crashes, AreLawful, Passes}
+use Rattle.ix_outside.specs.SiteState.{SiteState}
 use Rattle.ix_outside.specs.declared.event.Event.{Event}
 use Rattle.ix_outside.specs.declared.event.EventKind.TheVariants.{Bytes, Closed, End}
 use Rattle.ix_manager.specs.Runs.{Ending, going, Steps, none, raised}
 use Rattle.ix_manager.specs.Wire.{done, marks_after}
 use Rattle.ix_manager.specs.Handled.{ManagerState, Handles, held_at, completed_by, held_after}
 use Rattle.ix_manager.specs.inside.WireState.{WireState}
-use Rattle.ix_manager.specs.inside.TakenItems.{TakesBytes}
+use Rattle.ix_manager.specs.declared.faults.Go.{Go}
+use Rattle.ix_manager.specs.declared.faults.Go.TheVariants.{More, Stopped}
+use Rattle.ix_manager.specs.declared.faults.Stop.{Stop}
+use Rattle.ix_manager.specs.declared.faults.Stop.TheVariants.{Disk}
+use Rattle.ix_manager.specs.inside.OverSite.{FitsWith, FitsSite, EndsBy, HandlesOver}
+use Rattle.ix_manager.specs.inside.Saving.{UnlessFailed, WhereFailed, SavesRun}
+use Rattle.ix_manager.specs.inside.TakenItems.{TakesBytes, BytesOver}
+use Rattle.ix_manager.proofs.SavingLemmas.{saves_none, saves_same}
 
 -- a manager whose moment was raised
 abbrev pub at_moment : ℕ → ManagerState → ManagerState
@@ -94,4 +104,62 @@ end_handled old new event bytes contents is open_before same =
         marks = ap (λ (m : ManagerState). m.marks) same ∙ sym (set-get_or old.marks event.conn false)
             ∙ ap (λ kind. marks_after kind event.conn marked old.marks) (sym is);
       };
+    }
+
+-- where the disk failed, its count rose
+rose_where : (result : Result Go Stop) (ending : Ending) (P : Type 0) → EndsBy result ending → WhereFailed ending P → OnErr result P
+rose_where (Ok go) ending P answered rose = tt
+rose_where (Err Disk) ending P answered rose = let Q : Ending → Type 0 = λ e. WhereFailed e P in subst Q answered.1 rose
+
+-- else the store fits
+fits_where : (result : Result Go Stop) (ending : Ending) (P : Type 0) → EndsBy result ending → UnlessFailed ending P → OnOk result P
+fits_where (Ok More) ending P answered fits = let Q : Ending → Type 0 = λ e. UnlessFailed e P in subst Q answered fits
+fits_where (Ok Stopped) ending P answered fits = let Q : Ending → Type 0 = λ e. UnlessFailed e P in subst Q answered fits
+fits_where (Err Disk) ending P answered fits = tt
+
+fits_along : (result : Result Go Stop) (P Q : Type 0) → (P → Q) → OnOk result P → OnOk result Q
+fits_along (Ok go) P Q to p = to p
+fits_along (Err Disk) P Q to p = tt
+
+module _ (old between new : ManagerState) (event : Event) (n : ℕ) (bytes : List ℕ) (result : Result Go Stop)
+    (before after : WireState) (p q : Crashes) (is : event.kind ≡ Bytes n) (same : between ≡ at_moment event.moment old)
+    (over : BytesOver event.conn bytes result between new before after p q) where
+  saves : SavesRun over.ending old new before.site after.site p q
+  saves = subst (λ (m : ManagerState). SavesRun over.ending m new before.site after.site p q) same over.saves
+
+  -- bytes came, over a site
+  pub bytes_over : before.gone ≡ get_or between.marks event.conn false → HandlesOver old event bytes result new before.site after.site q
+  bytes_over gone_between = record {
+    ending = over.ending;
+    answered = over.answered;
+    handles = bytes_handled old between new event n bytes over.ending before after is same gone_between over.takes;
+    keeps = saves.keeps;
+    ends = saves.ends;
+  }
+
+  pub bytes_failed : OnErr result (Rose before.site.counts.disk after.site.counts.disk)
+  bytes_failed = rose_where result over.ending _ over.answered saves.faults
+
+  pub bytes_fit : OnOk result (FitsSite new after.site q)
+  bytes_fit =
+      let form : new.form ≡ old.form = over.takes.form ∙ ap (λ (m : ManagerState). m.form) same in
+      fits_along result (FitsWith old.form new.machine.history new.store after.site q) _ (λ fits. subst (λ x. FitsWith x new.machine.history new.store after.site q) (sym form) fits)
+      (fits_where result over.ending _ over.answered saves.fits)
+
+  pub bytes_pass : Passes before.site after.site p q
+  bytes_pass = saves.passes
+
+-- no call was made, over a site
+pub rest_over : (old new : ManagerState) (event : Event) (bytes : List ℕ) (site : SiteState) (crashes : Crashes) → AreLawful site crashes
+    → FitsSite old site crashes → Handles old event bytes going new site.contents site.contents → new.machine.history ≡ old.machine.history
+    → HandlesOver old event bytes (Ok More) new site site crashes
+rest_over old new event bytes site crashes lawful fits handles same =
+    let none = saves_same going old.form old.machine.history old.machine.history new.machine.history old.store site site crashes crashes same
+    (saves_none old.form old.machine.history old.store site crashes lawful fits) in
+    record {
+      ending = going;
+      answered = refl;
+      handles = handles;
+      keeps = none.keeps;
+      ends = none.ends;
     }

@@ -11,3 +11,8 @@ pub mod AnswerLemmas
 pub mod HandleLemmas
 pub mod SendSteps
 pub mod TableLemmas
+pub mod SavingLemmas
+pub mod HistoryLemmas
+pub mod OverLemmas
+pub mod RecoverLemmas
+pub mod StartLemmas

@@ -2,8 +2,6 @@
 use Rattle.std.proofs.Common.{◌≡◌, inl, inr, ℕ, ◌+◌, ◌<◌, cond, eqb, List, [], ◌∷◌, ◌++◌, length, set, refl, sym, ◌∙◌, ap, subst}
 use Rattle.std.proofs.lemmas.Bool.{eq-eqb, ne_eqb, cases_eq}
 use Rattle.std.proofs.lemmas.List.{append-nil, length-set, length_push, length-replicate, get_or-set_same, get_or-set_other, get_or-replicate}
-use Rattle.ix_values.specs.PlainAction.{Word}
-use Rattle.ix_expr.specs.Form.{Form}
 use Rattle.ix_lines.specs.Items.{Item, items}
 use Rattle.ix_lines.specs.Feeding.{UnfinishedLine, unfinished, held}
 use Rattle.ix_lines.proofs.FeedLemmas.{completes_the_rest}
@@ -11,15 +9,16 @@ use Rattle.ix_outside.specs.Contents.{GivenEvent}
 use Rattle.ix_outside.specs.declared.event.Event.{Event}
 use Rattle.ix_outside.specs.declared.event.EventKind.{EventKind}
 use Rattle.ix_outside.specs.declared.event.EventKind.TheVariants.{Bytes, Closed, End}
+use Rattle.ix_store.specs.Keeping.{Keeping}
 use Rattle.ix_proto.specs.declared.reply.Reply.{Reply}
 use Rattle.ix_manager.specs.Machine.{MachineState}
-use Rattle.ix_manager.specs.Runs.{Ending, going, Steps, Run, begin, takes, raised, with_piece, text_behind}
+use Rattle.ix_manager.specs.Runs.{Opening, Ending, going, Steps, Run, begin, takes, raised, with_piece, text_behind}
 use Rattle.ix_manager.specs.Handled.{ManagerState, completed_by, held_after, held_at, has_ended, TakesEvent, KindHas, FitsEvent, started}
 use Rattle.ix_manager.specs.RunLaws.{given_event, FollowsRun, CallsMakeARun}
 
 -- a run has replies to each of its events
-pub run_lengths : {x : Form} {limit : ℕ} {history : Word} {events : List GivenEvent} {answers : List (List (List Reply))} {s : MachineState} {ending : Ending}
-    → Run x limit history events answers s ending → length events ≡ length answers
+pub run_lengths : {opening : Opening} {events : List GivenEvent} {answers : List (List (List Reply))} {s : MachineState} {ending : Ending}
+    → Run opening events answers s ending → length events ≡ length answers
 run_lengths begin = refl
 run_lengths (takes {events = events} {answers = answers} given completed last run completes_them steps) =
     length_push events given ∙ ap (λ n. n + 1) (run_lengths run) ∙ sym (length_push answers last)
@@ -68,8 +67,8 @@ held_next Closed text bytes = refl
 held_next End text bytes = refl
 
 -- a manager that was just started
-pub started_follows : (x : Form) (limit : ℕ) → FollowsRun x limit [] [] [] (started x limit)
-started_follows x limit = record {
+pub started_follows : (opening : Opening) (store : Keeping) → FollowsRun opening [] [] (started opening store)
+started_follows opening store = record {
   run = begin;
   form_is = refl;
   limit_is = refl;
@@ -78,9 +77,9 @@ started_follows x limit = record {
   lines = λ conn below. get_or-replicate 64 conn (unfinished []) (unfinished []) below;
 }
 
-module _ (x : Form) (limit : ℕ) (history : Word) (events : List GivenEvent) (answers : List (List (List Reply)))
+module _ (opening : Opening) (events : List GivenEvent) (answers : List (List (List Reply)))
     (old : ManagerState) (event : Event) (bytes : List ℕ) (last : List (List Reply)) (new : ManagerState) (ending : Ending)
-    (follows : FollowsRun x limit history events answers old) (fits : FitsEvent event bytes) (taken : TakesEvent old event bytes last new ending) where
+    (follows : FollowsRun opening events answers old) (fits : FitsEvent event bytes) (taken : TakesEvent old event bytes last new ending) where
   -- the connection's text before the event
   abbrev text : List ℕ
   text = text_behind event.conn [] events
@@ -89,13 +88,13 @@ module _ (x : Form) (limit : ℕ) (history : Word) (events : List GivenEvent) (a
   held_before = follows.lines event.conn fits.0
 
   -- an event that a manager takes goes on the run
-  pub taken_goes_on : Run x limit history (events ++ given_event event bytes ∷ []) (answers ++ last ∷ []) new.machine ending
+  pub taken_goes_on : Run opening (events ++ given_event event bytes ∷ []) (answers ++ last ∷ []) new.machine ending
   taken_goes_on =
       let completed : List Item = completed_by event.kind (held_at event.conn old.lines) bytes in
       let state : MachineState = raised event.moment old.machine in
       takes (given_event event bytes) completed last follows.run
       (record { items_are = completes_next event.kind text bytes fits.1 ∙ ap (λ h. items text ++ completed_by event.kind h bytes) (sym held_before) })
-      (subst (λ f. Steps f limit state completed last new.machine ending) follows.form_is
+      (subst (λ f. Steps f opening.limit state completed last new.machine ending) follows.form_is
       (subst (λ l. Steps old.form l state completed last new.machine ending) follows.limit_is taken.steps))
 
   abbrev now_held : UnfinishedLine
@@ -120,9 +119,9 @@ module _ (x : Form) (limit : ℕ) (history : Word) (events : List GivenEvent) (a
           ∙ ap held (sym (text_behind-same [] events (given_event event bytes))))
 
   -- the manager follows the longer run
-  pub taken_follows : ending ≡ going → FollowsRun x limit history (events ++ given_event event bytes ∷ []) (answers ++ last ∷ []) new
+  pub taken_follows : ending ≡ going → FollowsRun opening (events ++ given_event event bytes ∷ []) (answers ++ last ∷ []) new
   taken_follows on = record {
-    run = subst (Run x limit history (events ++ given_event event bytes ∷ []) (answers ++ last ∷ []) new.machine) on taken_goes_on;
+    run = subst (Run opening (events ++ given_event event bytes ∷ []) (answers ++ last ∷ []) new.machine) on taken_goes_on;
     form_is = taken.form ∙ follows.form_is;
     limit_is = taken.limit ∙ follows.limit_is;
     not_ended = taken.ended ∙ ap has_ended on;
@@ -133,8 +132,8 @@ module _ (x : Form) (limit : ℕ) (history : Word) (events : List GivenEvent) (a
 pub calls_make_a_run : CallsMakeARun
 calls_make_a_run = (
   started_follows,
-  λ x limit history events answers old event bytes last new ending follows fits taken. (
-    taken_goes_on x limit history events answers old event bytes last new ending follows fits taken,
-    taken_follows x limit history events answers old event bytes last new ending follows fits taken,
+  λ opening events answers old event bytes last new ending follows fits taken. (
+    taken_goes_on opening events answers old event bytes last new ending follows fits taken,
+    taken_follows opening events answers old event bytes last new ending follows fits taken,
   ),
 )

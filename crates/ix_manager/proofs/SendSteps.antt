@@ -1,10 +1,14 @@
 -- How sends go on one after the other.
-use Rattle.std.proofs.Common.{◌≡◌, ℕ, ◌≤◌, Bool, true, false, List, [], ◌∷◌, ◌++◌, length, filter, Result, Ok, Err, OnErr, refl, sym, ◌∙◌, subst, arith}
+use Rattle.std.proofs.Common.{◌≡◌, ◌⊎◌, ℕ, ◌≤◌, Bool, true, false, List, [], ◌∷◌, ◌++◌, length, filter, Option, None, Result, Ok, Err, OnErr, inl, inr, refl, sym, ◌∙◌, subst, arith}
 use Rattle.std.proofs.lemmas.List.{length-map}
 use Rattle.std.proofs.lemmas.List.Sums.{length-filter, count_by-le-length}
 use Rattle.std.specs.Result.{is_err}
 use Rattle.ix_outside.specs.Counts.{Counts, Rose}
-use Rattle.ix_outside.specs.SiteState.{OnlySend}
+use Rattle.ix_outside.specs.Crashes.{Crashes}
+use Rattle.ix_outside.specs.SiteState.{SiteState, OnlySend}
+use Rattle.ix_outside.specs.Disk.{Disk}
+use Rattle.ix_outside.specs.inside.DiskCalls.{DiskCalls, KeepsOpened}
+use Rattle.ix_outside.proofs.Passing.{KeepsOpened-none, KeepsOpened-join}
 use Rattle.ix_outside.proofs.Counting.{Rose-later, Rose-earlier}
 use Rattle.ix_outside.specs.Contents.{Contents, SendsWhole, SendsPart, SendsBytes}
 use Rattle.ix_values.specs.PlainAction.{PlainAction}
@@ -13,7 +17,8 @@ use Rattle.ix_proto.specs.declared.reply.Reply.{Reply}
 use Rattle.ix_proto.specs.declared.reply.Reply.TheVariants as reply
 use Rattle.ix_manager.specs.inside.Core.{change_replies}
 use Rattle.ix_manager.specs.Wire.{SendsInOrder, done, silent, sent, lost, reply_line}
-use Rattle.ix_manager.specs.inside.WireState.{WireState, SendsAll, poll_replies}
+use Rattle.ix_manager.specs.inside.OverSite.{OnlyServes}
+use Rattle.ix_manager.specs.inside.WireState.{WireState, wired, SendsAll, poll_replies}
 
 module _ {S : Type 0} (whole front : Reply → S → S → Type 0) where
   -- a marked connection stays marked
@@ -50,12 +55,50 @@ marks-join : (before then now : Counts) (old between new : Bool)
 marks-join before then now old true new first second le le2 e f = Rose-later before.send then.send now.send (first e refl) le2
 marks-join before then now old false new first second le le2 e f = Rose-earlier before.send then.send now.send le (second refl f)
 
+-- what was attached stays over a send
+sent_opened : (old new : Option Disk) → (new ≡ old) ⊎ (new ≡ None) → KeepsOpened old new ⊎ (new ≡ None)
+sent_opened old new (inl same) = inl (subst (KeepsOpened old) (sym same) (KeepsOpened-none old))
+sent_opened old new (inr none) = inr none
+
+join_opened : (old mid new : Option Disk) → KeepsOpened old mid ⊎ (mid ≡ None) → KeepsOpened mid new ⊎ (new ≡ None)
+    → KeepsOpened old new ⊎ (new ≡ None)
+join_opened old mid new first (inr none) = inr none
+join_opened old mid new (inl kept) (inl keeps) = inl (KeepsOpened-join old mid new kept keeps)
+join_opened old mid new (inr none) (inl keeps) = let P : Option Disk → Type 0 = λ disk. KeepsOpened disk new in inr (subst P none keeps)
+
+-- no call
+pub serves_none : (site : SiteState) → OnlyServes site site
+serves_none site =
+    record { disk = omega arith; wire = refl; send = omega arith; attached = refl; opened = inl (KeepsOpened-none site.disk); held = refl }
+
+-- two stretches
+pub serves_join : (a b c : SiteState) → OnlyServes a b → OnlyServes b c → OnlyServes a c
+serves_join a b c first second = record {
+  disk = omega (arith, first.disk, second.disk);
+  wire = second.wire ∙ first.wire;
+  send = omega (arith, first.send, second.send);
+  attached = second.attached ∙ first.attached;
+  opened = join_opened a.disk b.disk c.disk first.opened second.opened;
+  held = second.held ∙ first.held;
+}
+
+-- a send
+serves_send : (old new : SiteState) → OnlySend old new → OnlyServes old new
+serves_send old new only = record {
+  disk = omega (arith, only.disk);
+  wire = only.wire;
+  send = only.send;
+  attached = only.attached;
+  opened = sent_opened old.disk new.disk only.file;
+  held = only.held;
+}
+
 -- nothing is sent
 pub nothing_sent : (conn : ℕ) (w : WireState) → SendsAll conn [] w w
 nothing_sent conn w = record {
   order = done;
   marks = λ e f. absurd (let h : false ≡ true = sym e ∙ f in cc);
-  site = record { disk = refl; wire = refl; send = omega arith; attached = refl; held = refl };
+  site = serves_none w.site;
 }
 
 -- replies are sent, and then further ones
@@ -64,14 +107,26 @@ sends-append conn xs ys a b c first second = record {
   order = in_order-append (λ reply. SendsWhole conn (reply_line reply)) (λ reply. SendsPart conn (reply_line reply)) first.order second.order;
   marks = marks-join a.site.counts b.site.counts c.site.counts a.gone b.gone c.gone
       first.marks second.marks first.site.send second.site.send;
-  site = record {
-    disk = second.site.disk ∙ first.site.disk;
-    wire = second.site.wire ∙ first.site.wire;
-    send = omega (arith, first.site.send, second.site.send);
-    attached = second.site.attached ∙ first.site.attached;
-    held = second.site.held ∙ first.site.held;
-  };
+  site = serves_join a.site b.site c.site first.site second.site;
 }
+
+-- calls of the disk send nothing
+pub disk_sent : (conn : ℕ) (gone : Bool) (old new : SiteState) (was is : Crashes) → DiskCalls old new was is → SendsAll conn [] (wired gone old) (wired gone new)
+disk_sent conn gone old new was is calls =
+    let whole : Reply → Contents → Contents → Type 0 = λ reply. SendsWhole conn (reply_line reply) in
+    let front : Reply → Contents → Contents → Type 0 = λ reply. SendsPart conn (reply_line reply) in
+    record {
+      order = subst (λ told. SendsInOrder whole front [] gone old.contents gone told) (sym calls.rest.contents) done;
+      marks = λ e f. absurd (let h : false ≡ true = sym e ∙ f in cc);
+      site = record {
+        disk = calls.rest.disk;
+        wire = calls.rest.wire;
+        send = omega (arith, calls.rest.send);
+        attached = calls.attached;
+        opened = inl calls.opened;
+        held = calls.rest.held;
+      };
+    }
 
 -- on a marked connection nothing is sent
 pub silent_sent : (conn : ℕ) (reply : Reply) (w : WireState) → w.gone ≡ true → SendsAll conn (reply ∷ []) w w
@@ -100,7 +155,7 @@ one_sent conn reply bytes (Ok value) before after same unmarked_before gone send
     record {
       order = subst (λ m. P m after.gone) (sym unmarked_before) (subst (λ n. P false n) (sym gone) (sent here done));
       marks = λ e f. absurd (let h : false ≡ true = sym gone ∙ f in cc);
-      site = rest;
+      site = serves_send before.site after.site rest;
     }
 one_sent conn reply bytes (Err fault) before after same unmarked_before gone sends failed rest =
     let whole : Reply → Contents → Contents → Type 0 = λ reply. SendsWhole conn (reply_line reply) in
@@ -112,7 +167,7 @@ one_sent conn reply bytes (Err fault) before after same unmarked_before gone sen
     record {
       order = subst (λ m. P m after.gone) (sym unmarked_before) (subst (λ n. P false n) (sym gone) (lost here done));
       marks = λ e f. failed;
-      site = rest;
+      site = serves_send before.site after.site rest;
     }
 
 -- there are no more changes than watches

@@ -25,7 +25,7 @@ use Rattle.ix_manager.specs.inside.Ready.{IsReady, Refuses, not_permitted, full,
 use Rattle.ix_manager.specs.inside.Does.{Does, Refreshes, IsNoted, AddsTold}
 use Rattle.ix_manager.proofs.WatchLists.{found, unwatched, unwatched-told, without_none, map_between, map_both, length-watches}
 use Rattle.ix_manager.proofs.Polling.{polls_refreshed}
-use Rattle.ix_manager.proofs.Refreshing.{tells_of, tells_along}
+use Rattle.ix_manager.proofs.Refreshing.{tells_of}
 
 -- the machine of its parts
 abbrev pub core_of : EngineState → Slot → List PlainWatch → ℕ → ℕ → Core

@@ -7,17 +7,19 @@ use Rattle.ix_outside.specs.Contents.{Contents, SendsWhole, SendsPart}
 use Rattle.ix_outside.specs.declared.event.Event.{Event}
 use Rattle.ix_outside.specs.declared.event.EventKind.{EventKind}
 use Rattle.ix_outside.specs.declared.event.EventKind.TheVariants.{Bytes, Closed, End}
+use Rattle.ix_store.specs.Keeping.{Keeping}
 use Rattle.ix_proto.specs.declared.reply.Reply.{Reply}
 use Rattle.ix_manager.specs.Machine.{MachineState, start_of}
-use Rattle.ix_manager.specs.Runs.{Ending, going, stopped, Steps, raised}
+use Rattle.ix_manager.specs.Runs.{Opening, Ending, going, Steps, raised}
 use Rattle.ix_manager.specs.Wire.{SendsInOrder, reply_line, all_replies, marks_after, unmarked}
 
--- the expression, the limit of Size, the machine's state, and of each connection the unfinished line and whether it is
--- marked as gone; whether `stop` came
+-- the expression, the limit of Size, the machine's state, the journal's store, and of each
+-- connection the unfinished line and whether it is marked as gone; whether the run ended
 pub record ManagerState : Type 0 where
   pub form : Form
   pub limit : ℕ
   pub machine : MachineState
+  pub store : Keeping
   pub lines : List UnfinishedLine
   pub marks : List Bool
   pub ended : Bool
@@ -38,10 +40,10 @@ held_after End held bytes = held
 abbrev pub held_at : ℕ → List UnfinishedLine → UnfinishedLine
 held_at conn lines = get_or lines conn (unfinished [])
 
--- `stop` came
+-- the run ended
 abbrev pub has_ended : Ending → Bool
 has_ended going = false
-has_ended stopped = true
+has_ended _ = true
 
 -- an event is taken, with the replies to each item that it completes
 pub record TakesEvent (old : ManagerState) (event : Event) (bytes : List ℕ) (answers : List (List Reply)) (new : ManagerState) (ending : Ending) : Type 0 where
@@ -75,12 +77,13 @@ KindHas End bytes = bytes ≡ []
 abbrev pub FitsEvent : Event → List ℕ → Type 0
 FitsEvent event bytes = (event.conn < 64) × KindHas event.kind bytes
 
--- a manager that was just started
-abbrev pub started : Form → ℕ → ManagerState
-started x limit = record {
-  form = x;
-  limit = limit;
-  machine = start_of [];
+-- a manager that was just started, over this store
+abbrev pub started : Opening → Keeping → ManagerState
+started opening store = record {
+  form = opening.form;
+  limit = opening.limit;
+  machine = start_of opening.history;
+  store = store;
   lines = replicate 64 (unfinished []);
   marks = unmarked;
   ended = false;

@@ -4,5 +4,7 @@ pub mod Runs
 pub mod Wire
 pub mod RunLaws
 pub mod MachineLaws
+pub mod Images
 pub mod Handled
+pub mod Starts
 pub mod inside

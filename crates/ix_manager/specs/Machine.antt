@@ -1,5 +1,5 @@
 -- The protocol machine: its state, and what each request answers and makes of it.
-use Rattle.std.specs.Prelude.{◌≡◌, ◌≢◌, ◌⊎◌, ℕ, ◌+◌, ◌-◌, ◌^◌, ◌<◌, ◌≤◌, min, Bool, true, false, not, List, [], ◌∷◌, ◌++◌, length}
+use Rattle.std.specs.Prelude.{◌≡◌, ◌≢◌, ◌⊎◌, ℕ, ◌+◌, ◌-◌, ◌^◌, ◌<◌, min, Bool, true, false, not, List, [], ◌∷◌, ◌++◌, length}
 use Rattle.ix_words.specs.Each.{Each}
 use Rattle.ix_values.specs.PlainAction.{PlainAction, Word}
 use Rattle.ix_expr.specs.Form.{Form}
@@ -32,6 +32,10 @@ pub record MachineState : Type 0 where
 -- the state at the start, with what was recovered
 abbrev pub start_of : Word → MachineState
 start_of history = record { history = history; slot = slot.Free; watches = []; moment = 0; ticket = 1 }
+
+-- the confirmed actions as a word
+abbrev pub word_of : MachineState → Word
+word_of s = s.history
 
 -- the truth value tells whether it holds
 abbrev pub Tells : Type 0 → Bool → Type 0
@@ -72,21 +76,21 @@ pub data Step (x : Form) (limit : ℕ) (s : MachineState) : PlainRequest → Lis
       → s.slot ≡ slot.Held ticket held deadline → s.moment < deadline
       → Step x limit s (request.ask a lease) (refused.busy_until deadline ∷ []) s
   not_permitted : {a : PlainAction} {lease : ℕ}
-      → (IsOpenAt s.slot s.moment → ⊥) → (IsPermitted x s.history a → ⊥)
+      → (IsOpenAt s.slot s.moment → ⊥) → (IsPermitted x (word_of s) a → ⊥)
       → Step x limit s (request.ask a lease) (refused.not_permitted ∷ []) (record s { slot = slot.Free })
   full : {a : PlainAction} {lease : ℕ}
-      → (IsOpenAt s.slot s.moment → ⊥) → IsPermitted x s.history a → length s.history ≡ 1000000
+      → (IsOpenAt s.slot s.moment → ⊥) → IsPermitted x (word_of s) a → length s.history ≡ 1000000
       → Step x limit s (request.ask a lease) (refused.full ∷ []) (record s { slot = slot.Free })
   large : {a : PlainAction} {lease : ℕ}
-      → (IsOpenAt s.slot s.moment → ⊥) → IsPermitted x s.history a → length s.history < 1000000
-      → limit < tree_size x (s.history ++ a ∷ [])
+      → (IsOpenAt s.slot s.moment → ⊥) → IsPermitted x (word_of s) a → length s.history < 1000000
+      → limit < tree_size x (word_of s ++ a ∷ [])
       → Step x limit s (request.ask a lease) (refused.above limit ∷ []) (record s { slot = slot.Free })
   granted : {a : PlainAction} {lease : ℕ}
-      → (IsOpenAt s.slot s.moment → ⊥) → IsAllowed x limit s.history a
+      → (IsOpenAt s.slot s.moment → ⊥) → IsAllowed x limit (word_of s) a
       → Step x limit s (request.ask a lease) (reply.Granted s.ticket ∷ [])
       (record s { slot = slot.Held s.ticket a (min (s.moment + lease) (2 ^ 64 - 1)); ticket = s.ticket + 1 })
   ask_memory : {a : PlainAction} {lease : ℕ}
-      → (IsOpenAt s.slot s.moment → ⊥) → IsPermitted x s.history a → length s.history < 1000000
+      → (IsOpenAt s.slot s.moment → ⊥) → IsPermitted x (word_of s) a → length s.history < 1000000
       → Step x limit s (request.ask a lease) (refused.no_memory ∷ []) (record s { slot = slot.Free })
   confirmed : {ticket : ℕ} (a : PlainAction) (deadline : ℕ)
       → s.slot ≡ slot.Held ticket a deadline → s.moment < deadline
@@ -108,17 +112,19 @@ pub data Step (x : Form) (limit : ℕ) (s : MachineState) : PlainRequest → Lis
       → (HasTicket s.slot ticket → ⊥)
       → Step x limit s (request.cancel ticket) (refused.no_such_ticket ∷ []) s
   may : {a : PlainAction} {answer : Bool}
-      → Tells (IsPermitted x s.history a) answer
+      → Tells (IsPermitted x (word_of s) a) answer
       → Step x limit s (request.may a) (reply.May answer ∷ []) s
   watches_full : {name : List ℕ} {a : PlainAction}
       → IsUnwatched name a s.watches → length s.watches ≡ 4096
       → Step x limit s (request.watch name a) (refused.too_many_watches ∷ []) s
   watches_new : {name : List ℕ} {a : PlainAction} {told : Bool}
-      → IsUnwatched name a s.watches → length s.watches < 4096 → Tells (IsAllowed x limit s.history a) told
+      → IsUnwatched name a s.watches → length s.watches < 4096
+      → Tells (IsAllowed x limit (word_of s) a) told
       → Step x limit s (request.watch name a) (reply.Watching told ∷ [])
       (record s { watches = s.watches ++ record { name = name; action = a; told = told } ∷ [] })
   watches_again : {name : List ℕ} {a : PlainAction} {told : Bool} (before behind : List MachineWatch) (watch : MachineWatch)
-      → s.watches ≡ before ++ watch ∷ behind → IsOf name a watch → Tells (IsAllowed x limit s.history a) told
+      → s.watches ≡ before ++ watch ∷ behind → IsOf name a watch
+      → Tells (IsAllowed x limit (word_of s) a) told
       → Step x limit s (request.watch name a) (reply.Watching told ∷ [])
       (record s { watches = before ++ record watch { told = told } ∷ behind })
   watch_memory : {name : List ℕ} {a : PlainAction}
@@ -131,14 +137,15 @@ pub data Step (x : Form) (limit : ℕ) (s : MachineState) : PlainRequest → Lis
       → IsUnwatched name a s.watches
       → Step x limit s (request.drop_watch name a) (refused.no_such_watch ∷ []) s
   polled : {name : List ℕ} {changes : List Reply} {after : List MachineWatch}
-      → Polls (IsAllowed x limit s.history) name s.watches changes after
+      → Polls (IsAllowed x limit (word_of s)) name s.watches changes after
       → Step x limit s (request.poll name) (reply.Changes (length changes) ∷ changes) (record s { watches = after })
   poll_memory : {name : List ℕ}
       → (HasNoWatch name s.watches → ⊥)
       → Step x limit s (request.poll name) (refused.no_memory ∷ []) s
   status : {complete : Bool}
-      → Tells (IsComplete x [] s.history) complete
-      → Step x limit s request.status (reply.Status complete (length s.history) (tree_size x s.history) ∷ []) s
+      → Tells (IsComplete x [] (word_of s)) complete
+      → Step x limit s request.status
+      (reply.Status complete (length s.history) (tree_size x (word_of s)) ∷ []) s
   entry : {number : ℕ} {a : PlainAction} (before behind : Word)
       → s.history ≡ before ++ a ∷ behind → number ≡ length before + 1
       → Step x limit s (request.log number) (reply.Entry number a ∷ []) s

@@ -42,3 +42,7 @@ no_such_entry = Refused 42 0
 -- memory ran out
 abbrev pub no_memory : Reply
 no_memory = Refused 90 0
+
+-- the disk failed
+abbrev pub disk : Reply
+disk = Refused 91 0

@@ -1,16 +1,16 @@
 -- Laws of runs: what the events that a manager takes make of a run, any cutting of a piece, and what is sent.
-use Rattle.std.specs.Prelude.{◌≡◌, ◌⊎◌, ◌↔◌, ℕ, ◌<◌, Bool, true, false, List, [], ◌∷◌, ◌++◌, length, get_or, None, Some}
+use Rattle.std.specs.Prelude.{◌≡◌, ◌≢◌, ◌⊎◌, ◌↔◌, ℕ, ◌<◌, Bool, true, false, List, [], ◌∷◌, ◌++◌}
+use Rattle.std.specs.Prelude.{length, get_or, None, Some}
 use Rattle.std.specs.Io.KnownBytes.{append_known}
-use Rattle.ix_values.specs.PlainAction.{Word}
-use Rattle.ix_expr.specs.Form.{Form}
 use Rattle.ix_lines.specs.Feeding.{held}
 use Rattle.ix_outside.specs.Contents.{GivenEvent, Contents, Sends}
 use Rattle.ix_outside.specs.Sink.{AppendsPart}
 use Rattle.ix_outside.specs.declared.event.Event.{Event}
 use Rattle.ix_outside.specs.declared.event.EventKind.TheVariants.{Bytes}
+use Rattle.ix_store.specs.Keeping.{Keeping}
 use Rattle.ix_proto.specs.declared.reply.Reply.{Reply}
 use Rattle.ix_manager.specs.Machine.{MachineState}
-use Rattle.ix_manager.specs.Runs.{Ending, going, stopped, Run, text_behind}
+use Rattle.ix_manager.specs.Runs.{Opening, Ending, going, Run, text_behind}
 use Rattle.ix_manager.specs.Handled.{ManagerState, held_at, TakesEvent, SendsReplies, Handles, FitsEvent, started}
 use Rattle.ix_manager.specs.Wire.{Wire, all_replies, replies_text, run_text}
 
@@ -18,28 +18,33 @@ use Rattle.ix_manager.specs.Wire.{Wire, all_replies, replies_text, run_text}
 abbrev pub given_event : Event → List ℕ → GivenEvent
 given_event event bytes = record { event = event; bytes = bytes }
 
--- A manager that took the events of a run, which goes on: its machine is in the run's last state, and of each connection it
--- holds what is unfinished of the connection's text.
-pub record FollowsRun (x : Form) (limit : ℕ) (history : Word) (events : List GivenEvent) (answers : List (List (List Reply))) (m : ManagerState) : Type 0 where
-  pub run : Run x limit history events answers m.machine going
-  pub form_is : m.form ≡ x
-  pub limit_is : m.limit ≡ limit
+-- A manager that took the events of a run, which goes on: its machine is in the run's last state,
+-- and of each connection it holds what is unfinished of the connection's text.
+pub record FollowsRun (opening : Opening) (events : List GivenEvent)
+    (answers : List (List (List Reply))) (m : ManagerState) : Type 0 where
+  pub run : Run opening events answers m.machine going
+  pub form_is : m.form ≡ opening.form
+  pub limit_is : m.limit ≡ opening.limit
   pub not_ended : m.ended ≡ false
   pub connections : length m.lines ≡ 64
   pub lines : (conn : ℕ) → conn < 64 → held_at conn m.lines ≡ held (text_behind conn [] events)
 
 -- a manager that was just started follows the run without events
 abbrev pub StartsARun : Type 0
-StartsARun = (x : Form) (limit : ℕ) → FollowsRun x limit [] [] [] (started x limit)
+StartsARun = (opening : Opening) (store : Keeping) → FollowsRun opening [] [] (started opening store)
 
--- where a manager follows a run, any event that it takes goes on that run, and it follows the longer run as long as that goes on
+-- where a manager follows a run, any event that it takes goes on that run, and it follows the longer
+-- run as long as that goes on
 abbrev pub GoesOnARun : Type 0
 GoesOnARun =
-    (x : Form) (limit : ℕ) (history : Word) (events : List GivenEvent) (answers : List (List (List Reply)))
-    (old : ManagerState) (event : Event) (bytes : List ℕ) (last : List (List Reply)) (new : ManagerState) (ending : Ending)
-    → FollowsRun x limit history events answers old → FitsEvent event bytes → TakesEvent old event bytes last new ending
-    → Run x limit history (events ++ given_event event bytes ∷ []) (answers ++ last ∷ []) new.machine ending
-    × (ending ≡ going → FollowsRun x limit history (events ++ given_event event bytes ∷ []) (answers ++ last ∷ []) new)
+    (opening : Opening) (events : List GivenEvent) (answers : List (List (List Reply)))
+    (old : ManagerState) (event : Event) (bytes : List ℕ)
+    (last : List (List Reply)) (new : ManagerState) (ending : Ending)
+    → FollowsRun opening events answers old → FitsEvent event bytes
+    → TakesEvent old event bytes last new ending
+    → let longer = events ++ given_event event bytes ∷ [] in
+    Run opening longer (answers ++ last ∷ []) new.machine ending
+    × (ending ≡ going → FollowsRun opening longer (answers ++ last ∷ []) new)
 
 -- what a manager takes from its start on makes a run
 abbrev pub CallsMakeARun : Type 0
@@ -49,24 +54,30 @@ CallsMakeARun = StartsARun × GoesOnARun
 abbrev pub piece : ℕ → ℕ → List ℕ → GivenEvent
 piece conn moment bytes = given_event (record { conn = conn; moment = moment; kind = Bytes (length bytes) }) bytes
 
--- A run over two more events in place of one, with these replies to both, and later events with theirs: it is stopped in the
--- first and no event is later, or some of the replies are those to the first, and the others those to the second.
-abbrev pub RunsOverBoth : Form → ℕ → Word → List GivenEvent → List (List (List Reply)) → GivenEvent → GivenEvent → List (List Reply) → List GivenEvent → List (List (List Reply)) → MachineState → Ending → Type 0
-RunsOverBoth x limit history events answers first second replies later more s ending =
-    ((later ≡ []) × (more ≡ []) × (ending ≡ stopped) × Run x limit history (events ++ first ∷ []) (answers ++ replies ∷ []) s ending)
+-- A run over two more events in place of one, with these replies to both, and later events with
+-- theirs: it ends in the first and no event is later, or some of the replies are those to the first,
+-- and the others those to the second.
+abbrev pub RunsOverBoth : Opening → List GivenEvent → List (List (List Reply))
+    → GivenEvent → GivenEvent → List (List Reply) → List GivenEvent → List (List (List Reply))
+    → MachineState → Ending → Type 0
+RunsOverBoth opening events answers first second replies later more s ending =
+    ((later ≡ []) × (more ≡ []) × (ending ≢ going)
+    × Run opening (events ++ first ∷ []) (answers ++ replies ∷ []) s ending)
     ⊎ ((one : List (List Reply)) × (two : List (List Reply)) × (replies ≡ one ++ two)
-    × Run x limit history (events ++ first ∷ second ∷ later) (answers ++ one ∷ two ∷ more) s ending)
+    × Run opening (events ++ first ∷ second ∷ later) (answers ++ one ∷ two ∷ more) s ending)
 
 -- wherever in a run, a piece and the same piece cut in two, all at one moment, have the same runs: the same replies in the
 -- same order, the same last state and the same ending
 abbrev pub AnyCuttingGivesTheSameRun : Type 0
 AnyCuttingGivesTheSameRun =
-    (x : Form) (limit : ℕ) (history : Word) (events : List GivenEvent) (answers : List (List (List Reply)))
+    (opening : Opening) (events : List GivenEvent) (answers : List (List (List Reply)))
     (conn moment : ℕ) (front back : List ℕ) (replies : List (List Reply))
     (later : List GivenEvent) (more : List (List (List Reply))) (s : MachineState) (ending : Ending)
     → length events ≡ length answers
-    → Run x limit history (events ++ piece conn moment (front ++ back) ∷ later) (answers ++ replies ∷ more) s ending
-    ↔ RunsOverBoth x limit history events answers (piece conn moment front) (piece conn moment back) replies later more s ending
+    → Run opening (events ++ piece conn moment (front ++ back) ∷ later)
+    (answers ++ replies ∷ more) s ending
+    ↔ RunsOverBoth opening events answers (piece conn moment front) (piece conn moment back)
+    replies later more s ending
 
 -- over a site that tells its sends, sending the replies to one more event makes of them the wire of the run with that event
 abbrev pub WireGoesOn : Type 0

@@ -1,6 +1,6 @@
 -- Runs of the protocol machine over the events of all connections.
-use Rattle.std.specs.Prelude.{◌≡◌, ℕ, ◌==◌, max, List, [], ◌∷◌, ◌++◌, if◌then◌else◌}
-use Rattle.ix_values.specs.PlainAction.{Word}
+use Rattle.std.specs.Prelude.{◌≡◌, ◌≢◌, ℕ, ◌==◌, ◌<◌, max, List, [], ◌∷◌, ◌++◌, if◌then◌else◌}
+use Rattle.ix_values.specs.PlainAction.{PlainAction, Word}
 use Rattle.ix_expr.specs.Form.{Form}
 use Rattle.ix_lines.specs.Items.{Item, line, too_long, items}
 use Rattle.ix_outside.specs.Contents.{GivenEvent}
@@ -10,23 +10,39 @@ use Rattle.ix_proto.specs.Requests as request
 use Rattle.ix_proto.specs.Requests.{PlainRequest, IsRequest, request_words}
 use Rattle.ix_proto.specs.RequestFaults.{IsRequestFault}
 use Rattle.ix_lines.specs.Words.{words_of}
+use Rattle.ix_lease.specs.declared.Slot.TheVariants as slot
 use Rattle.ix_proto.specs.declared.reply.Reply.{Reply}
 use Rattle.ix_proto.specs.declared.reply.Reply.TheVariants as reply
+use Rattle.ix_manager.specs.Refusals.{disk}
 use Rattle.ix_manager.specs.Machine.{MachineState, Step, start_of}
 
--- whether the run goes on, or ended by `stop`
+-- what a run starts from: the expression, the limit of Size and the history
+pub record Opening : Type 0 where
+  pub form : Form
+  pub limit : ℕ
+  pub history : Word
+
+-- the opening of an expression, a limit and a history
+abbrev pub opening_of : Form → ℕ → Word → Opening
+opening_of x limit history = record { form = x; limit = limit; history = history }
+
+-- whether the run goes on, or ended: by `stop`, or by a confirm that failed with its action
 pub data Ending : Type 0 where
   going : Ending
   stopped : Ending
+  failed : PlainAction → Ending
 
 -- `stop` ends the run
 abbrev pub ending_of : PlainRequest → Ending
 ending_of request.stop = stopped
 ending_of _ = going
 
--- The replies to an item of a connection, and the state after it. A line that is no request and one that is too long are
--- refused, and nothing else changes.
-pub data ItemStep (x : Form) (limit : ℕ) (s : MachineState) : Item → List Reply → MachineState → Ending → Type 0 where
+-- The replies to an item of a connection, the state after it, and whether the run goes on. A line
+-- that is no request and one that is too long are refused, and nothing else changes. Where the disk
+-- fails, the confirm of the open reservation is refused in place of its step: nothing else changes,
+-- and the run ends.
+pub data ItemStep (x : Form) (limit : ℕ) (s : MachineState)
+    : Item → List Reply → MachineState → Ending → Type 0 where
   requested : {bytes : List ℕ} (request : PlainRequest) {replies : List Reply} {after : MachineState}
       → IsRequest request → words_of bytes ≡ request_words request → Step x limit s request replies after
       → ItemStep x limit s (line bytes) replies after (ending_of request)
@@ -34,14 +50,21 @@ pub data ItemStep (x : Form) (limit : ℕ) (s : MachineState) : Item → List Re
       → IsRequestFault (words_of bytes) code
       → ItemStep x limit s (line bytes) (reply.Refused code 0 ∷ []) s going
   over_long : ItemStep x limit s too_long (reply.Refused 10 0 ∷ []) s going
+  disk_failed : {bytes : List ℕ} {ticket deadline : ℕ} {a : PlainAction}
+      → IsRequest (request.confirm ticket) → words_of bytes ≡ request_words (request.confirm ticket)
+      → s.slot ≡ slot.Held ticket a deadline → s.moment < deadline
+      → ItemStep x limit s (line bytes) (disk ∷ []) s (failed a)
 
--- items in order, each one step, with the replies to each; no item follows `stop`
-pub data Steps (x : Form) (limit : ℕ) : MachineState → List Item → List (List Reply) → MachineState → Ending → Type 0 where
+-- items in order, each one step, with the replies to each; no item follows one that ends the run
+pub data Steps (x : Form) (limit : ℕ)
+    : MachineState → List Item → List (List Reply) → MachineState → Ending → Type 0 where
   none : {s : MachineState} → Steps x limit s [] [] s going
   last : {s after : MachineState} {item : Item} {others : List Item} {replies : List Reply}
-      → ItemStep x limit s item replies after stopped
-      → Steps x limit s (item ∷ others) (replies ∷ []) after stopped
-  more : {s between after : MachineState} {item : Item} {others : List Item} {replies : List Reply} {answers : List (List Reply)} {ending : Ending}
+      {ending : Ending}
+      → ItemStep x limit s item replies after ending → ending ≢ going
+      → Steps x limit s (item ∷ others) (replies ∷ []) after ending
+  more : {s between after : MachineState} {item : Item} {others : List Item} {replies : List Reply}
+      {answers : List (List Reply)} {ending : Ending}
       → ItemStep x limit s item replies between going
       → Steps x limit between others answers after ending
       → Steps x limit s (item ∷ others) (replies ∷ answers) after ending
@@ -66,13 +89,15 @@ text_behind conn text (given ∷ events) =
 pub record Completes (text : List ℕ) (given : GivenEvent) (completed : List Item) : Type 0 where
   pub items_are : items (text ++ given.bytes) ≡ items text ++ completed
 
--- A run of the machine from a history, over events in order, with the replies to each item that each event completes, the
--- last state, and whether it goes on. No event is taken after `stop`.
-pub data Run (x : Form) (limit : ℕ) (history : Word) : List GivenEvent → List (List (List Reply)) → MachineState → Ending → Type 0 where
-  begin : Run x limit history [] [] (start_of history) going
-  takes : {events : List GivenEvent} {answers : List (List (List Reply))} {s after : MachineState} {ending : Ending}
+-- A run of the machine from an opening, over events in order, with the replies to each item that
+-- each event completes, the last state, and whether it goes on. No event is taken after its end.
+pub data Run (opening : Opening)
+    : List GivenEvent → List (List (List Reply)) → MachineState → Ending → Type 0 where
+  begin : Run opening [] [] (start_of opening.history) going
+  takes : {events : List GivenEvent} {answers : List (List (List Reply))} {s after : MachineState}
+      {ending : Ending}
       (given : GivenEvent) (completed : List Item) (last : List (List Reply))
-      → Run x limit history events answers s going
+      → Run opening events answers s going
       → Completes (text_behind given.event.conn [] events) given completed
-      → Steps x limit (raised given.event.moment s) completed last after ending
-      → Run x limit history (events ++ given ∷ []) (answers ++ last ∷ []) after ending
+      → Steps opening.form opening.limit (raised given.event.moment s) completed last after ending
+      → Run opening (events ++ given ∷ []) (answers ++ last ∷ []) after ending

@@ -2,8 +2,11 @@
 pub mod Clean
 pub mod Core
 pub mod Does
-pub mod EndingAfter
+pub mod OverSite
+pub mod Recovering
 pub mod Ready
+pub mod Saving
+pub mod StartAnswers
 pub mod StartFaults
 pub mod TakenItems
 pub mod WireState

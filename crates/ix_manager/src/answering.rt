@@ -1,22 +1,33 @@
 //! Answers what a connection's bytes complete.
 
-ghost use Rattle.std.specs.Prelude.{◌≡◌, ◌+◌, ◌-◌, ◌^◌, ◌<◌, ◌≤◌, length};
+ghost use Rattle.std.specs.Prelude.{◌≡◌, ◌+◌, ◌-◌, ◌^◌, ◌<◌, ◌≤◌, true, length, Ok};
 ghost use Rattle.ix_lines.specs.Items.{line as line_item};
 ghost use Rattle.ix_lines.specs.Feeding.{completes, holds_after};
 ghost use Rattle.ix_lines.specs.inside.FeedAnswers.{told_item};
-ghost use Rattle.ix_manager.specs.inside.EndingAfter.{ending_after};
+ghost use Rattle.ix_manager.specs.inside.OverSite.{ending_after};
 ghost use Rattle.ix_manager.specs.inside.Clean.{IsClean};
-ghost use Rattle.ix_manager.specs.inside.WireState.{wired, AnswersItem, AnswersFed, AnswersItems, AnswersRequest, IsPlain, request_ending};
+ghost use Rattle.ix_manager.specs.inside.Saving.{FitsJournal};
+ghost use Rattle.ix_manager.specs.inside.WireState.{wired, RequestOver, ItemOver, AnswersFed};
+ghost use Rattle.ix_manager.specs.inside.WireState.{ItemsOver, IsPlain, request_ending};
 ghost use Rattle.ix_manager.specs.inside.TakenItems.{TakesItem};
+ghost use Rattle.ix_proto.specs.declared.request.Request.TheVariants.{Confirm};
 
-use crate::Go;
-use crate::machine::{Answer, Machine};
-use crate::refusals::{LINE_TOO_LONG, refused};
+use crate::journaled::Journaled;
+use crate::machine::Answer;
+use crate::refusals::{DISK, LINE_TOO_LONG, refused};
 use crate::sending::{send_changes, send_reply};
+use crate::{Go, Stop};
 use ix_lines::{FedKind, Lines};
 use ix_outside::Site;
 use ix_proto::Request;
 use std::alloc::Global;
+
+/// Bytes of a connection.
+#[derive(Clone, Copy)]
+pub(crate) struct Piece<'a> {
+    pub(crate) conn: u8,
+    pub(crate) bytes: &'a [u8],
+}
 
 /// An item of a piece was answered.
 #[derive(Clone, Copy)]
@@ -26,97 +37,152 @@ pub(crate) struct Taken {
     pub(crate) go: Go,
 }
 
-/// Takes a piece to its end, or through a line `stop`, and answers each item that it completes.
+/// Takes a piece to its end, or through the line that ends the run, and answers each item that it
+/// completes.
 pub(crate) fn take_piece<S: Site>(
-    machine: &mut Machine,
+    journaled: &mut Journaled,
     lines: &mut Lines,
     alloc: Global,
-    conn: u8,
     gone: &mut bool,
-    piece: &[u8],
+    piece: Piece<'_>,
     site: &mut S,
-) -> Go
+) -> Result<Go, Stop>
     requires clean { IsClean lines.old }
-    requires tickets { machine.old.state.ticket + length piece.now < 2 ^ 64 - 1 }
-    ensures answers { AnswersItems conn (completes lines.old piece.now) (ending_after result) machine.old machine.new
-        (wired gone.old (S.state site.old)) (wired gone.new (S.state site.new)) }
-    ensures lines { result ≡ Go.More → lines.new ≡ holds_after lines.old piece.now }
+    requires tickets { journaled.old.machine.state.ticket + length piece.bytes.now < 2 ^ 64 - 1 }
+    requires attached { (S.state site.old).attached ≡ true }
+    requires fits { FitsJournal journaled.old (S.state site.old) (S.crashes site.old) }
+
+    ensures answers { ItemsOver piece.entry.conn (completes lines.old piece.entry.bytes.now) result
+        journaled.old journaled.new
+        (wired gone.old (S.state site.old)) (wired gone.new (S.state site.new))
+        (S.crashes site.old) (S.crashes site.new) }
+    ensures lines { result ≡ Ok Go.More → lines.new ≡ holds_after lines.old piece.entry.bytes.now }
     ensures clean { IsClean lines.new }
-    ensures tickets { machine.new.state.ticket ≤ machine.old.state.ticket + length piece.now }
+    ensures tickets { journaled.new.machine.state.ticket
+        ≤ journaled.old.machine.state.ticket + length piece.entry.bytes.now }
 {
-    let mut rest = piece;
-    while let Some(taken) = take_item(machine, lines, alloc, conn, gone, rest, site) {
-        if let Go::Stopped = taken.go {
-            return Go::Stopped;
+    let conn = piece.conn;
+    let mut rest = piece.bytes;
+    'items: loop {
+        let piece = Piece { conn, bytes: rest };
+        match take_item(journaled, lines, alloc, gone, piece, site) {
+            Ok(Some(taken)) => {
+                if let Go::Stopped = taken.go {
+                    return Ok(Go::Stopped);
+                }
+                rest = &rest[taken.used..];
+            }
+            Ok(None) => return Ok(Go::More),
+            Err(stop) => return Err(stop),
         }
-        rest = &rest[taken.used..];
     }
-    Go::More
 }
 
 /// Takes a piece through the first item that it completes, which is answered, or to its end.
 fn take_item<S: Site>(
-    machine: &mut Machine,
+    journaled: &mut Journaled,
     lines: &mut Lines,
     alloc: Global,
-    conn: u8,
     gone: &mut bool,
-    piece: &[u8],
+    piece: Piece<'_>,
     site: &mut S,
-) -> Option<Taken>
-    requires { machine.old.state.ticket < 2 ^ 64 - 1 }
-    ensures { TakesItem conn lines.old piece.now result lines.new machine.old machine.new
-        (wired gone.old (S.state site.old)) (wired gone.new (S.state site.new)) }
+) -> Result<Option<Taken>, Stop>
+    requires tickets { journaled.old.machine.state.ticket < 2 ^ 64 - 1 }
+    requires attached { (S.state site.old).attached ≡ true }
+    requires fits { FitsJournal journaled.old (S.state site.old) (S.crashes site.old) }
+    ensures { TakesItem piece.entry.conn lines.old piece.entry.bytes.now result lines.new
+        journaled.old journaled.new
+        (wired gone.old (S.state site.old)) (wired gone.new (S.state site.new))
+        (S.crashes site.old) (S.crashes site.new) }
 {
-    let fed = lines.feed(piece);
+    let fed = lines.feed(piece.bytes);
     let used = fed.used;
-    let go = answer_fed(machine, alloc, conn, gone, fed.kind, site)?;
-    Some(Taken { used, go })
+    match answer_fed(journaled, alloc, piece.conn, gone, fed.kind, site) {
+        Ok(Some(go)) => Ok(Some(Taken { used, go })),
+        Ok(None) => Ok(None),
+        Err(stop) => Err(stop),
+    }
 }
 
 fn answer_fed<S: Site>(
-    machine: &mut Machine,
+    journaled: &mut Journaled,
     alloc: Global,
     conn: u8,
     gone: &mut bool,
     kind: FedKind<'_>,
     site: &mut S,
-) -> Option<Go>
-    requires { machine.old.state.ticket < 2 ^ 64 - 1 }
-    ensures { AnswersFed conn (told_item kind.entry) result machine.old machine.new
-        (wired gone.old (S.state site.old)) (wired gone.new (S.state site.new)) }
+) -> Result<Option<Go>, Stop>
+    requires tickets { journaled.old.machine.state.ticket < 2 ^ 64 - 1 }
+    requires attached { (S.state site.old).attached ≡ true }
+    requires fits { FitsJournal journaled.old (S.state site.old) (S.crashes site.old) }
+    ensures { AnswersFed conn (told_item kind.entry) result journaled.old journaled.new
+        (wired gone.old (S.state site.old)) (wired gone.new (S.state site.new))
+        (S.crashes site.old) (S.crashes site.new) }
 {
     match kind {
-        FedKind::Line(line) => Some(answer_line(machine, alloc, conn, gone, line, site)),
+        FedKind::Line(line) => match answer_line(journaled, alloc, conn, gone, line, site) {
+            Ok(go) => Ok(Some(go)),
+            Err(stop) => Err(stop),
+        },
         FedKind::TooLong => {
             send_reply(site, conn, gone, &refused(LINE_TOO_LONG));
-            Some(Go::More)
+            Ok(Some(Go::More))
         }
-        FedKind::More => None,
+        FedKind::More => Ok(None),
     }
 }
 
 fn answer_line<S: Site>(
-    machine: &mut Machine,
+    journaled: &mut Journaled,
     alloc: Global,
     conn: u8,
     gone: &mut bool,
     line: &[u8],
     site: &mut S,
-) -> Go
-    requires { machine.old.state.ticket < 2 ^ 64 - 1 }
-    ensures { AnswersItem conn (line_item line.now) (ending_after result) machine.old machine.new
-        (wired gone.old (S.state site.old)) (wired gone.new (S.state site.new)) }
+) -> Result<Go, Stop>
+    requires tickets { journaled.old.machine.state.ticket < 2 ^ 64 - 1 }
+    requires attached { (S.state site.old).attached ≡ true }
+    requires fits { FitsJournal journaled.old (S.state site.old) (S.crashes site.old) }
+    ensures { ItemOver conn (line_item line.now) result journaled.old journaled.new
+        (wired gone.old (S.state site.old)) (wired gone.new (S.state site.new))
+        (S.crashes site.old) (S.crashes site.new) }
 {
     match Request::read(line) {
-        Ok(request) => {
-            answer_request(machine, alloc, conn, gone, &request, site);
-            go_behind(&request)
-        }
+        Ok(request) => answer_request(journaled, alloc, conn, gone, &request, site),
         Err(fault) => {
             send_reply(site, conn, gone, &refused(fault.code));
-            Go::More
+            Ok(Go::More)
         }
+    }
+}
+
+fn answer_request<S: Site>(
+    journaled: &mut Journaled,
+    alloc: Global,
+    conn: u8,
+    gone: &mut bool,
+    request: &Request<'_>,
+    site: &mut S,
+) -> Result<Go, Stop>
+    requires tickets { journaled.old.machine.state.ticket < 2 ^ 64 - 1 }
+    requires plain { IsPlain request.now }
+    requires attached { (S.state site.old).attached ≡ true }
+    requires fits { FitsJournal journaled.old (S.state site.old) (S.crashes site.old) }
+    ensures { RequestOver conn request.now result journaled.old journaled.new
+        (wired gone.old (S.state site.old)) (wired gone.new (S.state site.new))
+        (S.crashes site.old) (S.crashes site.new) }
+{
+    match journaled.machine.answer(alloc, request) {
+        Answer::One(reply) => {
+            send_reply(site, conn, gone, &reply);
+            Ok(go_behind(request))
+        }
+        Answer::Poll(name) => {
+            send_changes(site, conn, gone, &journaled.machine, &name);
+            journaled.machine.tell(&name);
+            Ok(go_behind(request))
+        }
+        Answer::Confirm(ticket) => answer_confirm(journaled, conn, gone, ticket, site),
     }
 }
 
@@ -130,24 +196,28 @@ fn go_behind(request: &Request<'_>) -> Go
     }
 }
 
-fn answer_request<S: Site>(
-    machine: &mut Machine,
-    alloc: Global,
+/// Answers a confirm. Where the disk fails, that is its reply, and the run ends.
+fn answer_confirm<S: Site>(
+    journaled: &mut Journaled,
     conn: u8,
     gone: &mut bool,
-    request: &Request<'_>,
+    ticket: u64,
     site: &mut S,
-)
-    requires tickets { machine.old.state.ticket < 2 ^ 64 - 1 }
-    requires plain { IsPlain request.now }
-    ensures { AnswersRequest conn request.now machine.old machine.new
-        (wired gone.old (S.state site.old)) (wired gone.new (S.state site.new)) }
+) -> Result<Go, Stop>
+    requires attached { (S.state site.old).attached ≡ true }
+    requires fits { FitsJournal journaled.old (S.state site.old) (S.crashes site.old) }
+    ensures { RequestOver conn (Confirm ticket) result journaled.old journaled.new
+        (wired gone.old (S.state site.old)) (wired gone.new (S.state site.new))
+        (S.crashes site.old) (S.crashes site.new) }
 {
-    match machine.answer(alloc, request) {
-        Answer::One(reply) => send_reply(site, conn, gone, &reply),
-        Answer::Poll(name) => {
-            send_changes(site, conn, gone, machine, &name);
-            machine.tell(&name);
+    match journaled.confirm(ticket, site) {
+        Ok(reply) => {
+            send_reply(site, conn, gone, &reply);
+            Ok(Go::More)
+        }
+        Err(stop) => {
+            send_reply(site, conn, gone, &refused(DISK));
+            Err(stop)
         }
     }
 }

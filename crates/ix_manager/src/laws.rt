@@ -21,7 +21,7 @@ pub fn polls_tell_what_changed()
 
 /// A manager that was just started follows the run without events. Where a manager follows a
 /// run, each event that it takes goes on that run, and the manager follows the longer run as
-/// long as no `stop` came.
+/// long as it goes on.
 pub fn calls_make_a_run()
     ensures { CallsMakeARun }
 {}

@@ -26,6 +26,8 @@ pub(crate) enum Answer {
     One(Reply),
     /// The changes of this name are to be told, and then noted as told.
     Poll(Name),
+    /// The confirm of this ticket is to be answered.
+    Confirm(u64),
 }
 
 #[derive(Drop)]
@@ -107,6 +109,7 @@ impl Machine {
         requires tickets { self.old.state.ticket < 2 ^ 64 - 1 }
         ensures answers { MachineAnswers self.old request.now result self.new }
         ensures tickets { self.new.state.ticket ≤ self.old.state.ticket + 1 }
+        ensures history { self.new.state.history ≡ self.old.state.history }
         ensures form { self.new.form ≡ self.old.form }
         ensures limit { self.new.limit ≡ self.old.limit }
     {
@@ -114,7 +117,7 @@ impl Machine {
             Request::Ask { action, lease } => {
                 Answer::One(self.ask(alloc, Action::of_text(action), lease))
             }
-            Request::Confirm(ticket) => Answer::One(self.confirm(ticket)),
+            Request::Confirm(ticket) => Answer::Confirm(ticket),
             Request::Cancel(ticket) => Answer::One(self.cancel(ticket)),
             Request::May(action) => Answer::One(self.may(&Action::of_text(action))),
             Request::Watch { name, action } => {

@@ -1,24 +1,31 @@
 //! The manager of a site's connections.
 
-ghost use Rattle.std.specs.Prelude.{◌≡◌, ◌+◌, ◌-◌, ◌^◌, ◌<◌, ◌≤◌, ℕ, [], false, true, length, get_or, set, replicate, IfOk, OnOk};
+ghost use Rattle.std.specs.Prelude.{◌≡◌, ◌⊎◌, ℕ, ◌+◌, ◌-◌, ◌^◌, ◌<◌, ◌≤◌, Bool, false, true, [], length};
+ghost use Rattle.std.specs.Prelude.{get_or, set, replicate, Err, IfOk, OnOk, OnErr};
+ghost use Rattle.std.specs.Option.{ForSome};
 ghost use Rattle.ix_outside.specs.Counts.{Rose};
-ghost use Rattle.ix_outside.specs.SiteState.{OnlySend};
+ghost use Rattle.ix_outside.specs.Crashes.{Passes};
+ghost use Rattle.ix_outside.specs.inside.DiskCalls.{DiskCalls};
 ghost use Rattle.ix_can.specs.TreeOf.{tree_size};
 ghost use Rattle.ix_lines.specs.Feeding.{unfinished};
-ghost use Rattle.ix_manager.specs.Handled as spec;
+ghost use Rattle.ix_manager.specs.Handled.{FitsEvent, started};
+ghost use Rattle.ix_manager.specs.inside.StartAnswers.{StartsFrom, StartLeaves};
+ghost use Rattle.ix_manager.specs.Runs.{opening_of};
+ghost use Rattle.ix_manager.specs.inside.OverSite.{FitsSite, HandlesOver, OnlyServes};
+ghost use Rattle.ix_manager.specs.inside.StartFaults.{start_fault_of, open_fault_of};
+ghost use Rattle.ix_manager.specs.inside.TakenItems.{BytesOver};
 ghost use Rattle.ix_manager.specs.inside.WireState.{wired};
-ghost use Rattle.ix_manager.specs.inside.StartFaults.{start_fault_of};
-ghost use Rattle.ix_manager.specs.inside.TakenItems.{TakesBytes};
-ghost use Rattle.ix_manager.specs.Handled.{Handles, FitsEvent, started};
-ghost use Rattle.ix_manager.specs.inside.EndingAfter.{ending_after};
 
-use crate::answering::take_piece;
+use crate::answering::{Piece, take_piece};
+use crate::journaled::Journaled;
 use crate::machine::Machine;
-use crate::{Go, StartFault};
+use crate::{Go, StartFault, Stop};
 use ix_expr::Expression;
 use ix_lines::Lines;
 use ix_outside::{Event, EventKind, Site};
 use ix_step::BuildFault;
+use ix_store::{OpenFault, Store};
+use ix_text::text;
 use ix_values::Action;
 use std::alloc::{AllocError, Global};
 use std::marker::Model;
@@ -26,17 +33,18 @@ use std::marker::Model;
 /// How many connections there are: 0 to 63.
 pub(crate) const CONNECTIONS: usize = 64;
 
-/// The protocol machine, and of each connection its unfinished line and whether
+/// The protocol machine with its journal, and of each connection its unfinished line and whether
 /// it is marked as gone.
 #[derive(Drop)]
 pub struct Manager {
-    machine: Machine,
+    journaled: Journaled,
     lines: Vec<Lines>,
     marks: [bool; CONNECTIONS],
     ended: bool,
 }
 
 impl Model for Manager {
+    ghost use Rattle.ix_store.specs.inside.KeptBy.{kept};
     ghost use Rattle.ix_manager.specs.Handled.{ManagerState};
     ghost use Rattle.ix_expr.specs.lemmas.FormCode.{form_code};
     ghost use Rattle.std.specs.Coded.{codes};
@@ -46,9 +54,10 @@ impl Model for Manager {
     ghost coded = { Prim.hlevel (codes, form_code) };
 
     ghost view = { λ m. record {
-      form = m.machine.form;
-      limit = m.machine.limit;
-      machine = m.machine.state;
+      form = m.journaled.machine.form;
+      limit = m.journaled.machine.limit;
+      machine = m.journaled.machine.state;
+      store = kept m.journaled.store;
       lines = m.lines.items;
       marks = m.marks;
       ended = m.ended;
@@ -60,9 +69,13 @@ impl Model for Manager {
 }
 
 impl Manager {
-    /// The manager of an expression with an empty history. The limit, 1 to 1,000,000, is the most
-    /// that the Size of a granted action's tree may be. `Large` comes exactly where the initial
-    /// tree is above it. No call of the site is made.
+    /// Starts the manager of an expression from the attached file, which is its journal: the
+    /// history is the one that the file recovers. A journal that is unfinished or was never opened
+    /// is made anew; no other file is changed. The limit, 1 to 1,000,000, is the most that the Size
+    /// of the history's tree may be.
+    ///
+    /// The faults are met in their order; where the initial tree is above the limit, no call of the
+    /// site is made. After `Disk` or `Memory` a journal that was to be made anew may be so in part.
     pub fn start<S: Site>(
         alloc: Global,
         site: &mut S,
@@ -71,26 +84,52 @@ impl Manager {
     ) -> Result<Manager, StartFault>
         requires least { 1 ≤ limit }
         requires most { limit ≤ 1000000 }
-        ensures starts { IfOk result (λ m. m ≡ started expression limit) }
-        ensures within { OnOk result (tree_size expression [] ≤ limit) }
-        ensures large { (l : ℕ) → result ≡ Err (StartFault.Large l) → (l ≡ limit) × (limit < tree_size expression []) }
+        requires attached { (S.state site.old).attached ≡ true }
 
-        ensures site { S.state site.new ≡ S.state site.old }
+        // What the manager goes on from, or why none is started, by the file as it read.
+        ensures large { limit < tree_size expression []
+            → ((result ≡ Err (StartFault.Large limit)) ⊎ (result ≡ Err StartFault.Memory))
+            × (S.state site.new ≡ S.state site.old) }
+        ensures only_large { (l : ℕ) → result ≡ Err (StartFault.Large l)
+            → (l ≡ limit) × (limit < tree_size expression []) }
+        ensures not_large { tree_size expression [] ≤ limit → ForSome (S.state site.old).disk
+            (λ disk. StartsFrom expression limit disk.file result) }
+        ensures starts { IfOk result (λ m.
+            m ≡ started (opening_of expression limit m.machine.history) m.store) }
+        ensures fits { IfOk result (λ m. FitsSite m (S.state site.new) (S.crashes site.new)) }
+        ensures failed { result ≡ Err StartFault.Disk
+            → Rose (S.state site.old).counts.disk (S.state site.new).counts.disk }
+
+        // What the disk is left with, whatever the answer.
+        ensures leaves { ForSome (S.state site.old).disk (λ disk.
+            StartLeaves expression limit disk.file (S.state site.old) (S.state site.new)
+            (S.crashes site.old) (S.crashes site.new)) }
+        ensures calls { DiskCalls (S.state site.old) (S.state site.new)
+            (S.crashes site.old) (S.crashes site.new) }
     {
-        let _ = site;
-        let machine = match Machine::new(alloc, expression, limit) {
+        let Ok(text) = text(alloc, &expression) else {
+            return Err(StartFault::Memory);
+        };
+        let mut machine = match Machine::new(alloc, expression, limit) {
             Ok(machine) => machine,
             Err(fault) => return Err(start_fault(fault)),
         };
         let Ok(lines) = all_lines(alloc) else {
             return Err(StartFault::Memory);
         };
-        Ok(Manager {
-            machine,
-            lines,
-            marks: [false; CONNECTIONS],
-            ended: false,
-        })
+        let (store, actions) = match Store::start(alloc, site, &text) {
+            Ok(opened) => opened,
+            Err(fault) => return Err(open_fault(fault)),
+        };
+        match machine.recover(alloc, &actions) {
+            Ok(()) => Ok(Manager {
+                journaled: Journaled { machine, store },
+                lines,
+                marks: [false; CONNECTIONS],
+                ended: false,
+            }),
+            Err(fault) => Err(fault),
+        }
     }
 
     /// Takes an event with its bytes: raises the moment, handles each line that the bytes complete,
@@ -98,69 +137,94 @@ impl Manager {
     /// `Stopped` is the answer. Closing a connection drops its unfinished line and its mark. A
     /// reply whose `send` answers Gone marks its connection; further lines of it are handled, and
     /// their replies aren't sent, until it is closed. A reservation outlives its connection.
-    pub fn handle<S: Site>(&mut self, alloc: Global, event: Event, bytes: &[u8], site: &mut S) -> Go
+    ///
+    /// An action is in the journal before its confirm is answered. Where the disk fails then, the
+    /// history stays, `refused 91 disk` is the reply, no further line is handled, and `Stop::Disk`
+    /// is the answer.
+    pub fn handle<S: Site>(
+        &mut self,
+        alloc: Global,
+        event: Event,
+        bytes: &[u8],
+        site: &mut S,
+    ) -> Result<Go, Stop>
         requires going { self.old.ended ≡ false }
         requires tickets { self.old.machine.ticket < 2 ^ 63 }
         requires event { FitsEvent event bytes.now }
+        requires attached { (S.state site.old).attached ≡ true }
+        requires fits { FitsSite self.old (S.state site.old) (S.crashes site.old) }
 
-        // The machine takes the event, and its replies are sent.
-        ensures handles { Handles self.old event bytes.now (ending_after result) self.new
-            (S.state site.old).contents (S.state site.new).contents }
+        // The machine takes the event, its replies are sent, and the journal keeps its history.
+        ensures handles { HandlesOver self.old event bytes.now result self.new
+            (S.state site.old) (S.state site.new) (S.crashes site.new) }
+        ensures failed { OnErr result
+            (Rose (S.state site.old).counts.disk (S.state site.new).counts.disk) }
+        ensures fits { OnOk result (FitsSite self.new (S.state site.new) (S.crashes site.new)) }
 
         // A connection is newly marked only where the count of sends rose.
-        ensures marks { (conn : ℕ) → get_or self.old.marks conn false ≡ false → get_or self.new.marks conn false ≡ true
+        ensures marks { (conn : ℕ)
+            → get_or self.old.marks conn false ≡ false → get_or self.new.marks conn false ≡ true
             → Rose (S.state site.old).counts.send (S.state site.new).counts.send }
         ensures tickets { self.new.machine.ticket ≤ self.old.machine.ticket + length bytes.now }
-        ensures site { OnlySend (S.state site.old) (S.state site.new) }
+        ensures passes { Passes (S.state site.old) (S.state site.new)
+            (S.crashes site.old) (S.crashes site.new) }
+        ensures site { OnlyServes (S.state site.old) (S.state site.new) }
     {
-        self.machine.raise(event.moment);
+        self.journaled.machine.raise(event.moment);
         match event.kind {
             EventKind::Bytes(_) => self.take_bytes(alloc, event.conn, bytes, site),
             EventKind::Closed => {
                 self.close(event.conn);
-                Go::More
+                Ok(Go::More)
             }
-            EventKind::End => Go::More,
+            EventKind::End => Ok(Go::More),
         }
     }
 
-    /// Takes bytes of a connection, to their end or through a line `stop`, and answers each
-    /// item that they complete.
-    fn take_bytes<S: Site>(&mut self, alloc: Global, conn: u8, bytes: &[u8], site: &mut S) -> Go
+    /// Takes bytes of a connection, to their end or through the line that ends the run, and answers
+    /// each item that they complete.
+    fn take_bytes<S: Site>(
+        &mut self,
+        alloc: Global,
+        conn: u8,
+        bytes: &[u8],
+        site: &mut S,
+    ) -> Result<Go, Stop>
         requires connection { conn < 64 }
         requires tickets { self.old.machine.ticket + length bytes.now < 2 ^ 64 - 1 }
-        ensures takes { TakesBytes conn bytes.now (ending_after result) self.old self.new
+        requires attached { (S.state site.old).attached ≡ true }
+        requires fits { FitsSite self.old (S.state site.old) (S.crashes site.old) }
+        ensures takes { BytesOver conn bytes.now result self.old self.new
             (wired (get_or self.old.marks conn false) (S.state site.old))
-            (wired false (S.state site.new)) }
+            (wired false (S.state site.new)) (S.crashes site.old) (S.crashes site.new) }
         ensures tickets { self.new.machine.ticket ≤ self.old.machine.ticket + length bytes.now }
     {
         let index = usize::from(conn);
         let mut gone = self.marks[index];
         let lines = &mut self.lines[index];
-        let go = take_piece(
-            &mut self.machine,
-            lines,
-            alloc,
-            conn,
-            &mut gone,
-            bytes,
-            site,
-        );
+        let piece = Piece { conn, bytes };
+        let outcome = take_piece(&mut self.journaled, lines, alloc, &mut gone, piece, site);
         self.marks[index] = gone;
-        self.ended = has_ended(go);
-        go
+        self.ended = match outcome {
+            Ok(Go::More) => false,
+            Ok(Go::Stopped) | Err(_) => true,
+        };
+        outcome
     }
 
     fn close(&mut self, conn: u8)
         requires { conn < 64 }
-        ensures { self.new ≡ record self.old { lines = set self.old.lines conn (unfinished []); marks = set self.old.marks conn false } }
+        ensures { self.new ≡ record self.old {
+          lines = set self.old.lines conn (unfinished []);
+          marks = set self.old.marks conn false;
+        } }
     {
         let index = usize::from(conn);
         self.lines[index].clear();
         self.marks[index] = false;
     }
 
-    /// Whether `stop` came. Then no further event may be handled.
+    /// Whether `stop` came, or a confirm failed. Then no further event may be handled.
     pub fn ended(&self) -> bool
         ensures { result ≡ self.now.ended }
     {
@@ -171,23 +235,14 @@ impl Manager {
     pub fn history(&self) -> &[Action]
         ensures { result.now ≡ self.now.machine.history }
     {
-        self.machine.history()
+        self.journaled.machine.history()
     }
 
     /// The next ticket, which is 1 at the start.
     pub fn tickets(&self) -> u64
         ensures { result ≡ self.now.machine.ticket }
     {
-        self.machine.ticket()
-    }
-}
-
-fn has_ended(go: Go) -> bool
-    ensures { result ≡ spec.has_ended (ending_after go) }
-{
-    match go {
-        Go::More => false,
-        Go::Stopped => true,
+        self.journaled.machine.ticket()
     }
 }
 
@@ -207,5 +262,18 @@ fn start_fault(fault: BuildFault) -> StartFault
     match fault {
         BuildFault::Over { limit } => StartFault::Large { limit },
         BuildFault::Memory => StartFault::Memory,
+    }
+}
+
+fn open_fault(fault: OpenFault) -> StartFault
+    ensures { result ≡ open_fault_of fault }
+{
+    match fault {
+        OpenFault::Disk => StartFault::Disk,
+        OpenFault::NotJournal => StartFault::Foreign,
+        OpenFault::OtherExpression { kept } => StartFault::Other { kept },
+        OpenFault::Damaged { at } => StartFault::Damaged { at },
+        OpenFault::Many => StartFault::Many,
+        OpenFault::Memory => StartFault::Memory,
     }
 }

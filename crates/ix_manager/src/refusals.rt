@@ -26,6 +26,8 @@ pub(crate) const NO_SUCH_WATCH: u8 = 41;
 pub(crate) const NO_SUCH_ENTRY: u8 = 42;
 /// Memory ran out.
 pub(crate) const MEMORY: u8 = 90;
+/// The disk failed.
+pub(crate) const DISK: u8 = 91;
 
 /// A refusal that has no number.
 pub(crate) fn refused(code: u8) -> Reply

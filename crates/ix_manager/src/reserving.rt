@@ -1,11 +1,15 @@
 //! Asks, and what becomes of a reservation.
 
-ghost use Rattle.std.specs.Prelude.{◌≡◌, ◌-◌, ◌^◌, ◌<◌, IfOk, IfErr, OnOk, IfSome, IfNone};
+ghost use Rattle.std.specs.Prelude.{◌≡◌, ◌≢◌, ◌-◌, ◌^◌, ◌<◌, length};
+ghost use Rattle.std.specs.Prelude.{IfOk, IfErr, OnOk, IfSome, IfNone};
+ghost use Rattle.ix_values.specs.PlainAction.{PlainAction};
 ghost use Rattle.ix_engine.specs.inside.Engine.{Allows};
 ghost use Rattle.ix_lease.specs.Slots.{IsOpenAt};
 ghost use Rattle.ix_proto.specs.Requests as request;
 ghost use Rattle.ix_manager.specs.inside.Ready.{IsPrepared, Refuses, IsOpenUpTo};
+ghost use Rattle.ix_proto.specs.inside.ReplyTexts.{CanBeTold};
 ghost use Rattle.ix_manager.specs.inside.Does.{Does};
+ghost use Rattle.ix_manager.specs.inside.Saving.{Finds, Commits};
 
 use crate::machine::Machine;
 use crate::refusals::{BUSY, EXPIRED, FULL, LARGE, MEMORY, NO_SUCH_TICKET, NOT_PERMITTED, refused};
@@ -46,21 +50,29 @@ impl Machine {
         }
     }
 
-    /// Answers that the action of the ticket was done: it is appended to the history where its
-    /// reservation is open. Takes no memory.
-    pub(crate) fn confirm(&mut self, ticket: u64) -> Reply
-        ensures { Does self.old (request.confirm ticket) result self.new }
+    /// The action of the ticket's reservation, where it is open.
+    pub(crate) fn reserved(&self, ticket: u64) -> Take
+        ensures takes { Finds self.now ticket result }
+        ensures room { (a : PlainAction) → result ≡ Take.Taken a
+            → length self.now.state.history < 1000000 }
     {
-        match self.slot.take(ticket, self.moment) {
-            Take::Taken(_) => match self.pending.take() {
-                Some(next) => {
-                    self.engine.commit(next);
-                    Reply::Confirmed(self.engine.history().len() as u64)
-                }
-                None => unreachable!(),
-            },
-            Take::Expired => refused(EXPIRED),
-            Take::NoSuch => refused(NO_SUCH_TICKET),
+        let mut slot = self.slot;
+        slot.take(ticket, self.moment)
+    }
+
+    /// Appends the reserved action to the history, which ends the reservation. Takes no memory.
+    pub(crate) fn commit(&mut self) -> Reply
+        requires { self.old.state.slot ≢ Slot.Free }
+        ensures commits { Commits self.old result self.new }
+        ensures told { CanBeTold result }
+    {
+        match self.pending.take() {
+            Some(next) => {
+                self.engine.commit(next);
+                self.slot = Slot::Free;
+                Reply::Confirmed(self.engine.history().len() as u64)
+            }
+            None => unreachable!(),
         }
     }
 

@@ -4,6 +4,7 @@ ghost use Rattle.std.specs.Prelude.{◌≡◌, ◌≤◌, [], ◌∷◌, length}
 ghost use Rattle.ix_watch.specs.inside.Watches.{changes_of};
 ghost use Rattle.ix_proto.specs.inside.ReplyTexts.{CanBeTold};
 ghost use Rattle.ix_manager.specs.inside.Core.{change_replies};
+ghost use Rattle.ix_manager.specs.inside.Saving.{OnlySends};
 ghost use Rattle.ix_manager.specs.inside.WireState.{wired, SendsAll, poll_replies};
 
 use crate::machine::Machine;
@@ -16,8 +17,10 @@ use ix_watch::Changes;
 /// Sends a reply on a connection, unless it is marked as gone. A send that answers Gone marks it.
 pub(crate) fn send_reply<S: Site>(site: &mut S, conn: u8, gone: &mut bool, reply: &Reply)
     requires { CanBeTold reply.now }
-    ensures { SendsAll conn (reply.now ∷ [])
+    ensures sends { SendsAll conn (reply.now ∷ [])
         (wired gone.old (S.state site.old)) (wired gone.new (S.state site.new)) }
+    ensures only { OnlySends (S.state site.old) (S.state site.new)
+        (S.crashes site.old) (S.crashes site.new) }
 {
     if *gone {
         return;
@@ -37,8 +40,10 @@ pub(crate) fn send_changes<S: Site>(
     machine: &Machine,
     name: &Name,
 )
-    ensures { SendsAll conn (poll_replies (changes_of name.now machine.now.noted))
+    ensures sends { SendsAll conn (poll_replies (changes_of name.now machine.now.noted))
         (wired gone.old (S.state site.old)) (wired gone.new (S.state site.new)) }
+    ensures only { OnlySends (S.state site.old) (S.state site.new)
+        (S.crashes site.old) (S.crashes site.new) }
 {
     let count = count_changes(machine, name);
     send_reply(site, conn, gone, &Reply::Changes(count));
@@ -52,8 +57,10 @@ fn count_changes(machine: &Machine, name: &Name) -> u32
 }
 
 fn send_each<S: Site>(site: &mut S, conn: u8, gone: &mut bool, changes: Changes<'_>)
-    ensures { SendsAll conn (change_replies changes.entry)
+    ensures sends { SendsAll conn (change_replies changes.entry)
         (wired gone.old (S.state site.old)) (wired gone.new (S.state site.new)) }
+    ensures only { OnlySends (S.state site.old) (S.state site.new)
+        (S.crashes site.old) (S.crashes site.new) }
 {
     for (action, answer) in changes {
         send_reply(site, conn, gone, &Reply::Change(answer, *action));

@@ -1,11 +1,12 @@
 //! Events through a manager over a site in memory, with answers worked out by hand.
 
-ghost use Rattle.std.specs.Prelude.{◌≤◌};
+ghost use Rattle.std.specs.Prelude.{◌≡◌, ◌≤◌, true, IfOk, OnSome};
+ghost use Rattle.ix_manager.specs.inside.OverSite.{FitsSite};
 
 use super::*;
 use ix_expr::{Atom, Expr, Expression};
 use ix_memory::MemorySite;
-use ix_outside::{Event, EventKind};
+use ix_outside::{Event, EventKind, Site};
 use ix_values::Name;
 use std::alloc::{AllocError, Global};
 use std::test::Fail;
@@ -28,37 +29,53 @@ fn expression(alloc: Global) -> Result<Expression, Fail> {
     Ok(Expression::new(expr).map_err(|_| "not well formed")?)
 }
 
-/// Hands an event to the manager.
-fn hand_over(
+/// Hands an event to the manager. None where the disk failed.
+fn hand_over<S: Site>(
     alloc: Global,
     manager: &mut Manager,
-    site: &mut MemorySite,
+    site: &mut S,
     coming: Coming<'_>,
-) -> Result<Go, Fail> {
+) -> Result<Option<Go>, Fail>
+    requires attached { (S.state site.old).attached ≡ true }
+    requires fits { FitsSite manager.old (S.state site.old) (S.crashes site.old) }
+    ensures attached { IfOk result (λ _. (S.state site.new).attached ≡ true) }
+    ensures fits { IfOk result (λ went. OnSome went
+        (FitsSite manager.new (S.state site.new) (S.crashes site.new))) }
+{
     let (conn, moment, bytes) = coming;
     if manager.ended() || manager.tickets() > 1000 || conn > 63 || bytes.len() > 4096 {
         return Err("no event for the manager".into());
     }
-    if bytes.is_empty() {
-        let kind = EventKind::Closed;
-        return Ok(manager.handle(alloc, Event { conn, moment, kind }, &[], site));
+    let kind = if bytes.is_empty() {
+        EventKind::Closed
+    } else {
+        EventKind::Bytes(bytes.len())
+    };
+    let event = Event { conn, moment, kind };
+    match manager.handle(alloc, event, bytes, site) {
+        Ok(go) => Ok(Some(go)),
+        Err(Stop::Disk) => Ok(None),
     }
-    let kind = EventKind::Bytes(bytes.len());
-    Ok(manager.handle(alloc, Event { conn, moment, kind }, bytes, site))
 }
 
-/// Hands over events, and says whether the last one stopped the run.
-fn hand_all(
+/// Hands over events up to one in which the disk fails, and says how the last one went.
+fn hand_all<S: Site>(
     alloc: Global,
     manager: &mut Manager,
-    site: &mut MemorySite,
+    site: &mut S,
     events: &[Coming<'_>],
-) -> Result<bool, Fail> {
-    let mut go = Go::More;
+) -> Result<Option<Go>, Fail>
+    requires attached { (S.state site.old).attached ≡ true }
+    requires fits { FitsSite manager.old (S.state site.old) (S.crashes site.old) }
+{
+    let mut last = Go::More;
     for coming in events {
-        go = hand_over(alloc, manager, site, *coming)?;
+        match hand_over(alloc, manager, site, *coming)? {
+            Some(go) => last = go,
+            None => return Ok(None),
+        }
     }
-    Ok(go == Go::Stopped)
+    Ok(Some(last))
 }
 
 /// What was sent: of each send its connection, a space and its bytes.
@@ -73,34 +90,46 @@ fn sent_text(alloc: Global, site: &MemorySite) -> Result<Vec<u8>, Fail> {
     Ok(text)
 }
 
-/// What was sent, how many actions were confirmed, and whether the run was stopped.
+/// What was sent, how many actions were confirmed, how the last event went, and the file.
 #[derive(Drop)]
 struct Played {
     text: Vec<u8>,
     confirmed: usize,
-    is_stopped: bool,
+    went: Option<Go>,
+    file: Vec<u8>,
 }
 
-/// Plays events over a site whose calls of these numbers fail.
-fn play(alloc: Global, fail: &[u64], events: &[Coming<'_>]) -> Result<Played, Fail> {
+/// Plays events over a site with this file whose calls of these numbers fail.
+fn play(alloc: Global, file: &[u8], fail: &[u64], events: &[Coming<'_>]) -> Result<Played, Fail> {
     let fail = fail.to_vec(alloc)?;
-    let mut site = MemorySite::new(alloc, Vec::new(alloc), Vec::new(alloc), 4096, fail, None)?;
+    let file = file.to_vec(alloc)?;
+    let mut site = MemorySite::new(alloc, file, Vec::new(alloc), 8192, fail, None)?;
+    if site.attach("journal").is_err() {
+        return Err("not attached".into());
+    }
     match Manager::start(alloc, &mut site, expression(alloc)?, 100) {
         Ok(mut manager) => {
-            let is_stopped = hand_all(alloc, &mut manager, &mut site, events)?;
+            let went = hand_all(alloc, &mut manager, &mut site, events)?;
             Ok(Played {
                 text: sent_text(alloc, &site)?,
                 confirmed: manager.history().len(),
-                is_stopped,
+                went,
+                file: site.image().to_vec(alloc)?,
             })
         }
         Err(_) => Err("not started".into()),
     }
 }
 
+/// A journal of `a - b` in which `a` was confirmed.
+const JOURNAL: &[u8] = b"\xA5IXJ1\x00\x05a - b\xA5\x00\x01a\x00";
+
+/// One of `a - b` without records.
+const EMPTY: &[u8] = b"\xA5IXJ1\x00\x05a - b\x00";
+
 #[test]
 fn events_of_several_connections(rt: HostRuntime) -> Result<(), Fail> {
-    let cases: [(&[u64], &[Coming<'_>], &[u8], usize, bool); 4] = [
+    let cases: [(&[u64], &[Coming<'_>], &[u8], usize, Go); 4] = [
         (
             &[],
             &[
@@ -112,7 +141,7 @@ fn events_of_several_connections(rt: HostRuntime) -> Result<(), Fail> {
             ],
             b"1 status partial 0 nodes 2\n1 no\n0 granted 1\n1 no\n1 confirmed 1\n1 entry 1 a\n",
             1,
-            false,
+            Go::More,
         ),
         (
             &[],
@@ -123,10 +152,10 @@ fn events_of_several_connections(rt: HostRuntime) -> Result<(), Fail> {
             ],
             b"0 granted 1\n0 refused 31 expired\n0 refused 30 no such ticket\n",
             0,
-            false,
+            Go::More,
         ),
         (
-            &[1],
+            &[5],
             &[
                 (0, 1, b"may a\nmay a\nmay a\n"),
                 (1, 1, b"may b\n"),
@@ -135,38 +164,116 @@ fn events_of_several_connections(rt: HostRuntime) -> Result<(), Fail> {
             ],
             b"0 yes\n0 ye1 no\n0 yes\n",
             0,
-            false,
+            Go::More,
         ),
-        (&[], &[(2, 1, b"stop\nmay a\n")], b"2 stopping\n", 0, true),
+        (
+            &[],
+            &[(2, 1, b"stop\nmay a\n")],
+            b"2 stopping\n",
+            0,
+            Go::Stopped,
+        ),
     ];
-    for (fail, events, text, confirmed, is_stopped) in cases {
-        let played = play(rt.alloc(), fail, events)?;
+    for (fail, events, text, confirmed, go) in cases {
+        let played = play(rt.alloc(), EMPTY, fail, events)?;
         assert!(rt; played.text.as_slice() == text, "what {text:?} sends");
         assert_eq!(rt; played.confirmed, confirmed, "{text:?}");
-        assert_eq!(rt; played.is_stopped, is_stopped, "{text:?}");
+        assert_eq!(rt; played.went, Some(go), "{text:?}");
     }
     Ok(())
 }
 
-/// Why no manager is started under a limit.
-fn start_fault(alloc: Global, limit: usize) -> Result<Option<StartFault>, Fail>
+#[test]
+fn confirms_are_in_the_journal(rt: HostRuntime) -> Result<(), Fail> {
+    // The file, the calls that fail, what comes, what is sent, and the file then. Calls 0 to 3
+    // attach and read a journal, 4 sends `granted`, and 5 to 8 append: 8 is the second sync.
+    let confirm: &[Coming<'_>] = &[(0, 1, b"ask a 50\nconfirm 1\nstatus\n")];
+    let cases: [(&[u8], &[u64], &[Coming<'_>], &[u8], &[u8]); 3] = [
+        (
+            JOURNAL,
+            &[],
+            &[(0, 5, b"status\nlog 1\nlog 2\n")],
+            b"0 status partial 1 nodes 3\n0 entry 1 a\n0 refused 42 no such entry\n",
+            JOURNAL,
+        ),
+        (
+            EMPTY,
+            &[],
+            confirm,
+            b"0 granted 1\n0 confirmed 1\n0 status partial 1 nodes 3\n",
+            JOURNAL,
+        ),
+        (
+            EMPTY,
+            &[8],
+            confirm,
+            b"0 granted 1\n0 refused 91 disk\n",
+            JOURNAL,
+        ),
+    ];
+    for (file, fail, events, text, then) in cases {
+        let played = play(rt.alloc(), file, fail, events)?;
+        assert!(rt; played.text.as_slice() == text, "what {text:?} sends");
+        assert!(rt; played.file.as_slice() == then, "the file behind {text:?}");
+        assert_eq!(rt; played.went.is_none(), !fail.is_empty(), "{text:?}");
+    }
+    Ok(())
+}
+
+/// What a start answered: a word or the other text that is kept, and a number.
+#[derive(Drop)]
+struct Told {
+    text: Vec<u8>,
+    number: u64,
+}
+
+fn make_told(alloc: Global, text: &[u8], number: u64) -> Result<Told, Fail> {
+    let text = text.to_vec(alloc)?;
+    Ok(Told { text, number })
+}
+
+/// What starting from a file under a limit answers.
+fn start_from(alloc: Global, file: &[u8], limit: usize) -> Result<Told, Fail>
     requires least { 1 ≤ limit }
     requires most { limit ≤ 1000000 }
 {
+    let file = file.to_vec(alloc)?;
     let fail = Vec::new(alloc);
-    let mut site = MemorySite::new(alloc, Vec::new(alloc), Vec::new(alloc), 16, fail, None)?;
+    let mut site = MemorySite::new(alloc, file, Vec::new(alloc), 4096, fail, None)?;
+    if site.attach("journal").is_err() {
+        return Err("not attached".into());
+    }
     match Manager::start(alloc, &mut site, expression(alloc)?, limit) {
-        Ok(_) => Ok(None),
-        Err(fault) => Ok(Some(fault)),
+        Ok(manager) => make_told(alloc, b"started", manager.history().len() as u64),
+        Err(StartFault::Large { limit }) => make_told(alloc, b"large", limit as u64),
+        Err(StartFault::Disk) => make_told(alloc, b"disk", 0),
+        Err(StartFault::Foreign) => make_told(alloc, b"foreign", 0),
+        Err(StartFault::Other { kept }) => make_told(alloc, &kept, 0),
+        Err(StartFault::Damaged { at }) => make_told(alloc, b"damaged", at as u64),
+        Err(StartFault::Many) => make_told(alloc, b"many", 0),
+        Err(StartFault::Word { number }) => make_told(alloc, b"word", number),
+        Err(StartFault::Heavy { number, .. }) => make_told(alloc, b"heavy", number),
+        Err(StartFault::Memory) => Err("no memory".into()),
     }
 }
 
 #[test]
-fn an_initial_tree_above_the_limit(rt: HostRuntime) -> Result<(), Fail> {
-    assert_eq!(rt;
-        start_fault(rt.alloc(), 1)?,
-        Some(StartFault::Large { limit: 1 })
-    );
-    assert_eq!(rt; start_fault(rt.alloc(), 2)?, None);
+fn files_that_are_started_from_or_not(rt: HostRuntime) -> Result<(), Fail> {
+    let cases: [(&[u8], usize, &[u8], u64); 9] = [
+        (b"", 1, b"large", 1),
+        (b"", 2, b"started", 0),
+        (JOURNAL, 3, b"started", 1),
+        (b"\x5A", 100, b"started", 0),
+        (b"#!/bin/sh", 100, b"foreign", 0),
+        (b"\xA5IXJ1\x00\x05a - c\x00", 100, b"a - c", 0),
+        (b"\xA5IXJ1\x00\x05a - b\xA5\x00\x01a", 100, b"damaged", 13),
+        (b"\xA5IXJ1\x00\x05a - b\xA5\x00\x01b\x00", 100, b"word", 1),
+        (JOURNAL, 2, b"heavy", 1),
+    ];
+    for (file, limit, text, number) in cases {
+        let told = start_from(rt.alloc(), file, limit)?;
+        assert!(rt; told.text.as_slice() == text, "{text:?}");
+        assert_eq!(rt; told.number, number, "{text:?}");
+    }
     Ok(())
 }

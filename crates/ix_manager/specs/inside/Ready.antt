@@ -1,7 +1,6 @@
 -- What stands ready for a reservation, and why an action isn't prepared for one.
-use Rattle.std.specs.Prelude.{◌≡◌, ℕ, ◌<◌, ◌≤◌, Option, Some, None, length, []}
+use Rattle.std.specs.Prelude.{◌≡◌, ℕ, ◌<◌, ◌≤◌, Option, Some, None, length}
 use Rattle.ix_values.specs.PlainAction.{PlainAction}
-use Rattle.ix_tree.specs.PlainOf.{plain}
 use Rattle.ix_can.specs.TreeOf.{tree_size}
 use Rattle.ix_engine.specs.inside.Engine.{EngineState, Follows, Permits, extended}
 use Rattle.ix_engine.specs.declared.next.Next.{Next}
@@ -13,7 +12,7 @@ use Rattle.ix_manager.specs.Refusals as refused
 -- the prepared action is this one and follows the engine, which has the memory for it
 pub record IsPrepared (engine : EngineState) (action : PlainAction) (next : Next) : Type 0 where
   pub same : next.action ≡ action
-  pub follows : Follows engine next.action (plain next.tree)
+  pub follows : Follows engine next.action next.tree
   pub spare : 1 ≤ engine.spare
 
 -- where the slot is held, its action is prepared

@@ -1,34 +1,46 @@
 -- What taking one item of a piece makes, and what taking all bytes of an event makes.
-use Rattle.std.specs.Prelude.{◌≡◌, ℕ, Bool, List, [], Option, Some, None, take, set}
+use Rattle.std.specs.Prelude.{◌≡◌, ℕ, Bool, List, [], take, set}
+use Rattle.std.specs.Prelude.{Option, Some, None, Result, Ok, Err}
 use Rattle.ix_lines.specs.Items.{Item}
 use Rattle.ix_lines.specs.Feeding.{UnfinishedLine, Feeds, completes, holds_after}
 use Rattle.ix_proto.specs.declared.reply.Reply.{Reply}
+use Rattle.ix_outside.specs.Crashes.{Crashes}
 use Rattle.ix_manager.specs.declared.answering.Taken.{Taken}
+use Rattle.ix_manager.specs.declared.faults.Go.{Go}
+use Rattle.ix_manager.specs.declared.faults.Stop.{Stop}
+use Rattle.ix_manager.specs.declared.journaled.Journaled.{Journaled}
 use Rattle.ix_manager.specs.Runs.{Ending, going, Steps}
 use Rattle.ix_manager.specs.Wire.{all_replies}
 use Rattle.ix_manager.specs.Handled.{ManagerState, held_at, has_ended}
-use Rattle.ix_manager.specs.inside.EndingAfter.{ending_after}
-use Rattle.ix_manager.specs.inside.Core.{Core}
-use Rattle.ix_manager.specs.inside.WireState.{WireState, SendsAll, AnswersItem}
+use Rattle.ix_manager.specs.inside.OverSite.{EndsBy}
+use Rattle.ix_manager.specs.inside.Saving.{SavesRun}
+use Rattle.ix_manager.specs.inside.WireState.{WireState, SendsAll, ItemOver, Rests}
 
 -- the first item of a piece is taken and answered
-pub record TakesOne (conn : ℕ) (held : UnfinishedLine) (piece : List ℕ) (taken : Taken) (after_it : UnfinishedLine) (old new : Core) (before after : WireState) : Type 0 where
+pub record TakesOne (conn : ℕ) (held : UnfinishedLine) (piece : List ℕ) (used : ℕ)
+    (result : Result Go Stop) (after_it : UnfinishedLine) (old new : Journaled)
+    (before after : WireState) (was is : Crashes) : Type 0 where
   pub item : Item
-  pub feeds : Feeds held piece (Some item) taken.used
-  pub held_is : after_it ≡ holds_after held (take taken.used piece)
-  pub answers : AnswersItem conn item (ending_after taken.go) old new before after
+  pub feeds : Feeds held piece (Some item) used
+  pub held_is : after_it ≡ holds_after held (take used piece)
+  pub answers : ItemOver conn item result old new before after was is
 
 -- the piece is taken to its end, and completes nothing
-pub record TakesNone (held : UnfinishedLine) (piece : List ℕ) (after_it : UnfinishedLine) (old new : Core) (before after : WireState) : Type 0 where
+pub record TakesNone (held : UnfinishedLine) (piece : List ℕ) (after_it : UnfinishedLine)
+    (old new : Journaled) (before after : WireState) (was is : Crashes) : Type 0 where
   pub completes_none : completes held piece ≡ []
   pub held_is : after_it ≡ holds_after held piece
-  pub core : new ≡ old
-  pub wire : after ≡ before
+  pub rests : Rests old new before after was is
 
 -- the first item of a piece is taken, if it completes one
-abbrev pub TakesItem : ℕ → UnfinishedLine → List ℕ → Option Taken → UnfinishedLine → Core → Core → WireState → WireState → Type 0
-TakesItem conn held piece (Some taken) after_it old new before after = TakesOne conn held piece taken after_it old new before after
-TakesItem conn held piece None after_it old new before after = TakesNone held piece after_it old new before after
+abbrev pub TakesItem : ℕ → UnfinishedLine → List ℕ → Result (Option Taken) Stop → UnfinishedLine
+    → Journaled → Journaled → WireState → WireState → Crashes → Crashes → Type 0
+TakesItem conn held piece (Ok (Some taken)) after_it old new before after was is =
+    TakesOne conn held piece taken.used (Ok taken.go) after_it old new before after was is
+TakesItem conn held piece (Ok None) after_it old new before after was is =
+    TakesNone held piece after_it old new before after was is
+TakesItem conn held piece (Err stop) after_it old new before after was is =
+    (used : ℕ) × TakesOne conn held piece used (Err stop) after_it old new before after was is
 
 -- bytes of a connection are taken, and their replies are sent; the connection is then marked or not
 pub record TakesBytes (conn : ℕ) (bytes : List ℕ) (ending : Ending) (old new : ManagerState) (before after : WireState) : Type 0 where
@@ -41,3 +53,11 @@ pub record TakesBytes (conn : ℕ) (bytes : List ℕ) (ending : Ending) (old new
   pub ended : new.ended ≡ has_ended ending
   pub form : new.form ≡ old.form
   pub limit : new.limit ≡ old.limit
+
+-- bytes of a connection are taken over a site
+pub record BytesOver (conn : ℕ) (bytes : List ℕ) (result : Result Go Stop) (old new : ManagerState)
+    (before after : WireState) (was is : Crashes) : Type 0 where
+  pub ending : Ending
+  pub answered : EndsBy result ending
+  pub takes : TakesBytes conn bytes ending old new before after
+  pub saves : SavesRun ending old new before.site after.site was is

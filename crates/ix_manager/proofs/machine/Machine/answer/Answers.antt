@@ -6,6 +6,7 @@ use Rattle.ix_proto.specs.declared.reply.Reply.TheVariants.{Stopping}
 use Rattle.ix_manager.specs.Machine.{Step, stopping}
 use Rattle.ix_manager.specs.inside.Core.{Core}
 use Rattle.ix_manager.proofs.Requesting.{OfEach, ask_is, may_is, watch_is, drop_is, stop_is}
+use Rattle.ix_manager.proofs.HistoryLemmas.{does_history, poll_history}
 use Rattle.ix_manager.proofs.machine.Machine.answer.Goals as goal
 
 -- the step of a request that was answered by one reply
@@ -53,3 +54,19 @@ returns-in-Stop-clause-answers c =
       subst (λ (r : Request). OfEach r P) (sym c.in-Stop.is) (stop_is P stopping),
       tt,
     )
+
+-- none of these changes the history
+pub returns-in-Ask-clause-history : goal.returns-in-Ask-clause-history
+returns-in-Ask-clause-history c = does_history c.args.self.now c.ask.new.self _ c.ask.result tt c.ask.ensures
+
+pub returns-in-Cancel-clause-history : goal.returns-in-Cancel-clause-history
+returns-in-Cancel-clause-history c = does_history c.args.self.now c.cancel.new.self _ c.cancel.result tt c.cancel.ensures
+
+pub returns-in-Watch-clause-history : goal.returns-in-Watch-clause-history
+returns-in-Watch-clause-history c = does_history c.args.self.now c.watch.new.self _ c.watch.result tt c.watch.ensures
+
+pub returns-in-Drop-clause-history : goal.returns-in-Drop-clause-history
+returns-in-Drop-clause-history c = does_history c.args.self.now c.drop_watch.new.self _ c.drop_watch.result tt c.drop_watch.ensures
+
+pub returns-in-Poll-clause-history : goal.returns-in-Poll-clause-history
+returns-in-Poll-clause-history c = poll_history c.args.self.now c.poll.new.self _ c.poll.result c.poll.ensures

@@ -1,0 +1,203 @@
+-- What is answered over a site.
+use Rattle.std.proofs.Common.{◌≡◌, ℕ, Bool, false, List, [], ◌∷◌, ◌++◌, Result, Ok, Err, refl, sym, ap, subst}
+use Rattle.std.specs.Option.{ForSome}
+use Rattle.ix_values.specs.PlainAction.{PlainAction, Word}
+use Rattle.ix_expr.specs.CanonicalText.{canonical_text}
+use Rattle.ix_lease.specs.declared.Take.TheVariants.{Taken, Expired, NoSuch}
+use Rattle.ix_lines.specs.Items.{line, too_long}
+use Rattle.ix_lines.specs.Words.{words_of}
+use Rattle.ix_outside.specs.Counts.{Rose}
+use Rattle.ix_outside.specs.Crashes.{Crashes, AreLawful}
+use Rattle.ix_outside.specs.SiteState.{SiteState}
+use Rattle.ix_outside.specs.inside.DiskCalls.{DiskCalls, LeavesOnly}
+use Rattle.ix_outside.proofs.Passing.{DiskCalls-none}
+use Rattle.ix_proto.specs.Requests.{confirm}
+use Rattle.ix_proto.specs.RequestFaults.{IsRequestFault}
+use Rattle.ix_proto.specs.inside.Lends.{Lends, Reads}
+use Rattle.ix_proto.specs.declared.reply.Reply.{Reply}
+use Rattle.ix_proto.specs.declared.reply.Reply.TheVariants as reply
+use Rattle.ix_proto.specs.declared.request.Request.{Request}
+use Rattle.ix_proto.specs.declared.request.Request.TheVariants.{Confirm}
+use Rattle.ix_store.specs.inside.Keeping.{Fits, IsWithOrWithout}
+use Rattle.ix_store.specs.inside.KeptBy.{kept}
+use Rattle.ix_manager.specs.Machine as machine
+use Rattle.ix_manager.specs.Machine.{MachineState}
+use Rattle.ix_manager.specs.Refusals.{disk}
+use Rattle.ix_manager.specs.Runs.{going, failed}
+use Rattle.ix_manager.specs.declared.faults.Go.{Go}
+use Rattle.ix_manager.specs.declared.faults.Go.TheVariants.{More}
+use Rattle.ix_manager.specs.declared.faults.Stop.{Stop}
+use Rattle.ix_manager.specs.declared.faults.Stop.TheVariants.{Disk}
+use Rattle.ix_manager.specs.declared.journaled.Journaled.{Journaled}
+use Rattle.ix_manager.specs.inside.Core.{Core}
+use Rattle.ix_manager.specs.inside.Does.{Does}
+use Rattle.ix_manager.specs.inside.OverSite.{ending_after}
+use Rattle.ix_manager.specs.inside.Saving.{FitsJournal, OnlySends, Saves, SavesJournal, Finds, Commits, ConfirmsOver}
+use Rattle.ix_manager.specs.inside.WireState.{WireState, wired, SendsAll, AnswersRequest, RequestOver, ItemOver}
+use Rattle.ix_manager.proofs.AnswerLemmas.{confirm_answered, confirm_failed, line_answered, line_refused, long_line_refused}
+use Rattle.ix_manager.proofs.SavingLemmas.{saves_none, saves_same, saves_sends, answered_saves, appended_saves, failed_saves}
+use Rattle.ix_manager.proofs.SendSteps.{disk_sent, sends-append}
+use Rattle.ix_manager.proofs.Stepping.{unchanged}
+use Rattle.ix_manager.proofs.TableLemmas.{open_tickets_are_confirmed}
+
+-- the reservation of a ticket isn't open, or there is none
+pub expired_does : (core : Core) (ticket : ℕ) (one : Reply) → Finds core ticket Expired → one ≡ reply.Refused 31 0
+    → Does core (confirm ticket) one core
+expired_does core ticket one finds is =
+    subst (λ (r : Reply). Does core (confirm ticket) r core) (sym is)
+    (unchanged core (confirm ticket) (reply.Refused 31 0) (machine.confirm_expired finds.1.0 finds.1.1)
+    (record { listed = refl; zero_else = λ e. refl }))
+
+pub no_such_does : (core : Core) (ticket : ℕ) (one : Reply) → Finds core ticket NoSuch → one ≡ reply.Refused 30 0
+    → Does core (confirm ticket) one core
+no_such_does core ticket one finds is =
+    subst (λ (r : Reply). Does core (confirm ticket) r core) (sym is)
+    (unchanged core (confirm ticket) (reply.Refused 30 0) (machine.confirm_no_such finds.1.0)
+    (record { listed = refl; zero_else = λ e. refl }))
+
+-- a confirm that is refused
+pub refused_over : (ticket : ℕ) (one : Reply) (j : Journaled) (site : SiteState) (crashes : Crashes) → AreLawful site crashes
+    → FitsJournal j site crashes → Does j.machine (confirm ticket) one j.machine
+    → ConfirmsOver ticket (Ok one) j j site site crashes crashes
+refused_over ticket one j site crashes lawful fits does = record {
+  ending = going;
+  confirms = (does, refl);
+  saves = saves_none j.machine.form j.machine.state.history (kept j.store) site crashes lawful fits;
+  calls = DiskCalls-none site crashes lawful;
+}
+
+module _ (ticket : ℕ) (action : PlainAction) (old new : Journaled) (before after : SiteState) (was is : Crashes)
+    (lawful : AreLawful after is) (fits : FitsJournal old before was) (finds : Finds old.machine ticket (Taken action))
+    (calls : DiskCalls before after was is)
+    (images : (text : List ℕ) (history : Word) → Fits before was (kept old.store) text history
+    → ForSome before.disk (λ _. LeavesOnly (IsWithOrWithout text history action) before is)) where
+  -- the action was appended
+  pub confirmed_over : (one : Reply) → Commits old.machine one new.machine
+      → ((text : List ℕ) (history : Word) → Fits before was (kept old.store) text history
+      → Fits after is (kept new.store) text (history ++ action ∷ []))
+      → (kept new.store).failed ≡ false
+      → ConfirmsOver ticket (Ok one) old new before after was is
+  confirmed_over one commits appended works =
+      let facts = finds.1 in
+      let does = commits ticket action facts.0 facts.1 facts.2 in
+      let state = (open_tickets_are_confirmed old.machine.form old.machine.limit old.machine.state ticket facts.0 action (one ∷ []) new.machine.state
+      facts.1 facts.2 does.step).1 in
+      let x = old.machine.form in
+      let h = old.machine.state.history in
+      record {
+        ending = going;
+        confirms = (does, refl);
+        saves = saves_same going x h (h ++ action ∷ []) new.machine.state.history (kept new.store) before after was is
+            (ap (λ (s : MachineState). s.history) state)
+            (appended_saves x h action (kept new.store) before after was is lawful calls (images (canonical_text x) h fits.fits)
+            (record { works = works; fits = appended (canonical_text x) h fits.fits }));
+        calls = calls;
+      }
+
+  -- the append failed
+  pub append_failed : new.machine ≡ old.machine → Rose before.counts.disk after.counts.disk
+      → ConfirmsOver ticket (Err Disk) old new before after was is
+  append_failed same rose =
+      let facts = finds.1 in
+      let x = old.machine.form in
+      let h = old.machine.state.history in
+      record {
+        ending = failed action;
+        confirms = (action, facts.0, facts.1, facts.2, same, refl);
+        saves = saves_same (failed action) x h h new.machine.state.history (kept new.store) before after was is
+            (ap (λ (core : Core). core.state.history) same)
+            (failed_saves x h action (kept new.store) before after was is lawful calls (images (canonical_text x) h fits.fits) rose);
+        calls = calls;
+      }
+
+module _ (conn ticket : ℕ) (old new : Journaled) (was_gone gone : Bool) (a b c : SiteState) (p q r : Crashes)
+    (between : AreLawful b q) (lawful : AreLawful c r) (only : OnlySends b c q r) where
+  -- a confirm's reply is sent
+  pub confirm_over : (one : Reply) → ConfirmsOver ticket (Ok one) old new a b p q
+      → SendsAll conn (one ∷ []) (wired was_gone b) (wired gone c)
+      → RequestOver conn (Confirm ticket) (Ok More) old new (wired was_gone a) (wired gone c) p r
+  confirm_over one over sends = record {
+    ending = going;
+    answered = refl;
+    answers = confirm_answered conn ticket one old.machine new.machine (wired was_gone a) (wired gone c) over.confirms.0
+        (sends-append conn [] (one ∷ []) (wired was_gone a) (wired was_gone b) (wired gone c) (disk_sent conn was_gone a b p q over.calls) sends);
+    saves = saves_sends going old.machine.form old.machine.state.history new.machine.state.history (kept new.store) a b c p q r between lawful
+        (subst (λ e. SavesJournal e old new a b p q) over.confirms.1 over.saves) only;
+  }
+
+  -- that the disk failed is sent
+  pub failure_over : (stop : Stop) (one : Reply) → ConfirmsOver ticket (Err stop) old new a b p q → one ≡ disk
+      → SendsAll conn (one ∷ []) (wired was_gone b) (wired gone c)
+      → RequestOver conn (Confirm ticket) (Err stop) old new (wired was_gone a) (wired gone c) p r
+  failure_over Disk one over is sends =
+      let facts = over.confirms in
+      record {
+        ending = failed facts.0;
+        answered = (facts.0, refl);
+        answers = confirm_failed conn ticket facts.0 facts.1 one old.machine new.machine (wired was_gone a) (wired gone c) facts.2 facts.3 facts.4 is
+            (sends-append conn [] (one ∷ []) (wired was_gone a) (wired was_gone b) (wired gone c) (disk_sent conn was_gone a b p q over.calls) sends);
+        saves = saves_sends (failed facts.0) old.machine.form old.machine.state.history new.machine.state.history (kept new.store) a b c p q r between lawful
+            (subst (λ e. SavesJournal e old new a b p q) facts.5 over.saves) only;
+      }
+
+-- a request is answered that leaves the journal alone
+pub request_over : (conn : ℕ) (request : Request) (go : Go) (old new : Journaled) (before after : WireState) (p q : Crashes)
+    → AreLawful before.site p → AreLawful after.site q → FitsJournal old before.site p
+    → new.machine.state.history ≡ old.machine.state.history → kept new.store ≡ kept old.store
+    → AnswersRequest conn request (ending_after go) old.machine new.machine before after → OnlySends before.site after.site p q
+    → RequestOver conn request (Ok go) old new before after p q
+request_over conn request go old new before after p q lawful lawful' fits same store answers only = record {
+  ending = ending_after go;
+  answered = refl;
+  answers = answers;
+  saves = subst (λ s. Saves (ending_after go) old.machine.form old.machine.state.history new.machine.state.history s before.site after.site p q) (sym store)
+      (answered_saves go old.machine.form old.machine.state.history new.machine.state.history (kept old.store) before.site after.site p q lawful lawful' fits same only);
+}
+
+-- a line that is a request
+pub line_over : (conn : ℕ) (bytes : List ℕ) (request : Request) (result : Result Go Stop) (old new : Journaled) (before after : WireState) (p q : Crashes)
+    → Reads (words_of bytes) request → RequestOver conn request result old new before after p q
+    → ItemOver conn (line bytes) result old new before after p q
+line_over conn bytes request result old new before after p q reads over = record {
+  ending = over.ending;
+  answered = over.answered;
+  answers = line_answered conn bytes request over.ending old.machine new.machine before after reads over.answers;
+  saves = over.saves;
+}
+
+-- a line that is no request
+pub fault_over : (conn : ℕ) (bytes : List ℕ) (code : ℕ) (told : Reply) (j : Journaled) (before after : WireState) (p q : Crashes)
+    → AreLawful before.site p → AreLawful after.site q → FitsJournal j before.site p → OnlySends before.site after.site p q
+    → IsRequestFault (words_of bytes) code → told ≡ reply.Refused code 0 → SendsAll conn (told ∷ []) before after
+    → ItemOver conn (line bytes) (Ok More) j j before after p q
+fault_over conn bytes code told j before after p q lawful lawful' fits only fault is sends = record {
+  ending = going;
+  answered = refl;
+  answers = line_refused conn bytes code told j.machine before after fault is sends;
+  saves = answered_saves More j.machine.form j.machine.state.history j.machine.state.history (kept j.store) before.site after.site p q lawful lawful' fits refl only;
+}
+
+-- a line that is too long
+pub long_over : (conn : ℕ) (told : Reply) (j : Journaled) (before after : WireState) (p q : Crashes)
+    → AreLawful before.site p → AreLawful after.site q → FitsJournal j before.site p → OnlySends before.site after.site p q
+    → told ≡ reply.Refused 10 0 → SendsAll conn (told ∷ []) before after
+    → ItemOver conn too_long (Ok More) j j before after p q
+long_over conn told j before after p q lawful lawful' fits only is sends = record {
+  ending = going;
+  answered = refl;
+  answers = long_line_refused conn told j.machine before after is sends;
+  saves = answered_saves More j.machine.form j.machine.state.history j.machine.state.history (kept j.store) before.site after.site p q lawful lawful' fits refl only;
+}
+
+-- a request that lends a confirm's ticket is that confirm
+is_confirm : (request : Request) (ticket : ℕ) (P : Request → Type 0) → Lends request (confirm ticket) → P (Confirm ticket) → P request
+is_confirm (Confirm number) ticket P lends p = subst (λ (n : ℕ). P (Confirm n)) (sym lends) p
+is_confirm _ ticket P lends p = absurd lends
+
+-- a request that is a confirm
+pub confirm_request : (conn : ℕ) (request : Request) (ticket : ℕ) (result : Result Go Stop) (old mid new : Journaled) (before after : WireState) (p q : Crashes)
+    → Lends request (confirm ticket) → mid ≡ old → RequestOver conn (Confirm ticket) result mid new before after p q
+    → RequestOver conn request result old new before after p q
+confirm_request conn request ticket result old mid new before after p q lends same over =
+    is_confirm request ticket (λ r. RequestOver conn r result old new before after p q) lends
+    (subst (λ (j : Journaled). RequestOver conn (Confirm ticket) result j new before after p q) same over)

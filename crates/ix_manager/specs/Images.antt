@@ -1,0 +1,55 @@
+-- What an image of a journal is to a run of the machine: one that a crash left, or the file itself.
+use Rattle.std.specs.Prelude.{◌≡◌, ◌⊎◌, ℕ, ◌≤◌, List, [], ◌∷◌, ◌++◌, length, take}
+use Rattle.ix_values.specs.PlainAction.{Word}
+use Rattle.ix_expr.specs.CanonicalText.{canonical_text}
+use Rattle.ix_expr.specs.Form.{Form}
+use Rattle.ix_expr.specs.Meaning.{IsPartial}
+use Rattle.ix_can.specs.TreeOf.{tree_size}
+use Rattle.ix_journal.specs.Recovery.{IsJournal, Recovers}
+use Rattle.ix_store.specs.Opening.{IsNew}
+use Rattle.ix_manager.specs.Runs.{Opening, Ending, going, stopped, failed}
+
+-- An image that the expression may open: unfinished, or with the expression's canonical text never
+-- opened, or a journal of that text, which is neither damaged nor of too many records.
+pub data IsOwn (x : Form) (image : List ℕ) : Type 0 where
+  new : IsNew image (canonical_text x) → IsOwn x image
+  ready : (history : Word) (gate : ℕ) → IsJournal image (canonical_text x) history gate
+      → IsOwn x image
+
+-- the word is partial, and the Size of its tree is within the limit
+pub record IsWithin (x : Form) (limit : ℕ) (word : Word) : Type 0 where
+  pub partial : IsPartial x [] word
+  pub size : tree_size x word ≤ limit
+
+-- each prefix of the word is within the limit, the empty one and the whole word too
+abbrev pub EachPrefixIsWithin : Form → ℕ → Word → Type 0
+EachPrefixIsWithin x limit word = (count : ℕ) → IsWithin x limit (take count word)
+
+-- an image that the opening can start from: it is the expression's, and recovers the opening's
+-- history, each prefix of which is within the limit
+pub record IsStartable (opening : Opening) (image : List ℕ) : Type 0 where
+  pub own : IsOwn opening.form image
+  pub recovers : Recovers image opening.history
+  pub within : EachPrefixIsWithin opening.form opening.limit opening.history
+
+-- the history, with the action of a confirm that failed behind it
+abbrev pub with_failed : Ending → Word → Word
+with_failed going history = history
+with_failed stopped history = history
+with_failed (failed a) history = history ++ a ∷ []
+
+-- an image of the file after a run that ended so with this history: it recovers the history, or,
+-- after a confirm that failed, maybe the history with the confirm's action behind it
+abbrev pub EndsAs : Ending → Word → List ℕ → Type 0
+EndsAs going history image = Recovers image history
+EndsAs stopped history image = Recovers image history
+EndsAs (failed a) history image = Recovers image history ⊎ Recovers image (history ++ a ∷ [])
+
+-- an image that keeps at least so many actions of this history, the first ones, and no others
+pub record Keeps (x : Form) (least : ℕ) (history : Word) (image : List ℕ) : Type 0 where
+  pub own : IsOwn x image
+  pub kept : Word
+  pub recovers : Recovers image kept
+  pub rest : Word
+  pub prefix : kept ++ rest ≡ history
+  pub long : least ≤ length kept

@@ -1,0 +1,66 @@
+-- A manager over a site: when it fits, and what an event makes of both.
+use Rattle.std.specs.Prelude.{◌≡◌, ◌⊎◌, ◌≤◌, ℕ, false, List, length}
+use Rattle.std.specs.Prelude.{None, IsSome, Result, Ok, Err}
+use Rattle.ix_values.specs.PlainAction.{PlainAction, Word}
+use Rattle.ix_expr.specs.CanonicalText.{canonical_text}
+use Rattle.ix_expr.specs.Form.{Form}
+use Rattle.ix_outside.specs.Crashes.{Crashes}
+use Rattle.ix_outside.specs.SiteState.{SiteState}
+use Rattle.ix_outside.specs.inside.DiskCalls.{KeepsOpened}
+use Rattle.ix_outside.specs.declared.event.Event.{Event}
+use Rattle.ix_store.specs.inside.Keeping.{Fits}
+use Rattle.ix_store.specs.Keeping.{Keeping}
+use Rattle.ix_manager.specs.declared.faults.Go.{Go}
+use Rattle.ix_manager.specs.declared.faults.Go.TheVariants.{More, Stopped}
+use Rattle.ix_manager.specs.declared.faults.Stop.{Stop}
+use Rattle.ix_manager.specs.declared.faults.Stop.TheVariants.{Disk}
+use Rattle.ix_manager.specs.Runs.{Ending, going, stopped, failed}
+use Rattle.ix_manager.specs.Images.{Keeps, with_failed, EndsAs}
+use Rattle.ix_manager.specs.Handled.{ManagerState, Handles}
+
+-- a store whose append hasn't failed fits the site with the expression's canonical text and the
+-- history
+pub record FitsWith (x : Form) (history : Word) (store : Keeping)
+    (site : SiteState) (crashes : Crashes) : Type 0 where
+  pub works : store.failed ≡ false
+  pub fits : Fits site crashes store (canonical_text x) history
+
+-- the manager's store fits the site with its expression and its history
+abbrev pub FitsSite : ManagerState → SiteState → Crashes → Type 0
+FitsSite m site crashes = FitsWith m.form m.machine.history m.store site crashes
+
+-- whether the run goes on after an answer
+abbrev pub ending_after : Go → Ending
+ending_after More = going
+ending_after Stopped = stopped
+
+-- how the run stands after an answer: a confirm that failed ended it, where the disk did
+abbrev pub EndsBy : Result Go Stop → Ending → Type 0
+EndsBy (Ok go) ending = ending ≡ ending_after go
+EndsBy (Err Disk) ending = (a : PlainAction) × (ending ≡ failed a)
+
+-- An event is handled over a site. Where the site still tells its disk, each image that a crash
+-- since the call began may leave keeps all actions that were confirmed before, and no others than
+-- those that are confirmed now and the one whose confirm failed; and each that a crash now may
+-- leave is as the run ends.
+pub record HandlesOver (old : ManagerState) (event : Event) (bytes : List ℕ)
+    (result : Result Go Stop) (new : ManagerState) (before after : SiteState) (is : Crashes)
+    : Type 0 where
+  pub ending : Ending
+  pub answered : EndsBy result ending
+  pub handles : Handles old event bytes ending new before.contents after.contents
+  pub keeps : IsSome after.disk → (image : List ℕ) → is.left before.tick image
+      → Keeps old.form (length old.machine.history) (with_failed ending new.machine.history) image
+  pub ends : IsSome after.disk
+      → (image : List ℕ) → is.now image → EndsAs ending new.machine.history image
+
+-- Nothing changed but the counts of the disk and of sends, neither of which fell, the tick, and
+-- what the site tells of its connections and its disk; what was attached stays, where it is still
+-- told.
+pub record OnlyServes (old new : SiteState) : Type 0 where
+  pub disk : old.counts.disk ≤ new.counts.disk
+  pub wire : new.counts.wire ≡ old.counts.wire
+  pub send : old.counts.send ≤ new.counts.send
+  pub attached : new.attached ≡ old.attached
+  pub opened : KeepsOpened old.disk new.disk ⊎ (new.disk ≡ None)
+  pub held : new.held ≡ old.held

@@ -1,0 +1,107 @@
+-- What calls on a site make of the journal, and of what a crash may leave.
+use Rattle.std.specs.Prelude.{◌≡◌, ◌⊎◌, ℕ, ◌<◌, ◌≤◌, List, ◌++◌, length}
+use Rattle.std.specs.Prelude.{None, IsSome, Result, Ok, Err, ⊤}
+use Rattle.ix_values.specs.PlainAction.{PlainAction, Word}
+use Rattle.ix_expr.specs.Form.{Form}
+use Rattle.ix_lease.specs.declared.Slot.{Slot}
+use Rattle.ix_lease.specs.declared.Slot.TheVariants.{Held}
+use Rattle.ix_lease.specs.declared.Take.{Take}
+use Rattle.ix_lease.specs.inside.Takes.{Takes}
+use Rattle.ix_outside.specs.Counts.{Rose}
+use Rattle.ix_outside.specs.Crashes.{Crashes, Passes, LeavesTheSame}
+use Rattle.ix_outside.specs.SiteState.{SiteState}
+use Rattle.ix_outside.specs.inside.DiskCalls.{DiskCalls, LeavesOnly}
+use Rattle.ix_proto.specs.Requests.{confirm}
+use Rattle.ix_proto.specs.declared.reply.Reply.{Reply}
+use Rattle.ix_store.specs.Keeping.{Keeping}
+use Rattle.ix_store.specs.inside.KeptBy.{kept}
+use Rattle.ix_manager.specs.declared.journaled.Journaled.{Journaled}
+use Rattle.ix_manager.specs.declared.faults.Stop.{Stop}
+use Rattle.ix_manager.specs.declared.faults.Stop.TheVariants.{Disk}
+use Rattle.ix_manager.specs.Runs.{Ending, going, stopped, failed}
+use Rattle.ix_manager.specs.Images.{Keeps, with_failed, EndsAs}
+use Rattle.ix_manager.specs.Handled.{ManagerState}
+use Rattle.ix_manager.specs.inside.Core.{Core}
+use Rattle.ix_manager.specs.inside.Does.{Does}
+use Rattle.ix_manager.specs.inside.OverSite.{FitsWith}
+
+-- the journal fits the site with the machine's expression and history
+abbrev pub FitsJournal : Journaled → SiteState → Crashes → Type 0
+FitsJournal j site crashes =
+    FitsWith j.machine.form j.machine.state.history (kept j.store) site crashes
+
+-- unless a confirm failed, this holds
+abbrev pub UnlessFailed : Ending → Type 0 → Type 0
+UnlessFailed going P = P
+UnlessFailed stopped P = P
+UnlessFailed (failed a) P = ⊤
+
+-- where a confirm failed, this holds
+abbrev pub WhereFailed : Ending → Type 0 → Type 0
+WhereFailed going P = ⊤
+WhereFailed stopped P = ⊤
+WhereFailed (failed a) P = P
+
+-- Only sends were made: the disk is told as before or no more, what a crash now may leave stays,
+-- and what else it may leave since they began is that too.
+pub record OnlySends (old new : SiteState) (was is : Crashes) : Type 0 where
+  pub count : new.counts.disk ≡ old.counts.disk
+  pub disk : (new.disk ≡ old.disk) ⊎ (new.disk ≡ None)
+  pub now : LeavesTheSame was.now is.now
+  pub passes : Passes old new was is
+  pub images : LeavesOnly was.now old is
+
+-- Over calls for a machine of the expression, which ended so: the history went on, and each image
+-- keeps the actions of the one before, and no others than those of the new one and the one whose
+-- confirm failed. Unless one did, the store as it is then fits.
+pub record Saves (ending : Ending) (x : Form) (old new : Word) (store : Keeping)
+    (before after : SiteState) (was is : Crashes) : Type 0 where
+  pub passes : Passes before after was is
+  pub count : before.counts.disk ≤ after.counts.disk
+  pub told : IsSome after.disk → IsSome before.disk
+  pub rest : Word
+  pub grows : old ++ rest ≡ with_failed ending new
+  pub keeps : IsSome after.disk
+      → LeavesOnly (Keeps x (length old) (with_failed ending new)) before is
+  pub ends : IsSome after.disk → (image : List ℕ) → is.now image → EndsAs ending new image
+  pub fits : UnlessFailed ending (FitsWith x new store after is)
+  pub faults : WhereFailed ending (Rose before.counts.disk after.counts.disk)
+
+-- of a machine with its journal
+abbrev pub SavesJournal : Ending → Journaled → Journaled → SiteState → SiteState
+    → Crashes → Crashes → Type 0
+SavesJournal ending old new before after was is =
+    Saves ending old.machine.form old.machine.state.history new.machine.state.history
+    (kept new.store) before after was is
+
+-- of a manager
+abbrev pub SavesRun : Ending → ManagerState → ManagerState → SiteState → SiteState
+    → Crashes → Crashes → Type 0
+SavesRun ending old new before after was is =
+    Saves ending old.form old.machine.history new.machine.history new.store before after was is
+
+-- what the reservation of a ticket is found to be
+abbrev pub Finds : Core → ℕ → Take → Type 0
+Finds core ticket take = (slot : Slot) × Takes core.state.slot ticket core.state.moment take slot
+
+-- the open reservation's confirm made its step
+abbrev pub Commits : Core → Reply → Core → Type 0
+Commits old reply new = (ticket : ℕ) (a : PlainAction) (deadline : ℕ)
+    → old.state.slot ≡ Held ticket a deadline → old.state.moment < deadline
+    → Does old (confirm ticket) reply new
+
+-- a confirm was answered by its step, or its append failed: then nothing of the machine changed
+abbrev pub ConfirmEnds : ℕ → Result Reply Stop → Core → Core → Ending → Type 0
+ConfirmEnds ticket (Ok reply) old new ending =
+    Does old (confirm ticket) reply new × (ending ≡ going)
+ConfirmEnds ticket (Err Disk) old new ending =
+    (a : PlainAction) × (deadline : ℕ) × (old.state.slot ≡ Held ticket a deadline)
+    × (old.state.moment < deadline) × (new ≡ old) × (ending ≡ failed a)
+
+-- a confirm was answered over a site
+pub record ConfirmsOver (ticket : ℕ) (result : Result Reply Stop) (old new : Journaled)
+    (before after : SiteState) (was is : Crashes) : Type 0 where
+  pub ending : Ending
+  pub confirms : ConfirmEnds ticket result old.machine new.machine ending
+  pub saves : SavesJournal ending old new before after was is
+  pub calls : DiskCalls before after was is

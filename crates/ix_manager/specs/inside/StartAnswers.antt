@@ -1,0 +1,54 @@
+-- What starting a manager answers, and what a crash meanwhile may leave.
+use Rattle.std.specs.Prelude.{◌≡◌, ◌≢◌, ◌⊎◌, ℕ, ◌-◌, ◌<◌, ◌≤◌, List, [], length, take, ⊤}
+use Rattle.std.specs.Prelude.{Result, Ok, Err}
+use Rattle.ix_values.specs.PlainAction.{Word}
+use Rattle.ix_expr.specs.CanonicalText.{canonical_text}
+use Rattle.ix_expr.specs.Form.{Form}
+use Rattle.ix_expr.specs.Meaning.{IsPartial}
+use Rattle.ix_can.specs.TreeOf.{tree_size}
+use Rattle.ix_journal.specs.Kinds.{IsUnfinished, IsUnopened, IsForeign}
+use Rattle.ix_journal.specs.Recovery.{IsDamaged, IsMany, Recovers}
+use Rattle.ix_outside.specs.Crashes.{Crashes}
+use Rattle.ix_outside.specs.Disk.{MakesFile, Stays}
+use Rattle.ix_outside.specs.SiteState.{SiteState}
+use Rattle.ix_store.specs.Opening.{IsReadyWith}
+use Rattle.ix_manager.specs.declared.faults.StartFault.{StartFault}
+use Rattle.ix_manager.specs.declared.faults.StartFault.TheVariants as fault
+use Rattle.ix_manager.specs.Runs.{opening_of}
+use Rattle.ix_manager.specs.Images.{IsOwn, EachPrefixIsWithin, IsStartable}
+use Rattle.ix_manager.specs.Handled.{ManagerState}
+use Rattle.ix_manager.specs.Starts.{HasText, IsHeavy, IsNoWord, OpensAs}
+
+-- Why no run starts from the file, under a limit that the initial tree is within. The disk may
+-- fail, and memory run out, over any file.
+abbrev pub IsFault : Form → ℕ → List ℕ → StartFault → Type 0
+IsFault x limit file (fault.Large l) = ⊥
+IsFault x limit file fault.Disk = ⊤
+IsFault x limit file fault.Foreign = IsForeign file
+IsFault x limit file (fault.Other kept) = HasText file kept.items × (kept.items ≢ canonical_text x)
+IsFault x limit file (fault.Damaged at) = IsReadyWith file (canonical_text x) × IsDamaged file at
+IsFault x limit file fault.Many = IsReadyWith file (canonical_text x) × IsMany file
+IsFault x limit file (fault.Word number) =
+    (history : Word) × OpensAs x file history × IsNoWord x limit history number
+IsFault x limit file (fault.Heavy number l) =
+    (history : Word) × OpensAs x file history × IsHeavy x limit history number × (l ≡ limit)
+IsFault x limit file fault.Memory = ⊤
+
+-- what a start answers by the file, under a limit that the initial tree is within
+abbrev pub StartsFrom : Form → ℕ → List ℕ → Result ManagerState StartFault → Type 0
+StartsFrom x limit file (Ok m) = IsStartable (opening_of x limit m.machine.history) file
+StartsFrom x limit file (Err why) = IsFault x limit file why
+
+-- What a crash since a start began may leave, by the file as it read then: an image that might have
+-- been left before, or one that recovers the same; and where the file is unfinished or has the
+-- expression's text, one that the expression may open. Where no run starts from the file, it stays,
+-- and nothing else may be left than before.
+pub record StartLeaves (x : Form) (limit : ℕ) (file : List ℕ)
+    (old new : SiteState) (was is : Crashes) : Type 0 where
+  pub recovers : (history : Word) → Recovers file history
+      → (image : List ℕ) → is.left old.tick image → was.now image ⊎ Recovers image history
+  pub own : IsUnfinished file ⊎ HasText file (canonical_text x)
+      → (image : List ℕ) → is.left old.tick image → was.now image ⊎ IsOwn x image
+  pub refused : ((history : Word) → ¬ IsStartable (opening_of x limit history) file)
+      → MakesFile Stays old.disk new.disk
+      × ((image : List ℕ) → is.left old.tick image → was.now image)

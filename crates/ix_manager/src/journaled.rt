@@ -1,0 +1,41 @@
+//! The machine beside its journal.
+
+ghost use Rattle.std.specs.Prelude.{◌≡◌, true};
+ghost use Rattle.ix_manager.specs.inside.Saving.{FitsJournal, ConfirmsOver};
+
+use crate::Stop;
+use crate::machine::Machine;
+use crate::refusals::{EXPIRED, NO_SUCH_TICKET, refused};
+use ix_lease::Take;
+use ix_outside::Site;
+use ix_proto::Reply;
+use ix_store::Store;
+
+/// The machine, and the journal of its history.
+#[derive(Drop)]
+pub(crate) struct Journaled {
+    pub(crate) machine: Machine,
+    pub(crate) store: Store,
+}
+
+impl Journaled {
+    /// Answers that the action of the ticket was done: where its reservation is open, the action is
+    /// appended to the journal, and then to the history. Where the disk fails, the history and the
+    /// reservation stay. Takes no memory.
+    pub(crate) fn confirm<S: Site>(&mut self, ticket: u64, site: &mut S) -> Result<Reply, Stop>
+        requires attached { (S.state site.old).attached ≡ true }
+        requires fits { FitsJournal self.old (S.state site.old) (S.crashes site.old) }
+        ensures { ConfirmsOver ticket result self.old self.new (S.state site.old) (S.state site.new)
+            (S.crashes site.old) (S.crashes site.new) }
+    {
+        let action = match self.machine.reserved(ticket) {
+            Take::Taken(action) => action,
+            Take::Expired => return Ok(refused(EXPIRED)),
+            Take::NoSuch => return Ok(refused(NO_SUCH_TICKET)),
+        };
+        match self.store.append(site, &action) {
+            Ok(()) => Ok(self.machine.commit()),
+            Err(_) => Err(Stop::Disk),
+        }
+    }
+}
