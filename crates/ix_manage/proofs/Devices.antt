@@ -1,10 +1,14 @@
 -- What a device is after one call and then another, and what a script's site was lent.
-use Rattle.std.proofs.Common.{◌≡◌, ℕ, ◌≤◌, List, refl, ◌∙◌, arith}
+use Rattle.std.proofs.Common.{◌≡◌, ◌⊎◌, inl, inr, ℕ, ◌≤◌, List, Option, None, Some, refl, sym, ◌∙◌, arith}
+use Rattle.std.proofs.lemmas.Option.{none-some}
 use Rattle.std.specs.Borrow.{GName}
-use Rattle.ix_outside.specs.Contents.{Contents}
 use Rattle.ix_outside.specs.Loans.{Loans, lent, reads, unused_wire}
 use Rattle.ix_outside.specs.SinkState.{SinkState, OnlyPuts}
+use Rattle.ix_outside.specs.Disk.{Disk}
 use Rattle.ix_outside.specs.SiteState.{SiteState}
+use Rattle.ix_outside.specs.inside.DiskCalls.{KeepsOpened}
+use Rattle.ix_outside.proofs.Passing.{KeepsOpened-none, KeepsOpened-join}
+use Rattle.ix_manage.specs.inside.ReplayProgress.{OnlyPlays, OnlyUsesDisk, Player}
 
 -- nothing was put
 pub still : (sink : SinkState) → OnlyPuts sink sink
@@ -18,6 +22,52 @@ then old between new first second = record {
   held = second.held ∙ first.held;
 }
 
+-- no call of the disk was made
+pub disk_still : (site : SiteState) → OnlyUsesDisk site site
+disk_still site = record {
+  rest = record { disk = omega arith; wire = refl; send = refl; contents = refl; held = refl };
+  attached = refl;
+  opened = inl (KeepsOpened-none site.disk);
+}
+
+-- calls of the disk were made, and then more
+pub disk_then : (old mid new : SiteState)
+    → OnlyUsesDisk old mid → OnlyUsesDisk mid new → OnlyUsesDisk old new
+disk_then old mid new first second = record {
+  rest = record {
+    disk = let one = first.rest.disk in let two = second.rest.disk in omega arith;
+    wire = second.rest.wire ∙ first.rest.wire;
+    send = second.rest.send ∙ first.rest.send;
+    contents = second.rest.contents ∙ first.rest.contents;
+    held = second.rest.held ∙ first.rest.held;
+  };
+  attached = second.attached ∙ first.attached;
+  opened = opened first.opened second.opened;
+}
+  where
+    untold : (one two : Option Disk) → one ≡ None → KeepsOpened one two → two ≡ None
+    untold None two is keeps = keeps
+    untold (Some disk) two is keeps = absurd (none-some disk (sym is))
+
+    opened : KeepsOpened old.disk mid.disk ⊎ (mid.disk ≡ None) → KeepsOpened mid.disk new.disk ⊎ (new.disk ≡ None)
+        → KeepsOpened old.disk new.disk ⊎ (new.disk ≡ None)
+    opened (inl one) (inl two) = inl (KeepsOpened-join old.disk mid.disk new.disk one two)
+    opened (inr none) (inl two) = inr (untold mid.disk new.disk none two)
+    opened one (inr none) = inr none
+
+-- a player is as it was
+pub plays_still : (now : Player) → OnlyPlays now now
+plays_still now = record { script = refl; puts = still now.sink; site = disk_still now.site }
+
+-- it played, and then more
+pub plays_then : (old between new : Player)
+    → OnlyPlays old between → OnlyPlays between new → OnlyPlays old new
+plays_then old between new first second = record {
+  script = second.script ∙ first.script;
+  puts = then old.sink between.sink new.sink first.puts second.puts;
+  site = disk_then old.site between.site new.site first.site second.site;
+}
+
 -- what a script's site holds: its script, the site that it was lent but for its disk, and the sink
 abbrev pub holds : List ℕ → GName → SiteState → GName → Loans → Loans → Loans
 holds script name site sink_name sink rest =
@@ -29,16 +79,22 @@ module _ {script script' : List ℕ} {name name' sink_name sink_name' : GName}
     (same : holds script' name' new sink_name' sink' rest'
     ≡ holds script name old sink_name sink rest)
   where
-    -- a site of which a script's site holds the same is as it was, but for its disk
-    pub site_same : new.counts.disk ≡ old.counts.disk → new.attached ≡ old.attached → new ≡ old
-    site_same disk attached =
+    -- of a site of which a script's site holds the same only the disk was called
+    pub site_used : old.counts.disk ≤ new.counts.disk → new.attached ≡ old.attached
+        → KeepsOpened old.disk new.disk ⊎ (new.disk ≡ None) → OnlyUsesDisk old new
+    site_used disk attached opened =
         let wire : new.counts.wire ≡ old.counts.wire = cc in
         let send : new.counts.send ≡ old.counts.send = cc in
         let contents : new.contents ≡ old.contents = cc in
-        let held : new.held ≡ old.held = cc in
-        λ i. record {
-          counts = record { disk = disk i; wire = wire i; send = send i };
-          attached = attached i;
-          contents = contents i;
-          held = held i;
+        let held : new.held ≡ old.held = cc in record {
+          rest = record { disk = disk; wire = wire; send = send; contents = contents; held = held };
+          attached = attached;
+          opened = opened;
         }
+
+-- the script of such a site stays, and what its sink holds
+pub holds_same : {script script' : List ℕ} {name name' sink_name sink_name' : GName} (old new : SiteState)
+    {sink sink' rest rest' : Loans}
+    → holds script' name' new sink_name' sink' rest' ≡ holds script name old sink_name sink rest
+    → (script' ≡ script) × (sink' ≡ sink)
+holds_same old new same = (cc, cc)

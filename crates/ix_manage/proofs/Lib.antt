@@ -8,3 +8,7 @@ pub mod BadLines
 pub mod ScriptFronts
 pub mod Replaying
 pub mod Stops
+pub mod Journaling
+pub mod Opening
+pub mod Playing
+pub mod Fronts

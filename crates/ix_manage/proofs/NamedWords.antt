@@ -29,18 +29,16 @@ module _ (x y : List ℕ) (said : Bool) where
   pub differing : said ≡ not (text_eq x y) → said ≡ true → x ≢ y
   differing is told = λ same. false≢true (sym (ap not ((text_eq-decides x y).1 same)) ∙ sym is ∙ told)
 
--- the words `EXPR - SCRIPT`
+-- the words `EXPR JOURNAL SCRIPT`
 module _ {words : List (List ℕ)} {a b c : List ℕ} (all : words ≡ a ∷ b ∷ c ∷ []) where
-  pub file_of : {expression script : List ℕ} → NamesFiles words expression script → expression ≡ a
+  pub file_of : {expression journal script : List ℕ} → NamesFiles words expression journal script
+      → expression ≡ a
   file_of names = ap (λ ws. get_or ws 0 []) (sym names.same ∙ all)
 
-  pub journal_of : {expression script : List ℕ} → NamesFiles words expression script → b ≡ codes "-"
-  journal_of names = ap (λ ws. get_or ws 1 []) (sym all ∙ names.same)
-
-  pub files_named : {expression script : List ℕ} → expression ≡ a → b ≡ codes "-" → script ≡ c
-      → a ≢ codes "--nodes" → a ≢ codes "--turns" → NamesFiles words expression script
+  pub files_named : {expression journal script : List ℕ} → expression ≡ a → journal ≡ b → script ≡ c
+      → a ≢ codes "--nodes" → a ≢ codes "--turns" → NamesFiles words expression journal script
   files_named first journal last no_nodes no_turns = record {
-    same = all ∙ (λ i. sym first i ∷ journal i ∷ sym last i ∷ []);
+    same = all ∙ (λ i. sym first i ∷ sym journal i ∷ sym last i ∷ []);
     no_nodes = λ h. no_nodes (sym first ∙ h);
     no_turns = λ h. no_turns (sym first ∙ h);
   }
@@ -115,22 +113,24 @@ pub record BehindReplay (behind : List (List ℕ)) : Type 0 where
   pub limit : ℕ
   pub turns : ℕ
   pub expression : List ℕ
+  pub journal : List ℕ
   pub script : List ℕ
   pub later : List (List ℕ)
   pub last : List (List ℕ)
   pub nodes_option : TakesOption (codes "--nodes") 100000 1000000 behind limit later
   pub turns_option : TakesOption (codes "--turns") 1000000000 1000000000 later turns last
-  pub files : NamesFiles last expression script
+  pub files : NamesFiles last expression journal script
 
 pub replay_behind : {words behind : List (List ℕ)} → words ≡ codes "replay" ∷ behind
     → {job : Job} → Names words job → BehindReplay behind
 replay_behind is (of_trace nodes) =
     let long : 5 ≡ 6 = ap (λ ws. length (get_or ws 0 [])) is in absurd (omega (arith, long))
 replay_behind is (of_replay {later = later} {last = last} {limit = limit} {turns = turns}
-    {expression = expression} {script = script} nodes turn files) = record {
+    {expression = expression} {journal = journal} {script = script} nodes turn files) = record {
       limit = limit;
       turns = turns;
       expression = expression;
+      journal = journal;
       script = script;
       later = later;
       last = last;
@@ -154,9 +154,9 @@ module _ {behind : List (List ℕ)} (read : BehindReplay behind) {later : List (
 
     pub files_named_behind : {last : List (List ℕ)} {count : ℕ}
         → TakesOption (codes "--turns") 1000000000 1000000000 later count last
-        → NamesFiles last read.expression read.script
+        → NamesFiles last read.expression read.journal read.script
     files_named_behind turns =
-        subst (λ ws. NamesFiles ws read.expression read.script)
+        subst (λ ws. NamesFiles ws read.expression read.journal read.script)
         (takes_same (omega arith) read.turns_option turns later_same) read.files
 
 -- the job that was read, by its command
@@ -174,8 +174,8 @@ pub trace_within : {words : List (List ℕ)} {limit : ℕ} {expression actions :
     → Names words (trace limit expression actions) → (1 ≤ limit) × (limit ≤ 1000000)
 trace_within (of_trace nodes) = number_within (omega arith) (omega arith) nodes
 
-pub replay_within : {words : List (List ℕ)} {limit turns : ℕ} {expression script : List ℕ}
-    → Names words (replay limit turns expression script)
+pub replay_within : {words : List (List ℕ)} {limit turns : ℕ} {expression journal script : List ℕ}
+    → Names words (replay limit turns expression journal script)
     → (1 ≤ limit) × (limit ≤ 1000000) × (turns ≤ 1000000000)
 replay_within (of_replay nodes turns files) =
     let size = number_within (omega arith) (omega arith) nodes in

@@ -1,13 +1,23 @@
 -- What one more event makes of a replay.
-use Rattle.std.proofs.Common.{◌≡◌, ◌≢◌, ◌⊎◌, inl, inr, ℕ, zero, suc, ◌+◌, ◌<◌, ◌≤◌, Bool, true, false, List, [], ◌∷◌, ◌++◌, length, get_or, set, replicate, Option, None, Some, refl, sym, ◌∙◌, ap, subst, arith, append_assoc}
+use Rattle.std.proofs.Common.{◌≡◌, ◌⊎◌, inl, inr, ℕ, zero, suc, ◌+◌, ◌<◌, ◌≤◌, Bool, true, false, true≢false, List, [], ◌∷◌, ◌++◌}
+use Rattle.std.proofs.Common.{length, get_or, set, replicate, Option, None, Some, Result, refl, sym, ◌∙◌, ap, subst, arith}
 use Rattle.std.specs.Io.KnownBytes.{append_known}
 use Rattle.std.specs.Option.{option_map}
-use Rattle.std.proofs.lemmas.List.{length-take-le, length_push, length-replicate, get_or-set_same, get_or-replicate}
-use Rattle.ix_words.specs.Each.{no_item, item}
-use Rattle.ix_words.proofs.Each.{Each-append}
+use Rattle.std.proofs.lemmas.List.{length-take-le, length_push, length-replicate, get_or-set_same, get_or-replicate, same_from_push}
+use Rattle.ix_words.specs.Each.{Each, no_item, item}
+use Rattle.ix_values.specs.PlainAction.{Word}
+use Rattle.ix_words.proofs.Each.{Each-append, Each-left}
 use Rattle.ix_expr.specs.Form.{Form}
 use Rattle.ix_lines.specs.Feeding.{UnfinishedLine}
-use Rattle.ix_outside.specs.Contents.{GivenEvent, Contents, SendsWhole, SendsPart, piece_of}
+use Rattle.ix_outside.specs.Contents.{GivenEvent, Contents, SendsWhole, SendsPart, piece_of, send_text}
+use Rattle.ix_outside.specs.Counts.{Rose}
+use Rattle.ix_outside.specs.SinkState.{SinkState, OnlyPuts}
+use Rattle.ix_outside.specs.SiteState.{SiteState}
+use Rattle.ix_outside.specs.Crashes.{Crashes, AreLawful}
+use Rattle.ix_manager.specs.inside.OverSite.{FitsSite, FitsWith}
+use Rattle.ix_manager.specs.inside.Saving.{Saves, SavesRun, WhereFailed}
+use Rattle.ix_manager.proofs.SavingLemmas.{saves_join, saves_none}
+use Rattle.ix_outside.proofs.Counting.{Rose-earlier}
 use Rattle.ix_outside.specs.Event.{FitsBuffer, KindFits}
 use Rattle.ix_outside.specs.Sink.{AppendsPart}
 use Rattle.ix_outside.specs.declared.event.Event.{Event}
@@ -15,19 +25,27 @@ use Rattle.ix_outside.specs.declared.event.EventKind.{EventKind}
 use Rattle.ix_outside.specs.declared.event.EventKind.TheVariants.{Bytes, Closed, End}
 use Rattle.ix_proto.specs.declared.reply.Reply.{Reply}
 use Rattle.ix_manager.specs.Machine.{MachineState}
-use Rattle.ix_manager.specs.Runs.{Ending, going, stopped, Run, Steps, none}
-use Rattle.ix_manager.specs.Wire.{SendsInOrder, done, silent, sent, lost, reply_line, all_replies, marks_after, run_text, unmarked}
-use Rattle.ix_manager.specs.Handled.{ManagerState, Handles, FitsEvent, KindHas, completed_by, held_at, started}
-use Rattle.ix_manager.specs.RunLaws.{given_event}
+use Rattle.ix_manager.specs.Runs.{Ending, Opening, going, stopped, Run, begin, Steps, none}
+use Rattle.ix_manager.specs.Wire.{SendsInOrder, done, silent, sent, lost, reply_line, all_replies, replies_text, marks_after, run_text, unmarked}
+use Rattle.ix_manager.specs.Handled.{ManagerState, Handles, FitsEvent, KindHas, completed_by, held_at}
+use Rattle.ix_manager.specs.RunLaws.{FollowsRun, given_event}
 use Rattle.ix_manager.proofs.RunLemmas.{run_lengths, started_follows, taken_goes_on, taken_follows}
 use Rattle.ix_manager.proofs.SendLemmas.{silent_keeps, run_text_told}
 use Rattle.ix_script.specs.Events.{HasEvents}
 use Rattle.ix_script.specs.inside.NextPiece.{IsNextPiece}
-use Rattle.ix_manage.specs.Replay.{AreFirst, whole, out_of_turns, cut, history_line, replay_text}
-use Rattle.ix_manage.specs.inside.ReplayProgress.{Stands, IsTurn, TakesTurn, TakesTurns}
+use Rattle.ix_manage.specs.Ends.{Ended}
+use Rattle.ix_manage.specs.Session.{Session, history_line, replay_text, session_text}
+use Rattle.ix_manage.specs.Replay.{AreFirst, IsNoEnd, IsOver, LosesReply, loses, SessionEnds, over, out_of_turns, disk_failed, lost_history, lost_reply}
+use Rattle.ix_manage.specs.inside.Leaves.{AwaitsLine, Leaves}
+use Rattle.ix_manage.specs.inside.Refusal.{refusal_line}
+use Rattle.ix_manage.specs.inside.ReplayProgress.{IsAtStart, IsBetween, IsStarted, IsTurn, OnlyPlays, Player, PutsHistory, ReplaysOn, ReplaysScript}
+use Rattle.ix_manage.specs.inside.ReplayProgress.{SavesFrom, Stands, Stretch, TakesTurn, between, opening_of, told_of}
+use Rattle.ix_manage.specs.declared.refusal.Refusal.TheVariants.{Disk, Turns}
+use Rattle.ix_manage.specs.declared.run.Stop.{Stop}
 use Rattle.ix_manage.specs.declared.turns.Turn.{Turn}
-use Rattle.ix_manage.specs.declared.turns.Turn.TheVariants.{More, Done, Cut}
+use Rattle.ix_manage.specs.declared.turns.Turn.TheVariants.{More, Done, Cut, Failed}
 use Rattle.ix_manage.proofs.ScriptFronts.{first_push}
+use Rattle.ix_manage.proofs.Stops.{puts_whole}
 use Rattle.ix_manage.proofs.Tracing.{append_nothing, append_twice}
 
 -- a site that tells whether a send was lost tells it by the mark that the replies leave
@@ -98,150 +116,396 @@ piece_has (Bytes n) conn buf long fits = (length-take-le n buf fits.1, let most 
 piece_has Closed conn buf long fits = refl
 piece_has End conn buf long fits = refl
 
--- what a script's site tells
-abbrev pub tells : List GivenEvent → Option (List ℕ) → Bool → Contents
-tells given text failed = record { given = Some given; sends = None; text = text; lost = Some failed }
+-- replies of which one was lost: those before it, and those behind it
+record LosesOne (conn : ℕ) (replies : List Reply) (before after : Option (List ℕ)) : Type 0 where
+  pub sent_ones : List Reply
+  pub lost_one : Reply
+  pub silent_ones : List Reply
+  pub replies_are : replies ≡ sent_ones ++ lost_one ∷ silent_ones
+  pub part : AppendsPart (append_known before (replies_text conn sent_ones))
+      (send_text conn (reply_line lost_one)) after
 
--- an event that a manager took of a script's site
-pub record Took (bytes : List ℕ) (given : List GivenEvent) (old : ManagerState) (was : Option (List ℕ)) (taken : List GivenEvent) (new : ManagerState) (now : Option (List ℕ))
-    (event : Event) (piece : List ℕ) (ending : Ending) (failed : Bool) : Type 0 where
-  pub handled : Handles old event piece ending new (tells taken was false) (tells taken now failed)
-  pub taken_is : taken ≡ given ++ given_event event piece ∷ []
-  pub fits : FitsEvent event piece
-  pub next : IsNextPiece 4096 bytes given (given_event event piece)
-  pub rises : new.machine.ticket ≤ old.machine.ticket + length piece
+-- where replies leave an open connection marked, one of them was lost
+loses_one : {conn : ℕ} {replies : List Reply} {marked : Bool} {before after : Contents}
+    → SendsInOrder (λ reply. SendsWhole conn (reply_line reply)) (λ reply. SendsPart conn (reply_line reply)) replies false before marked after
+    → marked ≡ true → LosesOne conn replies before.text after.text
+loses_one done is = absurd (true≢false (sym is))
+loses_one {conn = conn} (sent {reply = reply} {s = s} {after = after} goes rest) is =
+    let more = loses_one rest is in
+    let text : List ℕ = send_text conn (reply_line reply) in record {
+      sent_ones = reply ∷ more.sent_ones;
+      lost_one = more.lost_one;
+      silent_ones = more.silent_ones;
+      replies_are = ap (λ others. reply ∷ others) more.replies_are;
+      part = subst (λ known. AppendsPart known (send_text conn (reply_line more.lost_one)) after.text)
+          (ap (λ known. append_known known (replies_text conn more.sent_ones)) goes.text
+          ∙ append_twice s.text text (replies_text conn more.sent_ones))
+          more.part;
+    }
+loses_one {conn = conn} (lost {reply = reply} {replies = replies} {s = s} part rest) is =
+    let told = part.text in record {
+      sent_ones = [];
+      lost_one = reply;
+      silent_ones = replies;
+      replies_are = refl;
+      part = (
+        told.0,
+        told.1,
+        ap (λ (c : Contents). c.text) (silent_keeps rest).0 ∙ told.2
+            ∙ ap (λ known. append_known known told.0) (append_nothing s.text),
+      );
+    }
 
-pub took_of : (room : ℕ) (bytes : List ℕ) (given first : List GivenEvent) (old new : ManagerState) (was w : Option (List ℕ)) (opened : Bool) (buf passed : List ℕ) (event : Event) (ending : Ending)
-    (taken : List GivenEvent) (now : Option (List ℕ)) (failed : Bool)
-    → room ≡ 4096 → first ≡ given ++ given_event event (piece_of event.kind buf) ∷ [] → w ≡ was → opened ≡ false → passed ≡ piece_of event.kind buf
-    → FitsBuffer room event → length buf ≡ room → IsNextPiece room bytes given (given_event event (piece_of event.kind buf))
-    → Handles old event passed ending new (tells first w opened) (tells taken now failed) → new.machine.ticket ≤ old.machine.ticket + length passed
-    → Took bytes given old was taken new now event (piece_of event.kind buf) ending failed
-took_of room bytes given first old new was w opened buf passed event ending taken now failed room_is first_is w_is open_is passed_is fits long next handled rises =
+-- what a site tells before its manager sends the replies to an event that it just gave
+abbrev told_before : Player → Player → Contents
+told_before was now = told_of (record was { given = now.given })
+
+-- an event that a manager took of a script's site, none of whose puts had failed
+module _ (old new : ManagerState) (was now : Player) (event : Event) (piece : List ℕ) (ending : Ending)
+    (handled : Handles old event piece ending new (told_before was now) (told_of now))
+    (fits : FitsEvent event piece) (none_marked : old.marks ≡ unmarked) (open_sink : was.failed ≡ false)
+  where
+    open_before : get_or old.marks event.conn false ≡ false
+    open_before = ap (λ marks. get_or marks event.conn false) none_marked ∙ get_or-replicate 64 event.conn false false fits.0
+
+    within : event.conn < length old.marks
+    within = subst (λ n. event.conn < n) (sym (ap length none_marked ∙ length-replicate 64 false)) fits.0
+
+    sends : SendsInOrder (λ reply. SendsWhole event.conn (reply_line reply)) (λ reply. SendsPart event.conn (reply_line reply))
+        (all_replies handled.answers) false (told_before was now) handled.sends.marked (told_of now)
+    sends = subst (λ m. SendsInOrder (λ reply. SendsWhole event.conn (reply_line reply)) (λ reply. SendsPart event.conn (reply_line reply))
+        (all_replies handled.answers) m (told_before was now) handled.sends.marked (told_of now)) open_before handled.sends.sends
+
+    marked_is : handled.sends.marked ≡ now.failed
+    marked_is = let told = lost_told sends (ap Some open_sink) in cc
+
+    mark_is : get_or new.marks event.conn false ≡ now.failed
+    mark_is =
+        ap (λ marks. get_or marks event.conn false) handled.sends.marks
+        ∙ new_mark event.kind event.conn handled.sends.marked old.marks within
+        (λ closed. nothing_sent handled.sends.sends (ap all_replies (no_answers event.kind (held_at event.conn old.lines) piece handled.takes.steps closed)) ∙ open_before)
+        ∙ marked_is
+
+-- the script's next event was taken
+pub event_taken : (room : ℕ) (old new : ManagerState) (was between now : Player) (buf passed : List ℕ) (event : Event) (ending : Ending) (turn : Turn) (stretch : Stretch)
+    → room ≡ 4096 → between.given ≡ was.given ++ given_event event (piece_of event.kind buf) ∷ []
+    → between.sink ≡ was.sink → between.failed ≡ was.failed → passed ≡ piece_of event.kind buf
+    → FitsBuffer room event → length buf ≡ room
+    → IsNextPiece room was.script was.given (given_event event (piece_of event.kind buf))
+    → Handles old event passed ending new (told_of between) (told_of now)
+    → new.machine.ticket ≤ old.machine.ticket + length passed
+    → IsBetween old was → IsTurn now.failed ending event.kind turn
+    → ((conn : ℕ) → get_or old.marks conn false ≡ false → get_or new.marks conn false ≡ true
+    → Rose between.sink.faults now.sink.faults)
+    → SavesRun ending old new stretch.before stretch.after stretch.was stretch.is
+    → TakesTurn old was new now stretch turn
+event_taken room old new was between now buf passed event ending turn stretch room_is given_is sink_is failed_is passed_is fits long next handled rises ready turn_is rose saves =
     let told = given_told handled.sends.sends refl in
-    let same : first ≡ taken = cc in record {
-      handled =
-          subst (λ p. Handles old event p ending new (tells taken was false) (tells taken now failed)) passed_is
-          (subst (λ t. Handles old event passed ending new t (tells taken now failed)) (λ i. tells (same i) (w_is i) (open_is i)) handled);
-      taken_is = sym same ∙ first_is;
-      fits = (fits.0, piece_has event.kind event.conn buf (long ∙ room_is) (subst (λ n. KindFits n event.conn event.kind) (sym long) fits.1));
-      next = subst (λ n. IsNextPiece n bytes given (given_event event (piece_of event.kind buf))) room_is next;
-      rises = subst (λ p. new.machine.ticket ≤ old.machine.ticket + length p) passed_is rises;
+    let same : between.given ≡ now.given = cc in
+    let piece : List ℕ = piece_of event.kind buf in
+    let fits_event : FitsEvent event piece =
+    (fits.0, piece_has event.kind event.conn buf (long ∙ room_is) (subst (λ n. KindFits n event.conn event.kind) (sym long) fits.1)) in
+    let its : Handles old event piece ending new (told_before was now) (told_of now) =
+    subst (λ p. Handles old event p ending new (told_before was now) (told_of now)) passed_is
+    (subst (λ c. Handles old event passed ending new c (told_of now))
+    (λ i. record { given = Some (same i); sends = None; text = SinkState.written (sink_is i); lost = Some (failed_is i) }) handled) in
+    record {
+      event = event;
+      piece = piece;
+      ending = ending;
+      given = sym same ∙ given_is;
+      next = subst (λ n. IsNextPiece n was.script was.given (given_event event piece)) room_is next;
+      fits = fits_event;
+      handled = its;
+      tickets = subst (λ p. new.machine.ticket ≤ old.machine.ticket + length p) passed_is rises;
+      turn_is = turn_is;
+      fault = λ one_lost.
+          subst (λ (s : SinkState). Rose s.faults now.sink.faults) sink_is
+          (rose event.conn
+          (open_before old new was now event piece ending its fits_event ready.marks ready.open_sink)
+          (mark_is old new was now event piece ending its fits_event ready.marks ready.open_sink ∙ one_lost));
+      saves = saves;
     }
 
 -- a manager that was just started stands behind what was put before
-pub stands_first : (x : Form) (limit : ℕ) (bytes : List ℕ) (m : ManagerState) (given : List GivenEvent) (now : Option (List ℕ))
-    → m ≡ started x limit → given ≡ [] → Stands x limit bytes now given m now
-stands_first x limit bytes m given now fresh nothing =
-    subst (λ g. Stands x limit bytes now g m now) (sym nothing)
-    (subst (λ s. Stands x limit bytes now [] s now) (sym fresh) (record {
+pub stands_first : (m : ManagerState) (start : Player) (site : SiteState) (crashes : Crashes) → IsStarted m → IsAtStart start
+    → AreLawful site crashes → FitsSite m site crashes
+    → Stands (opening_of m) start.sink.written m start (record { before = site; after = site; was = crashes; is = crashes })
+stands_first m start site crashes fresh begins lawful fits =
+    let nothing = sym begins.given in
+    let first_ticket : m.machine.ticket ≡ 1 = ap (λ (s : ManagerState). s.machine.ticket) fresh in record {
       answers = [];
-      follows = started_follows x limit;
-      marks = refl;
-      tickets = omega arith;
-      first = λ events has. refl;
-      no_end = no_item;
-      text = append_nothing now;
-    }))
+      follows = subst (λ given. FollowsRun (opening_of m) given [] m) nothing
+          (subst (λ s. FollowsRun (opening_of m) [] [] s) (sym fresh) (started_follows (opening_of m) m.store));
+      marks = ap (λ (s : ManagerState). s.marks) fresh;
+      tickets = omega (arith, first_ticket);
+      open_sink = begins.open_sink;
+      first = λ events has. subst (AreFirst events) nothing refl;
+      no_end = subst (Each IsNoEnd) nothing no_item;
+      text = append_nothing start.sink.written ∙ ap (λ given. append_known start.sink.written (run_text given [])) nothing;
+      saves = saves_none m.form m.machine.history m.store site crashes lawful fits;
+    }
 
-module _ {bytes : List ℕ} {given : List GivenEvent} {old : ManagerState} {was : Option (List ℕ)} {taken : List GivenEvent} {new : ManagerState} {now : Option (List ℕ)}
-    {event : Event} {piece : List ℕ} {ending : Ending} {failed : Bool} (took : Took bytes given old was taken new now event piece ending failed) where
-  module _ (none_marked : old.marks ≡ unmarked) where
-    pub open_before : get_or old.marks event.conn false ≡ false
-    open_before = ap (λ marks. get_or marks event.conn false) none_marked ∙ get_or-replicate 64 event.conn false false took.fits.0
+module _ {opening : Opening} {known : Option (List ℕ)} {m : ManagerState} {now : Player} {stretch : Stretch}
+    (stands : Stands opening known m now stretch) where
+  -- the store fits what was made of the site
+  pub stands_fits : FitsSite m stretch.after stretch.is
+  stands_fits = subst (λ x. FitsWith x m.machine.history m.store stretch.after stretch.is) (sym stands.follows.form_is) stands.saves.fits
 
-    within : event.conn < length old.marks
-    within = subst (λ n. event.conn < n) (sym (ap length none_marked ∙ length-replicate 64 false)) took.fits.0
+  -- a further event may be taken
+  pub stands_between : length now.given < 1000000000 → IsBetween m now
+  stands_between few = record {
+    goes_on = stands.follows.not_ended;
+    marks = stands.marks;
+    tickets = let most = stands.tickets in omega (arith, few, most);
+    open_sink = stands.open_sink;
+  }
 
-    marked_is : took.handled.sends.marked ≡ failed
-    marked_is =
-        let told = lost_told (subst (λ m. SendsInOrder (λ reply. SendsWhole event.conn (reply_line reply)) (λ reply. SendsPart event.conn (reply_line reply))
-        (all_replies took.handled.answers) m (tells taken was false) took.handled.sends.marked (tells taken now failed)) open_before took.handled.sends.sends) refl in cc
+  -- what was put since the line of the history was
+  text_behind_line : (start : SinkState) → known ≡ append_known start.written (history_line opening.history)
+      → now.sink.written ≡ append_known start.written (replay_text opening.history now.given stands.answers)
+  text_behind_line start line_put =
+      stands.text ∙ ap (λ k. append_known k (run_text now.given stands.answers)) line_put
+      ∙ append_twice start.written (history_line opening.history) (run_text now.given stands.answers)
 
-    pub mark_is : get_or new.marks event.conn false ≡ failed
-    mark_is =
-        ap (λ marks. get_or marks event.conn false) took.handled.sends.marks
-        ∙ new_mark event.kind event.conn took.handled.sends.marked old.marks within
-        (λ closed. nothing_sent took.handled.sends.sends (ap all_replies (no_answers event.kind (held_at event.conn old.lines) piece took.handled.takes.steps closed)) ∙ open_before)
-        ∙ marked_is
+  -- as many events as turns were taken
+  pub out_of_turns_put : (turns : ℕ) → length now.given ≡ turns
+      → (start : SinkState) → known ≡ append_known start.written (history_line opening.history)
+      → AwaitsLine (ReplaysScript opening turns now.script now.given m.machine stretch) 7 (refusal_line Turns) start now.sink
+  out_of_turns_put turns all start line_put =
+      let played : Session = record { opening = opening; taken = now.given; answers = stands.answers; last = m.machine; ending = going } in record {
+        before = session_text played;
+        session = Some played;
+        may = λ status whole part last_line. record {
+          played = played;
+          is = refl;
+          opening_is = refl;
+          taken_is = refl;
+          last_is = refl;
+          plays = λ events has. record {
+            run = stands.follows.run;
+            first = stands.first events has;
+            few = omega (arith, all);
+            before_the_end = λ before last is. Each-left before (last ∷ []) (subst (Each IsNoEnd) is stands.no_end);
+          };
+          ends = out_of_turns all (stands.no_end, refl) last_line;
+          store = m.store;
+          saves = stands.saves;
+        };
+        put = text_behind_line start line_put;
+      }
 
-  module _ {x : Form} {limit : ℕ} {known : Option (List ℕ)} (stands : Stands x limit bytes known given old was) where
+module _ {old new : ManagerState} {was now : Player} {turn : Turn} {a b c : SiteState} {p q r : Crashes}
+    (took : TakesTurn old was new now (record { before = b; after = c; was = q; is = r }) turn)
+    {opening : Opening} {known : Option (List ℕ)}
+    (stands : Stands opening known old was (record { before = a; after = b; was = p; is = q }))
+    (lawful : AreLawful c r)
+  where
+    -- from the start on
+    abbrev stretch : Stretch
+    stretch = record { before = a; after = c; was = p; is = r }
+
+    saved : SavesFrom opening took.ending new.machine.history new.store stretch
+    saved = saves_join took.ending opening.form opening.history old.machine.history new.machine.history old.store new.store a b c p q r lawful
+        stands.saves
+        (subst (λ x. Saves took.ending x old.machine.history new.machine.history new.store b c q r) stands.follows.form_is took.saves)
+
+    abbrev given : GivenEvent
+    given = given_event took.event took.piece
+
     abbrev answers : List (List (List Reply))
     answers = stands.answers ++ took.handled.answers ∷ []
 
     abbrev longer : List GivenEvent
-    longer = given ++ given_event event piece ∷ []
+    longer = was.given ++ given ∷ []
 
-    run : Run x limit [] longer answers new.machine ending
-    run = taken_goes_on x limit [] given stands.answers old event piece took.handled.answers new ending stands.follows took.fits took.handled.takes
+    abbrev played : Session
+    played = record { opening = opening; taken = now.given; answers = answers; last = new.machine; ending = took.ending }
 
-    first : (events : List GivenEvent) → HasEvents bytes events → AreFirst events longer
-    first events has = first_push events given (given_event event piece) (stands.first events has) (took.next events has)
+    first_of : (events : List GivenEvent) → HasEvents was.script events → AreFirst events now.given
+    first_of events has = subst (AreFirst events) (sym took.given)
+        (first_push events was.given given (stands.first events has) (took.next events has))
 
-    told : (get_or new.marks event.conn false ≡ false → now ≡ append_known known (run_text longer answers))
-        × (get_or new.marks event.conn false ≡ true → AppendsPart known (run_text longer answers) now)
-    told = run_text_told known given stands.answers old event piece ending new (tells taken was false) (tells taken now failed) took.handled (run_lengths stands.follows.run)
-        (within stands.marks) (open_before stands.marks) stands.text
+    marked_now : took.handled.sends.marked ≡ now.failed
+    marked_now = marked_is old new was now took.event took.piece took.ending took.handled took.fits stands.marks stands.open_sink
 
-    turn_more : failed ≡ false → ending ≡ going → event.kind ≢ End → Stands x limit bytes known longer new now
-    turn_more none_lost goes no_end = record {
-      answers = answers;
-      follows = taken_follows x limit [] given stands.answers old event piece took.handled.answers new ending stands.follows took.fits took.handled.takes goes;
-      marks = took.handled.sends.marks ∙ (λ i. marks_after event.kind event.conn ((marked_is stands.marks ∙ none_lost) i) (stands.marks i)) ∙ marks_same event.kind event.conn;
-      tickets =
-          let few = few_bytes event.kind piece took.fits.1 in
-          let long = length_push given (given_event event piece) in
-          let least = stands.tickets in
-          let rises = took.rises in omega (arith, few, long, least, rises);
-      first = first;
-      no_end = Each-append stands.no_end (item no_end no_item);
-      text = told.0 (mark_is stands.marks ∙ none_lost);
+    told_whole : now.failed ≡ false → now.sink.written ≡ append_known known (run_text now.given answers)
+    told_whole none_lost =
+        let opened = open_before old new was now took.event took.piece took.ending took.handled took.fits stands.marks stands.open_sink in
+        let inside = within old new was now took.event took.piece took.ending took.handled took.fits stands.marks stands.open_sink in
+        let mark = mark_is old new was now took.event took.piece took.ending took.handled took.fits stands.marks stands.open_sink in
+        (run_text_told known was.given stands.answers old took.event took.piece took.ending new (told_before was now) (told_of now)
+        took.handled (run_lengths stands.follows.run) inside opened stands.text).0 (mark ∙ none_lost)
+        ∙ ap (λ taken. append_known known (run_text taken answers)) (sym took.given)
+
+    -- it may go on
+    pub turn_more : turn ≡ More → OnlyPlays was now → Stands opening known new now stretch
+    turn_more same plays =
+        let is = subst (IsTurn now.failed took.ending took.event.kind) same took.turn_is in
+        let behind = sym took.given in record {
+          answers = answers;
+          follows = subst (λ taken. FollowsRun opening taken answers new) behind
+              (taken_follows opening was.given stands.answers old took.event took.piece took.handled.answers new took.ending stands.follows took.fits took.handled.takes is.1);
+          marks = took.handled.sends.marks ∙ (λ i. marks_after took.event.kind took.event.conn ((marked_now ∙ is.0) i) (stands.marks i)) ∙ marks_same took.event.kind took.event.conn;
+          tickets =
+              let few = few_bytes took.event.kind took.piece took.fits.1 in
+              let long = ap length took.given ∙ length_push was.given given in
+              let least = stands.tickets in
+              let rises = took.tickets in omega (arith, few, long, least, rises);
+          open_sink = is.0;
+          first = λ events has. first_of events (subst (λ script. HasEvents script events) plays.script has);
+          no_end = subst (Each IsNoEnd) behind (Each-append stands.no_end (item is.2 no_item));
+          text = told_whole is.0;
+          saves = subst (λ e. SavesFrom opening e new.machine.history new.store stretch) is.1 saved;
+        }
+
+    module _ (turns : ℕ) (few : length now.given ≤ turns) (start : SinkState)
+        (line_put : known ≡ append_known start.written (history_line opening.history))
+      where
+        replays : {status : ℕ} {whole part : List ℕ} → SessionEnds turns played status whole part
+            → ReplaysScript opening turns was.script now.given new.machine stretch status whole part (Some played)
+        replays ends = record {
+          played = played;
+          is = refl;
+          opening_is = refl;
+          taken_is = refl;
+          last_is = refl;
+          plays = λ events has. record {
+            run = subst (λ taken. Run opening taken answers new.machine took.ending) (sym took.given)
+                (taken_goes_on opening was.given stands.answers old took.event took.piece took.handled.answers new took.ending stands.follows took.fits took.handled.takes);
+            first = first_of events has;
+            few = few;
+            before_the_end = λ before last is. subst (Each IsNoEnd) (same_from_push was.given before given last (sym took.given ∙ is)).0 stands.no_end;
+          };
+          ends = ends;
+          store = new.store;
+          saves = saved;
+        }
+
+        -- the event was the end or brought `stop`
+        pub turn_done : turn ≡ Done → Ended (ReplaysScript opening turns was.script now.given new.machine stretch) 0 start now.sink
+        turn_done same =
+            let is = subst (IsTurn now.failed took.ending took.event.kind) same took.turn_is in
+            record {
+              whole = session_text played;
+              part = [];
+              session = Some played;
+              may = replays (over (is_over is.1));
+              puts = puts_whole start now.sink (session_text played)
+                  (told_whole is.0 ∙ ap (λ k. append_known k (run_text now.given answers)) line_put
+                  ∙ append_twice start.written (history_line opening.history) (run_text now.given answers));
+            }
+          where
+            is_over : (took.event.kind ≡ End) ⊎ (took.ending ≡ stopped) → IsOver played
+            is_over (inl ends) = inl (was.given, given, took.given, ends)
+            is_over (inr stops) = inr stops
+
+        -- the disk failed
+        pub turn_failed : turn ≡ Failed
+            → AwaitsLine (ReplaysScript opening turns was.script now.given new.machine stretch) 5 (refusal_line Disk) start now.sink
+        turn_failed same =
+            let is = subst (IsTurn now.failed took.ending took.event.kind) same took.turn_is in record {
+              before = session_text played;
+              session = Some played;
+              may = λ status whole part last. replays (disk_failed is.1.1 last);
+              put = told_whole is.0 ∙ ap (λ k. append_known k (run_text now.given answers)) line_put
+                  ∙ append_twice start.written (history_line opening.history) (run_text now.given answers);
+            }
+
+        -- a put failed
+        pub turn_cut : turn ≡ Cut → start.faults ≤ was.sink.faults
+            → Ended (ReplaysScript opening turns was.script now.given new.machine stretch) 10 start now.sink × Rose start.faults now.sink.faults
+        turn_cut same le =
+            let is : now.failed ≡ true = subst (IsTurn now.failed took.ending took.event.kind) same took.turn_is in
+            let one = loses_one (sends old new was now took.event took.piece took.ending took.handled took.fits stands.marks stands.open_sink) (marked_now ∙ is) in
+            let text : List ℕ = replay_text opening.history was.given stands.answers in
+            let sent_text : List ℕ = replies_text took.event.conn one.sent_ones in (
+              record {
+                whole = text ++ sent_text;
+                part = send_text took.event.conn (reply_line one.lost_one);
+                session = Some played;
+                may = replays (lost_reply (subst (λ taken. LosesReply opening.history taken answers (text ++ sent_text) (send_text took.event.conn (reply_line one.lost_one)))
+                    (sym took.given)
+                    (loses was.given given stands.answers took.handled.answers one.sent_ones one.lost_one one.silent_ones one.replies_are)));
+                puts = subst (λ k. AppendsPart k (send_text took.event.conn (reply_line one.lost_one)) now.sink.written)
+                    (ap (λ k. append_known k sent_text) (text_behind_line stands start line_put) ∙ append_twice start.written text sent_text)
+                    one.part;
+              },
+              Rose-earlier _ _ _ le (took.fault is),
+            )
+
+-- where the disk failed, its count rose
+pub failed_rose : {old new : ManagerState} {was now : Player} {stretch : Stretch} {turn : Turn}
+    → TakesTurn old was new now stretch turn → turn ≡ Failed
+    → Rose stretch.before.counts.disk stretch.after.counts.disk
+failed_rose {now = now} {stretch = stretch} took same =
+    let is = subst (IsTurn now.failed took.ending took.event.kind) same took.turn_is in
+    let P : Ending → Type 0 = λ e. WhereFailed e (Rose stretch.before.counts.disk stretch.after.counts.disk) in
+    subst P is.1.1 took.saves.faults
+
+pub taken_count : {old new : ManagerState} {was now : Player} {stretch : Stretch} {turn : Turn} → TakesTurn old was new now stretch turn
+    → length now.given ≡ length was.given + 1
+taken_count {was = was} took = ap length took.given ∙ length_push was.given (given_event took.event took.piece)
+
+-- the put of the history's line fails, before any event is taken
+pub history_lost : (m : ManagerState) → IsStarted m → (turns : ℕ) (script line : List ℕ) (old new : SinkState)
+    (site : SiteState) (crashes : Crashes) → AreLawful site crashes → FitsSite m site crashes
+    → line ≡ history_line m.machine.history → AppendsPart old.written line new.written
+    → Ended (ReplaysOn (opening_of m) turns script m.machine (record { before = site; after = site; was = crashes; is = crashes })) 10 old new
+history_lost m fresh turns script line old new site crashes lawful fits same part =
+    let opening : Opening = opening_of m in
+    let played : Session = record { opening = opening; taken = []; answers = []; last = m.machine; ending = going } in record {
+      whole = [];
+      part = history_line m.machine.history;
+      session = Some played;
+      may = (
+        [],
+        record {
+          played = played;
+          is = refl;
+          opening_is = refl;
+          taken_is = refl;
+          last_is = refl;
+          plays = λ events has. record {
+            run = subst (λ s. Run opening [] [] s going) (sym (ap (λ (s : ManagerState). s.machine) fresh)) begin;
+            first = refl;
+            few = omega arith;
+            before_the_end = λ before last is. absurd (let long = ap length is in let push = length_push before last in omega (arith, long, push));
+          };
+          ends = lost_history refl;
+          store = m.store;
+          saves = saves_none m.form m.machine.history m.store site crashes lawful fits;
+        },
+      );
+      puts = subst (λ known. AppendsPart known (history_line m.machine.history) new.written) (append_nothing old.written)
+          (subst (λ t. AppendsPart old.written t new.written) same part);
     }
 
-    turn_done : failed ≡ false → (event.kind ≡ End) ⊎ (ending ≡ stopped) → (turns : ℕ) → length longer ≤ turns → TakesTurns x limit turns bytes known now Done
-    turn_done none_lost ends turns few = λ start known_is. (
-      replay_text longer answers,
-      λ events has. whole given (given_event event piece) answers (first events has) few stands.no_end run ends,
-      told.0 (mark_is stands.marks ∙ none_lost) ∙ ap (λ k. append_known k (run_text longer answers)) known_is ∙ append_twice start history_line (run_text longer answers),
-    )
+-- it is put
+pub history_put : (history : Word) (line : List ℕ) (start between first : SinkState) → line ≡ history_line history
+    → between.written ≡ append_known start.written line → OnlyPuts start between → first ≡ between
+    → PutsHistory history start first
+history_put history line start between first same put rest first_is =
+    subst (λ s. PutsHistory history start s) (sym first_is)
+    (record { put = put ∙ ap (append_known start.written) same; rest = rest })
 
-    turn_cut : failed ≡ true → (turns : ℕ) → length longer ≤ turns → TakesTurns x limit turns bytes known now Cut
-    turn_cut one_lost turns few = λ start known_is.
-        let part = told.1 (mark_is stands.marks ∙ one_lost) in (
-          replay_text longer answers,
-          λ events has. cut longer answers (first events has) few run,
-          (
-            history_line ++ part.0,
-            (part.1.0, append_assoc history_line part.0 part.1.0 ∙ ap (λ t. history_line ++ t) part.1.1),
-            part.2 ∙ ap (λ k. append_known k part.0) known_is ∙ append_twice start history_line part.0,
-          ),
-        )
+-- whatever events were taken
+pub replays_on : (opening : Opening) (turns : ℕ) (script passed : List ℕ) → script ≡ passed
+    → (taken : List GivenEvent) (last : MachineState) (stretch : Stretch)
+    (status : ℕ) (whole part : List ℕ) (session : Option Session)
+    → ReplaysScript opening turns script taken last stretch status whole part session
+    → ReplaysOn opening turns passed last stretch status whole part session
+replays_on opening turns script passed same taken last stretch status whole part session it =
+    (taken, subst (λ bytes. ReplaysScript opening turns bytes taken last stretch status whole part session) same it)
 
-  -- what the event leaves, by its turn
-  pub turn_taken : (turn : Turn) → IsTurn failed ending event.kind turn → TakesTurn bytes given old was taken new now turn
-  turn_taken More is = λ x limit known stands. subst (λ g. Stands x limit bytes known g new now) (sym took.taken_is) (turn_more stands is.0 is.1 is.2)
-  turn_taken Done is = λ x limit known stands turns few. turn_done stands is.0 is.1 turns (subst (λ g. length g ≤ turns) took.taken_is few)
-  turn_taken Cut is = λ x limit known stands turns few. turn_cut stands is turns (subst (λ g. length g ≤ turns) took.taken_is few)
-
-  pub taken_count : length taken ≡ length given + 1
-  taken_count = ap length took.taken_is ∙ length_push given (given_event event piece)
-
--- what a turn says
-pub more_kept : (failed : Bool) (ending : Ending) (kind : EventKind) (turn : Turn) → IsTurn failed ending kind turn → turn ≡ More → failed ≡ false
-more_kept failed ending kind More is same = is.0
-more_kept failed ending kind Done is same = cc
-more_kept failed ending kind Cut is same = cc
-
-pub cut_lost : (failed : Bool) (ending : Ending) (kind : EventKind) (turn : Turn) → IsTurn failed ending kind turn → turn ≡ Cut → failed ≡ true
-cut_lost failed ending kind More is same = cc
-cut_lost failed ending kind Done is same = cc
-cut_lost failed ending kind Cut is same = is
-
--- as many events as turns were taken
-pub out_of_turns_put : (x : Form) (limit : ℕ) (bytes : List ℕ) (known : Option (List ℕ)) (given : List GivenEvent) (m : ManagerState) (now : Option (List ℕ)) (turns : ℕ)
-    → Stands x limit bytes known given m now → length given ≡ turns → TakesTurns x limit turns bytes known now More
-out_of_turns_put x limit bytes known given m now turns stands all = λ start known_is. (
-  replay_text given stands.answers,
-  λ events has. out_of_turns given stands.answers (stands.first events has) all stands.no_end stands.follows.run,
-  stands.text ∙ ap (λ k. append_known k (run_text given stands.answers)) known_is ∙ append_twice start history_line (run_text given stands.answers),
-)
+-- the sites and the sink at both ends, by other names
+pub leaves_over : {S T : Type 0} (site_state : S → SiteState) (site_crashes : S → Crashes)
+    (opening : Opening) (turns : ℕ) (script : List ℕ) (last : MachineState) (start : SinkState)
+    {first first' now end : S} {sink final : SinkState} (r : Result T Stop)
+    → Leaves (ReplaysOn opening turns script last (between site_state site_crashes first now)) start sink r
+    → first ≡ first' → now ≡ end → sink ≡ final
+    → Leaves (ReplaysOn opening turns script last (between site_state site_crashes first' end)) start final r
+leaves_over site_state site_crashes opening turns script last start {first' = first'} {now = now} {end = end} {sink = sink} r it firsts ends sinks =
+    subst (λ s. Leaves (ReplaysOn opening turns script last (between site_state site_crashes first' end)) start s r) sinks
+    (subst (λ s. Leaves (ReplaysOn opening turns script last (between site_state site_crashes first' s)) start sink r) ends
+    (subst (λ s. Leaves (ReplaysOn opening turns script last (between site_state site_crashes s now)) start sink r) firsts it))

@@ -1,19 +1,29 @@
 -- A trace so far, and how it goes on.
-use Rattle.std.proofs.Common.{◌≡◌, ℕ, List, [], ◌∷◌, ◌++◌, length, map, Option, Some, None, refl, sym, ap, subst, ◌∙◌, append_assoc}
+use Rattle.std.proofs.Common.{◌≡◌, ℕ, ◌≤◌, List, [], ◌∷◌, ◌++◌, length, map, Option, Some, None, refl, sym, ap, subst}
+use Rattle.std.proofs.Common.{◌∙◌, append_assoc}
 use Rattle.std.specs.Prelude.{codes}
 use Rattle.std.specs.Io.KnownBytes.{append_known}
 use Rattle.std.proofs.lemmas.List.{append-nil, map-append}
 use Rattle.ix_words.specs.Each.{Each, no_item, item}
-use Rattle.ix_words.proofs.Each.{Each-append}
+use Rattle.ix_words.proofs.Each.{Each-append, Each-tail}
 use Rattle.ix_values.specs.Faults.{IsActionText}
 use Rattle.ix_values.specs.PlainAction.{PlainAction, Word, text_of}
 use Rattle.ix_values.specs.Texts.{IsAction}
 use Rattle.ix_expr.specs.Form.{Form}
+use Rattle.ix_engine.specs.inside.Engine.{EngineState}
 use Rattle.ix_outside.specs.Sink.{AppendsPart}
+use Rattle.ix_outside.specs.SinkState.{SinkState}
+use Rattle.ix_outside.proofs.Counting.{Rose-earlier}
 use Rattle.ix_manage.specs.ActionLines.{HasActions, line}
 use Rattle.ix_lines.specs.TextLines.{lines_of}
-use Rattle.ix_manage.specs.Trace.{Answers, Verdict, whole, short}
-use Rattle.ix_manage.specs.inside.TracesLines.{TracesLines}
+use Rattle.ix_manage.specs.Trace.{Answers, Verdict, answered, short, lost_answer}
+use Rattle.ix_manage.specs.Puts.{LastLine}
+use Rattle.ix_manage.specs.declared.run.Stop.{Stop}
+use Rattle.ix_manage.specs.declared.run.Stop.TheVariants.{Refused, OtherExpression, Output}
+use Rattle.ix_manage.specs.inside.Leaves.{AwaitsLine, StopsAfter}
+use Rattle.ix_manage.specs.inside.Refusal.{refusal_line, refusal_status}
+use Rattle.ix_manage.specs.inside.TracesLines.{StopsAnswer, TracesLines}
+use Rattle.ix_manage.proofs.Answering.{answers_same}
 use Rattle.ix_lines.proofs.LineLists.{lines_of-none}
 
 pub append_nothing : (known : Option (List ℕ)) → known ≡ append_known known []
@@ -78,24 +88,86 @@ word_of (text ∷ lines) (item good more) =
     let rest = word_of lines more in
     (good.action ∷ rest.0, item good.valid rest.1, ap (λ t. t ∷ lines) good.same ∙ ap (λ ts. text_of good.action ∷ ts) rest.2)
 
--- memory runs out with some lines left
-pub trace_short : (x : Form) (limit : ℕ) (all rest : List ℕ) (front history : Word) (text : List ℕ) → StandBefore all rest front → Each IsActionText (lines_of rest)
-    → Answers x limit [] front text history → TracesLines x limit all 9 (text ++ line (codes "refused memory"))
-trace_short x limit all rest front history text so_far good answers =
-    let behind = word_of (lines_of rest) good in record {
-      actions = front ++ behind.0;
-      has = record {
+-- the lines before what is left are texts of actions, and so are those that are left
+all_actions : (all rest : List ℕ) (front : Word) → StandBefore all rest front → Each IsActionText (lines_of rest)
+    → (behind : Word) × HasActions all (front ++ behind)
+all_actions all rest front so_far good =
+    let behind = word_of (lines_of rest) good in (
+      behind.0,
+      record {
         valid = Each-append so_far.valid behind.1;
         lines = so_far.lines ∙ ap (λ lines. map text_of front ++ lines) behind.2 ∙ sym (map-append text_of front behind.0);
-      };
-      traces = short behind.0 refl answers;
-    }
+      },
+    )
 
--- all actions are answered
-pub trace_ends : (x : Form) (limit : ℕ) (all rest : List ℕ) (front history : Word) (text last : List ℕ) → length rest ≡ 0 → StandBefore all rest front
-    → Answers x limit [] front text history → Verdict x history last → TracesLines x limit all 0 (text ++ last)
-trace_ends x limit all rest front history text last none so_far answers verdict = record {
-  actions = front;
-  has = front_end all rest front none so_far;
-  traces = whole answers verdict;
-}
+module _ (x : Form) (limit : ℕ) (all rest : List ℕ) (front history : Word) (text : List ℕ) where
+  -- memory runs out with some lines left
+  trace_short : StandBefore all rest front → Each IsActionText (lines_of rest)
+      → Answers x limit [] front text history
+      → (status : ℕ) (whole part : List ℕ)
+      → LastLine 9 text (line (codes "refused memory")) status whole part
+      → TracesLines x limit all status whole part None
+  trace_short so_far good answers status whole part last =
+      let named = all_actions all rest front so_far good in record {
+        actions = front ++ named.0;
+        has = named.1;
+        traces = short named.0 refl answers last;
+        no_session = refl;
+      }
+
+  -- the put of the next action's line fails
+  trace_lost : (next answer : List ℕ) (action : PlainAction) (after : Word)
+      → StandBefore all next (front ++ action ∷ []) → Each IsActionText (lines_of next)
+      → Answers x limit [] front text history → Answers x limit history (action ∷ []) answer after
+      → TracesLines x limit all 10 text answer None
+  trace_lost next answer action after so_far good answers one =
+      let named = all_actions all next (front ++ action ∷ []) so_far good in record {
+        actions = (front ++ action ∷ []) ++ named.0;
+        has = named.1;
+        traces = lost_answer named.0 (sym (append_assoc front (action ∷ []) named.0)) answers one;
+        no_session = refl;
+      }
+
+  -- all actions are answered
+  pub trace_ends : (last : List ℕ) → length rest ≡ 0 → StandBefore all rest front
+      → Answers x limit [] front text history → Verdict x history last
+      → (status : ℕ) (whole part : List ℕ) → LastLine 0 text last status whole part
+      → TracesLines x limit all status whole part None
+  trace_ends last none so_far answers verdict status whole part put_last = record {
+    actions = front;
+    has = front_end all rest front none so_far;
+    traces = answered answers verdict put_last;
+    no_session = refl;
+  }
+
+  -- an action's line isn't put: memory ran out, or its put failed
+  pub trace_stops : (engine : EngineState) (action : PlainAction) (next cut : List ℕ) (start was now : SinkState)
+      → engine.form ≡ x → engine.limit ≡ limit → engine.history ≡ history
+      → lines_of rest ≡ cut ∷ lines_of next → IsAction action → text_of action ≡ cut
+      → StandBefore all rest front → Each IsActionText (lines_of rest)
+      → Answers x limit [] front text history
+      → was.written ≡ append_known start.written text → start.faults ≤ was.faults
+      → (stop : Stop) → StopsAnswer engine action was now stop
+      → StopsAfter (TracesLines x limit all) start now stop
+  trace_stops engine action next cut start was now form most same cuts valid named so_far good answers put_before le (Refused refusal) is =
+      subst (λ r. AwaitsLine (TracesLines x limit all) (refusal_status r) (refusal_line r) start now) (sym is.0)
+      (record {
+        before = text;
+        session = None;
+        may = trace_short so_far good answers;
+        put = is.1 ∙ put_before;
+      })
+  trace_stops engine action next cut start was now form most same cuts valid named so_far good answers put_before le (OtherExpression kept) is = absurd is
+  trace_stops engine action next cut start was now form most same cuts valid named so_far good answers put_before le Output it = (
+    record {
+      whole = text;
+      part = it.0;
+      session = None;
+      may = trace_lost next it.0 action it.1
+          (front_step all rest next cut front action cuts valid named so_far)
+          (Each-tail (subst (Each IsActionText) cuts good)) answers
+          (subst (λ h. Answers x limit h (action ∷ []) it.0 it.1) same (answers_same form most it.2));
+      puts = subst (λ known. AppendsPart known it.0 now.written) put_before it.3;
+    },
+    Rose-earlier _ _ _ le it.4,
+  )

@@ -4,4 +4,6 @@ pub mod Trace
 pub mod Replay
 pub mod Ends
 pub mod Puts
+pub mod Session
+pub mod Journal
 pub mod inside

@@ -8,6 +8,7 @@ use Rattle.ix_outside.specs.Files.{Listing, HasFile, HasLonger}
 use Rattle.ix_can.specs.TreeOf.{tree_size}
 use Rattle.ix_engine.specs.Allowed.{IsPermitted}
 use Rattle.ix_manage.specs.ActionLines.{HasActions, IsFirstActionFault, line}
+use Rattle.ix_manage.specs.Puts.{LastLine}
 
 -- The lines for actions after a history, and the history after them, under a limit of Size. An action that isn't permitted
 -- is answered `no`; any other `full` where the history has 1,000,000 actions, else `large` where
@@ -82,11 +83,19 @@ fault_line file code at = line (codes "refused " ++ file ++ codes " " ++ decimal
 abbrev pub large_line : ℕ → List ℕ
 large_line limit = line (codes "refused expression 14 large " ++ decimal limit)
 
--- What `trace` may put for a form, a limit and actions, by the status: the answers to all actions and the last line, or,
--- where memory ran out, the answers to a front of them and the line that says so.
-pub data Traces (x : Form) (limit : ℕ) (actions : Word) : ℕ → List ℕ → Type 0 where
-  whole : {history : Word} {text last : List ℕ}
-      → Answers x limit [] actions text history → Verdict x history last → Traces x limit actions 0 (text ++ last)
-  short : {front history : Word} {text : List ℕ} (rest : Word)
+-- What `trace` may put for a form, a limit and actions, by the status: the answers to all actions and
+-- the last line; where memory ran out, the answers to a front of them and the line that says so;
+-- where the put of an answer failed, the answers before it.
+pub data Traces (x : Form) (limit : ℕ) (actions : Word) : ℕ → List ℕ → List ℕ → Type 0 where
+  answered : {history : Word} {text last : List ℕ} {status : ℕ} {whole part : List ℕ}
+      → Answers x limit [] actions text history → Verdict x history last
+      → LastLine 0 text last status whole part
+      → Traces x limit actions status whole part
+  short : {front history : Word} {text : List ℕ} {status : ℕ} {whole part : List ℕ} (rest : Word)
       → front ++ rest ≡ actions → Answers x limit [] front text history
-      → Traces x limit actions 9 (text ++ line (codes "refused memory"))
+      → LastLine 9 text (line (codes "refused memory")) status whole part
+      → Traces x limit actions status whole part
+  lost_answer : {front history after : Word} {action : PlainAction} {whole part : List ℕ} (rest : Word)
+      → front ++ action ∷ rest ≡ actions → Answers x limit [] front whole history
+      → Answers x limit history (action ∷ []) part after
+      → Traces x limit actions 10 whole part

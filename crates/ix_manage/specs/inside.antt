@@ -1,6 +1,7 @@
 -- What contracts between crates and private ones cite, and no claim of the program or law reaches.
 pub mod Jobs
 pub mod Leaves
+pub mod Playing
 pub mod Refusal
 pub mod ReplayProgress
 pub mod TracesLines

@@ -19,7 +19,7 @@ const MOST_TURNS: usize = 1_000_000_000;
 pub(crate) enum Job<'a> {
     /// The words are `trace EXPR ACTIONS`, with options.
     Trace(TraceWords<'a>),
-    /// The words are `replay EXPR - SCRIPT`, with options.
+    /// The words are `replay EXPR JOURNAL SCRIPT`, with options.
     Replay(ReplayWords<'a>),
 }
 
@@ -31,12 +31,13 @@ pub(crate) struct TraceWords<'a> {
     pub actions: &'a str,
 }
 
-/// The limit of Size, the most events and the two files that the words of a replay name.
+/// The limit of Size, the most events and the three files that the words of a replay name.
 #[derive(Clone, Copy)]
 pub(crate) struct ReplayWords<'a> {
     pub limit: usize,
     pub turns: usize,
     pub expression: &'a str,
+    pub journal: &'a str,
     pub script: &'a str,
 }
 
@@ -94,6 +95,7 @@ fn read_replay(words: &[String]) -> Option<Job<'_>>
         limit: nodes.number,
         turns: turns.number,
         expression: names.expression,
+        journal: names.journal,
         script: names.script,
     }))
 }
@@ -141,22 +143,20 @@ fn take_option<'a>(
 #[derive(Clone, Copy)]
 struct NamedFiles<'a> {
     expression: &'a str,
+    journal: &'a str,
     script: &'a str,
 }
 
-/// The files of the words `EXPR - SCRIPT`.
+/// The files of the words `EXPR JOURNAL SCRIPT`.
 fn named_files(words: &[String]) -> Option<NamedFiles<'_>>
     ensures { MatchOption result
-        ((expression script : List ℕ)
-        → NamesFiles (map string_bytes words.now) expression script → ⊥)
+        ((expression journal script : List ℕ)
+        → NamesFiles (map string_bytes words.now) expression journal script → ⊥)
         (λ names. NamesFiles (map string_bytes words.now)
-        names.expression.now names.script.now) }
+        names.expression.now names.journal.now names.script.now) }
 {
     match words {
         [expression, journal, script] => {
-            if journal.as_str() != "-" {
-                return None;
-            }
             if expression.as_str() == "--nodes" {
                 return None;
             }
@@ -165,6 +165,7 @@ fn named_files(words: &[String]) -> Option<NamedFiles<'_>>
             }
             Some(NamedFiles {
                 expression: expression.as_str(),
+                journal: journal.as_str(),
                 script: script.as_str(),
             })
         }

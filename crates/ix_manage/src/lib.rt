@@ -1,12 +1,16 @@
 //! The top call of the program: from the words of the command line to the bytes put.
 #![tactic(auto)]
 
-ghost use Rattle.std.specs.Prelude.{◌≡◌, ◌≢◌, false, map, string_bytes};
+ghost use Rattle.std.specs.Prelude.{◌≡◌, false, map, string_bytes, OnOk, OnErr};
 ghost use Rattle.ix_outside.specs.Counts.{Rose};
 ghost use Rattle.ix_outside.specs.FilesState.{OnlyFaults};
 ghost use Rattle.ix_outside.specs.SinkState.{OnlyPuts};
-ghost use Rattle.ix_manage.specs.Ends.{Ends};
-ghost use Rattle.ix_manage.specs.Puts.{PutsAll, PutsFront};
+ghost use Rattle.ix_outside.specs.SiteState.{OnlyDisk};
+ghost use Rattle.ix_manage.specs.Command.{NamesNoReplay};
+ghost use Rattle.ix_manage.specs.Ends.{Ended, EndsOver};
+ghost use Rattle.ix_outside.specs.Sink.{AppendsPart};
+ghost use Rattle.std.specs.Io.KnownBytes.{append_known};
+ghost use Rattle.ix_manage.specs.Journal.{other_line};
 
 mod actions;
 mod job;
@@ -19,21 +23,24 @@ mod trace;
 mod turns;
 mod words;
 
-use ix_outside::{Files, Sink, Site};
+use ix_outside::{Failed, Files, Sink, Site};
 use run::{Stop, run};
 use std::alloc::Global;
 
 /// Runs the program on the words after its name, and gives its status.
 ///
-/// `Ends` says what is put, and with which status a run ends. The words are those of a
-/// trace or of a replay:
+/// `EndsOver` says what is put, with which status a run ends, and what becomes of the journal. The
+/// words are those of a trace or of a replay:
 ///
 /// - `trace EXPR ACTIONS` puts one line for each action of the file ACTIONS by the expression
 ///   of the file EXPR, which is `no`, `full`, `large` or `yes`, and then `complete` or
 ///   `partial`, with status 0.
-/// - `replay EXPR - SCRIPT` puts `history 0`, and then the replies of a run of the protocol machine
-///   over the events of the file SCRIPT, each behind its connection's number: to the script's end
-///   or `stop` with status 0, or to the number of turns with status 7 and a line that says so.
+/// - `replay EXPR JOURNAL SCRIPT` attaches the file JOURNAL, which is made where it is absent, puts
+///   `history N`, the number of the actions that it recovers, and then the replies of a run of the
+///   protocol machine over the events of the file SCRIPT, each behind its connection's number: to
+///   the script's end or `stop` with status 0, or to the number of turns with status 7 and a line
+///   that says so. Each confirmed action is in the journal before it is answered. Where the disk
+///   fails then, the run ends behind the reply that says so, with status 5.
 ///
 /// Directly behind the command may stand `--nodes N`, the limit of Size from 1 to 1,000,000,
 /// which is 100,000 otherwise, and in a replay then `--turns N`, the most events that are taken,
@@ -41,9 +48,10 @@ use std::alloc::Global;
 ///
 /// Otherwise a run ends with a refusal as its last line. A text that stands for no expression is
 /// refused with its first fault, one whose initial tree is above the limit with 14, an actions file
-/// or a script with the first line that isn't in its grammar. A put that fails ends the run with
-/// status 10, a replay after the event in which it failed; what went out by then is a front of such
-/// a text. A file that `files` doesn't tell may hold any text. The site isn't called.
+/// or a script with the first line that isn't in its grammar. A journal from which no run starts is
+/// refused with status 8 and left as it is, and one whose disk fails with 5. A put that fails ends
+/// the run with status 10, a replay after the event in which it failed; what went out by then is a
+/// front of such a text. A file that `files` doesn't tell may hold any text.
 pub fn manage<F: Files, S: Site, K: Sink>(
     alloc: Global,
     words: &[String],
@@ -53,34 +61,52 @@ pub fn manage<F: Files, S: Site, K: Sink>(
 ) -> u8
     requires { (S.state site.old).attached ≡ false }
 
-    // All that is put, with each status but 10.
-    ensures output { result ≢ 10 → PutsAll
-        (Ends (map string_bytes words.now) (F.state files.old).contents)
+    // With this status, a session and what went out, whole and in part, the run may end so, and
+    // what it leaves of its journal is that session's history.
+    ensures ends { Ended (EndsOver (map string_bytes words.now) (F.state files.old).contents
+        (S.state site.old) (S.state site.new) (S.crashes site.new))
         result (K.state out.old) (K.state out.new) }
 
-    // With 10 a front of what is put with another status.
-    ensures cut_short { result ≡ 10 → PutsFront
-        (Ends (map string_bytes words.now) (F.state files.old).contents)
-        (K.state out.old) (K.state out.new) }
-
-    // A file is lost, and a put fails, only where the count rose.
+    // A file is lost, the disk fails, and a put fails, only where the count rose.
     ensures file_fault { result ≡ 4 → Rose (F.state files.old).faults (F.state files.new).faults }
+    ensures disk_fault { result ≡ 5
+        → Rose (S.state site.old).counts.disk (S.state site.new).counts.disk }
     ensures output_fault { result ≡ 10 → Rose (K.state out.old).faults (K.state out.new).faults }
 
-    // What stays: all of the files but their count of faults, all of the site, and of the output
-    // what it holds.
+    // What stays: all of the files but their count of faults, all of the site but its disk, which
+    // stays too where the words name no replay, and of the output what it holds.
     ensures files { OnlyFaults (F.state files.old) (F.state files.new) }
-    ensures site { S.state site.new ≡ S.state site.old }
+    ensures site { OnlyDisk (S.state site.old) (S.state site.new) }
+    ensures no_replay { NamesNoReplay (map string_bytes words.now)
+        → S.state site.new ≡ S.state site.old }
     ensures puts { OnlyPuts (K.state out.old) (K.state out.new) }
 {
     match run(alloc, words, files, site, out) {
         Ok(()) => 0,
         Err(Stop::Output) => 10,
+        Err(Stop::OtherExpression { kept }) => match put_other(&kept, out) {
+            Ok(()) => 8,
+            Err(_) => 10,
+        },
         Err(Stop::Refused(refusal)) => match out.put(&refusal.line()) {
             Ok(()) => refusal.status(),
             Err(_) => 10,
         },
     }
+}
+
+/// Puts the line that says that the journal is that of the expression of this text.
+fn put_other<K: Sink>(kept: &[u8], out: &mut K) -> Result<(), Failed>
+    ensures whole { OnOk result ((K.state out.new).written
+        ≡ append_known (K.state out.old).written (other_line kept.now)) }
+    ensures part { OnErr result (AppendsPart (K.state out.old).written (other_line kept.now)
+        (K.state out.new).written) }
+    ensures failed { OnErr result (Rose (K.state out.old).faults (K.state out.new).faults) }
+    ensures puts { OnlyPuts (K.state out.old) (K.state out.new) }
+{
+    out.put(b"refused journal other ")?;
+    out.put(kept)?;
+    out.put(b"\n")
 }
 
 #[cfg(test)]

@@ -1,7 +1,9 @@
 //! Why a run ends before it has its answer.
 ghost use Rattle.std.specs.Prelude.{◌≡◌, ◌+◌, ◌≤◌, [], ◌∷◌, ◌++◌, codes, length};
 ghost use Rattle.arrayvec.specs.ArrayVec.{array_vec_len};
+ghost use Rattle.ix_manage.specs.Journal.{journal_line};
 ghost use Rattle.ix_manage.specs.Trace.{fault_line, large_line};
+ghost use Rattle.ix_manage.specs.inside.Refusal.{journal_words};
 
 use arrayvec::ArrayVec;
 use itoa::Buffer;
@@ -25,10 +27,29 @@ pub(crate) enum Refusal {
     BadScript { code: u8, at: usize },
     /// The script couldn't be read.
     LostScript,
+    /// A call of the disk failed.
+    Disk,
+    /// No run starts from the journal.
+    Journal(JournalRefusal),
     /// As many events were taken as the words allow, and the run hadn't ended.
     Turns,
     /// There was no memory.
     Memory,
+}
+
+/// Why no run starts from a journal. Records are counted from 1.
+#[derive(Clone, Copy)]
+pub(crate) enum JournalRefusal {
+    /// The file is no journal.
+    Foreign,
+    /// The open gate in front of this place isn't followed by a whole record.
+    Damaged { at: usize },
+    /// It has too many records.
+    Many,
+    /// With the record of this number the history isn't partial.
+    Word { number: u64 },
+    /// With the record of this number the Size of the history's tree is above this limit.
+    Heavy { number: u64, limit: usize },
 }
 
 impl Refusal {
@@ -47,6 +68,8 @@ impl Refusal {
             Refusal::LostActions => append(&mut line, b"refused file actions\n"),
             Refusal::BadScript { code, at } => append_fault(&mut line, b"script", code, at),
             Refusal::LostScript => append(&mut line, b"refused file script\n"),
+            Refusal::Disk => append(&mut line, b"refused disk\n"),
+            Refusal::Journal(why) => append_journal(&mut line, why),
             Refusal::Turns => append(&mut line, b"refused turns\n"),
             Refusal::Memory => append(&mut line, b"refused memory\n"),
         }
@@ -61,6 +84,8 @@ impl Refusal {
             Refusal::BadText { .. } | Refusal::Large { .. } => 3,
             Refusal::BadActions { .. } | Refusal::BadScript { .. } => 3,
             Refusal::LostExpression | Refusal::LostActions | Refusal::LostScript => 4,
+            Refusal::Disk => 5,
+            Refusal::Journal(_) => 8,
             Refusal::Turns => 7,
             Refusal::Memory => 9,
         }
@@ -90,7 +115,33 @@ fn append_large(line: &mut ArrayVec<u8, 64>, limit: usize)
     append(line, b"\n");
 }
 
-fn append(line: &mut ArrayVec<u8, 64>, bytes: &[u8])
+fn append_journal(line: &mut ArrayVec<u8, 64>, why: JournalRefusal)
+    requires { line.old.items ≡ [] }
+    ensures { line.new.items ≡ journal_line (journal_words why) }
+{
+    append(line, b"refused journal ");
+    match why {
+        JournalRefusal::Foreign => append(line, b"foreign"),
+        JournalRefusal::Damaged { at } => {
+            append(line, b"damaged ");
+            append(line, Buffer::new().format(at).as_bytes());
+        }
+        JournalRefusal::Many => append(line, b"many"),
+        JournalRefusal::Word { number } => {
+            append(line, b"word ");
+            append(line, Buffer::new().format(number).as_bytes());
+        }
+        JournalRefusal::Heavy { number, limit } => {
+            append(line, b"large ");
+            append(line, Buffer::new().format(number).as_bytes());
+            append(line, b" ");
+            append(line, Buffer::new().format(limit).as_bytes());
+        }
+    }
+    append(line, b"\n");
+}
+
+pub(crate) fn append(line: &mut ArrayVec<u8, 64>, bytes: &[u8])
     requires { array_vec_len line.old + length bytes.now ≤ 64 }
     ensures { line.new.items ≡ line.old.items ++ bytes.now }
 {

@@ -1,22 +1,29 @@
 //! One replay, up to the last line that a refusal puts.
-ghost use Rattle.std.specs.Prelude.{◌≡◌, ◌≤◌, IfErr};
-ghost use Rattle.ix_outside.specs.Counts.{Rose};
+ghost use Rattle.std.specs.Prelude.{◌≡◌, ◌≤◌, List, IfErr, true, false};
+ghost use Rattle.ix_outside.specs.Contents.{GivenEvent};
 ghost use Rattle.ix_outside.specs.FilesState.{OnlyFaults};
 ghost use Rattle.ix_outside.specs.SinkState.{OnlyPuts};
-ghost use Rattle.ix_manager.specs.Handled.{started};
-ghost use Rattle.ix_manage.specs.Ends.{JobEnds};
+ghost use Rattle.ix_outside.specs.SiteState.{OnlyDisk};
+ghost use Rattle.ix_manager.specs.inside.OverSite.{FitsSite};
+ghost use Rattle.ix_script.specs.Events.{HasEvents};
+ghost use Rattle.ix_manage.specs.Session as spec;
 ghost use Rattle.ix_manage.specs.inside.Jobs.{replay_of};
-ghost use Rattle.ix_manage.specs.inside.Leaves.{IsNoLoss, Leaves, LostWhere};
-ghost use Rattle.ix_manage.specs.inside.ReplayProgress.{ReplaysScript, TakesTurns};
+ghost use Rattle.ix_manage.specs.inside.Leaves.{FailedWhere, IsNoLoss, Leaves, LostWhere};
+ghost use Rattle.ix_manage.specs.inside.Playing.{JobOver, PlaysOver, stop_of};
+ghost use Rattle.ix_manage.specs.inside.ReplayProgress.{IsStarted, OnlyUsesDisk, ReplaysOn, between, opening_of};
 
 use crate::job::ReplayWords;
 use crate::load::{load_expression, load_script, read_script};
-use crate::refusal::Refusal;
+use crate::refusal::{JournalRefusal, Refusal, append};
 use crate::run::Stop;
-use crate::turns::{Turn, take_events};
+use crate::turns::take_events;
+use arrayvec::ArrayVec;
+use itoa::Buffer;
+use ix_expr::Expression;
 use ix_manager::{Manager, StartFault};
 use ix_outside::{Files, Sink, Site};
 use ix_script::{Script, ScriptSite};
+use ix_values::Action;
 use std::alloc::Global;
 
 /// A refusal's line isn't put yet.
@@ -30,14 +37,17 @@ pub(crate) fn replay<F: Files, S: Site, K: Sink>(
     requires least { 1 ≤ names.limit }
     requires most { names.limit ≤ 1000000 }
     requires turns { names.turns ≤ 1000000000 }
+    requires attached { (S.state site.old).attached ≡ false }
 
     ensures leaves { Leaves
-        (JobEnds (F.state files.old).contents (replay_of names.entry))
+        (JobOver (F.state files.old).contents (replay_of names.entry)
+        (S.state site.old) (S.state site.new) (S.crashes site.new))
         (K.state out.old) (K.state out.new) result }
     ensures lost { IfErr result (LostWhere (F.state files.old) (F.state files.new)) }
+    ensures failed { IfErr result (FailedWhere (S.state site.old) (S.state site.new)) }
 
     ensures files { OnlyFaults (F.state files.old) (F.state files.new) }
-    ensures site { S.state site.new ≡ S.state site.old }
+    ensures site { OnlyDisk (S.state site.old) (S.state site.new) }
     ensures puts { OnlyPuts (K.state out.old) (K.state out.new) }
 {
     let expression = match load_expression(alloc, files, names.expression) {
@@ -52,16 +62,69 @@ pub(crate) fn replay<F: Files, S: Site, K: Sink>(
         Ok(script) => script,
         Err(refusal) => return Err(Stop::Refused(refusal)),
     };
-    let limit = names.limit;
-    let mut manager = match Manager::start(alloc, site, expression, limit) {
+    play(alloc, names, expression, script, site, out)
+}
+
+/// Attaches the journal, starts the manager from it and runs the script.
+fn play<S: Site, K: Sink>(
+    alloc: Global,
+    names: ReplayWords<'_>,
+    expression: Expression,
+    script: Script<'_>,
+    site: &mut S,
+    out: &mut K,
+) -> Result<(), Stop>
+    requires least { 1 ≤ names.limit }
+    requires most { names.limit ≤ 1000000 }
+    requires turns { names.turns ≤ 1000000000 }
+    requires events { (events : List GivenEvent) × HasEvents script.bytes.now events }
+    requires attached { (S.state site.old).attached ≡ false }
+
+    ensures leaves { Leaves
+        (PlaysOver expression names.entry script.entry.bytes.now
+        (S.state site.old) (S.state site.new) (S.crashes site.new))
+        (K.state out.old) (K.state out.new) result }
+    ensures lost { IfErr result IsNoLoss }
+    ensures failed { IfErr result (FailedWhere (S.state site.old) (S.state site.new)) }
+
+    ensures site { OnlyDisk (S.state site.old) (S.state site.new) }
+    ensures puts { OnlyPuts (K.state out.old) (K.state out.new) }
+{
+    match site.attach(names.journal) {
+        Ok(()) => {}
+        Err(_) => return Err(Stop::Refused(Refusal::Disk)),
+    }
+    let mut manager = match Manager::start(alloc, site, expression, names.limit) {
         Ok(manager) => manager,
-        Err(StartFault::Large { .. }) => return Err(Stop::Refused(Refusal::Large { limit })),
-        Err(StartFault::Memory) => return Err(Stop::Refused(Refusal::Memory)),
+        Err(fault) => return Err(start_stop(fault)),
     };
     run_script(alloc, &mut manager, names.turns, script, site, out)
 }
 
-/// Puts `history 0` in front: the manager was just started.
+/// Why the run ends where no manager was started.
+fn start_stop(fault: StartFault) -> Stop
+    ensures { result ≡ stop_of fault }
+{
+    match fault {
+        StartFault::Large { limit } => Stop::Refused(Refusal::Large { limit }),
+        StartFault::Disk => Stop::Refused(Refusal::Disk),
+        StartFault::Foreign => Stop::Refused(Refusal::Journal(JournalRefusal::Foreign)),
+        StartFault::Other { kept } => Stop::OtherExpression { kept },
+        StartFault::Damaged { at } => Stop::Refused(Refusal::Journal(JournalRefusal::Damaged {
+            at,
+        })),
+        StartFault::Many => Stop::Refused(Refusal::Journal(JournalRefusal::Many)),
+        StartFault::Word { number } => {
+            Stop::Refused(Refusal::Journal(JournalRefusal::Word { number }))
+        }
+        StartFault::Heavy { number, limit } => {
+            Stop::Refused(Refusal::Journal(JournalRefusal::Heavy { number, limit }))
+        }
+        StartFault::Memory => Stop::Refused(Refusal::Memory),
+    }
+}
+
+/// Puts the line of the history in front: the manager was just started.
 fn run_script<S: Site, K: Sink>(
     alloc: Global,
     manager: &mut Manager,
@@ -71,45 +134,35 @@ fn run_script<S: Site, K: Sink>(
     out: &mut K,
 ) -> Result<(), Stop>
     requires turns { turns ≤ 1000000000 }
-    requires manager { manager.old ≡ started manager.old.form manager.old.limit }
+    requires manager { IsStarted manager.old }
+    requires attached { (S.state site.old).attached ≡ true }
+    requires fits { FitsSite manager.old (S.state site.old) (S.crashes site.old) }
 
     ensures leaves { Leaves
-        (ReplaysScript manager.old.form manager.old.limit turns script.entry.bytes.now)
+        (ReplaysOn (opening_of manager.old) turns script.entry.bytes.now manager.new.machine
+        (between S.state S.crashes site.old site.new))
         (K.state out.old) (K.state out.new) result }
     ensures lost { IfErr result IsNoLoss }
+    ensures failed { IfErr result (FailedWhere (S.state site.old) (S.state site.new)) }
 
-    ensures site { S.state site.new ≡ S.state site.old }
+    ensures site { OnlyUsesDisk (S.state site.old) (S.state site.new) }
     ensures puts { OnlyPuts (K.state out.old) (K.state out.new) }
 {
-    match out.put(b"history 0\n") {
+    match out.put(&history_line(manager.history())) {
         Ok(()) => {}
         Err(_) => return Err(Stop::Output),
     }
-    match play(alloc, manager, turns, script, site, out) {
-        Turn::Done => Ok(()),
-        Turn::More => Err(Stop::Refused(Refusal::Turns)),
-        Turn::Cut => Err(Stop::Output),
-    }
-}
-
-fn play<S: Site, K: Sink>(
-    alloc: Global,
-    manager: &mut Manager,
-    turns: usize,
-    script: Script<'_>,
-    site: &mut S,
-    out: &mut K,
-) -> Turn
-    requires turns { turns ≤ 1000000000 }
-    requires manager { manager.old ≡ started manager.old.form manager.old.limit }
-
-    ensures ends { TakesTurns manager.old.form manager.old.limit turns script.entry.bytes.now
-        (K.state out.old).written (K.state out.new).written result }
-    ensures failed { result ≡ Turn.Cut → Rose (K.state out.old).faults (K.state out.new).faults }
-
-    ensures site { S.state site.new ≡ S.state site.old }
-    ensures puts { OnlyPuts (K.state out.old) (K.state out.new) }
-{
     let mut all = ScriptSite::new(script, site, out);
     take_events(alloc, manager, turns, &mut all)
+}
+
+/// Says how many actions the history has.
+fn history_line(history: &[Action]) -> ArrayVec<u8, 64>
+    ensures { result.items ≡ spec.history_line history.now }
+{
+    let mut line = ArrayVec::new();
+    append(&mut line, b"history ");
+    append(&mut line, Buffer::new().format(history.len()).as_bytes());
+    append(&mut line, b"\n");
+    line
 }

@@ -1,25 +1,29 @@
 //! One run of the program, up to the last line that a refusal puts.
-ghost use Rattle.std.specs.Prelude.{◌≡◌, ◌≤◌, IfErr, map, string_bytes};
+ghost use Rattle.std.specs.Prelude.{◌≡◌, ◌≤◌, IfErr, false, map, string_bytes};
 ghost use Rattle.ix_outside.specs.FilesState.{OnlyFaults};
 ghost use Rattle.ix_outside.specs.SinkState.{OnlyPuts};
-ghost use Rattle.ix_manage.specs.Ends.{Ends, JobEnds};
-ghost use Rattle.ix_manage.specs.inside.Jobs.{trace_of};
-ghost use Rattle.ix_manage.specs.inside.Leaves.{Leaves, LostWhere};
+ghost use Rattle.ix_outside.specs.SiteState.{OnlyDisk};
+ghost use Rattle.ix_manage.specs.Command.{NamesNoReplay};
+ghost use Rattle.ix_manage.specs.Ends.{EndsOver};
+ghost use Rattle.ix_manage.specs.inside.Leaves.{FailedWhere, IsNoFailure, Leaves, LostWhere};
+ghost use Rattle.ix_manage.specs.inside.Playing.{TraceEnds};
 
 use crate::job::{Job, TraceWords, read_words};
 use crate::load::load_actions;
 use crate::refusal::Refusal;
 use crate::replay::replay;
 use crate::start::start;
-use crate::trace::{TraceFault, trace};
+use crate::trace::trace;
 use ix_outside::{Files, Sink, Site};
 use std::alloc::Global;
 
 /// Why a run ends before it has its answer.
-#[derive(Clone, Copy)]
+#[derive(Drop)]
 pub(crate) enum Stop {
     /// A line is to be put that says why.
     Refused(Refusal),
+    /// A line is to be put that says that the journal is that of another expression, with its text.
+    OtherExpression { kept: Vec<u8> },
     /// A put failed.
     Output,
 }
@@ -32,13 +36,19 @@ pub(crate) fn run<F: Files, S: Site, K: Sink>(
     site: &mut S,
     out: &mut K,
 ) -> Result<(), Stop>
+    requires { (S.state site.old).attached ≡ false }
+
     ensures leaves { Leaves
-        (Ends (map string_bytes words.now) (F.state files.old).contents)
+        (EndsOver (map string_bytes words.now) (F.state files.old).contents
+        (S.state site.old) (S.state site.new) (S.crashes site.new))
         (K.state out.old) (K.state out.new) result }
     ensures lost { IfErr result (LostWhere (F.state files.old) (F.state files.new)) }
+    ensures failed { IfErr result (FailedWhere (S.state site.old) (S.state site.new)) }
 
     ensures files { OnlyFaults (F.state files.old) (F.state files.new) }
-    ensures site { S.state site.new ≡ S.state site.old }
+    ensures site { OnlyDisk (S.state site.old) (S.state site.new) }
+    ensures no_replay { NamesNoReplay (map string_bytes words.now)
+        → S.state site.new ≡ S.state site.old }
     ensures puts { OnlyPuts (K.state out.old) (K.state out.new) }
 {
     match read_words(words) {
@@ -58,9 +68,10 @@ fn run_trace<F: Files, K: Sink>(
     requires most { names.limit ≤ 1000000 }
 
     ensures leaves { Leaves
-        (JobEnds (F.state files.old).contents (trace_of names.entry))
+        (TraceEnds (F.state files.old).contents names.entry)
         (K.state out.old) (K.state out.new) result }
     ensures lost { IfErr result (LostWhere (F.state files.old) (F.state files.new)) }
+    ensures failed { IfErr result IsNoFailure }
 
     ensures files { OnlyFaults (F.state files.old) (F.state files.new) }
     ensures puts { OnlyPuts (K.state out.old) (K.state out.new) }
@@ -73,9 +84,5 @@ fn run_trace<F: Files, K: Sink>(
         Ok(actions) => actions,
         Err(refusal) => return Err(Stop::Refused(refusal)),
     };
-    match trace(alloc, &mut engine, &actions, out) {
-        Ok(()) => Ok(()),
-        Err(TraceFault::Memory) => Err(Stop::Refused(Refusal::Memory)),
-        Err(TraceFault::Output) => Err(Stop::Output),
-    }
+    trace(alloc, &mut engine, &actions, out)
 }

@@ -44,18 +44,24 @@ fn sink_of(alloc: Global, failing: Option<u64>) -> Result<MemorySink, Fail> {
     Ok(MemorySink::new(alloc, ROOM, fail)?)
 }
 
-// A site without events, each of whose calls fails, as there is no room for one.
-fn site(alloc: Global) -> Result<MemorySite, Fail>
+// A journal before a run, and the call of the disk and the put that fail.
+#[derive(Clone, Copy)]
+struct Before<'a> {
+    journal: &'a [u8],
+    call: Option<u64>,
+    put: Option<u64>,
+}
+
+// A site with this journal, and without events.
+fn site_of(alloc: Global, before: Before<'_>) -> Result<MemorySite, Fail>
     ensures { IfOk result (λ s. s.attached ≡ false) }
 {
-    let site = MemorySite::new(
-        alloc,
-        Vec::new(alloc),
-        Vec::new(alloc),
-        0,
-        Vec::new(alloc),
-        None,
-    );
+    let mut fail = Vec::new(alloc);
+    if let Some(number) = before.call {
+        fail.push(number)?;
+    }
+    let image = before.journal.to_vec(alloc)?;
+    let site = MemorySite::new(alloc, image, Vec::new(alloc), ROOM, fail, None);
     Ok(site?)
 }
 
@@ -76,7 +82,24 @@ fn run_over(
     })
 }
 
-// Runs `words` where the expression file is `expression` and the actions file is `actions`.
+// Runs `words` where the expression file is `expression` and the actions file is `actions`, and
+// gives the journal then too.
+fn run_from(
+    alloc: Global,
+    words: &[&str],
+    expression: &[u8],
+    actions: &[u8],
+    before: Before<'_>,
+) -> Result<(Ended, Vec<u8>), Fail> {
+    let words = words_of(alloc, words)?;
+    let mut files = files_of(alloc, expression, actions)?;
+    let mut site = site_of(alloc, before)?;
+    let mut out = sink_of(alloc, before.put)?;
+    let ended = run_over(alloc, &words, &mut files, &mut site, &mut out)?;
+    Ok((ended, site.image().to_vec(alloc)?))
+}
+
+// The same without a journal before.
 fn run_on(
     alloc: Global,
     words: &[&str],
@@ -84,11 +107,13 @@ fn run_on(
     actions: &[u8],
     failing: Option<u64>,
 ) -> Result<Ended, Fail> {
-    let words = words_of(alloc, words)?;
-    let mut files = files_of(alloc, expression, actions)?;
-    let mut site = site(alloc)?;
-    let mut out = sink_of(alloc, failing)?;
-    run_over(alloc, &words, &mut files, &mut site, &mut out)
+    let before = Before {
+        journal: b"",
+        call: None,
+        put: failing,
+    };
+    let (ended, _) = run_from(alloc, words, expression, actions, before)?;
+    Ok(ended)
 }
 
 const TRACE: [&str; 3] = ["trace", "expression", "actions"];
@@ -417,6 +442,160 @@ fn failed_puts_end_replays(rt: HostRuntime) -> Result<(), Fail> {
     Ok(())
 }
 
+// The journal of `a - b` with the action `a`.
+const OF_A: &[u8] = b"\xA5IXJ1\x00\x05a - b\xA5\x00\x01a\x00";
+
+// The same before that action.
+const BEFORE_A: &[u8] = b"\xA5IXJ1\x00\x05a - b\x7F\x00\x01a\x00";
+
+const ASK_A: &[u8] = b"100 0 ask a 50\n149 0 confirm 1";
+
+// A replay's journal, script and expression, and what is wanted.
+#[derive(Clone, Copy)]
+struct Row {
+    words: &'static [&'static str],
+    expression: &'static [u8],
+    script: &'static [u8],
+    before: Before<'static>,
+    status: u8,
+    bytes: &'static [u8],
+    journal: &'static [u8],
+}
+
+// A replay of `a - b` over a journal where no call fails.
+fn make_row(
+    journal: &'static [u8],
+    script: &'static [u8],
+    status: u8,
+    bytes: &'static [u8],
+) -> Row {
+    Row {
+        words: &REPLAY,
+        expression: b"a - b",
+        script,
+        before: Before {
+            journal,
+            call: None,
+            put: None,
+        },
+        status,
+        bytes,
+        journal,
+    }
+}
+
+// The same, over no journal, where this call of the disk and this put fail.
+fn failing_row(call: Option<u64>, put: Option<u64>, status: u8, bytes: &'static [u8]) -> Row {
+    Row {
+        before: Before {
+            journal: b"",
+            call,
+            put,
+        },
+        journal: OF_A,
+        ..make_row(b"", ASK_A, status, bytes)
+    }
+}
+
+#[test]
+fn journals_are_kept(rt: HostRuntime) -> Result<(), Fail> {
+    let few: &[&str] = &["replay", "--nodes", "2", "expression", "-", "actions"];
+    let rows = [
+        make_row(
+            OF_A,
+            b"5 0 status\n5 0 log 1\n5 0 log 2",
+            0,
+            b"history 1\n0 status partial 1 nodes 3\n0 entry 1 a\n0 refused 42 no such entry\n",
+        ),
+        Row {
+            journal: OF_A,
+            ..make_row(
+                BEFORE_A,
+                b"1 0 ask a 5\n2 0 confirm 1",
+                0,
+                b"history 0\n0 granted 1\n0 confirmed 1\n",
+            )
+        },
+        make_row(b"#!/bin/sh", b"", 8, b"refused journal foreign\n"),
+        Row {
+            expression: b"a - c",
+            ..make_row(OF_A, b"", 8, b"refused journal other a - b\n")
+        },
+        make_row(
+            b"\xA5IXJ1\x00\x05a - b\xA5\x00\x01a",
+            b"",
+            8,
+            b"refused journal damaged 13\n",
+        ),
+        make_row(
+            b"\xA5IXJ1\x00\x05a - b\xA5\x00\x01b\x00",
+            b"",
+            8,
+            b"refused journal word 1\n",
+        ),
+        Row {
+            words: few,
+            ..make_row(OF_A, b"", 8, b"refused journal large 1 2\n")
+        },
+        failing_row(
+            Some(13),
+            None,
+            5,
+            b"history 0\n0 granted 1\n0 refused 91 disk\nrefused disk\n",
+        ),
+        failing_row(Some(13), Some(2), 10, b"history 0\n0 granted 1\n"),
+        Row {
+            journal: b"",
+            ..failing_row(Some(0), None, 5, b"refused disk\n")
+        },
+        Row {
+            expression: b"a - c",
+            before: Before {
+                journal: OF_A,
+                call: None,
+                put: Some(1),
+            },
+            ..make_row(OF_A, b"", 10, b"refused journal other ")
+        },
+    ];
+    for row in rows {
+        let (ended, journal) = run_from(
+            rt.alloc(),
+            row.words,
+            row.expression,
+            row.script,
+            row.before,
+        )?;
+        assert_eq!(rt; ended.status, row.status);
+        assert!(rt;
+            ended.bytes.as_slice() == row.bytes,
+            "what {:?} puts",
+            row.before.journal
+        );
+        assert!(rt;
+            journal.as_slice() == row.journal,
+            "what becomes of {:?}",
+            row.before.journal
+        );
+    }
+    Ok(())
+}
+
+#[test]
+fn a_new_journal_has_the_canonical_text(rt: HostRuntime) -> Result<(), Fail> {
+    let before = Before {
+        journal: b"",
+        call: None,
+        put: None,
+    };
+    let (ended, journal) = run_from(rt.alloc(), &REPLAY, BOTH, b"", before)?;
+    assert!(rt; ended.bytes.as_slice() == b"history 0\n".as_slice());
+    assert_eq!(rt; journal.len(), 101);
+    assert!(rt; journal.as_slice().starts_with(b"\xA5IXJ1\x00\x5D"));
+    assert!(rt; journal.as_slice().ends_with(b"\x00"));
+    Ok(())
+}
+
 #[test]
 fn long_lines_are_refused_once(rt: HostRuntime) -> Result<(), Fail> {
     let alloc = rt.alloc();
@@ -519,7 +698,7 @@ fn other_words_are_refused(rt: HostRuntime) -> Result<(), Fail> {
         &["trace", "--nodes", "1000001", "expression", "actions"],
         &["trace", "expression", "actions", "--nodes", "5"],
         &["replay", "expression", "actions"],
-        &["replay", "expression", "journal", "actions"],
+        &["replay", "expression", "-", "actions", "more"],
         &["replay", "--nodes", "-", "actions"],
         &["replay", "--turns", "-", "actions"],
         &["replay", "--turns", "5", "--nodes", "-", "actions"],

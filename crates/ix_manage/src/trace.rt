@@ -1,32 +1,20 @@
 //! Answers actions one after the other, and says at the end whether the history is complete.
-ghost use Rattle.std.specs.Prelude.{◌≡◌, ◌≤◌, ℕ, List, [], ◌∷◌, ◌++◌, IfOk, OnOk, OnErr, IsErrOf, codes};
-ghost use Rattle.std.specs.Io.KnownBytes.{append_known};
+ghost use Rattle.std.specs.Prelude.{◌≡◌, [], ◌∷◌, IfOk, IfErr};
 ghost use Rattle.ix_words.specs.Each.{Each};
 ghost use Rattle.ix_values.specs.Faults.{IsActionText};
-ghost use Rattle.ix_values.specs.PlainAction.{Word};
-ghost use Rattle.ix_outside.specs.Counts.{Rose};
 ghost use Rattle.ix_outside.specs.SinkState.{OnlyPuts};
-ghost use Rattle.ix_outside.specs.Sink.{AppendsPart};
-ghost use Rattle.ix_manage.specs.ActionLines.{line};
 ghost use Rattle.ix_lines.specs.TextLines.{lines_of};
-ghost use Rattle.ix_manage.specs.Puts.{PutsAll, PutsFront};
-ghost use Rattle.ix_manage.specs.Trace.{Answers, Verdict};
-ghost use Rattle.ix_manage.specs.inside.TracesLines.{TracesLines};
+ghost use Rattle.ix_manage.specs.Trace.{Verdict};
+ghost use Rattle.ix_manage.specs.inside.Leaves.{IsNoFailure, IsNoLoss, Leaves};
+ghost use Rattle.ix_manage.specs.inside.TracesLines.{AnswersOne, PutsAnswer, TracesLines};
 
+use crate::refusal::Refusal;
+use crate::run::Stop;
 use ix_engine::{Engine, PrepareFault};
 use ix_lines::first_line;
 use ix_outside::Sink;
 use ix_values::Action;
 use std::alloc::{AllocError, Global};
-
-/// Why not all lines of a trace were put.
-#[derive(Clone, Copy)]
-pub(crate) enum TraceFault {
-    /// There was no memory for the history.
-    Memory,
-    /// A put failed.
-    Output,
-}
 
 /// Puts a line for each action, and then whether the history of the `yes` actions is complete.
 pub(crate) fn trace<K: Sink>(
@@ -34,21 +22,14 @@ pub(crate) fn trace<K: Sink>(
     engine: &mut Engine,
     actions: &[u8],
     out: &mut K,
-) -> Result<(), TraceFault>
+) -> Result<(), Stop>
     requires empty { engine.old.history ≡ [] }
     requires lines { Each IsActionText (lines_of actions.now) }
 
-    ensures whole { OnOk result (PutsAll
-        (TracesLines engine.old.form engine.old.limit actions.now)
-        0 (K.state out.old) (K.state out.new)) }
-    ensures memory { IsErrOf result TraceFault.Memory → (text : List ℕ)
-        × TracesLines engine.old.form engine.old.limit actions.now 9 (text ++ line (codes "refused memory"))
-        × ((K.state out.new).written ≡ append_known (K.state out.old).written text) }
-    ensures output { IsErrOf result TraceFault.Output → PutsFront
-        (TracesLines engine.old.form engine.old.limit actions.now)
-        (K.state out.old) (K.state out.new) }
-    ensures failed { IsErrOf result TraceFault.Output
-        → Rose (K.state out.old).faults (K.state out.new).faults }
+    ensures leaves { Leaves (TracesLines engine.old.form engine.old.limit actions.now)
+        (K.state out.old) (K.state out.new) result }
+    ensures lost { IfErr result IsNoLoss }
+    ensures failed { IfErr result IsNoFailure }
     ensures puts { OnlyPuts (K.state out.old) (K.state out.new) }
 {
     let mut rest = actions;
@@ -57,13 +38,13 @@ pub(crate) fn trace<K: Sink>(
         let action = Action::of_text(first.line);
         match answer(alloc, engine, &action, out) {
             Ok(()) => {}
-            Err(fault) => return Err(fault),
+            Err(stop) => return Err(stop),
         }
         rest = first.rest;
     }
     match out.put(last_line(engine)) {
         Ok(()) => Ok(()),
-        Err(_) => Err(TraceFault::Output),
+        Err(_) => Err(Stop::Output),
     }
 }
 
@@ -73,17 +54,9 @@ fn answer<K: Sink>(
     engine: &mut Engine,
     action: &Action,
     out: &mut K,
-) -> Result<(), TraceFault>
-    ensures whole { OnOk result ((text : List ℕ)
-        × Answers engine.old.form engine.old.limit engine.old.history (action.now ∷ []) text engine.new.history
-        × ((K.state out.new).written ≡ append_known (K.state out.old).written text)) }
-    ensures memory { IsErrOf result TraceFault.Memory
-        → (K.state out.new).written ≡ (K.state out.old).written }
-    ensures output { IsErrOf result TraceFault.Output → (text : List ℕ) × (after : Word)
-        × Answers engine.old.form engine.old.limit engine.old.history (action.now ∷ []) text after
-        × AppendsPart (K.state out.old).written text (K.state out.new).written }
-    ensures failed { IsErrOf result TraceFault.Output
-        → Rose (K.state out.old).faults (K.state out.new).faults }
+) -> Result<(), Stop>
+    ensures answer { PutsAnswer engine.old action.now engine.new.history
+        (K.state out.old) (K.state out.new) result }
     ensures form { engine.new.form ≡ engine.old.form }
     ensures limit { engine.new.limit ≡ engine.old.limit }
     ensures puts { OnlyPuts (K.state out.old) (K.state out.new) }
@@ -91,9 +64,9 @@ fn answer<K: Sink>(
     match answer_line(alloc, engine, action) {
         Ok(text) => match out.put(text) {
             Ok(()) => Ok(()),
-            Err(_) => Err(TraceFault::Output),
+            Err(_) => Err(Stop::Output),
         },
-        Err(_) => Err(TraceFault::Memory),
+        Err(_) => Err(Stop::Refused(Refusal::Memory)),
     }
 }
 
@@ -102,8 +75,8 @@ fn answer_line(
     engine: &mut Engine,
     action: &Action,
 ) -> Result<&'static [u8], AllocError>
-    ensures answers { IfOk result (λ text.
-        Answers engine.old.form engine.old.limit engine.old.history (action.now ∷ []) text.now engine.new.history) }
+    ensures answers { IfOk result
+        (λ text. AnswersOne engine.old action.now text.now engine.new.history) }
     ensures form { engine.new.form ≡ engine.old.form }
     ensures limit { engine.new.limit ≡ engine.old.limit }
 {

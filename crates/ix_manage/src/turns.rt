@@ -1,30 +1,32 @@
 //! Takes the events of a script one by one.
-ghost use Rattle.std.specs.Prelude.{◌≡◌, ◌≢◌, ◌+◌, ◌^◌, ◌<◌, ◌≤◌, [], false, length, MatchBool};
+ghost use Rattle.std.specs.Prelude.{◌≡◌, ◌≢◌, ◌≤◌, true, length, IfErr, MatchBool};
 ghost use Rattle.ix_outside.specs.Contents.{piece_of};
-ghost use Rattle.ix_outside.specs.Counts.{Rose};
-ghost use Rattle.ix_outside.specs.SinkState.{OnlyPuts};
 ghost use Rattle.ix_outside.specs.Event.{KindFits};
 ghost use Rattle.ix_outside.specs.declared.event.EventKind.TheVariants.{End};
-ghost use Rattle.ix_manager.specs.inside.EndingAfter.{ending_after};
-ghost use Rattle.ix_manager.specs.Handled.{started};
-ghost use Rattle.ix_manager.specs.Wire.{unmarked};
-ghost use Rattle.ix_script.specs.inside.Site.{given_of};
-ghost use Rattle.ix_manage.specs.inside.ReplayProgress.{IsTurn, TakesTurn, TakesTurns};
+ghost use Rattle.ix_manager.specs.Runs.{Ending};
+ghost use Rattle.ix_manager.specs.inside.OverSite.{EndsBy};
+ghost use Rattle.ix_manage.specs.inside.Leaves.{FailedWhere, IsNoLoss};
+ghost use Rattle.ix_manage.specs.inside.ReplayProgress.{FitsDisk, IsAtStart, IsBetween, IsStarted, IsTurn};
+ghost use Rattle.ix_manage.specs.inside.ReplayProgress.{OnlyPlays, TakesEvents, TakesTurn, between, player};
 
-use ix_manager::{Go, Manager};
+use crate::refusal::Refusal;
+use crate::run::Stop;
+use ix_manager::{Go, Manager, Stop as Halt};
 use ix_outside::{EventKind, Sink, Site};
 use ix_script::ScriptSite;
 use std::alloc::Global;
 
-/// What became of a run by its events.
+/// What became of a run by an event.
 #[derive(Clone, Copy)]
 pub(crate) enum Turn {
     /// It may go on.
     More,
-    /// The last event was the end or brought `stop`.
+    /// The event was the end or brought `stop`.
     Done,
     /// A put failed.
     Cut,
+    /// The disk failed at a confirm.
+    Failed,
 }
 
 /// Hands the script's events to the manager, as many as `turns` at most, until the run ends.
@@ -33,32 +35,34 @@ pub(crate) fn take_events<S: Site, K: Sink>(
     manager: &mut Manager,
     turns: usize,
     site: &mut ScriptSite<'_, S, K>,
-) -> Turn
+) -> Result<(), Stop>
     requires turns { turns ≤ 1000000000 }
-    requires manager { manager.old ≡ started manager.old.form manager.old.limit }
-    requires given { given_of site.old ≡ [] }
-    requires sink { site.old.sink_failed ≡ false }
+    requires manager { IsStarted manager.old }
+    requires player { IsAtStart (player S.state K.state site.old) }
+    requires attached { (S.state site.old.site.now).attached ≡ true }
+    requires fits { FitsDisk S.state S.crashes manager.old site.old.site.now }
 
-    ensures ends { TakesTurns manager.old.form manager.old.limit turns site.old.cursor.bytes.now
-        (K.state site.old.sink.now).written (K.state site.new.sink.now).written result }
-    ensures failed { result ≡ Turn.Cut
-        → Rose (K.state site.old.sink.now).faults (K.state site.new.sink.now).faults }
+    ensures leaves { TakesEvents turns manager.old (player S.state K.state site.old)
+        manager.new (player S.state K.state site.new)
+        (between S.state S.crashes site.old.site.now site.new.site.now) result }
+    ensures lost { IfErr result IsNoLoss }
+    ensures failed { IfErr result
+        (FailedWhere (S.state site.old.site.now) (S.state site.new.site.now)) }
 
-    // What stays of what the site was lent.
-    ensures puts { OnlyPuts (K.state site.old.sink.now) (K.state site.new.sink.now) }
+    ensures plays { OnlyPlays (player S.state K.state site.old) (player S.state K.state site.new) }
     ensures same_sink { site.new.sink.ghost_name ≡ site.old.sink.ghost_name }
     ensures same_site { site.new.site.ghost_name ≡ site.old.site.ghost_name }
-    ensures site { S.state site.new.site.now ≡ S.state site.old.site.now }
 {
     let mut buffer = [0; 4096];
     for _turn in 0..turns {
         match take_event(alloc, manager, &mut buffer, site) {
             Turn::More => {}
-            Turn::Done => return Turn::Done,
-            Turn::Cut => return Turn::Cut,
+            Turn::Done => return Ok(()),
+            Turn::Cut => return Err(Stop::Output),
+            Turn::Failed => return Err(Stop::Refused(Refusal::Disk)),
         }
     }
-    Turn::More
+    Err(Stop::Refused(Refusal::Turns))
 }
 
 fn take_event<S: Site, K: Sink>(
@@ -68,40 +72,33 @@ fn take_event<S: Site, K: Sink>(
     site: &mut ScriptSite<'_, S, K>,
 ) -> Turn
     requires buffer { length buffer.old ≡ 4096 }
-    requires going { manager.old.ended ≡ false }
-    requires marks { manager.old.marks ≡ unmarked }
-    requires tickets { manager.old.machine.ticket < 2 ^ 63 }
-    requires sink { site.old.sink_failed ≡ false }
+    requires between { IsBetween manager.old (player S.state K.state site.old) }
+    requires attached { (S.state site.old.site.now).attached ≡ true }
+    requires fits { FitsDisk S.state S.crashes manager.old site.old.site.now }
 
-    ensures turn { TakesTurn site.old.cursor.bytes.now (given_of site.old) manager.old
-        (K.state site.old.sink.now).written
-        (given_of site.new) manager.new (K.state site.new.sink.now).written result }
-    ensures given { length (given_of site.new) ≡ length (given_of site.old) + 1 }
-    ensures sink { result ≡ Turn.More → site.new.sink_failed ≡ false }
-    ensures failed { result ≡ Turn.Cut
-        → Rose (K.state site.old.sink.now).faults (K.state site.new.sink.now).faults }
+    ensures turn { TakesTurn manager.old (player S.state K.state site.old)
+        manager.new (player S.state K.state site.new)
+        (between S.state S.crashes site.old.site.now site.new.site.now) result }
 
-    // What stays of what the site was lent.
-    ensures script { site.new.cursor.bytes.now ≡ site.old.cursor.bytes.now }
-    ensures puts { OnlyPuts (K.state site.old.sink.now) (K.state site.new.sink.now) }
+    ensures plays { OnlyPlays (player S.state K.state site.old) (player S.state K.state site.new) }
     ensures same_sink { site.new.sink.ghost_name ≡ site.old.sink.ghost_name }
     ensures same_site { site.new.site.ghost_name ≡ site.old.site.ghost_name }
-    ensures site { S.state site.new.site.now ≡ S.state site.old.site.now }
 {
     let event = site.next_event(buffer);
     let go = manager.handle(alloc, event, piece(event.kind, buffer), site);
     turn_of(site.sink_failed(), go, event.kind)
 }
 
-fn turn_of(failed: bool, go: Go, kind: EventKind) -> Turn
-    ensures { IsTurn failed (ending_after go) kind result }
+fn turn_of(failed: bool, go: Result<Go, Halt>, kind: EventKind) -> Turn
+    ensures { (ending : Ending) → EndsBy go ending → IsTurn failed ending kind result }
 {
     if failed {
         return Turn::Cut;
     }
     match go {
-        Go::Stopped => Turn::Done,
-        Go::More => { if is_end(kind) { Turn::Done } else { Turn::More } }
+        Ok(Go::Stopped) => Turn::Done,
+        Ok(Go::More) => { if is_end(kind) { Turn::Done } else { Turn::More } }
+        Err(Halt::Disk) => Turn::Failed,
     }
 }
 

@@ -11,7 +11,7 @@ trace_of names = trace names.limit names.expression.now names.actions.now
 
 -- the replay that words name
 abbrev pub replay_of : ReplayWords → Job
-replay_of names = replay names.limit names.turns names.expression.now names.script.now
+replay_of names = replay names.limit names.turns names.expression.now names.journal.now names.script.now
 
 -- the job that words name
 abbrev pub job_of : ReadJob → Job

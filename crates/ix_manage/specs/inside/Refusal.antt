@@ -1,13 +1,25 @@
 -- Why a run ends before it has its answer, and what it puts then.
-use Rattle.std.specs.Prelude.{◌≡◌, ℕ, List, Option, codes, ⊤}
+use Rattle.std.specs.Prelude.{◌≡◌, ℕ, List, ◌++◌, Option, codes, decimal, ⊤}
 use Rattle.ix_manage.specs.declared.refusal.Refusal.{Refusal}
-use Rattle.ix_manage.specs.declared.refusal.Refusal.TheVariants.{Words, BadText, Large, LostExpression, BadActions, LostActions, BadScript, LostScript, Turns, Memory}
+use Rattle.ix_manage.specs.declared.refusal.Refusal.TheVariants.{Words, BadText, Large, LostExpression, BadActions, LostActions, BadScript, LostScript, Disk, Journal, Turns, Memory}
+use Rattle.ix_manage.specs.declared.refusal.JournalRefusal.{JournalRefusal}
+use Rattle.ix_manage.specs.declared.refusal.JournalRefusal.TheVariants.{Foreign, Damaged, Many, Word, Heavy}
 use Rattle.ix_outside.specs.Files.{Listing}
 use Rattle.ix_parse.specs.Faults.{IsFirstFault}
 use Rattle.ix_script.specs.Grammar.{IsFirstScriptFault}
 use Rattle.ix_manage.specs.ActionLines.{line}
+use Rattle.ix_manage.specs.Journal.{journal_line}
 use Rattle.ix_manage.specs.Replay.{HasBadScript}
 use Rattle.ix_manage.specs.Trace.{fault_line, large_line, HasBadText, HasBadActions, StartsAbove}
+
+-- what a journal's refusal says of the file
+abbrev pub journal_words : JournalRefusal → List ℕ
+journal_words Foreign = codes "foreign"
+journal_words (Damaged at) = codes "damaged " ++ decimal at
+journal_words Many = codes "many"
+journal_words (Word number) = codes "word " ++ decimal number
+journal_words (Heavy number limit) =
+    codes "large " ++ decimal number ++ codes " " ++ decimal limit
 
 -- the line that says why
 abbrev pub refusal_line : Refusal → List ℕ
@@ -19,6 +31,8 @@ refusal_line (BadActions code at) = fault_line (codes "actions") code at
 refusal_line LostActions = line (codes "refused file actions")
 refusal_line (BadScript code at) = fault_line (codes "script") code at
 refusal_line LostScript = line (codes "refused file script")
+refusal_line Disk = line (codes "refused disk")
+refusal_line (Journal why) = journal_line (journal_words why)
 refusal_line Turns = line (codes "refused turns")
 refusal_line Memory = line (codes "refused memory")
 
@@ -32,6 +46,8 @@ refusal_status (BadActions code at) = 3
 refusal_status LostActions = 4
 refusal_status (BadScript code at) = 3
 refusal_status LostScript = 4
+refusal_status Disk = 5
+refusal_status (Journal why) = 8
 refusal_status Turns = 7
 refusal_status Memory = 9
 

@@ -1,74 +1,199 @@
 -- A replay as far as it went.
-use Rattle.std.specs.Prelude.{◌≡◌, ◌≢◌, ◌⊎◌, Bool, true, false, ℕ, ◌+◌, ◌*◌, ◌<◌, ◌≤◌, List, [], ◌++◌, length, Option, codes}
+use Rattle.std.specs.Prelude.{◌≡◌, ◌≢◌, ◌⊎◌, Bool, true, false, ℕ, ◌+◌, ◌*◌, ◌^◌, ◌<◌, ◌≤◌, List, [], ◌∷◌, ◌++◌}
+use Rattle.std.specs.Prelude.{length, Option, None, Some, Result}
 use Rattle.std.specs.Io.KnownBytes.{append_known}
 use Rattle.ix_words.specs.Each.{Each}
-use Rattle.ix_expr.specs.Form.{Form}
-use Rattle.ix_outside.specs.Contents.{GivenEvent}
-use Rattle.ix_outside.specs.Sink.{AppendsPart}
+use Rattle.ix_values.specs.PlainAction.{PlainAction, Word}
+use Rattle.ix_outside.specs.Contents.{Contents, GivenEvent}
+use Rattle.ix_outside.specs.Counts.{Rose}
+use Rattle.ix_outside.specs.Crashes.{Crashes}
+use Rattle.ix_outside.specs.SinkState.{SinkState, OnlyPuts}
+use Rattle.ix_outside.specs.SiteState.{SiteState, OnlyDisk}
+use Rattle.ix_outside.specs.inside.DiskCalls.{KeepsOpened}
+use Rattle.ix_outside.specs.inside.NothingTold.{nothing_told}
+use Rattle.ix_store.specs.Keeping.{Keeping}
+use Rattle.ix_outside.specs.declared.event.Event.{Event}
 use Rattle.ix_outside.specs.declared.event.EventKind.{EventKind}
 use Rattle.ix_outside.specs.declared.event.EventKind.TheVariants.{End}
 use Rattle.ix_proto.specs.declared.reply.Reply.{Reply}
-use Rattle.ix_manager.specs.Handled.{ManagerState}
-use Rattle.ix_manager.specs.RunLaws.{FollowsRun}
-use Rattle.ix_manager.specs.Runs.{Ending, going, stopped}
+use Rattle.ix_manager.specs.Handled.{ManagerState, FitsEvent, Handles, started}
+use Rattle.ix_manager.specs.Machine.{MachineState}
+use Rattle.ix_manager.specs.RunLaws.{FollowsRun, given_event}
+use Rattle.ix_manager.specs.Runs.{Ending, Opening, going, stopped, failed}
 use Rattle.ix_manager.specs.Wire.{run_text, unmarked}
+use Rattle.ix_manager.specs.inside.OverSite.{FitsSite}
+use Rattle.ix_manager.specs.inside.Saving.{Saves, SavesRun}
 use Rattle.ix_script.specs.Events.{HasEvents}
-use Rattle.ix_manage.specs.ActionLines.{line}
-use Rattle.ix_manage.specs.Replay.{AreFirst, IsNoEnd, Replays, history_line}
+use Rattle.ix_script.specs.inside.NextPiece.{IsNextPiece}
+use Rattle.ix_script.specs.inside.Site.{given_of}
+use Rattle.ix_script.specs.inside.WithoutSends.{without_sends}
+use Rattle.ix_script.specs.declared.site.ScriptSite.{ScriptSite}
+use Rattle.ix_manage.specs.Session.{Session, history_line}
+use Rattle.ix_manage.specs.Replay.{AreFirst, IsNoEnd, Plays, SessionEnds}
+use Rattle.ix_manage.specs.declared.run.Stop.{Stop}
 use Rattle.ix_manage.specs.declared.turns.Turn.{Turn}
-use Rattle.ix_manage.specs.declared.turns.Turn.TheVariants.{More, Done, Cut}
+use Rattle.ix_manage.specs.declared.turns.Turn.TheVariants.{More, Done, Cut, Failed}
+use Rattle.ix_manage.specs.inside.Leaves.{Leaves}
 
--- what `replay` may put for these bytes of a script, by the status
-abbrev pub ReplaysScript : Form → ℕ → ℕ → List ℕ → ℕ → List ℕ → Type 0
-ReplaysScript x limit turns bytes status text = (events : List GivenEvent) → HasEvents bytes events → Replays x limit turns events status text
+-- what a manager's run would start from as the manager stands
+abbrev pub opening_of : ManagerState → Opening
+opening_of m = record { form = m.form; limit = m.limit; history = m.machine.history }
 
--- a manager that took these events of a script, none of them the end, and put its replies behind what was known before
-pub record Stands (x : Form) (limit : ℕ) (bytes : List ℕ) (known : Option (List ℕ)) (given : List GivenEvent) (m : ManagerState) (now : Option (List ℕ)) : Type 0 where
-  pub answers : List (List (List Reply))
-  pub follows : FollowsRun x limit [] given answers m
+-- the manager was just started
+abbrev pub IsStarted : ManagerState → Type 0
+IsStarted m = m ≡ started (opening_of m) m.store
+
+-- a site's disk alone: nothing is told of its connections
+abbrev pub disk_alone : SiteState → SiteState
+disk_alone site = record site { contents = nothing_told }
+
+-- a stretch of calls of a site's disk: the site before and after it, and what a crash may leave
+pub record Stretch : Type 1 where
+  pub before : SiteState
+  pub after : SiteState
+  pub was : Crashes
+  pub is : Crashes
+
+-- between two states of a site
+abbrev pub between : {S : Type 0} → (S → SiteState) → (S → Crashes) → S → S → Stretch
+between site_state site_crashes old new = record {
+  before = disk_alone (site_state old);
+  after = disk_alone (site_state new);
+  was = without_sends (site_crashes old);
+  is = without_sends (site_crashes new);
+}
+
+-- the manager's store fits the disk of a site
+abbrev pub FitsDisk : {S : Type 0} → (S → SiteState) → (S → Crashes) → ManagerState → S → Type 0
+FitsDisk site_state site_crashes m site =
+    FitsSite m (disk_alone (site_state site)) (without_sends (site_crashes site))
+
+-- a script's site as it plays: the script, the events given so far, whether a put failed, and the
+-- sink and the site that it was lent
+pub record Player : Type 0 where
+  pub script : List ℕ
+  pub given : List GivenEvent
+  pub failed : Bool
+  pub sink : SinkState
+  pub site : SiteState
+
+abbrev pub player : {S K : Type 0} → (S → SiteState) → (K → SinkState) → ScriptSite S K → Player
+player site_state sink_state it = record {
+  script = it.cursor.bytes.now;
+  given = given_of it;
+  failed = it.sink_failed;
+  sink = sink_state it.sink.now;
+  site = site_state it.site.now;
+}
+
+-- what it tells
+abbrev pub told_of : Player → Contents
+told_of player = record {
+  given = Some player.given;
+  sends = None;
+  text = player.sink.written;
+  lost = Some player.failed;
+}
+
+-- it gave nothing yet, and no put failed
+pub record IsAtStart (player : Player) : Type 0 where
+  pub given : player.given ≡ []
+  pub open_sink : player.failed ≡ false
+
+-- only calls of the disk were made but `attach`; it may be told no more
+pub record OnlyUsesDisk (old new : SiteState) : Type 0 where
+  pub rest : OnlyDisk old new
+  pub attached : new.attached ≡ old.attached
+  pub opened : KeepsOpened old.disk new.disk ⊎ (new.disk ≡ None)
+
+-- the script stays, and of the sink and the site what only puts and calls of the disk leave
+pub record OnlyPlays (old new : Player) : Type 0 where
+  pub script : new.script ≡ old.script
+  pub puts : OnlyPuts old.sink new.sink
+  pub site : OnlyUsesDisk old.site new.site
+
+-- a manager may take a further event, and no reply of it is silent from the start
+pub record IsBetween (m : ManagerState) (player : Player) : Type 0 where
+  pub goes_on : m.ended ≡ false
   pub marks : m.marks ≡ unmarked
-  pub tickets : m.machine.ticket ≤ 1 + 4096 * length given
-  pub first : (events : List GivenEvent) → HasEvents bytes events → AreFirst events given
-  pub no_end : Each IsNoEnd given
-  pub text : now ≡ append_known known (run_text given answers)
+  pub tickets : m.machine.ticket < 2 ^ 63
+  pub open_sink : player.failed ≡ false
 
--- with a status a text is put behind what was put at the start
-abbrev pub PutsScript : Form → ℕ → ℕ → List ℕ → ℕ → Option (List ℕ) → Option (List ℕ) → Type 0
-PutsScript x limit turns bytes status start now =
-    (text : List ℕ) × ReplaysScript x limit turns bytes status text × (now ≡ append_known start text)
-
--- a front of a text is put
-abbrev pub PutsPart : Form → ℕ → ℕ → List ℕ → Option (List ℕ) → Option (List ℕ) → Type 0
-PutsPart x limit turns bytes start now =
-    (text : List ℕ) × ReplaysScript x limit turns bytes 10 text × AppendsPart start text now
-
--- as many events as turns were taken, and the line that says so is to be put
-abbrev pub PutsTurns : Form → ℕ → ℕ → List ℕ → Option (List ℕ) → Option (List ℕ) → Type 0
-PutsTurns x limit turns bytes start now =
-    (text : List ℕ) × ReplaysScript x limit turns bytes 7 (text ++ line (codes "refused turns")) × (now ≡ append_known start text)
-
--- what an event's turn is: a put failed; or none did, and the event was the end or brought `stop`; or else the run may go on
+-- what an event's turn is: a put failed; or none did, and the disk failed, or the event was the end
+-- or brought `stop`; or else the run may go on
 abbrev pub IsTurn : Bool → Ending → EventKind → Turn → Type 0
-IsTurn failed ending kind More = (failed ≡ false) × (ending ≡ going) × (kind ≢ End)
-IsTurn failed ending kind Done = (failed ≡ false) × ((kind ≡ End) ⊎ (ending ≡ stopped))
-IsTurn failed ending kind Cut = failed ≡ true
+IsTurn lost ending kind More = (lost ≡ false) × (ending ≡ going) × (kind ≢ End)
+IsTurn lost ending kind Done = (lost ≡ false) × ((kind ≡ End) ⊎ (ending ≡ stopped))
+IsTurn lost ending kind Cut = lost ≡ true
+IsTurn lost ending kind Failed = (lost ≡ false) × ((a : PlainAction) × (ending ≡ failed a))
 
--- what a run of events leaves behind the line of the history
-abbrev pub TakesTurns : Form → ℕ → ℕ → List ℕ → Option (List ℕ) → Option (List ℕ) → Turn → Type 0
-TakesTurns x limit turns bytes was now More =
-    (start : Option (List ℕ)) → was ≡ append_known start history_line → PutsTurns x limit turns bytes start now
-TakesTurns x limit turns bytes was now Done =
-    (start : Option (List ℕ)) → was ≡ append_known start history_line → PutsScript x limit turns bytes 0 start now
-TakesTurns x limit turns bytes was now Cut =
-    (start : Option (List ℕ)) → was ≡ append_known start history_line → PutsPart x limit turns bytes start now
+-- the manager took the script's next event, its replies were put, and the journal kept its history
+pub record TakesTurn (old : ManagerState) (was : Player) (new : ManagerState) (now : Player)
+    (stretch : Stretch) (turn : Turn) : Type 0 where
+  pub event : Event
+  pub piece : List ℕ
+  pub ending : Ending
+  pub given : now.given ≡ was.given ++ given_event event piece ∷ []
+  pub next : IsNextPiece 4096 was.script was.given (given_event event piece)
+  pub fits : FitsEvent event piece
+  pub handled : Handles old event piece ending new
+      (told_of (record was { given = now.given })) (told_of now)
+  pub tickets : new.machine.ticket ≤ old.machine.ticket + length piece
+  pub turn_is : IsTurn now.failed ending event.kind turn
+  pub fault : now.failed ≡ true → Rose was.sink.faults now.sink.faults
+  pub saves : SavesRun ending old new stretch.before stretch.after stretch.was stretch.is
 
--- what one more event leaves, wherever a manager stood: it stands again, or the run has its end, or a put failed
-abbrev pub TakesTurn : List ℕ → List GivenEvent → ManagerState → Option (List ℕ) → List GivenEvent → ManagerState → Option (List ℕ) → Turn → Type 0
-TakesTurn bytes given old was taken new now More =
-    (x : Form) (limit : ℕ) (known : Option (List ℕ)) → Stands x limit bytes known given old was → Stands x limit bytes known taken new now
-TakesTurn bytes given old was taken new now Done =
-    (x : Form) (limit : ℕ) (known : Option (List ℕ)) → Stands x limit bytes known given old was
-    → (turns : ℕ) → length taken ≤ turns → TakesTurns x limit turns bytes known now Done
-TakesTurn bytes given old was taken new now Cut =
-    (x : Form) (limit : ℕ) (known : Option (List ℕ)) → Stands x limit bytes known given old was
-    → (turns : ℕ) → length taken ≤ turns → TakesTurns x limit turns bytes known now Cut
+-- over a stretch of calls the journal kept the history of a run that started from the opening, and
+-- goes on or ended so with this history
+abbrev pub SavesFrom : Opening → Ending → Word → Keeping → Stretch → Type 0
+SavesFrom opening ending history store stretch =
+    Saves ending opening.form opening.history history store
+    stretch.before stretch.after stretch.was stretch.is
+
+-- a manager that took the events given so far, none of them the end, and put its replies behind what
+-- was known before; it may go on
+pub record Stands (opening : Opening) (known : Option (List ℕ)) (m : ManagerState) (player : Player)
+    (stretch : Stretch) : Type 0 where
+  pub answers : List (List (List Reply))
+  pub follows : FollowsRun opening player.given answers m
+  pub marks : m.marks ≡ unmarked
+  pub tickets : m.machine.ticket ≤ 1 + 4096 * length player.given
+  pub open_sink : player.failed ≡ false
+  pub first : (events : List GivenEvent) → HasEvents player.script events → AreFirst events player.given
+  pub no_end : Each IsNoEnd player.given
+  pub text : player.sink.written ≡ append_known known (run_text player.given answers)
+  pub saves : SavesFrom opening going m.machine.history m.store stretch
+
+-- how a replay of these bytes of a script may end that took these events and left the machine so
+pub record ReplaysScript (opening : Opening) (turns : ℕ) (script : List ℕ)
+    (taken : List GivenEvent) (last : MachineState) (stretch : Stretch)
+    (status : ℕ) (whole part : List ℕ) (session : Option Session) : Type 0 where
+  pub played : Session
+  pub is : session ≡ Some played
+  pub opening_is : played.opening ≡ opening
+  pub taken_is : played.taken ≡ taken
+  pub last_is : played.last ≡ last
+  pub plays : (events : List GivenEvent) → HasEvents script events → Plays turns events played
+  pub ends : SessionEnds turns played status whole part
+  pub store : Keeping
+  pub saves : SavesFrom opening played.ending last.history store stretch
+
+-- the same, whatever events were taken
+abbrev pub ReplaysOn : Opening → ℕ → List ℕ → MachineState → Stretch
+    → ℕ → List ℕ → List ℕ → Option Session → Type 0
+ReplaysOn opening turns script last stretch status whole part session =
+    (taken : List GivenEvent)
+    × ReplaysScript opening turns script taken last stretch status whole part session
+
+-- the line of the history was put
+pub record PutsHistory (history : Word) (old new : SinkState) : Type 0 where
+  pub put : new.written ≡ append_known old.written (history_line history)
+  pub rest : OnlyPuts old new
+
+-- how taking the events of a script leaves the sink, where the line of the history was put before
+abbrev pub TakesEvents : {T : Type 0} → ℕ → ManagerState → Player → ManagerState → Player → Stretch
+    → Result T Stop → Type 0
+TakesEvents turns old was new now stretch result =
+    (start : SinkState) → PutsHistory old.machine.history start was.sink
+    → Leaves (ReplaysScript (opening_of old) turns was.script now.given new.machine stretch)
+    start now.sink result

@@ -15,7 +15,7 @@ returns-in_default-take_option c = λ job names.
 pub returns-in_default-named_files : goal.returns-in_default-named_files
 returns-in_default-named_files c = λ job names.
     let behind = replay_behind refl names in
-    c.in_default-named_files.ensures behind.expression behind.script
+    c.in_default-named_files.ensures behind.expression behind.journal behind.script
     (files_named_behind behind c.in-Some.ensures c.in-Some-take_option.ensures)
 
 pub returns : goal.returns

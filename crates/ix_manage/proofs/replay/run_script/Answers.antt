@@ -1,27 +1,45 @@
-use Rattle.std.proofs.Common.{[], refl, arith}
-use Rattle.ix_outside.proofs.Counting.{Rose-earlier}
-use Rattle.ix_manager.specs.Runs.{begin}
-use Rattle.ix_manage.specs.Replay.{cut, history_line}
+use Rattle.std.proofs.Common.{refl, ap, rules, sym, subst, ◌∙◌}
+use Rattle.ix_manage.specs.Session.{history_line}
+use Rattle.ix_manage.specs.inside.ReplayProgress.{FitsDisk, between, opening_of, player}
+use Rattle.ix_manage.proofs.Journaling.{alone_lawful, fits_again}
+use Rattle.ix_manage.proofs.Replaying.{history_lost, history_put, leaves_over, replays_on}
+use Rattle.ix_manage.proofs.Stops.{leaves_on}
 use Rattle.ix_manage.proofs.replay.run_script.Goals as goal
 
 -- no event was taken
 pub returns-in-Err-clause-leaves : goal.returns-in-Err-clause-leaves
-returns-in-Err-clause-leaves g c = (
-  (10, history_line, λ events has. cut [] [] refl (omega arith) begin, c.in-Err.ensures.part),
-  c.in-Err.ensures.failed,
-)
-
-pub returns-in-Done-clause-leaves : goal.returns-in-Done-clause-leaves
-returns-in-Done-clause-leaves g c =
-    c.in-Done.ensures.ends _ c.in-Ok.ensures.whole
-
-pub returns-in-More-clause-leaves : goal.returns-in-More-clause-leaves
-returns-in-More-clause-leaves g c =
-    c.in-More.ensures.ends _ c.in-Ok.ensures.whole
-
-pub returns-in-Cut-clause-leaves : goal.returns-in-Cut-clause-leaves
-returns-in-Cut-clause-leaves g c =
-    let put = c.in-Cut.ensures.ends _ c.in-Ok.ensures.whole in (
-      (10, put.0, put.1, put.2),
-      Rose-earlier _ _ _ c.in-Ok.ensures.rest.faults (c.in-Cut.ensures.failed refl),
+returns-in-Err-clause-leaves g c =
+    let site = c.args.site.now in (
+      history_lost c.args.manager.now c.requires.manager c.args.turns c.args.script.bytes.now
+          c.deref.result.now (g.K.Sink.state c.args.out.now) (g.K.Sink.state c.put.new.self) _ _
+          (alone_lawful (g.S.Site.state site) (g.S.Site.crashes site) (g.met.S.Site.lawful site))
+          (fits_again c.args.manager.now _ _ _ _ refl refl c.requires.fits)
+          (c.deref.ensures.0 ∙ c.history_line.ensures ∙ ap history_line c.history.ensures)
+          c.in-Err.ensures.part,
+      c.in-Err.ensures.failed,
     )
+
+pub take_events-requires-clause-fits : goal.take_events-requires-clause-fits
+take_events-requires-clause-fits g c =
+    subst (λ site. FitsDisk g.S.Site.state g.S.Site.crashes c.args.manager.now site)
+    (sym c.new-all.ensures.site)
+    (fits_again c.args.manager.now _ _ _ _ refl refl c.requires.fits)
+
+pub returns-clause-leaves : goal.returns-clause-leaves
+returns-clause-leaves g c =
+    let manager = c.args.manager.now in
+    let start = g.K.Sink.state c.args.out.now in
+    let first = c.new-all in
+    let last = player g.S.Site.state g.K.Sink.state c.take_events.new.site in
+    let stretch = between g.S.Site.state g.S.Site.crashes first.result.site.now c.take_events.new.site.site.now in
+    let put = history_put manager.machine.history c.deref.result.now start
+    (g.K.Sink.state c.put.new.self) (g.K.Sink.state first.result.sink.now)
+    (c.deref.ensures.0 ∙ c.history_line.ensures ∙ ap history_line c.history.ensures)
+    c.in-Ok.ensures.whole c.in-Ok.ensures.rest (ap g.K.Sink.state first.ensures.sink) in
+    leaves_over g.S.Site.state g.S.Site.crashes (opening_of manager) c.args.turns c.args.script.bytes.now
+    c.take_events.new.manager.machine start c.take_events.result
+    (leaves_on
+    (replays_on (opening_of manager) c.args.turns first.result.cursor.bytes.now
+    c.args.script.bytes.now first.ensures.script last.given c.take_events.new.manager.machine stretch)
+    start last.sink c.take_events.result (c.take_events.ensures.leaves start put))
+    first.ensures.site (search rules) (search rules)

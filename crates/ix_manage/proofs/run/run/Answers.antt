@@ -1,9 +1,11 @@
-use Rattle.std.proofs.Common.{ℕ, List, [], map, string_bytes}
-use Rattle.ix_manage.specs.Ends.{Ends, JobEnds, other_words, named}
-use Rattle.ix_manage.specs.inside.Jobs.{trace_of, replay_of}
+use Rattle.std.proofs.Common.{ℕ, List, Option, map, string_bytes}
+use Rattle.ix_manage.specs.Ends.{EndsOver, other_words, named}
+use Rattle.ix_manage.specs.Session.{Session}
+use Rattle.ix_manage.specs.declared.refusal.Refusal.TheVariants.{Words}
+use Rattle.ix_manage.specs.inside.Jobs.{replay_of}
+use Rattle.ix_manage.specs.inside.Playing.{JobOver, TraceEnds}
 use Rattle.ix_manage.proofs.NamedWords.{trace_named, replay_named, trace_within, replay_within}
-use Rattle.ix_manage.proofs.Stops.{leaves_on}
-use Rattle.ix_manage.proofs.Tracing.{append_nothing}
+use Rattle.ix_manage.proofs.Stops.{leaves_on, nothing_failed, nothing_put}
 use Rattle.ix_manage.proofs.run.run.Goals as goal
 
 pub run_trace-requires-clause-least : goal.run_trace-requires-clause-least
@@ -28,21 +30,44 @@ replay-requires-clause-turns g c =
 
 pub returns-in-Some-Trace-clause-leaves : goal.returns-in-Some-Trace-clause-leaves
 returns-in-Some-Trace-clause-leaves g c =
+    let words = map string_bytes c.args.words.now in
     let files = (g.F.Files.state c.args.files.now).contents in
-    let ends : (status : ℕ) (text : List ℕ) → JobEnds files (trace_of c.in-Some-Trace.names) status text
-    → Ends (map string_bytes c.args.words.now) files status text =
-    λ status text end. named (trace_named c.in-Some-Trace.field-0-is c.in-Some-Trace.ensures) end in
+    let site = g.S.Site.state c.args.site.now in
+    let crashes = g.S.Site.crashes c.args.site.now in
+    let ends : (status : ℕ) (whole part : List ℕ) (session : Option Session)
+    → TraceEnds files c.in-Some-Trace.names status whole part session
+    → EndsOver words files site site crashes status whole part session =
+    λ status whole part session end.
+    named (trace_named c.in-Some-Trace.field-0-is c.in-Some-Trace.ensures) (end site.disk) tt in
     leaves_on ends (g.K.Sink.state c.args.out.now) (g.K.Sink.state c.run_trace.new.out)
     c.run_trace.result c.run_trace.ensures.leaves
 
+pub returns-in-Some-Trace-clause-failed : goal.returns-in-Some-Trace-clause-failed
+returns-in-Some-Trace-clause-failed g c =
+    nothing_failed (g.S.Site.state c.args.site.now) (g.S.Site.state c.args.site.now) c.run_trace.result c.run_trace.ensures.failed
+
 pub returns-in-Some-Replay-clause-leaves : goal.returns-in-Some-Replay-clause-leaves
 returns-in-Some-Replay-clause-leaves g c =
+    let words = map string_bytes c.args.words.now in
     let files = (g.F.Files.state c.args.files.now).contents in
-    let ends : (status : ℕ) (text : List ℕ) → JobEnds files (replay_of c.in-Some-Replay.names) status text
-    → Ends (map string_bytes c.args.words.now) files status text =
-    λ status text end. named (replay_named c.in-Some-Replay.field-0-is c.in-Some-Replay.ensures) end in
+    let before = g.S.Site.state c.args.site.now in
+    let after = g.S.Site.state c.replay.new.site in
+    let crashes = g.S.Site.crashes c.replay.new.site in
+    let ends : (status : ℕ) (whole part : List ℕ) (session : Option Session)
+    → JobOver files (replay_of c.in-Some-Replay.names) before after crashes status whole part session
+    → EndsOver words files before after crashes status whole part session =
+    λ status whole part session end.
+    named (replay_named c.in-Some-Replay.field-0-is c.in-Some-Replay.ensures) end.ends end.journal in
     leaves_on ends (g.K.Sink.state c.args.out.now) (g.K.Sink.state c.replay.new.out)
     c.replay.result c.replay.ensures.leaves
 
+-- the words name a replay
+pub returns-in-Some-Replay-clause-no_replay : goal.returns-in-Some-Replay-clause-no_replay
+returns-in-Some-Replay-clause-no_replay g c = λ none.
+    let names = c.in-Some-Replay.names in
+    absurd (none names.limit names.turns names.expression.now names.journal.now names.script.now
+    (replay_named c.in-Some-Replay.field-0-is c.in-Some-Replay.ensures))
+
 pub returns-in-None-clause-leaves : goal.returns-in-None-clause-leaves
-returns-in-None-clause-leaves g c = ([], other_words c.in-None.ensures, append_nothing _)
+returns-in-None-clause-leaves g c =
+    nothing_put Words (g.K.Sink.state c.args.out.now) (λ status whole part last. other_words c.in-None.ensures last)

@@ -1,65 +1,27 @@
-use Rattle.std.proofs.Common.{[], ◌++◌, Err, ap, subst}
-use Rattle.std.specs.Prelude.{codes}
+use Rattle.std.proofs.Common.{subst}
 use Rattle.ix_manage.specs.inside.Refusal.{RefusesActions}
-use Rattle.ix_manage.specs.ActionLines.{line}
 use Rattle.ix_manage.proofs.Ending.{refused_start, refused_actions, trace_ends_run}
-use Rattle.ix_manage.proofs.Tracing.{append_nothing}
+use Rattle.ix_manage.proofs.Stops.{leaves_on, nothing_lost, nothing_put}
 use Rattle.ix_manage.proofs.run.run_trace.Goals as goal
 
 pub returns-in-Err-clause-leaves : goal.returns-in-Err-clause-leaves
 returns-in-Err-clause-leaves g c =
     let files = (g.F.Files.state c.args.files.now).contents in
-    let names = c.args.names in (
-      [],
-      refused_start files names.limit names.expression.now names.actions.now
-          c.in-Err.refusal c.in-Err.ensures.err,
-      append_nothing _,
-    )
+    let names = c.args.names in
+    nothing_put c.in-Err.refusal (g.K.Sink.state c.args.out.now)
+    (refused_start files names.limit names.expression.now names.actions.now
+    c.in-Err.refusal c.in-Err.ensures.err)
 
 pub returns-in-Err-load_actions-clause-leaves : goal.returns-in-Err-load_actions-clause-leaves
 returns-in-Err-load_actions-clause-leaves g c =
     let files = (g.F.Files.state c.args.files.now).contents in
     let names = c.args.names in
-    let refusal = c.in-Err-load_actions.refusal in (
-      [],
-      refused_actions files names.limit names.expression.now names.actions.now
-          c.in-Ok.engine.form c.in-Ok.ensures.starts refusal
-          (subst (λ files. RefusesActions files names.actions.now refusal)
-          c.in-Ok.ensures.files.contents c.in-Err-load_actions.ensures.err),
-      append_nothing _,
-    )
-
-pub returns-in-Ok-trace-clause-leaves : goal.returns-in-Ok-trace-clause-leaves
-returns-in-Ok-trace-clause-leaves g c =
-    let files = (g.F.Files.state c.args.files.now).contents in
-    let names = c.args.names in
-    let start = c.in-Ok in
-    let load = c.in-Ok-load_actions in
-    let put = c.in-Ok-trace.ensures.whole in (
-      put.0,
-      trace_ends_run files names.limit names.expression.now names.actions.now
-          start.engine.form start.engine.limit (g.F.Files.state c.start.new.files).contents
-          load.actions.items c.deref.result.now 0 put.0
-          start.ensures.starts start.ensures.limit start.ensures.files.contents
-          load.ensures.file load.ensures.short c.deref.ensures.value put.1,
-      put.2,
-    )
-
-pub returns-in-Err-Memory-clause-leaves : goal.returns-in-Err-Memory-clause-leaves
-returns-in-Err-Memory-clause-leaves g c =
-    let files = (g.F.Files.state c.args.files.now).contents in
-    let names = c.args.names in
-    let start = c.in-Ok in
-    let load = c.in-Ok-load_actions in
-    let put = c.in-Err-Memory.ensures.memory (ap Err c.in-Err-Memory.field-0-is) in (
-      put.0,
-      trace_ends_run files names.limit names.expression.now names.actions.now
-          start.engine.form start.engine.limit (g.F.Files.state c.start.new.files).contents
-          load.actions.items c.deref.result.now 9 (put.0 ++ line (codes "refused memory"))
-          start.ensures.starts start.ensures.limit start.ensures.files.contents
-          load.ensures.file load.ensures.short c.deref.ensures.value put.1,
-      put.2,
-    )
+    let refusal = c.in-Err-load_actions.refusal in
+    nothing_put refusal (g.K.Sink.state c.args.out.now)
+    (refused_actions files names.limit names.expression.now names.actions.now
+    c.in-Ok.engine.form c.in-Ok.ensures.starts refusal
+    (subst (λ files. RefusesActions files names.actions.now refusal)
+    c.in-Ok.ensures.files.contents c.in-Err-load_actions.ensures.err))
 
 pub returns-clause-leaves : goal.returns-clause-leaves
 returns-clause-leaves g c =
@@ -67,17 +29,15 @@ returns-clause-leaves g c =
     let names = c.args.names in
     let start = c.in-Ok in
     let load = c.in-Ok-load_actions in
-    let is = ap Err c.in-Err-Output.field-0-is in
-    let put = c.in-Err-Output.ensures.output is in (
-      (
-        put.0,
-        put.1,
-        trace_ends_run files names.limit names.expression.now names.actions.now
-            start.engine.form start.engine.limit (g.F.Files.state c.start.new.files).contents
-            load.actions.items c.deref.result.now put.0 put.1
-            start.ensures.starts start.ensures.limit start.ensures.files.contents
-            load.ensures.file load.ensures.short c.deref.ensures.value put.2,
-        put.3,
-      ),
-      c.in-Err-Output.ensures.failed is,
-    )
+    leaves_on
+    (trace_ends_run files names.limit names.expression.now names.actions.now
+    start.engine.form start.engine.limit (g.F.Files.state c.start.new.files).contents
+    load.actions.items c.deref.result.now
+    start.ensures.starts start.ensures.limit start.ensures.files.contents
+    load.ensures.file load.ensures.short c.deref.ensures.value)
+    (g.K.Sink.state c.args.out.now) (g.K.Sink.state c.trace.new.out)
+    c.trace.result c.trace.ensures.leaves
+
+pub returns-clause-lost : goal.returns-clause-lost
+returns-clause-lost g c =
+    nothing_lost (g.F.Files.state c.args.files.now) (g.F.Files.state c.load_actions.new.files) c.trace.result c.trace.ensures.lost

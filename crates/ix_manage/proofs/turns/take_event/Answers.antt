@@ -1,78 +1,65 @@
-use Rattle.std.proofs.Common.{length, ap, sym, subst, ◌∙◌, MutBor}
-use Rattle.ix_outside.specs.Counts.{Rose}
-use Rattle.ix_manager.specs.inside.EndingAfter.{ending_after}
-use Rattle.ix_script.specs.inside.Site.{given_of}
-use Rattle.ix_manage.specs.inside.ReplayProgress.{IsTurn}
-use Rattle.ix_manage.proofs.Devices.{site_same}
-use Rattle.ix_manage.proofs.Replaying.{took_of, turn_taken, taken_count, more_kept, cut_lost, open_before, mark_is}
+use Rattle.std.proofs.Common.{◌≡◌, length, refl, ap, sym, ◌∙◌, subst, arith, MutBor}
+use Rattle.ix_outside.specs.SinkState.{SinkState}
+use Rattle.ix_manager.specs.inside.Saving.{SavesRun}
+use Rattle.ix_script.specs.inside.WithoutSends.{without_sends}
+use Rattle.ix_manage.specs.inside.ReplayProgress.{FitsDisk, IsTurn, OnlyUsesDisk, between, disk_alone, player}
+use Rattle.ix_manage.proofs.Devices.{holds_same, site_used}
+use Rattle.ix_manage.proofs.Journaling.{event_saves, fits_again, ok_fits, passes_again}
+use Rattle.ix_manage.proofs.Replaying.{event_taken}
 use Rattle.ix_manage.proofs.turns.take_event.Goals as goal
+
+pub handle-go-requires-clause-fits : goal.handle-go-requires-clause-fits
+handle-go-requires-clause-fits g c =
+    fits_again c.args.manager.now _ _ _ _ refl refl
+    (subst (λ (site : MutBor _). FitsDisk g.S.Site.state g.S.Site.crashes c.args.manager.now site.now)
+    (sym c.next_event-event.ensures.site) c.requires.fits)
 
 pub returns-clause-turn : goal.returns-clause-turn
 returns-clause-turn g c =
-    let old = c.args.site.now in
     let next = c.next_event-event in
-    let between = next.new.self in
     let go = c.handle-go in
-    let took = took_of (length c.args.buffer.now) old.cursor.bytes.now (given_of old)
-    (given_of between) c.args.manager.now go.new.self
-    (g.K.Sink.state old.sink.now).written (g.K.Sink.state between.sink.now).written
-    between.sink_failed next.new.buf c.piece.result.now next.result (ending_after go.result)
-    (given_of go.new.site) (g.K.Sink.state go.new.site.sink.now).written go.new.site.sink_failed
+    let over = go.ensures.handles in
+    let now = player g.S.Site.state g.K.Sink.state go.new.site in
+    let site = next.new.self.site.now in
+    let last = go.new.site.site.now in
+    let saves = event_saves c.args.manager.now go.new.self next.result c.piece.result.now go.result over.ending over.handles.answers
+    (disk_alone (g.S.Site.state site)) (disk_alone (g.S.Site.state last))
+    (without_sends (g.S.Site.crashes site)) (without_sends (g.S.Site.crashes last))
+    over.answered over.handles.takes over.keeps over.ends go.ensures.failed
+    (ok_fits go.result go.new.self _ _ _ _ refl refl go.ensures.fits)
+    (passes_again _ _ _ _ _ _ refl refl go.ensures.passes) go.ensures.site.disk go.ensures.site.opened in
+    event_taken (length c.args.buffer.now) c.args.manager.now go.new.self
+    (player g.S.Site.state g.K.Sink.state c.args.site.now)
+    (player g.S.Site.state g.K.Sink.state next.new.self) now
+    next.new.buf c.piece.result.now next.result over.ending c.turn_of.result
+    (between g.S.Site.state g.S.Site.crashes c.args.site.now.site.now last)
     c.requires.buffer next.ensures.given
-    (ap (λ (sink : MutBor _). (g.K.Sink.state sink.now).written) next.ensures.sink)
-    (next.ensures.sink_failed ∙ c.requires.sink)
-    c.piece.ensures next.ensures.fits next.auto.buf next.ensures.next
-    go.ensures.handles go.ensures.tickets in
-    turn_taken took c.turn_of.result
-    (subst (λ failed. IsTurn failed (ending_after go.result) next.result.kind c.turn_of.result)
-    c.sink_failed.ensures c.turn_of.ensures)
+    (ap (λ (sink : MutBor _). g.K.Sink.state sink.now) next.ensures.sink)
+    next.ensures.sink_failed c.piece.ensures next.ensures.fits next.auto.buf next.ensures.next
+    over.handles go.ensures.tickets c.requires.between
+    (subst (λ failed. IsTurn failed over.ending next.result.kind c.turn_of.result)
+    c.sink_failed.ensures (c.turn_of.ensures over.ending over.answered))
+    go.ensures.marks
+    (subst (λ (s : MutBor _). SavesRun over.ending c.args.manager.now go.new.self
+    (disk_alone (g.S.Site.state s.now)) (disk_alone (g.S.Site.state last))
+    (without_sends (g.S.Site.crashes s.now)) (without_sends (g.S.Site.crashes last)))
+    next.ensures.site saves)
 
-pub returns-clause-given : goal.returns-clause-given
-returns-clause-given g c =
-    let old = c.args.site.now in
+-- of the lent site only the disk is called
+pub returns-clause-plays : goal.returns-clause-plays
+returns-clause-plays g c =
     let next = c.next_event-event in
-    let between = next.new.self in
-    let go = c.handle-go in
-    let took = took_of (length c.args.buffer.now) old.cursor.bytes.now (given_of old)
-    (given_of between) c.args.manager.now go.new.self
-    (g.K.Sink.state old.sink.now).written (g.K.Sink.state between.sink.now).written
-    between.sink_failed next.new.buf c.piece.result.now next.result (ending_after go.result)
-    (given_of go.new.site) (g.K.Sink.state go.new.site.sink.now).written go.new.site.sink_failed
-    c.requires.buffer next.ensures.given
-    (ap (λ (sink : MutBor _). (g.K.Sink.state sink.now).written) next.ensures.sink)
-    (next.ensures.sink_failed ∙ c.requires.sink)
-    c.piece.ensures next.ensures.fits next.auto.buf next.ensures.next
-    go.ensures.handles go.ensures.tickets in
-    taken_count took
-
-pub returns-clause-sink : goal.returns-clause-sink
-returns-clause-sink g c is = sym c.sink_failed.ensures ∙ more_kept _ _ _ c.turn_of.result c.turn_of.ensures is
-
-pub returns-clause-failed : goal.returns-clause-failed
-returns-clause-failed g c is =
-    let old = c.args.site.now in
-    let next = c.next_event-event in
-    let between = next.new.self in
-    let go = c.handle-go in
-    let took = took_of (length c.args.buffer.now) old.cursor.bytes.now (given_of old)
-    (given_of between) c.args.manager.now go.new.self
-    (g.K.Sink.state old.sink.now).written (g.K.Sink.state between.sink.now).written
-    between.sink_failed next.new.buf c.piece.result.now next.result (ending_after go.result)
-    (given_of go.new.site) (g.K.Sink.state go.new.site.sink.now).written go.new.site.sink_failed
-    c.requires.buffer next.ensures.given
-    (ap (λ (sink : MutBor _). (g.K.Sink.state sink.now).written) next.ensures.sink)
-    (next.ensures.sink_failed ∙ c.requires.sink)
-    c.piece.ensures next.ensures.fits next.auto.buf next.ensures.next
-    go.ensures.handles go.ensures.tickets in
-    let new = g.K.Sink.state go.new.site.sink.now in
-    subst (λ (sink : MutBor _). Rose (g.K.Sink.state sink.now).faults new.faults) next.ensures.sink
-    (go.ensures.marks next.result.conn (open_before took c.requires.marks)
-    (mark_is took c.requires.marks ∙ sym c.sink_failed.ensures
-    ∙ cut_lost _ _ _ c.turn_of.result c.turn_of.ensures is))
-
--- the disk of the lent site isn't called either
-pub returns-clause-site : goal.returns-clause-site
-returns-clause-site g c =
     let sent = c.handle-go.ensures.site in
-    site_same sent.held sent.disk sent.attached
-    ∙ ap (λ (site : MutBor _). g.S.Site.state site.now) c.next_event-event.ensures.site
+    let script : next.new.self.cursor.bytes.now ≡ c.args.site.now.cursor.bytes.now = cc (next.ensures.script) in
+    let sink = ap (λ (sink : MutBor _). g.K.Sink.state sink.now) next.ensures.sink in
+    let held = holds_same (g.S.Site.state next.new.self.site.now) (g.S.Site.state c.handle-go.new.site.site.now) sent.held in
+    let faults = sent.send in
+    let before = ap (λ (s : SinkState). s.faults) sink in record {
+      script = held.0 ∙ script;
+      puts = record {
+        faults = omega (arith, faults, before);
+        held = held.1 ∙ ap (λ (s : SinkState). s.held) sink;
+      };
+      site = subst (λ (s : MutBor _). OnlyUsesDisk (g.S.Site.state s.now) (g.S.Site.state c.handle-go.new.site.site.now))
+          next.ensures.site (site_used sent.held sent.disk sent.attached sent.opened);
+    }

@@ -1,73 +1,114 @@
-use Rattle.std.proofs.Common.{length, refl, sym, ap, subst, arith}
-use Rattle.ix_script.specs.inside.Site.{given_of}
-use Rattle.ix_manage.specs.inside.ReplayProgress.{Stands, TakesTurn, TakesTurns}
-use Rattle.ix_manage.specs.declared.turns.Turn.TheVariants.{Done, Cut}
-use Rattle.ix_manage.proofs.Devices.{still}
-use Rattle.ix_manage.proofs.Replaying.{stands_first, out_of_turns_put}
+use Rattle.std.proofs.Common.{length, refl, ap, subst, arith, ◌∙◌}
+use Rattle.ix_outside.proofs.Counting.{Rose-earlier}
+use Rattle.ix_manage.specs.Ends.{Ended}
+use Rattle.ix_manage.specs.declared.refusal.Refusal.TheVariants.{Disk, Turns}
+use Rattle.ix_manage.specs.declared.run.Stop.TheVariants.{Refused}
+use Rattle.ix_manage.specs.inside.Leaves.{StopsAfter}
+use Rattle.ix_manage.specs.inside.ReplayProgress.{ReplaysScript, between, opening_of, player}
+use Rattle.ix_manage.proofs.Devices.{plays_still, plays_then}
+use Rattle.ix_manage.proofs.Journaling.{alone_lawful}
+use Rattle.ix_manage.proofs.Replaying.{stands_first, stands_between, stands_fits, out_of_turns_put}
+use Rattle.ix_manage.proofs.Replaying.{turn_more, turn_done, turn_failed, turn_cut, taken_count, failed_rose}
 use Rattle.ix_manage.proofs.turns.take_events.Goals as goal
 
 pub loop-turn-init : goal.loop-turn-init
-loop-turn-init g c = (
-  stands_first c.args.manager.now.form c.args.manager.now.limit c.args.site.now.cursor.bytes.now
-      c.args.manager.now (given_of c.args.site.now)
-      (g.K.Sink.state c.args.site.now.sink.now).written
-      c.requires.manager c.requires.given,
-  ap length c.requires.given,
-  c.requires.sink,
-  refl,
-  still _,
-  refl,
-  refl,
-  refl,
-)
+loop-turn-init g c =
+    let start = player g.S.Site.state g.K.Sink.state c.args.site.now in
+    let site = c.args.site.now.site.now in (
+      stands_first c.args.manager.now start _ _ c.requires.manager c.requires.player
+          (alone_lawful (g.S.Site.state site) (g.S.Site.crashes site) (g.met.S.Site.lawful site))
+          c.requires.fits,
+      ap length c.requires.player.given,
+      plays_still start,
+      refl,
+      refl,
+    )
 
-pub returns-in-Done-clause-ends : goal.returns-in-Done-clause-ends
-returns-in-Done-clause-ends g c =
-    let at = c.loop-turn.invariant in
-    let count = c.take_event.ensures.given in
-    let before = at.1 in
-    let form = c.args.manager.now.form in
-    let limit = c.args.manager.now.limit in
-    let here = c.loop-turn.site in
-    let there = c.take_event.new.site in
-    let start = (g.K.Sink.state c.args.site.now.sink.now).written in
-    let was = (g.K.Sink.state here.sink.now).written in
-    let now = (g.K.Sink.state there.sink.now).written in
-    let turn = subst (TakesTurn here.cursor.bytes.now (given_of here) c.loop-turn.manager was
-    (given_of there) c.take_event.new.manager now) c.in-Done.is c.take_event.ensures.turn in
-    subst (λ bytes. TakesTurns form limit c.args.turns bytes start now Done) at.3
-    (turn form limit start
-    (subst (λ bytes. Stands form limit bytes start (given_of here) c.loop-turn.manager was)
-    (sym at.3) at.0)
-    c.args.turns (omega (arith, count, before)))
-
-pub returns-in-Cut-clause-ends : goal.returns-in-Cut-clause-ends
-returns-in-Cut-clause-ends g c =
-    let at = c.loop-turn.invariant in
-    let count = c.take_event.ensures.given in
-    let before = at.1 in
-    let form = c.args.manager.now.form in
-    let limit = c.args.manager.now.limit in
-    let here = c.loop-turn.site in
-    let there = c.take_event.new.site in
-    let start = (g.K.Sink.state c.args.site.now.sink.now).written in
-    let was = (g.K.Sink.state here.sink.now).written in
-    let now = (g.K.Sink.state there.sink.now).written in
-    let turn = subst (TakesTurn here.cursor.bytes.now (given_of here) c.loop-turn.manager was
-    (given_of there) c.take_event.new.manager now) c.in-Cut.is c.take_event.ensures.turn in
-    subst (λ bytes. TakesTurns form limit c.args.turns bytes start now Cut) at.3
-    (turn form limit start
-    (subst (λ bytes. Stands form limit bytes start (given_of here) c.loop-turn.manager was)
-    (sym at.3) at.0)
-    c.args.turns (omega (arith, count, before)))
-
-pub returns-clause-ends : goal.returns-clause-ends
-returns-clause-ends g c =
+pub take_event-requires-clause-between : goal.take_event-requires-clause-between
+take_event-requires-clause-between g c =
     let at = c.loop-turn.invariant in
     let all = at.1 in
-    let here = c.loop-turn.site in
-    let start = (g.K.Sink.state c.args.site.now.sink.now).written in
-    out_of_turns_put c.args.manager.now.form c.args.manager.now.limit
-    c.args.site.now.cursor.bytes.now start (given_of here) c.loop-turn.manager
-    (g.K.Sink.state here.sink.now).written c.args.turns
-    at.0 (omega (arith, all))
+    stands_between at.0 (omega (arith, all))
+
+pub take_event-requires-clause-attached : goal.take_event-requires-clause-attached
+take_event-requires-clause-attached g c = c.loop-turn.invariant.2.site.attached ∙ c.requires.attached
+
+pub take_event-requires-clause-fits : goal.take_event-requires-clause-fits
+take_event-requires-clause-fits g c = stands_fits c.loop-turn.invariant.0
+
+pub loop-turn-preserved : goal.loop-turn-preserved
+loop-turn-preserved g c =
+    let at = c.loop-turn.invariant in
+    let took = c.take_event.ensures.turn in
+    let count = taken_count took in
+    let site = c.take_event.new.site.site.now in
+    let all = at.1 in (
+      turn_more took at.0 (alone_lawful (g.S.Site.state site) (g.S.Site.crashes site) (g.met.S.Site.lawful site))
+          c.in-More.is c.take_event.ensures.plays,
+      omega (arith, count, all),
+      plays_then _ _ _ at.2 c.take_event.ensures.plays,
+      c.take_event.ensures.same_sink ∙ at.3,
+      c.take_event.ensures.same_site ∙ at.4,
+    )
+
+pub returns-in-Done-clause-leaves : goal.returns-in-Done-clause-leaves
+returns-in-Done-clause-leaves g c = λ start put.
+    let at = c.loop-turn.invariant in
+    let took = c.take_event.ensures.turn in
+    let count = taken_count took in
+    let all = at.1 in
+    let site = c.take_event.new.site.site.now in
+    let now = player g.S.Site.state g.K.Sink.state c.take_event.new.site in
+    let stretch = between g.S.Site.state g.S.Site.crashes c.args.site.now.site.now site in
+    subst (λ script. Ended (ReplaysScript (opening_of c.args.manager.now) c.args.turns script now.given c.take_event.new.manager.machine stretch) 0 start now.sink)
+    at.2.script
+    (turn_done took at.0 (alone_lawful (g.S.Site.state site) (g.S.Site.crashes site) (g.met.S.Site.lawful site))
+    c.args.turns (omega (arith, count, all)) start put.put c.in-Done.is)
+
+pub returns-in-Cut-clause-leaves : goal.returns-in-Cut-clause-leaves
+returns-in-Cut-clause-leaves g c = λ start put.
+    let at = c.loop-turn.invariant in
+    let took = c.take_event.ensures.turn in
+    let count = taken_count took in
+    let all = at.1 in
+    let before = put.rest.faults in
+    let so_far = at.2.puts.faults in
+    let site = c.take_event.new.site.site.now in
+    let now = player g.S.Site.state g.K.Sink.state c.take_event.new.site in
+    let stretch = between g.S.Site.state g.S.Site.crashes c.args.site.now.site.now site in
+    let cut = turn_cut took at.0 (alone_lawful (g.S.Site.state site) (g.S.Site.crashes site) (g.met.S.Site.lawful site))
+    c.args.turns (omega (arith, count, all)) start put.put c.in-Cut.is (omega (arith, before, so_far)) in (
+      subst (λ script. Ended (ReplaysScript (opening_of c.args.manager.now) c.args.turns script now.given c.take_event.new.manager.machine stretch) 10 start now.sink)
+          at.2.script cut.0,
+      cut.1,
+    )
+
+-- the disk failed
+pub returns-in-Failed-clause-leaves : goal.returns-in-Failed-clause-leaves
+returns-in-Failed-clause-leaves g c = λ start put.
+    let at = c.loop-turn.invariant in
+    let took = c.take_event.ensures.turn in
+    let count = taken_count took in
+    let all = at.1 in
+    let site = c.take_event.new.site.site.now in
+    let now = player g.S.Site.state g.K.Sink.state c.take_event.new.site in
+    let stretch = between g.S.Site.state g.S.Site.crashes c.args.site.now.site.now site in
+    let failed = turn_failed took at.0 (alone_lawful (g.S.Site.state site) (g.S.Site.crashes site) (g.met.S.Site.lawful site))
+    c.args.turns (omega (arith, count, all)) start put.put c.in-Failed.is in
+    subst (λ script. StopsAfter (ReplaysScript (opening_of c.args.manager.now) c.args.turns script now.given c.take_event.new.manager.machine stretch) start now.sink (Refused Disk))
+    at.2.script failed
+
+pub returns-in-Failed-clause-failed : goal.returns-in-Failed-clause-failed
+returns-in-Failed-clause-failed g c = λ is.
+    Rose-earlier _ _ _ c.loop-turn.invariant.2.site.rest.disk
+    (failed_rose c.take_event.ensures.turn c.in-Failed.is)
+
+pub returns-clause-leaves : goal.returns-clause-leaves
+returns-clause-leaves g c = λ start put.
+    let at = c.loop-turn.invariant in
+    let all = at.1 in
+    let now = player g.S.Site.state g.K.Sink.state c.loop-turn.site in
+    let stretch = between g.S.Site.state g.S.Site.crashes c.args.site.now.site.now c.loop-turn.site.site.now in
+    subst (λ script. StopsAfter (ReplaysScript (opening_of c.args.manager.now) c.args.turns script now.given c.loop-turn.manager.machine stretch) start now.sink (Refused Turns))
+    at.2.script
+    (out_of_turns_put at.0 c.args.turns (omega (arith, all)) start put.put)

@@ -1,0 +1,195 @@
+-- What a replay makes of the journal that it attached.
+use Rattle.std.proofs.Common.{◌≡◌, ◌⊎◌, inl, inr, ℕ, ◌≤◌, List, [], length, append-nil}
+use Rattle.std.proofs.Common.{Option, None, Some, IsSome, refl, sym, ◌∙◌, ap, subst, arith}
+use Rattle.std.proofs.lemmas.Option.{none-some}
+use Rattle.ix_values.specs.PlainAction.{Word}
+use Rattle.ix_expr.specs.CanonicalText.{canonical_text}
+use Rattle.ix_expr.specs.Form.{Form}
+use Rattle.ix_journal.specs.Kinds.{IsUnfinished}
+use Rattle.ix_journal.specs.Recovery.{Recovers}
+use Rattle.ix_journal.proofs.OutcomeLaws.{one_history}
+use Rattle.ix_outside.specs.Crashes.{Crashes, AreLawful, LeavesTheFile}
+use Rattle.ix_outside.specs.Disk.{Disk, Opened, IsOpened, MakesFile, Stays}
+use Rattle.ix_outside.specs.SiteState.{SiteState}
+use Rattle.ix_outside.specs.inside.DiskCalls.{KeepsOpened}
+use Rattle.ix_manager.specs.Images as image
+use Rattle.ix_manager.specs.Images.{EndsAs, IsOwn, IsStartable, Keeps, with_failed}
+use Rattle.ix_manager.specs.Runs.{Opening}
+use Rattle.ix_manager.specs.Starts.{HasText}
+use Rattle.ix_manager.specs.inside.StartAnswers.{StartLeaves}
+use Rattle.ix_manager.specs.Runs.{opening_of}
+use Rattle.ix_manager.specs.inside.Saving.{Saves}
+use Rattle.ix_manager.proofs.SavingLemmas.{keeps_longer}
+use Rattle.ix_store.specs.Keeping.{Keeping}
+use Rattle.ix_manage.specs.Command.{replay}
+use Rattle.ix_manage.specs.Journal.{GoesOnFrom, OfJournal, OfOpened, OnJournal, OpensJournal, UsesJournal}
+use Rattle.ix_outside.specs.Files.{Listing}
+use Rattle.ix_script.specs.inside.WithoutSends.{without_sends}
+use Rattle.ix_manage.specs.inside.ReplayProgress.{disk_alone}
+use Rattle.ix_manage.specs.Session.{Session}
+use Rattle.ix_manage.specs.Trace.{ReadsForm}
+
+-- where the file was attached, how it read then
+pub opened_at : (name : List ℕ) (tick : ℕ) (before at : Option Disk) → IsOpened name tick before at
+    → (d : Disk) → at ≡ Some d → d.opened ≡ Some (record { name = name; tick = tick; file = d.file })
+opened_at name tick None at is d told = absurd (none-some d (sym is ∙ told))
+opened_at name tick (Some old) None is d told = absurd is
+opened_at name tick (Some old) (Some new) is d told =
+    let same : new ≡ d = cc in
+    subst (λ (e : Disk). e.opened ≡ Some (record { name = name; tick = tick; file = e.file })) same is
+
+-- the file may be left, and nothing else
+pub left_at : (at : Option Disk) (now : List ℕ → Type 0) → LeavesTheFile at now → (d : Disk) → at ≡ Some d
+    → (image : List ℕ) → now image → image ≡ d.file
+left_at None now leaves d told image left = absurd (none-some d told)
+left_at (Some e) now leaves d told image left =
+    let same : e ≡ d = cc in (leaves image).0 left ∙ ap (λ (f : Disk). f.file) same
+
+-- what the file was attached as stays
+pub kept_opened : (one two : Option Disk) → KeepsOpened one two → (e : Disk) → two ≡ Some e
+    → (d : Disk) × (one ≡ Some d) × (e.opened ≡ d.opened)
+kept_opened None two keeps e told = absurd (none-some e (sym keeps ∙ told))
+kept_opened (Some d) None keeps e told = absurd keeps
+kept_opened (Some d) (Some f) keeps e told =
+    let same : f ≡ e = cc in (d, refl, subst (λ (x : Disk). x.opened ≡ d.opened) same keeps.1)
+
+-- the image that an expression may open is unfinished, or has its text
+own_text : (x : Form) (file : List ℕ) → IsOwn x file → IsUnfinished file ⊎ HasText file (canonical_text x)
+own_text x file (image.new (inl unfinished)) = inl unfinished
+own_text x file (image.new (inr unopened)) = inr (inl unopened)
+own_text x file (image.ready history gate is) = inr (inr (is.first, is.ready))
+
+-- a start, from the attached file on
+module _ (x : Form) (limit : ℕ) (at mid : SiteState) (p q : Crashes) (d : Disk)
+    (name : List ℕ) (told : at.disk ≡ Some d)
+    (now : (image : List ℕ) → p.now image → image ≡ d.file)
+    (leaves : StartLeaves x limit d.file at mid p q)
+  where
+    abbrev opened : Opened
+    opened = record { name = name; tick = at.tick; file = d.file }
+
+    -- where the file is startable, all that may be left recovers its history
+    start_recovers : (h : Word) → IsStartable (opening_of x limit h) d.file
+        → (image : List ℕ) → q.left at.tick image → Recovers image h
+    start_recovers h s image left = elim (leaves.recovers h s.recovers image left) [
+      | inl first ↦ subst (λ (file : List ℕ). Recovers file h) (sym (now image first)) s.recovers
+      | inr recovers ↦ recovers
+    ]
+
+    -- and is the expression's
+    start_keeps : (h : Word) → IsStartable (opening_of x limit h) d.file
+        → (image : List ℕ) → q.left at.tick image → Keeps x (length h) h image
+    start_keeps h s image left = record {
+      own = elim (leaves.own (own_text x d.file s.own) image left) [
+        | inl first ↦ subst (λ (file : List ℕ). IsOwn x file) (sym (now image first)) s.own
+        | inr own ↦ own
+      ];
+      kept = h;
+      recovers = start_recovers h s image left;
+      rest = [];
+      prefix = append-nil h;
+      long = omega arith;
+    }
+
+    left_since_start : AreLawful mid q → at.tick ≤ mid.tick → (image : List ℕ) → q.now image → q.left at.tick image
+    left_since_start lawful le image left =
+        lawful.left_earlier at.tick mid.tick image le ((lawful.left_now image).1 left)
+
+    file_stays : (one two : Option Disk) → MakesFile Stays one two → (e : Disk) → one ≡ Some d → two ≡ Some e → e.file ≡ d.file
+    file_stays None two makes e first second = absurd (none-some d first)
+    file_stays (Some f) None makes e first second = absurd makes
+    file_stays (Some f) (Some g) makes e first second =
+        let one : f ≡ d = cc in
+        let two : g ≡ e = cc in
+        sym (ap (λ (disk : Disk). disk.file) two) ∙ makes.0 ∙ ap (λ (disk : Disk). disk.file) one
+
+    -- no run started
+    pub start_uses : AreLawful mid q → at.tick ≤ mid.tick → (e : Disk) → mid.disk ≡ Some e
+        → UsesJournal x limit None e.file opened q
+    start_uses lawful le e after = record {
+      startable = λ h s. record {
+        from = refl;
+        holds = record {
+          ends = λ image left. start_recovers h s image (left_since_start lawful le image left);
+          keeps = λ image left. start_keeps h s image left;
+        };
+      };
+      other = λ no. record {
+        none_taken = refl;
+        file_is = file_stays at.disk mid.disk (leaves.refused no).0 e told after;
+        only = λ image left. now image ((leaves.refused no).1 image (left_since_start lawful le image left));
+        only_since = λ image left. now image ((leaves.refused no).1 image left);
+      };
+    }
+
+    -- a run started, and took events
+    pub session_uses : (h : Word) → IsStartable (opening_of x limit h) d.file
+        → (played : Session) → played.opening ≡ opening_of x limit h
+        → (store : Keeping) (end : SiteState) (r : Crashes) → at.tick ≤ mid.tick → IsSome end.disk
+        → Saves played.ending x h played.last.history store
+        (disk_alone mid) (disk_alone end) (without_sends q) (without_sends r)
+        → (file : List ℕ) → UsesJournal x limit (Some played) file opened r
+    session_uses h s played opening_is store end r le some saves file = record {
+      startable = λ other starts.
+          subst (λ (w : Word). GoesOnFrom (opening_of x limit w) (Some played) opened r)
+          (one_history d.file h other s.recovers starts.recovers) goes_on;
+      other = λ no. absurd (no h s);
+    }
+      where
+        keeps : (image : List ℕ) → r.left at.tick image
+            → Keeps x (length h) (with_failed played.ending played.last.history) image
+        keeps image left = elim (saves.passes.left.nothing_else at.tick image le left) [
+          | inl earlier ↦ keeps_longer x (length h) h saves.rest (with_failed played.ending played.last.history) image saves.grows
+              (start_keeps h s image earlier)
+          | inr since ↦ saves.keeps some image since
+        ]
+
+        goes_on : GoesOnFrom (opening_of x limit h) (Some played) opened r
+        goes_on = record {
+          from = opening_is;
+          holds = record {
+            ends = λ image left. saves.ends some image left;
+            keeps = λ image left.
+                subst (λ (o : Opening). Keeps o.form (length h) (with_failed played.ending played.last.history) image)
+                (sym opening_is) (keeps image left);
+          };
+        }
+
+-- what a replay makes of the file that it attached
+pub on_journal : (files : Option Listing) (limit turns : ℕ) (expression journal script : List ℕ) (x : Form)
+    → ReadsForm files expression x → (session : Option Session) (before at end : SiteState) (r : Crashes)
+    → IsOpened journal at.tick before.disk at.disk → KeepsOpened at.disk end.disk ⊎ (end.disk ≡ None)
+    → ((d : Disk) → at.disk ≡ Some d → (e : Disk) → end.disk ≡ Some e
+    → UsesJournal x limit session e.file (record { name = journal; tick = at.tick; file = d.file }) r)
+    → OnJournal files (replay limit turns expression journal script) before end r session
+on_journal files limit turns expression journal script x reads session before at end r is (inl keeps) uses =
+    λ old new told_old none told_new.
+    let kept = kept_opened at.disk end.disk keeps new told_new in
+    let opened_is = kept.2 ∙ opened_at journal at.tick before.disk at.disk is kept.0 kept.1 in
+    subst (λ (o : Option Opened). OpensJournal files limit expression journal session new r o) (sym opened_is)
+    (refl, (x, reads, uses kept.0 kept.1 new told_new))
+on_journal files limit turns expression journal script x reads session before at end r is (inr untold) uses =
+    λ old new told_old none told_new. absurd (none-some new (sym untold ∙ told_new))
+
+-- nothing was attached
+pub none_opened : (files : Option Listing) (limit turns : ℕ) (expression journal script : List ℕ)
+    (before end : SiteState) (r : Crashes) → end.disk ≡ before.disk
+    → OnJournal files (replay limit turns expression journal script) before end r None
+none_opened files limit turns expression journal script before end r same =
+    λ old new told_old none told_new.
+    let disks : new ≡ old = some_inj _ _ (sym told_new ∙ same ∙ told_old) in
+    subst (λ (o : Option Opened). OpensJournal files limit expression journal None new r o)
+    (sym (ap (λ (disk : Disk). disk.opened) disks ∙ none)) refl
+  where
+    some_inj : (a b : Disk) → Some a ≡ Some b → a ≡ b
+    some_inj a b same = cc
+
+-- how the file read that was attached
+pub of_journal : (P : List ℕ → Type 0) (journal : List ℕ) (tick : ℕ) (before at end : Option Disk)
+    → IsOpened journal tick before at → KeepsOpened at end
+    → ((d : Disk) → at ≡ Some d → P d.file) → OfJournal P end
+of_journal P journal tick before None end is keeps holds =
+    subst (λ (disk : Option Disk). OfJournal P disk) (sym keeps) tt
+of_journal P journal tick before (Some d) None is keeps holds = absurd keeps
+of_journal P journal tick before (Some d) (Some e) is keeps holds =
+    subst (λ (o : Option Opened). OfOpened P o) (sym (keeps.1 ∙ opened_at journal tick before (Some d) is d refl)) (holds d refl)

@@ -1,0 +1,116 @@
+-- What a replay makes of its journal.
+use Rattle.std.specs.Prelude.{◌≡◌, ◌≢◌, ℕ, List, [], ◌++◌, length, codes, decimal, ⊤}
+use Rattle.std.specs.Prelude.{Option, None, Some}
+use Rattle.ix_values.specs.PlainAction.{Word}
+use Rattle.ix_expr.specs.CanonicalText.{canonical_text}
+use Rattle.ix_expr.specs.Form.{Form}
+use Rattle.ix_journal.specs.Kinds.{IsForeign}
+use Rattle.ix_journal.specs.Recovery.{IsDamaged, IsMany}
+use Rattle.ix_outside.specs.Crashes.{Crashes}
+use Rattle.ix_outside.specs.Disk.{Disk, Opened}
+use Rattle.ix_outside.specs.Files.{Listing}
+use Rattle.ix_outside.specs.SiteState.{SiteState}
+use Rattle.ix_store.specs.Opening.{IsReadyWith}
+use Rattle.ix_manager.specs.Images.{EndsAs, IsStartable, Keeps, with_failed}
+use Rattle.ix_manager.specs.Machine.{start_of}
+use Rattle.ix_manager.specs.Runs.{Opening, going}
+use Rattle.ix_manager.specs.Starts.{HasText, IsHeavy, IsNoWord, OpensAs}
+use Rattle.ix_manager.specs.Runs.{opening_of}
+use Rattle.ix_manage.specs.ActionLines.{line}
+use Rattle.ix_manage.specs.Command.{Job, replay, trace}
+use Rattle.ix_manage.specs.Session.{Session}
+use Rattle.ix_manage.specs.Trace.{ReadsForm}
+
+-- why no run of the expression under the limit starts from a file, as the last line says it
+pub data RefusesFile (x : Form) (limit : ℕ) (file : List ℕ) : List ℕ → Type 0 where
+  foreign : IsForeign file → RefusesFile x limit file (codes "foreign")
+  other : {text : List ℕ} → HasText file text → text ≢ canonical_text x
+      → RefusesFile x limit file (codes "other " ++ text)
+  damaged : {at : ℕ} → IsReadyWith file (canonical_text x) → IsDamaged file at
+      → RefusesFile x limit file (codes "damaged " ++ decimal at)
+  many : IsReadyWith file (canonical_text x) → IsMany file
+      → RefusesFile x limit file (codes "many")
+  word : {history : Word} {number : ℕ} → OpensAs x file history → IsNoWord x limit history number
+      → RefusesFile x limit file (codes "word " ++ decimal number)
+  large : {history : Word} {number : ℕ} → OpensAs x file history → IsHeavy x limit history number
+      → RefusesFile x limit file
+      (codes "large " ++ decimal number ++ codes " " ++ decimal limit)
+
+-- the line that says so
+abbrev pub journal_line : List ℕ → List ℕ
+journal_line why = line (codes "refused journal " ++ why)
+
+-- the line that says that the journal is that of another expression, of this text
+abbrev pub other_line : List ℕ → List ℕ
+other_line kept = journal_line (codes "other " ++ kept)
+
+-- a file was opened, and this holds of how it read then
+abbrev pub OfOpened : (List ℕ → Type 0) → Option Opened → Type 0
+OfOpened P None = ⊥
+OfOpened P (Some opened) = P opened.file
+
+-- where the disk is told, a file was opened, and this holds of how it read then
+abbrev pub OfJournal : (List ℕ → Type 0) → Option Disk → Type 0
+OfJournal P None = ⊤
+OfJournal P (Some disk) = OfOpened P disk.opened
+
+-- the session that a run had; where none came to be, the one from its opening that took nothing
+abbrev pub session_of : Opening → Option Session → Session
+session_of opening None = record {
+  opening = opening;
+  taken = [];
+  answers = [];
+  last = start_of opening.history;
+  ending = going;
+}
+session_of opening (Some session) = session
+
+-- The journal holds a session's history: its file does, and so does each image that a crash now may
+-- leave; and each image that a crash since it was attached may have left keeps all that it held then,
+-- and no others than the confirmed actions, in order.
+pub record HoldsHistory (least : ℕ) (session : Session) (opened : Opened) (is : Crashes)
+    : Type 0 where
+  pub ends : (image : List ℕ) → is.now image → EndsAs session.ending session.last.history image
+  pub keeps : (image : List ℕ) → is.left opened.tick image
+      → Keeps session.opening.form least (with_failed session.ending session.last.history) image
+
+-- a run from a file that is startable: the session is from what the file recovers, and is held
+pub record GoesOnFrom (opening : Opening) (session : Option Session) (opened : Opened)
+    (is : Crashes) : Type 0 where
+  pub from : (session_of opening session).opening ≡ opening
+  pub holds : HoldsHistory (length opening.history) (session_of opening session) opened is
+
+-- a file that isn't startable is left alone: no event is taken, and it and nothing else is left
+pub record LeavesAlone (session : Option Session) (file : List ℕ) (opened : Opened) (is : Crashes)
+    : Type 0 where
+  pub none_taken : session ≡ None
+  pub file_is : file ≡ opened.file
+  pub only : (image : List ℕ) → is.now image → image ≡ opened.file
+  pub only_since : (image : List ℕ) → is.left opened.tick image → image ≡ opened.file
+
+-- what a replay of the expression under the limit makes of the file that it opened
+pub record UsesJournal (x : Form) (limit : ℕ) (session : Option Session) (file : List ℕ)
+    (opened : Opened) (is : Crashes) : Type 0 where
+  pub startable : (history : Word) → IsStartable (opening_of x limit history) opened.file
+      → GoesOnFrom (opening_of x limit history) session opened is
+  pub other : ((history : Word) → ¬ IsStartable (opening_of x limit history) opened.file)
+      → LeavesAlone session file opened is
+
+-- A replay opened nothing and took no event; or it opened the file of its journal's name, and uses
+-- it by the form that the expression's file stands for.
+abbrev pub OpensJournal : Option Listing → ℕ → List ℕ → List ℕ → Option Session → Disk → Crashes
+    → Option Opened → Type 0
+OpensJournal files limit expression journal session disk is None = session ≡ None
+OpensJournal files limit expression journal session disk is (Some opened) =
+    (opened.name ≡ journal)
+    × ((x : Form) × ReadsForm files expression x
+    × UsesJournal x limit session disk.file opened is)
+
+-- What a job makes of its journal, where the site tells its disk before, with nothing opened, and
+-- behind it. A trace has none.
+abbrev pub OnJournal : Option Listing → Job → SiteState → SiteState → Crashes → Option Session
+    → Type 0
+OnJournal files (trace limit expression actions) before after is session = ⊤
+OnJournal files (replay limit turns expression journal script) before after is session =
+    (old new : Disk) → before.disk ≡ Some old → old.opened ≡ None → after.disk ≡ Some new
+    → OpensJournal files limit expression journal session new is new.opened

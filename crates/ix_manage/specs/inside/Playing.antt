@@ -1,0 +1,56 @@
+-- A trace, and a replay behind the loading of its files.
+use Rattle.std.specs.Prelude.{ℕ, List, Option}
+use Rattle.ix_expr.specs.Form.{Form}
+use Rattle.ix_outside.specs.Contents.{GivenEvent}
+use Rattle.ix_outside.specs.Crashes.{Crashes}
+use Rattle.ix_outside.specs.Disk.{Disk as SiteDisk}
+use Rattle.ix_outside.specs.Files.{Listing}
+use Rattle.ix_outside.specs.SiteState.{SiteState}
+use Rattle.ix_manager.specs.declared.faults.StartFault.{StartFault}
+use Rattle.ix_manager.specs.declared.faults.StartFault.TheVariants as fault
+use Rattle.ix_script.specs.Events.{HasEvents}
+use Rattle.ix_manage.specs.Command.{Job}
+use Rattle.ix_manage.specs.Ends.{JobEnds}
+use Rattle.ix_manage.specs.Journal.{OnJournal}
+use Rattle.ix_manage.specs.Replay.{ReadsEvents}
+use Rattle.ix_manage.specs.Session.{Session}
+use Rattle.ix_manage.specs.Trace.{ReadsForm}
+use Rattle.ix_manage.specs.declared.job.ReplayWords.{ReplayWords}
+use Rattle.ix_manage.specs.declared.job.TraceWords.{TraceWords}
+use Rattle.ix_manage.specs.declared.refusal.Refusal.TheVariants.{Disk, Large, Memory, Journal}
+use Rattle.ix_manage.specs.declared.refusal.JournalRefusal.TheVariants.{Foreign, Damaged, Many, Word, Heavy}
+use Rattle.ix_manage.specs.declared.run.Stop.{Stop}
+use Rattle.ix_manage.specs.declared.run.Stop.TheVariants.{Refused, OtherExpression}
+use Rattle.ix_manage.specs.inside.Jobs.{replay_of, trace_of}
+
+-- why the run ends where no manager was started
+abbrev pub stop_of : StartFault → Stop
+stop_of (fault.Large limit) = Refused (Large limit)
+stop_of fault.Disk = Refused Disk
+stop_of fault.Foreign = Refused (Journal Foreign)
+stop_of (fault.Other kept) = OtherExpression kept
+stop_of (fault.Damaged at) = Refused (Journal (Damaged at))
+stop_of fault.Many = Refused (Journal Many)
+stop_of (fault.Word number) = Refused (Journal (Word number))
+stop_of (fault.Heavy number limit) = Refused (Journal (Heavy number limit))
+stop_of fault.Memory = Refused Memory
+
+-- how a trace may end, whatever the site's disk
+abbrev pub TraceEnds : Option Listing → TraceWords → ℕ → List ℕ → List ℕ → Option Session → Type 0
+TraceEnds files names status whole part session =
+    (disk : Option SiteDisk) → JobEnds files disk (trace_of names) status whole part session
+
+-- how a job may end over a site, and what it makes of its journal
+pub record JobOver (files : Option Listing) (job : Job) (before after : SiteState) (is : Crashes)
+    (status : ℕ) (whole part : List ℕ) (session : Option Session) : Type 0 where
+  pub ends : JobEnds files after.disk job status whole part session
+  pub journal : OnJournal files job before after is session
+
+-- how a replay may end over a site, where files stand for the form and the script
+abbrev pub PlaysOver : Form → ReplayWords → List ℕ → SiteState → SiteState → Crashes
+    → ℕ → List ℕ → List ℕ → Option Session → Type 0
+PlaysOver x names script before after is status whole part session =
+    (files : Option Listing) → ReadsForm files names.expression.now x
+    → ((events : List GivenEvent) → HasEvents script events
+    → ReadsEvents files names.script.now events)
+    → JobOver files (replay_of names) before after is status whole part session
