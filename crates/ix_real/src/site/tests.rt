@@ -1,0 +1,114 @@
+//! The devices at work, each test in a new folder.
+use super::*;
+use crate::RealFiles;
+use ix_outside::{Files, LoadFault};
+use std::io::Read;
+use std::test::Fail;
+use std::{env, fs, io, process};
+
+/// Makes a folder for one test.
+fn new_folder(rt: &HostRuntime, test: &str) -> io::Result<String> {
+    let parent = env::temp_dir(rt)?;
+    let run = process::id(rt.process());
+    let folder = format!(in rt.alloc(); "{}/ix_real-{run}-{test}", parent.as_str())?;
+    fs::create_dir(rt, &folder)?;
+    Ok(folder)
+}
+
+#[test]
+fn files_are_loaded_up_to_a_limit(rt: HostRuntime) -> Result<(), Fail> {
+    let folder = new_folder(&rt, "files")?;
+    let there = format!(in rt.alloc(); "{folder}/there")?;
+    let absent = format!(in rt.alloc(); "{folder}/absent")?;
+    fs::write(&rt, &there, "a - b")?;
+    let mut files = RealFiles::new(&rt);
+    let loaded = files.load(rt.alloc(), &there, 5);
+    assert!(rt; loaded.is_ok_and(|bytes| bytes.as_slice() == b"a - b".as_slice()));
+    let longer = files.load(rt.alloc(), &there, 4);
+    assert!(rt; matches!(longer, Err(LoadFault::TooLong)));
+    let missing = files.load(rt.alloc(), &absent, 5);
+    assert!(rt; matches!(missing, Err(LoadFault::Failed)));
+    fs::remove_dir_all(&rt, &folder)?;
+    Ok(())
+}
+
+/// In November 2023, in milliseconds since 1970.
+const PAST: u64 = 1_700_000_000_000;
+
+/// In October 2096.
+const FUTURE: u64 = 4_000_000_000_000;
+
+/// The kind of the next event, which comes now and on connection 0.
+fn next_kind(site: &mut RealSite<'_, HostRuntime>, buf: &mut [u8; 64]) -> Option<EventKind> {
+    match site.next(buf) {
+        Ok(event) if event.conn == 0 && (PAST..FUTURE).contains(&event.moment) => Some(event.kind),
+        _ => None,
+    }
+}
+
+#[test]
+fn a_client_asks_and_gets_its_reply(rt: HostRuntime) -> Result<(), Fail> {
+    let folder = new_folder(&rt, "reply")?;
+    let socket = format!(in rt.alloc(); "{folder}/socket")?;
+    let mut site = RealSite::new(&rt);
+    assert!(rt; site.listen(&socket).is_ok());
+    let mut client = UnixStream::connect(&rt, &socket)?;
+    client.write_all(b"status\n")?;
+    let mut buf = [0; 64];
+    assert_eq!(rt; next_kind(&mut site, &mut buf), Some(EventKind::Bytes(7)));
+    assert!(rt; &buf[..7] == b"status\n".as_slice());
+    assert!(rt; site.send(0, b"no\n").is_ok());
+    let mut reply = [0; 3];
+    client.read_exact(&mut reply)?;
+    assert!(rt; reply == *b"no\n");
+    fs::remove_dir_all(&rt, &folder)?;
+    Ok(())
+}
+
+#[test]
+fn one_client_comes_after_the_other(rt: HostRuntime) -> Result<(), Fail> {
+    let folder = new_folder(&rt, "others")?;
+    let socket = format!(in rt.alloc(); "{folder}/socket")?;
+    let mut site = RealSite::new(&rt);
+    let mut buf = [0; 64];
+    assert_eq!(rt; next_kind(&mut site, &mut buf), None);
+    assert!(rt; site.listen(&socket).is_ok());
+    assert!(rt; site.listen(&socket).is_err());
+    for text in ["one\n", "three\n"] {
+        let mut client = UnixStream::connect(&rt, &socket)?;
+        client.write_all(text.as_bytes())?;
+        drop(client);
+        let bytes = Some(EventKind::Bytes(text.len()));
+        assert_eq!(rt; next_kind(&mut site, &mut buf), bytes);
+        assert!(rt; site.send(0, b"no\n").is_err());
+        assert_eq!(rt; next_kind(&mut site, &mut buf), Some(EventKind::Closed));
+        assert!(rt; site.send(0, b"no\n").is_err());
+    }
+    assert_eq!(rt; (site.disk, site.wire, site.send), (0, 2, 4));
+    fs::remove_dir_all(&rt, &folder)?;
+    Ok(())
+}
+
+#[test]
+fn a_file_keeps_what_is_written_and_is_attached_once(rt: HostRuntime) -> Result<(), Fail> {
+    let folder = new_folder(&rt, "journal")?;
+    let journal = format!(in rt.alloc(); "{folder}/journal")?;
+    let mut site = RealSite::new(&rt);
+    assert!(rt; site.attach(&journal).is_ok());
+    assert!(rt; site.write_at(0, b"abcdef").is_ok());
+    assert!(rt; site.cut(5).is_ok());
+    assert!(rt; site.sync().is_ok());
+    assert!(rt; site.length() == Ok(5));
+    let mut buf = [0; 64];
+    assert!(rt; site.read_at(2, &mut buf) == Ok(3));
+    assert!(rt; &buf[..3] == b"cde".as_slice());
+    assert!(rt; site.read_at(5, &mut buf) == Ok(0));
+    let mut second = RealSite::new(&rt);
+    assert!(rt; second.attach(&journal).is_err());
+    assert_eq!(rt; (second.disk, second.wire, second.send), (1, 0, 0));
+    assert!(rt; fs::read_to_string(&rt, &journal)?.as_str() == "abcde");
+    drop(site);
+    assert!(rt; second.attach(&journal).is_ok());
+    fs::remove_dir_all(&rt, &folder)?;
+    Ok(())
+}
