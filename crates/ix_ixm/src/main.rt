@@ -1,27 +1,25 @@
-//! The program `ixm`: the words after its name, files by their names, and standard output.
+//! The program `ixm`: the words after its name, and the real devices.
 //!
-//! Nothing is written to standard error. The program ends with the status of `ix_manage::manage`.
+//! Nothing is written to standard error. The program ends with the status of `ix_manage::manage`, or
+//! with 9 where there is no memory for the words.
 #![tactic(auto)]
 
-mod disk_files;
-mod no_site;
-mod standard_output;
-
-use disk_files::DiskFiles;
 use ix_manage::manage;
-use no_site::NoSite;
-use standard_output::StandardOutput;
+use ix_outside::{Failed, Sink};
+use ix_real::{RealFiles, RealSink, RealSite};
+use std::io::ErrorKind;
 use std::process::ExitCode;
 use std::rt::Env;
 use std::{env, io};
 
 fn main(rt: HostRuntime) -> ExitCode {
-    let mut files = DiskFiles::new(&rt);
-    let mut site = NoSite::new();
-    let mut out = StandardOutput::new(io::writer(&rt));
-    // Words that are no text name no command.
+    let mut files = RealFiles::new(&rt);
+    let mut site = RealSite::new(&rt);
+    let mut out = RealSink::new(&rt);
     let words = match words(&rt) {
         Ok(words) => words,
+        Err(error) if error.kind() == ErrorKind::OutOfMemory => return refuse_memory(&mut out),
+        // Words that are no text name no command.
         Err(_) => Vec::new(rt.alloc()),
     };
     ExitCode::from(manage(rt.alloc(), &words, &mut files, &mut site, &mut out))
@@ -34,4 +32,12 @@ fn words(rt: &(impl Env + AllocGlobal)) -> io::Result<Vec<String>> {
         words.push(word)?;
     }
     Ok(words)
+}
+
+/// There is no memory for the words: puts the line that says so, and gives the status.
+fn refuse_memory(out: &mut impl Sink) -> ExitCode {
+    match out.put(b"refused memory\n") {
+        Ok(()) => ExitCode::from(9),
+        Err(Failed) => ExitCode::from(10),
+    }
 }
