@@ -1,0 +1,102 @@
+-- Words name one job at most, and none where each command refuses them.
+use Rattle.std.proofs.Common.{◌≡◌, ◌∙◌, ℕ, List, [], refl, sym, ap, arith, inl, inr, slice_index}
+use Rattle.std.proofs.Common.{codes}
+use Rattle.std.specs.Prelude.{unwrap_or}
+use Rattle.std.specs.Str.Parse.{digits_value, without_leading_plus}
+use Rattle.clap.specs.Words.{App, Text}
+use Rattle.ix_cli.specs.Commands.{trace_command, replay_command, serve_command, work_command}
+use Rattle.ix_cli.specs.Words.{IsTaken, Job, Names, NamesNoJob, Refuses, Says, SaysNumber}
+use Rattle.ix_cli.specs.Words.{trace, replay, serve, work}
+
+-- the first byte of a command's name
+abbrev pub initial : App → ℕ
+initial command = slice_index command.top.name 0
+
+pub trace_initial : initial trace_command ≡ 116
+unfolding trace_command
+trace_initial = refl
+
+pub replay_initial : initial replay_command ≡ 114
+unfolding replay_command
+replay_initial = refl
+
+pub serve_initial : initial serve_command ≡ 115
+unfolding serve_command
+serve_initial = refl
+
+pub work_initial : initial work_command ≡ 119
+unfolding work_command
+work_initial = refl
+
+module _ (words : List Text) where
+  -- two commands that take the words have one name
+  same_initial : {a b : App} → IsTaken a words → IsTaken b words → initial a ≡ initial b
+  same_initial one other =
+      ap (λ o. slice_index (unwrap_or o []) 0) (sym one.name ∙ other.name)
+
+  same_text : (command : App) (name text other : Text) → Says command words name text
+      → Says command words name other → text ≡ other
+  same_text command name text other one two = ap (λ o. unwrap_or o text) (sym one ∙ two)
+
+  same_number : {command : App} {name : Text} {least most number other : ℕ}
+      → SaysNumber command words name least most number
+      → SaysNumber command words name least most other → number ≡ other
+  same_number one two =
+      one.same
+      ∙ ap (λ o. digits_value 10 (without_leading_plus (unwrap_or o []))) (sym one.said ∙ two.said)
+      ∙ sym two.same
+
+  not_both : {a b : App} → IsTaken a words → IsTaken b words → (initial a ≡ initial b → ⊥) → ⊥
+  not_both one other apart = apart (same_initial one other)
+
+  pub one_job : (job other : Job) → Names words job → Names words other → job ≡ other
+  one_job (trace e a n) (trace f b o) x y =
+      λ i. trace (same_text trace_command (codes "EXPR") e f x.1 y.1 i)
+      (same_text trace_command (codes "ACTIONS") a b x.2 y.2 i) (same_number x.3 y.3 i)
+  one_job (replay e j s n t) (replay f k u o v) x y =
+      λ i. replay (same_text replay_command (codes "EXPR") e f x.1 y.1 i)
+      (same_text replay_command (codes "JOURNAL") j k x.2 y.2 i)
+      (same_text replay_command (codes "SCRIPT") s u x.3 y.3 i)
+      (same_number x.4 y.4 i) (same_number x.5 y.5 i)
+  one_job (serve e j s n t) (serve f k u o v) x y =
+      λ i. serve (same_text serve_command (codes "EXPR") e f x.1 y.1 i)
+      (same_text serve_command (codes "JOURNAL") j k x.2 y.2 i)
+      (same_text serve_command (codes "SOCKET") s u x.3 y.3 i)
+      (same_number x.4 y.4 i) (same_number x.5 y.5 i)
+  one_job (work c s n) (work d t o) x y =
+      λ i. work (same_number x.1 y.1 i) (same_number x.2 y.2 i) (same_number x.3 y.3 i)
+  one_job (trace e a n) (replay f k u o v) x y =
+      absurd (not_both x.0 y.0 (λ same. omega (arith, trace_initial, replay_initial)))
+  one_job (trace e a n) (serve f k u o v) x y =
+      absurd (not_both x.0 y.0 (λ same. omega (arith, trace_initial, serve_initial)))
+  one_job (trace e a n) (work d t o) x y =
+      absurd (not_both x.0 y.0 (λ same. omega (arith, trace_initial, work_initial)))
+  one_job (replay e j s n t) (trace f b o) x y =
+      absurd (not_both x.0 y.0 (λ same. omega (arith, replay_initial, trace_initial)))
+  one_job (replay e j s n t) (serve f k u o v) x y =
+      absurd (not_both x.0 y.0 (λ same. omega (arith, replay_initial, serve_initial)))
+  one_job (replay e j s n t) (work d u o) x y =
+      absurd (not_both x.0 y.0 (λ same. omega (arith, replay_initial, work_initial)))
+  one_job (serve e j s n t) (trace f b o) x y =
+      absurd (not_both x.0 y.0 (λ same. omega (arith, serve_initial, trace_initial)))
+  one_job (serve e j s n t) (replay f k u o v) x y =
+      absurd (not_both x.0 y.0 (λ same. omega (arith, serve_initial, replay_initial)))
+  one_job (serve e j s n t) (work d u o) x y =
+      absurd (not_both x.0 y.0 (λ same. omega (arith, serve_initial, work_initial)))
+  one_job (work c s n) (trace f b o) x y =
+      absurd (not_both x.0 y.0 (λ same. omega (arith, work_initial, trace_initial)))
+  one_job (work c s n) (replay f k u o v) x y =
+      absurd (not_both x.0 y.0 (λ same. omega (arith, work_initial, replay_initial)))
+  one_job (work c s n) (serve f k u o v) x y =
+      absurd (not_both x.0 y.0 (λ same. omega (arith, work_initial, serve_initial)))
+
+  -- a command that takes the words doesn't refuse them
+  taken_refused : {command : App} → IsTaken command words → Refuses command words → ⊥
+  taken_refused taken (inl name) = name taken.name
+  taken_refused taken (inr fault) = fault taken.taken
+
+  pub no_job : (job : Job) → NamesNoJob words → Names words job → ⊥
+  no_job (trace e a n) none named = taken_refused named.0 none.0
+  no_job (replay e j s n t) none named = taken_refused named.0 none.1
+  no_job (serve e j s n t) none named = taken_refused named.0 none.2
+  no_job (work c s n) none named = taken_refused named.0 none.3

@@ -1,0 +1,140 @@
+-- The four commands are plain, and these are their arguments.
+use Rattle.std.proofs.Common.{◌≡◌, refl, lit<, codes}
+use Rattle.std.specs.List.{Contains}
+use Rattle.clap.specs.Words.{App, Rule}
+use Rattle.ix_cli.specs.Commands.{trace_command, replay_command, serve_command, work_command}
+use Rattle.ix_cli.specs.Commands.{word, number_word, nodes_option, turns_option, most_asks}
+use Rattle.ix_cli.specs.Commands.{most_seed}
+use Rattle.ix_cli.specs.inside.Matches.{IsPlainCommand}
+
+-- the command has this argument
+abbrev pub HasArgument : App → Rule → Type 0
+HasArgument command rule = Contains command.top.rules rule
+
+pub trace_plain : IsPlainCommand trace_command
+unfolding trace_command
+trace_plain = record {
+  no_subcommands = refl;
+  simple = refl;
+  ready = refl;
+  free = refl;
+  requires_all = refl;
+  single = refl;
+  distinct = refl;
+}
+
+pub replay_plain : IsPlainCommand replay_command
+unfolding replay_command
+replay_plain = record {
+  no_subcommands = refl;
+  simple = refl;
+  ready = refl;
+  free = refl;
+  requires_all = refl;
+  single = refl;
+  distinct = refl;
+}
+
+pub serve_plain : IsPlainCommand serve_command
+unfolding serve_command
+serve_plain = record {
+  no_subcommands = refl;
+  simple = refl;
+  ready = refl;
+  free = refl;
+  requires_all = refl;
+  single = refl;
+  distinct = refl;
+}
+
+pub work_plain : IsPlainCommand work_command
+unfolding work_command
+work_plain = record {
+  no_subcommands = refl;
+  simple = refl;
+  ready = refl;
+  free = refl;
+  requires_all = refl;
+  single = refl;
+  distinct = refl;
+}
+
+pub trace_expr : HasArgument trace_command (word (codes "EXPR"))
+unfolding trace_command
+trace_expr = (0, lit< tt, refl)
+
+pub trace_actions : HasArgument trace_command (word (codes "ACTIONS"))
+unfolding trace_command
+trace_actions = (1, lit< tt, refl)
+
+pub trace_nodes : HasArgument trace_command nodes_option
+unfolding trace_command
+trace_nodes = (2, lit< tt, refl)
+
+pub replay_expr : HasArgument replay_command (word (codes "EXPR"))
+unfolding replay_command
+replay_expr = (0, lit< tt, refl)
+
+pub replay_journal : HasArgument replay_command (word (codes "JOURNAL"))
+unfolding replay_command
+replay_journal = (1, lit< tt, refl)
+
+pub replay_script : HasArgument replay_command (word (codes "SCRIPT"))
+unfolding replay_command
+replay_script = (2, lit< tt, refl)
+
+pub replay_nodes : HasArgument replay_command nodes_option
+unfolding replay_command
+replay_nodes = (3, lit< tt, refl)
+
+pub replay_turns : HasArgument replay_command turns_option
+unfolding replay_command
+replay_turns = (4, lit< tt, refl)
+
+pub serve_expr : HasArgument serve_command (word (codes "EXPR"))
+unfolding serve_command
+serve_expr = (0, lit< tt, refl)
+
+pub serve_journal : HasArgument serve_command (word (codes "JOURNAL"))
+unfolding serve_command
+serve_journal = (1, lit< tt, refl)
+
+pub serve_socket : HasArgument serve_command (word (codes "SOCKET"))
+unfolding serve_command
+serve_socket = (2, lit< tt, refl)
+
+pub serve_nodes : HasArgument serve_command nodes_option
+unfolding serve_command
+serve_nodes = (3, lit< tt, refl)
+
+pub serve_turns : HasArgument serve_command turns_option
+unfolding serve_command
+serve_turns = (4, lit< tt, refl)
+
+pub work_count : HasArgument work_command (number_word (codes "N") 0 most_asks)
+unfolding work_command
+work_count = (0, lit< tt, refl)
+
+pub work_seed : HasArgument work_command (number_word (codes "SEED") 0 most_seed)
+unfolding work_command
+work_seed = (1, lit< tt, refl)
+
+pub work_nodes : HasArgument work_command nodes_option
+unfolding work_command
+work_nodes = (2, lit< tt, refl)
+
+pub trace_name : trace_command.top.name ≡ codes "trace"
+unfolding trace_command
+trace_name = refl
+
+pub replay_name : replay_command.top.name ≡ codes "replay"
+unfolding replay_command
+replay_name = refl
+
+pub serve_name : serve_command.top.name ≡ codes "serve"
+unfolding serve_command
+serve_name = refl
+
+pub work_name : work_command.top.name ≡ codes "work"
+unfolding work_command
+work_name = refl

@@ -1,0 +1,42 @@
+use Rattle.std.proofs.Common.{◌∙◌, ap, Some, sym, subst, refl, codes}
+use Rattle.ix_cli.specs.Commands.{word, nodes_option}
+use Rattle.ix_cli.specs.inside.Matches.{IsPlainCommand}
+use Rattle.ix_cli.proofs.Blame.{blamed_as, handed_up, trace_blamed}
+use Rattle.ix_cli.proofs.PlainCommands.{trace_name, trace_plain, trace_expr, trace_actions}
+use Rattle.ix_cli.proofs.PlainCommands.{trace_nodes}
+use Rattle.ix_cli.proofs.Reading.{has_number, matches_as, says_number, says_text}
+use Rattle.ix_cli.proofs.job.read_trace.Goals as goal
+
+pub parse-requires : goal.parse-requires
+parse-requires c = subst IsPlainCommand (sym c.in_ok-trace.ensures) trace_plain
+
+pub returns-in_err-matches : goal.returns-in_err-matches
+returns-in_err-matches c =
+    let fault = c.in_err-matches.field-0.0 in
+    let blamed = blamed_as _ fault c.in_ok-trace.ensures c.in_err-matches.ensures in
+    handed_up _ fault _ _ c.from_residual-in_err-matches.ensures.1
+    (trace_blamed _ c.requires fault blamed)
+
+pub text-requires : goal.text-requires
+text-requires c =
+    let made = matches_as c.in_ok-trace.ensures c.in_ok-matches.ensures in
+    made.texts (word (codes "EXPR")) trace_expr
+
+pub text-requires-2 : goal.text-requires-2
+text-requires-2 c =
+    let made = matches_as c.in_ok-trace.ensures c.in_ok-matches.ensures in
+    made.texts (word (codes "ACTIONS")) trace_actions
+
+pub number-requires : goal.number-requires
+number-requires c =
+    let made = matches_as c.in_ok-trace.ensures c.in_ok-matches.ensures in
+    has_number made nodes_option trace_nodes refl
+
+pub returns : goal.returns
+returns c =
+    let made = matches_as c.in_ok-trace.ensures c.in_ok-matches.ensures in (
+      record { name = c.requires ∙ ap Some (sym trace_name); taken = made.taken },
+      says_text made (codes "EXPR") c.in_ok-text.ensures,
+      says_text made (codes "ACTIONS") c.in_ok-text-2.ensures,
+      says_number made nodes_option trace_nodes refl c.number.ensures,
+    )

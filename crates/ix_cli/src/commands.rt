@@ -1,0 +1,128 @@
+//! The commands, as `clap` reads them.
+ghost use Rattle.std.specs.Prelude.{◌≡◌, false, IfOk};
+ghost use Rattle.clap.specs.Words.{app_of, rule_of};
+ghost use Rattle.ix_cli.specs.Commands.{word, number_word, nodes_option, turns_option};
+ghost use Rattle.ix_cli.specs.Commands.{trace_command, replay_command, serve_command, work_command};
+
+use clap::builder::ValueParser;
+use clap::{Arg, ArgAction, Command};
+use std::alloc::{AllocError, Global};
+
+/// The greatest limit of Size.
+const MOST_NODES: u64 = 1_000_000;
+
+/// The most events of a run.
+const MOST_TURNS: u64 = 1_000_000_000;
+
+/// The most asks of a workload.
+const MOST_ASKS: u64 = 1_000_000;
+
+const EXPRESSION_HELP: &str = "The file of the expression";
+
+const JOURNAL_HELP: &str = "The file of the journal, which is made where it is absent";
+
+/// A word that has to be there.
+fn word<'a>(alloc: Global, name: &'a str, help: &'a str) -> Arg<'a>
+    ensures rule { rule_of result ≡ word name.entry.now }
+    ensures local { result.global ≡ false }
+{
+    Arg::new(alloc, name)
+        .required(true)
+        .action(ArgAction::Set)
+        .help(help)
+}
+
+/// A word that has to be there and is a number from 0 to the most.
+fn number_word<'a>(alloc: Global, name: &'a str, most: u64, help: &'a str) -> Arg<'a>
+    ensures rule { rule_of result ≡ number_word name.entry.now 0 most }
+    ensures local { result.global ≡ false }
+{
+    word(alloc, name, help).value_parser(ValueParser::unsigned(0, most))
+}
+
+/// The option `--nodes N`.
+fn nodes_option<'a>(alloc: Global) -> Arg<'a>
+    ensures rule { rule_of result ≡ nodes_option }
+    ensures local { result.global ≡ false }
+{
+    Arg::new(alloc, "nodes")
+        .long("nodes")
+        .action(ArgAction::Set)
+        .value_parser(ValueParser::unsigned(1, MOST_NODES))
+        .default_value("100000")
+        .help("The greatest Size of a state, from 1 to 1000000")
+}
+
+/// The option `--turns N`.
+fn turns_option<'a>(alloc: Global) -> Arg<'a>
+    ensures rule { rule_of result ≡ turns_option }
+    ensures local { result.global ≡ false }
+{
+    Arg::new(alloc, "turns")
+        .long("turns")
+        .action(ArgAction::Set)
+        .value_parser(ValueParser::unsigned(1, MOST_TURNS))
+        .default_value("1000000000")
+        .help("The most events that are taken, from 1 to 1000000000")
+}
+
+/// The command `trace`.
+pub(crate) fn trace<'a>(alloc: Global) -> Result<Command<'a>, AllocError>
+    ensures { IfOk result (λ command. app_of command ≡ trace_command) }
+{
+    Command::new(alloc, "trace")
+        .about("Says of each action of a file whether the expression lets it be next")
+        .arg(word(alloc, "EXPR", EXPRESSION_HELP))?
+        .arg(word(alloc, "ACTIONS", "The file of the actions, one a line"))?
+        .arg(nodes_option(alloc))?
+        .bin_name("ixm trace")
+}
+
+/// The command `replay`.
+pub(crate) fn replay<'a>(alloc: Global) -> Result<Command<'a>, AllocError>
+    ensures { IfOk result (λ command. app_of command ≡ replay_command) }
+{
+    Command::new(alloc, "replay")
+        .about("Runs a manager over the events of a script")
+        .arg(word(alloc, "EXPR", EXPRESSION_HELP))?
+        .arg(word(alloc, "JOURNAL", JOURNAL_HELP))?
+        .arg(word(alloc, "SCRIPT", "The file of the events, one a line"))?
+        .arg(nodes_option(alloc))?
+        .arg(turns_option(alloc))?
+        .bin_name("ixm replay")
+}
+
+/// The command `serve`.
+pub(crate) fn serve<'a>(alloc: Global) -> Result<Command<'a>, AllocError>
+    ensures { IfOk result (λ command. app_of command ≡ serve_command) }
+{
+    Command::new(alloc, "serve")
+        .about("Runs a manager over the connections of a socket")
+        .arg(word(alloc, "EXPR", EXPRESSION_HELP))?
+        .arg(word(alloc, "JOURNAL", JOURNAL_HELP))?
+        .arg(word(
+            alloc,
+            "SOCKET",
+            "The name of the Unix socket, not there yet",
+        ))?
+        .arg(nodes_option(alloc))?
+        .arg(turns_option(alloc))?
+        .bin_name("ixm serve")
+}
+
+/// The command `work`.
+pub(crate) fn work<'a>(alloc: Global) -> Result<Command<'a>, AllocError>
+    ensures { IfOk result (λ command. app_of command ≡ work_command) }
+{
+    Command::new(alloc, "work")
+        .about("Asks for the actions of a generated workload, and counts the answers")
+        .arg(number_word(
+            alloc,
+            "N",
+            MOST_ASKS,
+            "The number of asks, from 0 to 1000000",
+        ))?
+        .arg(number_word(alloc, "SEED", u64::MAX, "The seed, any number below 2^64"))?
+        .arg(nodes_option(alloc))?
+        .bin_name("ixm work")
+}

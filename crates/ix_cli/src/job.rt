@@ -1,0 +1,108 @@
+//! The jobs of the program, and how each is read.
+ghost use Rattle.std.specs.Prelude.{◌≡◌, Some, codes, map, slice_get, string_bytes, MatchResult};
+ghost use Rattle.ix_cli.specs.Words.{Names};
+ghost use Rattle.ix_cli.specs.inside.Jobs.{Explains, job_of};
+
+use crate::commands;
+use crate::fault::WordsFault;
+use crate::matches::{number, parse, text};
+use std::alloc::Global;
+
+/// What the program is to do. Files and sockets are told by their names; `nodes` is the greatest
+/// Size of a state, from 1 to 1,000,000, and `turns` the most events that are taken, from 1 to
+/// 1,000,000,000.
+#[derive(Debug, Drop)]
+pub enum Job {
+    /// Trace the actions of a file.
+    Trace {
+        expr: String,
+        actions: String,
+        nodes: usize,
+    },
+    /// Run a manager over the events of a script.
+    Replay {
+        expr: String,
+        journal: String,
+        script: String,
+        nodes: usize,
+        turns: u64,
+    },
+    /// Run a manager over the connections of a socket.
+    Serve {
+        expr: String,
+        journal: String,
+        socket: String,
+        nodes: usize,
+        turns: u64,
+    },
+    /// Ask for `count` actions, from 0 to 1,000,000, of the workload of a seed.
+    Work {
+        count: u64,
+        seed: u64,
+        nodes: usize,
+    },
+}
+
+/// The job of words that begin with `trace`.
+pub(crate) fn read_trace(alloc: Global, words: &[String]) -> Result<Job, WordsFault>
+    requires { slice_get (map string_bytes words.now) 0 ≡ Some (codes "trace") }
+    ensures { MatchResult result
+        (λ job. Names (map string_bytes words.now) (job_of job))
+        (Explains (map string_bytes words.now)) }
+{
+    let matches = parse(alloc, commands::trace(alloc)?, words)?;
+    Ok(Job::Trace {
+        expr: text(alloc, &matches, "EXPR")?,
+        actions: text(alloc, &matches, "ACTIONS")?,
+        nodes: number(&matches, "nodes") as usize,
+    })
+}
+
+/// The job of words that begin with `replay`.
+pub(crate) fn read_replay(alloc: Global, words: &[String]) -> Result<Job, WordsFault>
+    requires { slice_get (map string_bytes words.now) 0 ≡ Some (codes "replay") }
+    ensures { MatchResult result
+        (λ job. Names (map string_bytes words.now) (job_of job))
+        (Explains (map string_bytes words.now)) }
+{
+    let matches = parse(alloc, commands::replay(alloc)?, words)?;
+    Ok(Job::Replay {
+        expr: text(alloc, &matches, "EXPR")?,
+        journal: text(alloc, &matches, "JOURNAL")?,
+        script: text(alloc, &matches, "SCRIPT")?,
+        nodes: number(&matches, "nodes") as usize,
+        turns: number(&matches, "turns"),
+    })
+}
+
+/// The job of words that begin with `serve`.
+pub(crate) fn read_serve(alloc: Global, words: &[String]) -> Result<Job, WordsFault>
+    requires { slice_get (map string_bytes words.now) 0 ≡ Some (codes "serve") }
+    ensures { MatchResult result
+        (λ job. Names (map string_bytes words.now) (job_of job))
+        (Explains (map string_bytes words.now)) }
+{
+    let matches = parse(alloc, commands::serve(alloc)?, words)?;
+    Ok(Job::Serve {
+        expr: text(alloc, &matches, "EXPR")?,
+        journal: text(alloc, &matches, "JOURNAL")?,
+        socket: text(alloc, &matches, "SOCKET")?,
+        nodes: number(&matches, "nodes") as usize,
+        turns: number(&matches, "turns"),
+    })
+}
+
+/// The job of words that begin with `work`.
+pub(crate) fn read_work(alloc: Global, words: &[String]) -> Result<Job, WordsFault>
+    requires { slice_get (map string_bytes words.now) 0 ≡ Some (codes "work") }
+    ensures { MatchResult result
+        (λ job. Names (map string_bytes words.now) (job_of job))
+        (Explains (map string_bytes words.now)) }
+{
+    let matches = parse(alloc, commands::work(alloc)?, words)?;
+    Ok(Job::Work {
+        count: number(&matches, "N"),
+        seed: number(&matches, "SEED"),
+        nodes: number(&matches, "nodes") as usize,
+    })
+}

@@ -1,0 +1,55 @@
+//! What `clap` matches.
+ghost use Rattle.std.specs.Prelude.{◌≡◌, ℕ, List, Some, IfOk, map, string_bytes, true, is_some};
+ghost use Rattle.std.specs.Prelude.{MatchResult};
+ghost use Rattle.std.specs.Str.Parse.{digits_value, without_leading_plus};
+ghost use Rattle.clap.specs.Words.{app_of, first_of, fault_of, found_of, one_of, rows_of};
+ghost use Rattle.ix_cli.specs.inside.Matches.{HasNumber, IsPlainCommand, Matches, Blames};
+
+use crate::fault::{WordsFault, refused};
+use clap::error::ErrorKind;
+use clap::{ArgMatches, Command};
+use std::alloc::{AllocError, Global};
+
+/// The matches of the words, of which the first is the command's name.
+pub(crate) fn parse<'a>(
+    alloc: Global,
+    command: Command<'a>,
+    words: &'a [String],
+) -> Result<ArgMatches<'a>, WordsFault>
+    requires { IsPlainCommand (app_of command) }
+    ensures { MatchResult result
+        (Matches (app_of command.entry) (map string_bytes words.entry.now))
+        (Blames (app_of command.entry) (map string_bytes words.entry.now)) }
+{
+    match command.try_get_matches_from(words) {
+        Ok(matches) => Ok(matches),
+        Err(error) => {
+            if error.kind() == ErrorKind::OutOfMemory {
+                return Err(WordsFault::Memory);
+            }
+            Err(refused(alloc, &error))
+        }
+    }
+}
+
+/// A copy of the text that was matched under a name.
+pub(crate) fn text(
+    alloc: Global,
+    matches: &ArgMatches<'_>,
+    name: &str,
+) -> Result<String, AllocError>
+    requires { is_some (first_of name.now (rows_of (found_of matches.now))) ≡ true }
+    ensures { IfOk result (λ text.
+        first_of name.now (rows_of (found_of matches.now)) ≡ Some (string_bytes text)) }
+{
+    String::from_str(alloc, matches.get_str(name).unwrap())
+}
+
+/// The number that was matched under a name.
+pub(crate) fn number(matches: &ArgMatches<'_>, name: &str) -> u64
+    requires { HasNumber (rows_of (found_of matches.now)) name.now }
+    ensures { (text : List ℕ) → one_of name.now (rows_of (found_of matches.now)) ≡ Some text
+        → result ≡ digits_value 10 (without_leading_plus text) }
+{
+    matches.get_one::<u64>(name).unwrap()
+}

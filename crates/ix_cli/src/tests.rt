@@ -1,0 +1,176 @@
+use super::*;
+use std::alloc::AllocError;
+use std::test::Fail;
+
+// The words of a text that is cut at each space.
+fn words_of(alloc: Global, text: &str) -> Result<Vec<String>, AllocError> {
+    let mut words = Vec::new(alloc);
+    for word in text.split(' ') {
+        words.push(String::from_str(alloc, word)?)?;
+    }
+    Ok(words)
+}
+
+// A job as a text: its fields behind its name, each behind a space.
+fn shown(alloc: Global, job: &Job) -> Result<String, AllocError> {
+    match job {
+        Job::Trace {
+            expr,
+            actions,
+            nodes,
+        } => format!(in alloc; "trace {expr} {actions} {nodes}"),
+        Job::Replay {
+            expr,
+            journal,
+            script,
+            nodes,
+            turns,
+        } => format!(in alloc; "replay {expr} {journal} {script} {nodes} {turns}"),
+        Job::Serve {
+            expr,
+            journal,
+            socket,
+            nodes,
+            turns,
+        } => format!(in alloc; "serve {expr} {journal} {socket} {nodes} {turns}"),
+        Job::Work { count, seed, nodes } => format!(in alloc; "work {count} {seed} {nodes}"),
+    }
+}
+
+// The job of the words as a text, what is told of bad words, or `memory`.
+fn answer(alloc: Global, words: &[String]) -> Result<String, AllocError> {
+    match read_words(alloc, words) {
+        Ok(job) => shown(alloc, &job),
+        Err(WordsFault::Bad { text }) => Ok(text),
+        Err(WordsFault::Memory) => String::from_str(alloc, "memory"),
+    }
+}
+
+#[test]
+fn jobs(rt: HostRuntime) -> Result<(), Fail> {
+    let rows = [
+        ("trace x a", "trace x a 100000"),
+        ("trace x a --nodes 8", "trace x a 8"),
+        ("trace --nodes=8 x a", "trace x a 8"),
+        ("trace x --nodes +8 a", "trace x a 8"),
+        ("trace x a --nodes 0001000000", "trace x a 1000000"),
+        ("trace x a --nodes 1", "trace x a 1"),
+        ("trace -- --nodes 8", "trace --nodes 8 100000"),
+        ("replay x j s", "replay x j s 100000 1000000000"),
+        ("replay --turns 1 x j --nodes 8 s", "replay x j s 8 1"),
+        (
+            "replay --nodes 1000000 --turns 1000000000 x j s",
+            "replay x j s 1000000 1000000000",
+        ),
+        ("serve x j s", "serve x j s 100000 1000000000"),
+        ("serve x j s --turns=7", "serve x j s 100000 7"),
+        ("work 0 7", "work 0 7 100000"),
+        (
+            "work 1000000 18446744073709551615 --nodes 4",
+            "work 1000000 18446744073709551615 4",
+        ),
+    ];
+    for (words, job) in rows {
+        let words = words_of(rt.alloc(), words)?;
+        assert_eq!(rt; answer(rt.alloc(), words.as_slice())?.as_str(), job);
+    }
+    Ok(())
+}
+
+#[test]
+fn words_that_clap_refuses(rt: HostRuntime) -> Result<(), Fail> {
+    let rows = [
+        (
+            "trace x",
+            "error: the following required arguments were not provided:\n  <ACTIONS>\n",
+        ),
+        ("trace x a b", "error: unexpected argument 'b' found\n"),
+        (
+            "trace x a --nodes 0",
+            "error: invalid value '0' for '--nodes <nodes>': ",
+        ),
+        (
+            "trace x a --nodes 1000001",
+            "error: invalid value '1000001' for '--nodes <nodes>': ",
+        ),
+        (
+            "trace x a --nodes eight",
+            "error: invalid value 'eight' for '--nodes <nodes>': ",
+        ),
+        (
+            "trace x a --nodes",
+            "error: a value is required for '--nodes <nodes>' but none was supplied\n",
+        ),
+        (
+            "trace x a --node 8",
+            "error: unexpected argument '--node' found\n",
+        ),
+        (
+            "trace x a --turns 8",
+            "error: unexpected argument '--turns' found\n",
+        ),
+        (
+            "replay x j",
+            "error: the following required arguments were not provided:\n  <SCRIPT>\n",
+        ),
+        (
+            "replay x j s --turns 0",
+            "error: invalid value '0' for '--turns <turns>': ",
+        ),
+        (
+            "replay x j s --turns 1000000001",
+            "error: invalid value '1000000001' for '--turns <turns>': ",
+        ),
+        (
+            "replay --turns 1 --turns 1 x j s",
+            "error: the argument '--turns <turns>' cannot be used multiple times\n",
+        ),
+        ("serve x j s t", "error: unexpected argument 't' found\n"),
+        ("work 5 -1", "error: unexpected argument '-1' found\n"),
+        (
+            "work 1000001 1",
+            "error: invalid value '1000001' for '<N>': ",
+        ),
+        (
+            "work 5 18446744073709551616",
+            "error: invalid value '18446744073709551616' for '<SEED>': ",
+        ),
+        (
+            "work 5 1 --nodes 0",
+            "error: invalid value '0' for '--nodes <nodes>': ",
+        ),
+        (
+            "trace --help",
+            "Says of each action of a file whether the expression lets it be next\n\nUsage: ixm ",
+        ),
+    ];
+    for (words, text) in rows {
+        let words = words_of(rt.alloc(), words)?;
+        let answer = answer(rt.alloc(), words.as_slice())?;
+        assert!(rt; answer.as_str().starts_with(text), "{text} {answer}");
+        assert!(rt; answer.as_str().ends_with("\n"), "{answer}");
+    }
+    Ok(())
+}
+
+// What is told where the words begin with no command's name.
+const TOLD: &str = "Usage: ixm COMMAND WORDS
+
+Commands:
+  trace EXPR ACTIONS [--nodes N]
+  replay EXPR JOURNAL SCRIPT [--nodes N] [--turns N]
+  serve EXPR JOURNAL SOCKET [--nodes N] [--turns N]
+  work N SEED [--nodes N]
+
+For more information on a command, put '--help' behind its name.
+";
+
+#[test]
+fn words_of_no_command(rt: HostRuntime) -> Result<(), Fail> {
+    assert_eq!(rt; answer(rt.alloc(), &[])?.as_str(), TOLD);
+    for words in ["fly", "", "Trace x a", "--help", "help", "x trace"] {
+        let words = words_of(rt.alloc(), words)?;
+        assert_eq!(rt; answer(rt.alloc(), words.as_slice())?.as_str(), TOLD);
+    }
+    Ok(())
+}
