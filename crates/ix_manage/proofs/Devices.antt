@@ -1,13 +1,16 @@
 -- What a device is after one call and then another, and what a script's site was lent.
-use Rattle.std.proofs.Common.{◌≡◌, ◌⊎◌, inl, inr, ℕ, ◌≤◌, List, Option, None, Some, refl, sym, ◌∙◌, arith}
+use Rattle.std.proofs.Common.{◌≡◌, ◌⊎◌, inl, inr, ℕ, ◌≤◌, List, Option, None, Some, refl, sym, ◌∙◌, subst, arith}
 use Rattle.std.proofs.lemmas.Option.{none-some}
 use Rattle.std.specs.Borrow.{GName}
 use Rattle.ix_outside.specs.Loans.{Loans, lent, reads, unused_wire}
 use Rattle.ix_outside.specs.SinkState.{SinkState, OnlyPuts}
 use Rattle.ix_outside.specs.Disk.{Disk}
-use Rattle.ix_outside.specs.SiteState.{SiteState}
+use Rattle.ix_outside.specs.SiteState.{SiteState, OnlyDisk, OnlyWire}
 use Rattle.ix_outside.specs.inside.DiskCalls.{KeepsOpened}
 use Rattle.ix_outside.proofs.Passing.{KeepsOpened-none, KeepsOpened-join}
+use Rattle.ix_manager.specs.inside.OverSite.{OnlyServes}
+use Rattle.ix_manage.specs.Site.{OnlyCalls}
+use Rattle.ix_manage.specs.inside.ServeProgress.{OnlyServed}
 use Rattle.ix_manage.specs.inside.ReplayProgress.{OnlyPlays, OnlyUsesDisk, Player}
 
 -- nothing was put
@@ -20,6 +23,81 @@ pub then : (old between new : SinkState)
 then old between new first second = record {
   faults = omega (arith, first.faults, second.faults);
   held = second.held ∙ first.held;
+}
+
+untold : (one two : Option Disk) → one ≡ None → KeepsOpened one two → two ≡ None
+untold None two is keeps = keeps
+untold (Some disk) two is keeps = absurd (none-some disk (sym is))
+
+-- what was attached stays where it is still told, and then again
+opened_then : (old mid new : Option Disk) → KeepsOpened old mid ⊎ (mid ≡ None) → KeepsOpened mid new ⊎ (new ≡ None)
+    → KeepsOpened old new ⊎ (new ≡ None)
+opened_then old mid new (inl one) (inl two) = inl (KeepsOpened-join old mid new one two)
+opened_then old mid new (inr none) (inl two) = inr (untold mid new none two)
+opened_then old mid new one (inr none) = inr none
+
+-- no call was made
+pub calls_still : (site : SiteState) → OnlyCalls site site
+calls_still site = record { disk = omega arith; wire = omega arith; send = omega arith; held = refl }
+
+-- calls were made, and then more
+pub calls_then : (old mid new : SiteState) → OnlyCalls old mid → OnlyCalls mid new → OnlyCalls old new
+calls_then old mid new first second = record {
+  disk = omega (arith, first.disk, second.disk);
+  wire = omega (arith, first.wire, second.wire);
+  send = omega (arith, first.send, second.send);
+  held = second.held ∙ first.held;
+}
+
+-- calls of the disk alone are calls
+pub calls_of_disk : (old new : SiteState) → OnlyDisk old new → OnlyCalls old new
+calls_of_disk old new only = record {
+  disk = only.disk;
+  wire = omega (arith, only.wire);
+  send = omega (arith, only.send);
+  held = only.held;
+}
+
+-- no call was made
+pub served_still : (site : SiteState) → OnlyServed site site
+served_still site = record {
+  calls = calls_still site;
+  attached = refl;
+  opened = inl (KeepsOpened-none site.disk);
+}
+
+-- calls were made, and then more
+pub served_then : (old mid new : SiteState) → OnlyServed old mid → OnlyServed mid new → OnlyServed old new
+served_then old mid new first second = record {
+  calls = calls_then old mid new first.calls second.calls;
+  attached = second.attached ∙ first.attached;
+  opened = opened_then old.disk mid.disk new.disk first.opened second.opened;
+}
+
+-- a call of the wire
+pub served_wire : (old new : SiteState) → OnlyWire old new → OnlyServed old new
+served_wire old new only = record {
+  calls = record {
+    disk = omega (arith, only.disk);
+    wire = only.wire;
+    send = omega (arith, only.send);
+    held = only.held;
+  };
+  attached = only.attached;
+  opened = inl (subst (KeepsOpened old.disk) (sym only.file) (KeepsOpened-none old.disk));
+}
+
+-- an event was handled
+pub served_event : (old new : SiteState) → OnlyServes old new → OnlyServed old new
+served_event old new only = record {
+  calls = record {
+    disk = only.disk;
+    wire = omega (arith, only.wire);
+    send = only.send;
+    held = only.held;
+  };
+  attached = only.attached;
+  opened = only.opened;
 }
 
 -- no call of the disk was made
@@ -42,18 +120,8 @@ disk_then old mid new first second = record {
     held = second.rest.held ∙ first.rest.held;
   };
   attached = second.attached ∙ first.attached;
-  opened = opened first.opened second.opened;
+  opened = opened_then old.disk mid.disk new.disk first.opened second.opened;
 }
-  where
-    untold : (one two : Option Disk) → one ≡ None → KeepsOpened one two → two ≡ None
-    untold None two is keeps = keeps
-    untold (Some disk) two is keeps = absurd (none-some disk (sym is))
-
-    opened : KeepsOpened old.disk mid.disk ⊎ (mid.disk ≡ None) → KeepsOpened mid.disk new.disk ⊎ (new.disk ≡ None)
-        → KeepsOpened old.disk new.disk ⊎ (new.disk ≡ None)
-    opened (inl one) (inl two) = inl (KeepsOpened-join old.disk mid.disk new.disk one two)
-    opened (inr none) (inl two) = inr (untold mid.disk new.disk none two)
-    opened one (inr none) = inr none
 
 -- a player is as it was
 pub plays_still : (now : Player) → OnlyPlays now now

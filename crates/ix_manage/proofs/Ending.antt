@@ -1,6 +1,6 @@
 -- How a run ends, by what its parts say.
-use Rattle.std.proofs.Common.{◌≡◌, ℕ, ◌≤◌, List, [], Option, None, Result, Ok, Err, IfOk, IfErr, IsErrOf}
-use Rattle.std.proofs.Common.{length, sym, subst}
+use Rattle.std.proofs.Common.{◌≡◌, ℕ, ◌≤◌, List, [], Option, None, Some, Result, Ok, Err, IfOk, IfErr, IsErrOf}
+use Rattle.std.proofs.Common.{length, refl, sym, subst}
 use Rattle.ix_expr.specs.Form.{Form}
 use Rattle.ix_parse.specs.Faults.{StandsFor, IsFirstFault}
 use Rattle.ix_outside.specs.Contents.{GivenEvent}
@@ -8,8 +8,9 @@ use Rattle.ix_outside.specs.Disk.{Disk}
 use Rattle.ix_outside.specs.Files.{Listing, HasFile}
 use Rattle.ix_script.specs.Events.{HasEvents}
 use Rattle.ix_script.specs.Grammar.{IsFirstScriptFault}
-use Rattle.ix_manage.specs.Command.{Job, trace, replay}
-use Rattle.ix_manage.specs.Ends.{JobEnds, bad_text, bad_actions, large_start, lost_expression, lost_actions, no_memory, traced, bad_script, lost_script}
+use Rattle.ix_cli.specs.Words.{Job, trace, replay}
+use Rattle.ix_manage.specs.Command.{expression_of}
+use Rattle.ix_manage.specs.Ends.{JobEnds, bad_text, bad_actions, large, lost_expression, lost_actions, no_memory, traced, bad_script, lost_script}
 use Rattle.ix_manage.specs.inside.Refusal.{refusal_line, refusal_status, RefusesExpression, RefusesActions, RefusesScript, RefusesStart, RefusesText, IsBadScript}
 use Rattle.ix_manage.specs.Puts.{LastLine}
 use Rattle.ix_manage.specs.Session.{Session}
@@ -52,17 +53,26 @@ EndsWith files job refusal =
     → LastLine (refusal_status refusal) [] (refusal_line refusal) status whole part
     → (disk : Option Disk) → JobEnds files disk job status whole part None
 
+-- what refuses the file of its expression refuses a job
+pub expression_refused : (files : Option Listing) (job : Job) (expression : List ℕ)
+    → expression_of job ≡ Some expression → (refusal : Refusal) → RefusesExpression files expression refusal
+    → EndsWith files job refusal
+expression_refused files job expression is (BadText code at) why status whole part last disk = bad_text is why last
+expression_refused files job expression is LostExpression why status whole part last disk = lost_expression is last
+expression_refused files job expression is Memory why status whole part last disk = no_memory last
+expression_refused files job expression is _ why _ _ _ _ _ = absurd why
+
 -- how a trace ends, by what its parts say
-module _ (files : Option Listing) (limit : ℕ) (expression actions : List ℕ) where
+module _ (files : Option Listing) (expression actions : List ℕ) (limit : ℕ) where
   abbrev traces : Job
-  traces = trace limit expression actions
+  traces = trace expression actions limit
 
   pub refused_start : (refusal : Refusal) → RefusesStart files expression limit refusal
       → EndsWith files traces refusal
-  refused_start (BadText code at) why status whole part last disk = bad_text why last
+  refused_start (BadText code at) why status whole part last disk = bad_text refl why last
   refused_start (Large most) why status whole part last disk =
-      large_start why.1 (subst (λ l. LastLine 3 [] (large_line l) status whole part) why.0 last)
-  refused_start LostExpression why status whole part last disk = lost_expression last
+      large refl tt why.1 (subst (λ l. LastLine 3 [] (large_line l) status whole part) why.0 last)
+  refused_start LostExpression why status whole part last disk = lost_expression refl last
   refused_start Memory why status whole part last disk = no_memory last
   refused_start _ why _ _ _ _ _ = absurd why
 
@@ -92,16 +102,9 @@ module _ (files : Option Listing) (limit : ℕ) (expression actions : List ℕ) 
       (subst (λ l. Traces x l read.actions status whole part) same_limit read.traces))
 
 -- how a replay ends, by what its parts say
-module _ (files : Option Listing) (limit turns : ℕ) (expression journal script : List ℕ) where
+module _ (files : Option Listing) (expression journal script : List ℕ) (limit turns : ℕ) where
   abbrev replays : Job
-  replays = replay limit turns expression journal script
-
-  pub replay_expression : (refusal : Refusal) → RefusesExpression files expression refusal
-      → EndsWith files replays refusal
-  replay_expression (BadText code at) why status whole part last disk = bad_text why last
-  replay_expression LostExpression why status whole part last disk = lost_expression last
-  replay_expression Memory why status whole part last disk = no_memory last
-  replay_expression _ why _ _ _ _ _ = absurd why
+  replays = replay expression journal script limit turns
 
   pub replay_refused : (x : Form) → ReadsForm files expression x → (refusal : Refusal)
       → RefusesScript files script refusal → EndsWith files replays refusal

@@ -1,5 +1,4 @@
 pub mod KnownLengths
-pub mod NamedWords
 pub mod Answering
 pub mod Tracing
 pub mod Devices
@@ -11,4 +10,6 @@ pub mod Stops
 pub mod Journaling
 pub mod Opening
 pub mod Playing
+pub mod ServeLemmas
+pub mod ServeEnding
 pub mod Fronts

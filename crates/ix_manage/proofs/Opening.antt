@@ -1,6 +1,6 @@
--- What a replay makes of the journal that it attached.
-use Rattle.std.proofs.Common.{◌≡◌, ◌⊎◌, inl, inr, ℕ, ◌≤◌, List, [], length, append-nil}
-use Rattle.std.proofs.Common.{Option, None, Some, IsSome, refl, sym, ◌∙◌, ap, subst, arith}
+-- What a run makes of the journal that it attached.
+use Rattle.std.proofs.Common.{◌≡◌, ◌⊎◌, inl, inr, ℕ, ◌≤◌, List, [], ◌++◌, length, append-nil}
+use Rattle.std.proofs.Common.{Option, None, Some, refl, sym, ◌∙◌, ap, subst, arith}
 use Rattle.std.proofs.lemmas.Option.{none-some}
 use Rattle.ix_values.specs.PlainAction.{Word}
 use Rattle.ix_expr.specs.CanonicalText.{canonical_text}
@@ -8,7 +8,7 @@ use Rattle.ix_expr.specs.Form.{Form}
 use Rattle.ix_journal.specs.Kinds.{IsUnfinished}
 use Rattle.ix_journal.specs.Recovery.{Recovers}
 use Rattle.ix_journal.proofs.OutcomeLaws.{one_history}
-use Rattle.ix_outside.specs.Crashes.{Crashes, AreLawful, LeavesTheFile}
+use Rattle.ix_outside.specs.Crashes.{Crashes, AreLawful, Elapses, LeavesTheFile}
 use Rattle.ix_outside.specs.Disk.{Disk, Opened, IsOpened, MakesFile, Stays}
 use Rattle.ix_outside.specs.SiteState.{SiteState}
 use Rattle.ix_outside.specs.inside.DiskCalls.{KeepsOpened}
@@ -18,14 +18,11 @@ use Rattle.ix_manager.specs.Runs.{Opening}
 use Rattle.ix_manager.specs.Starts.{HasText}
 use Rattle.ix_manager.specs.inside.StartAnswers.{StartLeaves}
 use Rattle.ix_manager.specs.Runs.{opening_of}
-use Rattle.ix_manager.specs.inside.Saving.{Saves}
 use Rattle.ix_manager.proofs.SavingLemmas.{keeps_longer}
-use Rattle.ix_store.specs.Keeping.{Keeping}
-use Rattle.ix_manage.specs.Command.{replay}
-use Rattle.ix_manage.specs.Journal.{GoesOnFrom, OfJournal, OfOpened, OnJournal, OpensJournal, UsesJournal}
+use Rattle.ix_cli.specs.Words.{Job}
+use Rattle.ix_manage.specs.Command.{expression_of, journal_of, limit_of}
+use Rattle.ix_manage.specs.Journal.{GoesOnFrom, OfJournal, OfOpened, OnJournal, OpensJournal, UsesJournal, session_of}
 use Rattle.ix_outside.specs.Files.{Listing}
-use Rattle.ix_script.specs.inside.WithoutSends.{without_sends}
-use Rattle.ix_manage.specs.inside.ReplayProgress.{disk_alone}
 use Rattle.ix_manage.specs.Session.{Session}
 use Rattle.ix_manage.specs.Trace.{ReadsForm}
 
@@ -59,6 +56,17 @@ own_text x file (image.new (inl unfinished)) = inl unfinished
 own_text x file (image.new (inr unopened)) = inr (inl unopened)
 own_text x file (image.ready history gate is) = inr (inr (is.first, is.ready))
 
+-- over a stretch of calls each image keeps the history that a run started from, and no other actions
+-- than those of its last one; and ends as the run does
+pub record KeepsAlong (x : Form) (h : Word) (played : Session) (before after : ℕ) (q r : Crashes)
+    : Type 0 where
+  pub passes : Elapses before after q.left r.left
+  pub rest : Word
+  pub grows : h ++ rest ≡ with_failed played.ending played.last.history
+  pub keeps : (image : List ℕ) → r.left before image
+      → Keeps x (length h) (with_failed played.ending played.last.history) image
+  pub ends : (image : List ℕ) → r.now image → EndsAs played.ending played.last.history image
+
 -- a start, from the attached file on
 module _ (x : Form) (limit : ℕ) (at mid : SiteState) (p q : Crashes) (d : Disk)
     (name : List ℕ) (told : at.disk ≡ Some d)
@@ -77,7 +85,7 @@ module _ (x : Form) (limit : ℕ) (at mid : SiteState) (p q : Crashes) (d : Disk
     ]
 
     -- and is the expression's
-    start_keeps : (h : Word) → IsStartable (opening_of x limit h) d.file
+    pub start_keeps : (h : Word) → IsStartable (opening_of x limit h) d.file
         → (image : List ℕ) → q.left at.tick image → Keeps x (length h) h image
     start_keeps h s image left = record {
       own = elim (leaves.own (own_text x d.file s.own) image left) [
@@ -122,67 +130,79 @@ module _ (x : Form) (limit : ℕ) (at mid : SiteState) (p q : Crashes) (d : Disk
       };
     }
 
-    -- a run started, and took events
-    pub session_uses : (h : Word) → IsStartable (opening_of x limit h) d.file
-        → (played : Session) → played.opening ≡ opening_of x limit h
-        → (store : Keeping) (end : SiteState) (r : Crashes) → at.tick ≤ mid.tick → IsSome end.disk
-        → Saves played.ending x h played.last.history store
-        (disk_alone mid) (disk_alone end) (without_sends q) (without_sends r)
-        → (file : List ℕ) → UsesJournal x limit (Some played) file opened r
-    session_uses h s played opening_is store end r le some saves file = record {
-      startable = λ other starts.
-          subst (λ (w : Word). GoesOnFrom (opening_of x limit w) (Some played) opened r)
-          (one_history d.file h other s.recovers starts.recovers) goes_on;
-      other = λ no. absurd (no h s);
-    }
-      where
-        keeps : (image : List ℕ) → r.left at.tick image
+-- a run started from a file from which it may, and took events, or none
+module _ (x : Form) (limit : ℕ) (tick : ℕ) (d : Disk) (name : List ℕ) (mid : ℕ) (q : Crashes)
+    (h : Word) (starts : IsStartable (opening_of x limit h) d.file)
+    (kept : (image : List ℕ) → q.left tick image → Keeps x (length h) h image)
+  where
+    abbrev attached : Opened
+    attached = record { name = name; tick = tick; file = d.file }
+
+    module _ (session : Option Session) (end : ℕ) (r : Crashes) (le : tick ≤ mid) where
+      abbrev played : Session
+      played = session_of (opening_of x limit h) session
+
+      module _ (opening_is : played.opening ≡ opening_of x limit h) (along : KeepsAlong x h played mid end q r) where
+        keeps : (image : List ℕ) → r.left tick image
             → Keeps x (length h) (with_failed played.ending played.last.history) image
-        keeps image left = elim (saves.passes.left.nothing_else at.tick image le left) [
-          | inl earlier ↦ keeps_longer x (length h) h saves.rest (with_failed played.ending played.last.history) image saves.grows
-              (start_keeps h s image earlier)
-          | inr since ↦ saves.keeps some image since
+        keeps image left = elim (along.passes.nothing_else tick image le left) [
+          | inl earlier ↦ keeps_longer x (length h) h along.rest (with_failed played.ending played.last.history) image along.grows
+              (kept image earlier)
+          | inr since ↦ along.keeps image since
         ]
 
-        goes_on : GoesOnFrom (opening_of x limit h) (Some played) opened r
+        goes_on : GoesOnFrom (opening_of x limit h) session attached r
         goes_on = record {
           from = opening_is;
           holds = record {
-            ends = λ image left. saves.ends some image left;
+            ends = along.ends;
             keeps = λ image left.
                 subst (λ (o : Opening). Keeps o.form (length h) (with_failed played.ending played.last.history) image)
                 (sym opening_is) (keeps image left);
           };
         }
 
--- what a replay makes of the file that it attached
-pub on_journal : (files : Option Listing) (limit turns : ℕ) (expression journal script : List ℕ) (x : Form)
+        pub session_uses : (file : List ℕ) → UsesJournal x limit session file attached r
+        session_uses file = record {
+          startable = λ other others.
+              subst (λ (w : Word). GoesOnFrom (opening_of x limit w) session attached r)
+              (one_history d.file h other starts.recovers others.recovers) goes_on;
+          other = λ no. absurd (no h starts);
+        }
+
+some_inj : {A : Type 0} (a b : A) → Some a ≡ Some b → a ≡ b
+some_inj a b same = cc
+
+-- what a job makes of the file that it attached
+pub on_journal : (files : Option Listing) (job : Job) (expression journal : List ℕ) (x : Form)
+    → expression_of job ≡ Some expression → journal_of job ≡ Some journal
     → ReadsForm files expression x → (session : Option Session) (before at end : SiteState) (r : Crashes)
     → IsOpened journal at.tick before.disk at.disk → KeepsOpened at.disk end.disk ⊎ (end.disk ≡ None)
     → ((d : Disk) → at.disk ≡ Some d → (e : Disk) → end.disk ≡ Some e
-    → UsesJournal x limit session e.file (record { name = journal; tick = at.tick; file = d.file }) r)
-    → OnJournal files (replay limit turns expression journal script) before end r session
-on_journal files limit turns expression journal script x reads session before at end r is (inl keeps) uses =
-    λ old new told_old none told_new.
+    → UsesJournal x (limit_of job) session e.file (record { name = journal; tick = at.tick; file = d.file }) r)
+    → OnJournal files job before end r session
+on_journal files job expression journal x of_expression has_journal reads session before at end r is (inl keeps) uses =
+    λ named kept_in same_expression same_journal old new told_old none told_new.
     let kept = kept_opened at.disk end.disk keeps new told_new in
     let opened_is = kept.2 ∙ opened_at journal at.tick before.disk at.disk is kept.0 kept.1 in
-    subst (λ (o : Option Opened). OpensJournal files limit expression journal session new r o) (sym opened_is)
-    (refl, (x, reads, uses kept.0 kept.1 new told_new))
-on_journal files limit turns expression journal script x reads session before at end r is (inr untold) uses =
-    λ old new told_old none told_new. absurd (none-some new (sym untold ∙ told_new))
+    subst (λ (o : Option Opened). OpensJournal files (limit_of job) named kept_in session new r o) (sym opened_is)
+    (some_inj journal kept_in (sym has_journal ∙ same_journal), (
+      x,
+      subst (λ n. ReadsForm files n x) (some_inj expression named (sym of_expression ∙ same_expression)) reads,
+      uses kept.0 kept.1 new told_new,
+    ))
+on_journal files job expression journal x of_expression has_journal reads session before at end r is (inr untold) uses =
+    λ named kept_in same_expression same_journal old new told_old none told_new.
+    absurd (none-some new (sym untold ∙ told_new))
 
 -- nothing was attached
-pub none_opened : (files : Option Listing) (limit turns : ℕ) (expression journal script : List ℕ)
-    (before end : SiteState) (r : Crashes) → end.disk ≡ before.disk
-    → OnJournal files (replay limit turns expression journal script) before end r None
-none_opened files limit turns expression journal script before end r same =
-    λ old new told_old none told_new.
-    let disks : new ≡ old = some_inj _ _ (sym told_new ∙ same ∙ told_old) in
-    subst (λ (o : Option Opened). OpensJournal files limit expression journal None new r o)
+pub none_opened : (files : Option Listing) (job : Job) (before end : SiteState) (r : Crashes)
+    → end.disk ≡ before.disk → OnJournal files job before end r None
+none_opened files job before end r same =
+    λ expression journal of_expression has_journal old new told_old none told_new.
+    let disks : new ≡ old = some_inj new old (sym told_new ∙ same ∙ told_old) in
+    subst (λ (o : Option Opened). OpensJournal files (limit_of job) expression journal None new r o)
     (sym (ap (λ (disk : Disk). disk.opened) disks ∙ none)) refl
-  where
-    some_inj : (a b : Disk) → Some a ≡ Some b → a ≡ b
-    some_inj a b same = cc
 
 -- how the file read that was attached
 pub of_journal : (P : List ℕ → Type 0) (journal : List ℕ) (tick : ℕ) (before at end : Option Disk)

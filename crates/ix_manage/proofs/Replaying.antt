@@ -34,16 +34,18 @@ use Rattle.ix_manager.proofs.SendLemmas.{silent_keeps, run_text_told}
 use Rattle.ix_script.specs.Events.{HasEvents}
 use Rattle.ix_script.specs.inside.NextPiece.{IsNextPiece}
 use Rattle.ix_manage.specs.Ends.{Ended}
-use Rattle.ix_manage.specs.Session.{Session, history_line, replay_text, session_text}
-use Rattle.ix_manage.specs.Replay.{AreFirst, IsNoEnd, IsOver, LosesReply, loses, SessionEnds, over, out_of_turns, disk_failed, lost_history, lost_reply}
+use Rattle.ix_manage.specs.Session.{Session, history_line, replay_text}
+use Rattle.ix_manage.specs.Replay.{AreFirst, LosesReply, ReplayEnds, ends, loses, lost_reply, session_text}
+use Rattle.ix_manage.specs.Session.{IsNoEnd, IsOver, over, out_of_turns, disk_failed, lost_history}
 use Rattle.ix_manage.specs.inside.Leaves.{AwaitsLine, Leaves}
 use Rattle.ix_manage.specs.inside.Refusal.{refusal_line}
-use Rattle.ix_manage.specs.inside.ReplayProgress.{IsAtStart, IsBetween, IsStarted, IsTurn, OnlyPlays, Player, PutsHistory, ReplaysOn, ReplaysScript}
-use Rattle.ix_manage.specs.inside.ReplayProgress.{SavesFrom, Stands, Stretch, TakesTurn, between, opening_of, told_of}
+use Rattle.ix_manage.specs.inside.ReplayProgress.{IsAtStart, IsBetween, OnlyPlays, Player, PutsHistory, ReplaysOn, ReplaysScript}
+use Rattle.ix_manage.specs.inside.ReplayProgress.{Stands, TakesTurn, between, told_of}
+use Rattle.ix_manage.specs.inside.Turns.{IsStarted, IsTurn, SavesFrom, Stretch, opening_of}
 use Rattle.ix_manage.specs.declared.refusal.Refusal.TheVariants.{Disk, Turns}
 use Rattle.ix_manage.specs.declared.run.Stop.{Stop}
-use Rattle.ix_manage.specs.declared.turns.Turn.{Turn}
-use Rattle.ix_manage.specs.declared.turns.Turn.TheVariants.{More, Done, Cut, Failed}
+use Rattle.ix_manage.specs.declared.turn.Turn.{Turn}
+use Rattle.ix_manage.specs.declared.turn.Turn.TheVariants.{More, Done, Cut, Failed}
 use Rattle.ix_manage.proofs.ScriptFronts.{first_push}
 use Rattle.ix_manage.proofs.Stops.{puts_whole}
 use Rattle.ix_manage.proofs.Tracing.{append_nothing, append_twice}
@@ -58,7 +60,7 @@ lost_told (lost part rest) opened =
     ap (λ (c : Contents). c.lost) (silent_keeps rest).0 ∙ part.lost ∙ ap (option_map (λ _. true)) opened
 
 -- the events given stay, where they are told afterwards too
-given_told : {conn : ℕ} {replies : List Reply} {was marked : Bool} {before after : Contents} {given : List GivenEvent}
+pub given_told : {conn : ℕ} {replies : List Reply} {was marked : Bool} {before after : Contents} {given : List GivenEvent}
     → SendsInOrder (λ reply. SendsWhole conn (reply_line reply)) (λ reply. SendsPart conn (reply_line reply)) replies was before marked after
     → after.given ≡ Some given → before.given ≡ Some given
 given_told done told = told
@@ -75,7 +77,7 @@ set_same (suc n) zero a = refl
 set_same (suc n) (suc i) a = ap (λ rest. a ∷ rest) (set_same n i a)
 
 -- the marks stay where nothing is lost
-marks_same : (kind : EventKind) (conn : ℕ) → marks_after kind conn false unmarked ≡ unmarked
+pub marks_same : (kind : EventKind) (conn : ℕ) → marks_after kind conn false unmarked ≡ unmarked
 marks_same (Bytes n) conn = set_same 64 conn false
 marks_same Closed conn = set_same 64 conn false
 marks_same End conn = set_same 64 conn false
@@ -84,13 +86,13 @@ marks_same End conn = set_same 64 conn false
 no_steps : {x : Form} {limit : ℕ} {s after : MachineState} {answers : List (List Reply)} {ending : Ending} → Steps x limit s [] answers after ending → answers ≡ []
 no_steps none = refl
 
-no_answers : {x : Form} {limit : ℕ} {s after : MachineState} {answers : List (List Reply)} {ending : Ending} (kind : EventKind) (h : UnfinishedLine) (bytes : List ℕ)
+pub no_answers : {x : Form} {limit : ℕ} {s after : MachineState} {answers : List (List Reply)} {ending : Ending} (kind : EventKind) (h : UnfinishedLine) (bytes : List ℕ)
     → Steps x limit s (completed_by kind h bytes) answers after ending → kind ≡ Closed → answers ≡ []
 no_answers (Bytes n) h bytes steps closed = cc
 no_answers Closed h bytes steps closed = no_steps steps
 no_answers End h bytes steps closed = no_steps steps
 
-nothing_sent : {S : Type 0} {whole front : Reply → S → S → Type 0} {replies : List Reply} {was marked : Bool} {s after : S}
+pub nothing_sent : {S : Type 0} {whole front : Reply → S → S → Type 0} {replies : List Reply} {was marked : Bool} {s after : S}
     → SendsInOrder whole front replies was s marked after → replies ≡ [] → marked ≡ was
 nothing_sent done nothing = refl
 nothing_sent (silent rest) nothing = cc
@@ -98,20 +100,20 @@ nothing_sent (sent goes rest) nothing = cc
 nothing_sent (lost part rest) nothing = cc
 
 -- the mark that the replies to an event leave
-new_mark : (kind : EventKind) (conn : ℕ) (marked : Bool) (marks : List Bool) → conn < length marks → (kind ≡ Closed → marked ≡ false)
+pub new_mark : (kind : EventKind) (conn : ℕ) (marked : Bool) (marks : List Bool) → conn < length marks → (kind ≡ Closed → marked ≡ false)
     → get_or (marks_after kind conn marked marks) conn false ≡ marked
 new_mark (Bytes n) conn marked marks within closed = get_or-set_same marks conn marked false within
 new_mark Closed conn marked marks within closed = get_or-set_same marks conn false false within ∙ sym (closed refl)
 new_mark End conn marked marks within closed = get_or-set_same marks conn marked false within
 
 -- an event has at most 4,096 bytes
-few_bytes : (kind : EventKind) (bytes : List ℕ) → KindHas kind bytes → length bytes ≤ 4096
+pub few_bytes : (kind : EventKind) (bytes : List ℕ) → KindHas kind bytes → length bytes ≤ 4096
 few_bytes (Bytes n) bytes has = let count = has.0 in let most = has.1 in omega (arith, count, most)
 few_bytes Closed bytes nothing = let long = ap length nothing in omega (arith, long)
 few_bytes End bytes nothing = let long = ap length nothing in omega (arith, long)
 
 -- the bytes of an event that fits a buffer of 4,096 bytes
-piece_has : (kind : EventKind) (conn : ℕ) (buf : List ℕ) → length buf ≡ 4096 → KindFits (length buf) conn kind → KindHas kind (piece_of kind buf)
+pub piece_has : (kind : EventKind) (conn : ℕ) (buf : List ℕ) → length buf ≡ 4096 → KindFits (length buf) conn kind → KindHas kind (piece_of kind buf)
 piece_has (Bytes n) conn buf long fits = (length-take-le n buf fits.1, let most = fits.1 in omega (arith, long, most))
 piece_has Closed conn buf long fits = refl
 piece_has End conn buf long fits = refl
@@ -283,12 +285,14 @@ module _ {opening : Opening} {known : Option (List ℕ)} {m : ManagerState} {now
           taken_is = refl;
           last_is = refl;
           plays = λ events has. record {
-            run = stands.follows.run;
+            takes = record {
+              run = stands.follows.run;
+              few = omega (arith, all);
+              before_the_end = λ before last is. Each-left before (last ∷ []) (subst (Each IsNoEnd) is stands.no_end);
+            };
             first = stands.first events has;
-            few = omega (arith, all);
-            before_the_end = λ before last is. Each-left before (last ∷ []) (subst (Each IsNoEnd) is stands.no_end);
           };
-          ends = out_of_turns all (stands.no_end, refl) last_line;
+          ends = ends (out_of_turns all (stands.no_end, refl) last_line);
           store = m.store;
           saves = stands.saves;
         };
@@ -362,22 +366,24 @@ module _ {old new : ManagerState} {was now : Player} {turn : Turn} {a b c : Site
     module _ (turns : ℕ) (few : length now.given ≤ turns) (start : SinkState)
         (line_put : known ≡ append_known start.written (history_line opening.history))
       where
-        replays : {status : ℕ} {whole part : List ℕ} → SessionEnds turns played status whole part
+        replays : {status : ℕ} {whole part : List ℕ} → ReplayEnds turns played status whole part
             → ReplaysScript opening turns was.script now.given new.machine stretch status whole part (Some played)
-        replays ends = record {
+        replays how = record {
           played = played;
           is = refl;
           opening_is = refl;
           taken_is = refl;
           last_is = refl;
           plays = λ events has. record {
-            run = subst (λ taken. Run opening taken answers new.machine took.ending) (sym took.given)
-                (taken_goes_on opening was.given stands.answers old took.event took.piece took.handled.answers new took.ending stands.follows took.fits took.handled.takes);
+            takes = record {
+              run = subst (λ taken. Run opening taken answers new.machine took.ending) (sym took.given)
+                  (taken_goes_on opening was.given stands.answers old took.event took.piece took.handled.answers new took.ending stands.follows took.fits took.handled.takes);
+              few = few;
+              before_the_end = λ before last is. subst (Each IsNoEnd) (same_from_push was.given before given last (sym took.given ∙ is)).0 stands.no_end;
+            };
             first = first_of events has;
-            few = few;
-            before_the_end = λ before last is. subst (Each IsNoEnd) (same_from_push was.given before given last (sym took.given ∙ is)).0 stands.no_end;
           };
-          ends = ends;
+          ends = how;
           store = new.store;
           saves = saved;
         }
@@ -390,14 +396,14 @@ module _ {old new : ManagerState} {was now : Player} {turn : Turn} {a b c : Site
               whole = session_text played;
               part = [];
               session = Some played;
-              may = replays (over (is_over is.1));
+              may = replays (ends (over (is_over is.1)));
               puts = puts_whole start now.sink (session_text played)
                   (told_whole is.0 ∙ ap (λ k. append_known k (run_text now.given answers)) line_put
                   ∙ append_twice start.written (history_line opening.history) (run_text now.given answers));
             }
           where
             is_over : (took.event.kind ≡ End) ⊎ (took.ending ≡ stopped) → IsOver played
-            is_over (inl ends) = inl (was.given, given, took.given, ends)
+            is_over (inl end) = inl (was.given, given, took.given, end)
             is_over (inr stops) = inr stops
 
         -- the disk failed
@@ -407,7 +413,7 @@ module _ {old new : ManagerState} {was now : Player} {turn : Turn} {a b c : Site
             let is = subst (IsTurn now.failed took.ending took.event.kind) same took.turn_is in record {
               before = session_text played;
               session = Some played;
-              may = λ status whole part last. replays (disk_failed is.1.1 last);
+              may = λ status whole part last. replays (ends (disk_failed is.1.1 last));
               put = told_whole is.0 ∙ ap (λ k. append_known k (run_text now.given answers)) line_put
                   ∙ append_twice start.written (history_line opening.history) (run_text now.given answers);
             }
@@ -467,12 +473,14 @@ history_lost m fresh turns script line old new site crashes lawful fits same par
           taken_is = refl;
           last_is = refl;
           plays = λ events has. record {
-            run = subst (λ s. Run opening [] [] s going) (sym (ap (λ (s : ManagerState). s.machine) fresh)) begin;
+            takes = record {
+              run = subst (λ s. Run opening [] [] s going) (sym (ap (λ (s : ManagerState). s.machine) fresh)) begin;
+              few = omega arith;
+              before_the_end = λ before last is. absurd (let long = ap length is in let push = length_push before last in omega (arith, long, push));
+            };
             first = refl;
-            few = omega arith;
-            before_the_end = λ before last is. absurd (let long = ap length is in let push = length_push before last in omega (arith, long, push));
           };
-          ends = lost_history refl;
+          ends = ends (lost_history refl);
           store = m.store;
           saves = saves_none m.form m.machine.history m.store site crashes lawful fits;
         },
@@ -505,7 +513,7 @@ pub leaves_over : {S T : Type 0} (site_state : S → SiteState) (site_crashes : 
     → Leaves (ReplaysOn opening turns script last (between site_state site_crashes first now)) start sink r
     → first ≡ first' → now ≡ end → sink ≡ final
     → Leaves (ReplaysOn opening turns script last (between site_state site_crashes first' end)) start final r
-leaves_over site_state site_crashes opening turns script last start {first' = first'} {now = now} {end = end} {sink = sink} r it firsts ends sinks =
+leaves_over site_state site_crashes opening turns script last start {first' = first'} {now = now} {end = end} {sink = sink} r it firsts lasts sinks =
     subst (λ s. Leaves (ReplaysOn opening turns script last (between site_state site_crashes first' end)) start s r) sinks
-    (subst (λ s. Leaves (ReplaysOn opening turns script last (between site_state site_crashes first' s)) start sink r) ends
+    (subst (λ s. Leaves (ReplaysOn opening turns script last (between site_state site_crashes first' s)) start sink r) lasts
     (subst (λ s. Leaves (ReplaysOn opening turns script last (between site_state site_crashes s now)) start sink r) firsts it))

@@ -1,5 +1,5 @@
 -- From how a part of a run may end to how the run may, and what a refusal's line makes of it.
-use Rattle.std.proofs.Common.{◌≡◌, ℕ, ◌≤◌, List, [], ◌++◌, Option, None, Result, Ok, Err, IfErr, refl, ◌∙◌, ap, subst}
+use Rattle.std.proofs.Common.{◌≡◌, ℕ, ◌≤◌, List, [], ◌++◌, Option, None, Result, Ok, Err, IfErr, string_bytes, refl, ◌∙◌, ap, subst}
 use Rattle.std.specs.Io.KnownBytes.{append_known}
 use Rattle.ix_outside.specs.FilesState.{FilesState}
 use Rattle.ix_outside.specs.Sink.{AppendsPart}
@@ -8,7 +8,7 @@ use Rattle.ix_outside.specs.SiteState.{SiteState}
 use Rattle.ix_outside.proofs.Counting.{Rose-earlier}
 use Rattle.ix_manage.specs.declared.refusal.Refusal.{Refusal}
 use Rattle.ix_manage.specs.declared.run.Stop.{Stop}
-use Rattle.ix_manage.specs.declared.run.Stop.TheVariants.{Refused, OtherExpression, Output}
+use Rattle.ix_manage.specs.declared.run.Stop.TheVariants.{Refused, Words, OtherExpression, Output}
 use Rattle.ix_manage.specs.Ends.{Ended}
 use Rattle.ix_manage.specs.Puts.{LastLine, Puts, put, lost}
 use Rattle.ix_manage.specs.Session.{Session}
@@ -47,6 +47,7 @@ module _ {Part Whole : ℕ → List ℕ → List ℕ → Option Session → Type
     pub leaves_on : {T : Type 0} (r : Result T Stop) → Leaves Part old new r → Leaves Whole old new r
     leaves_on (Ok done) it = ended_on 0 it
     leaves_on (Err (Refused refusal)) it = awaits_on (refusal_status refusal) (refusal_line refusal) it
+    leaves_on (Err (Words text)) it = awaits_on 2 (string_bytes text) it
     leaves_on (Err (OtherExpression kept)) it = awaits_on 8 (other_line kept.items) it
     leaves_on (Err Output) it = (ended_on 10 it.0, it.1)
 
@@ -112,23 +113,28 @@ pub nothing_lost : {T : Type 0} (before now : FilesState) (r : Result T Stop)
     → IfErr r IsNoLoss → IfErr r (LostWhere before now)
 nothing_lost before now (Ok done) none = tt
 nothing_lost before now (Err (Refused refusal)) none = λ is. absurd (none is)
+nothing_lost before now (Err (Words text)) none = none
 nothing_lost before now (Err (OtherExpression kept)) none = none
 nothing_lost before now (Err Output) none = none
 
--- a part in which no call of the disk fails
+-- a part in which no call of the disk or of the wire fails
 pub nothing_failed : {T : Type 0} (before now : SiteState) (r : Result T Stop)
     → IfErr r IsNoFailure → IfErr r (FailedWhere before now)
 nothing_failed before now (Ok done) none = tt
-nothing_failed before now (Err (Refused refusal)) none = λ is. absurd (none is)
+nothing_failed before now (Err (Refused refusal)) none = (λ is. absurd (none.0 is), λ is. absurd (none.1 is))
+nothing_failed before now (Err (Words text)) none = none
 nothing_failed before now (Err (OtherExpression kept)) none = none
 nothing_failed before now (Err Output) none = none
 
--- a part behind calls in which the count didn't fall
+-- a part behind calls in which no count fell
 pub failed_later : {T : Type 0} (old before now : SiteState) (r : Result T Stop)
-    → old.counts.disk ≤ before.counts.disk
+    → old.counts.disk ≤ before.counts.disk → old.counts.wire ≤ before.counts.wire
     → IfErr r (FailedWhere before now) → IfErr r (FailedWhere old now)
-failed_later old before now (Ok done) le failed = tt
-failed_later old before now (Err (Refused refusal)) le failed = λ is.
-    Rose-earlier old.counts.disk before.counts.disk now.counts.disk le (failed is)
-failed_later old before now (Err (OtherExpression kept)) le failed = failed
-failed_later old before now (Err Output) le failed = failed
+failed_later old before now (Ok done) disk wire failed = tt
+failed_later old before now (Err (Refused refusal)) disk wire failed = (
+  λ is. Rose-earlier old.counts.disk before.counts.disk now.counts.disk disk (failed.0 is),
+  λ is. Rose-earlier old.counts.wire before.counts.wire now.counts.wire wire (failed.1 is),
+)
+failed_later old before now (Err (Words text)) disk wire failed = failed
+failed_later old before now (Err (OtherExpression kept)) disk wire failed = failed
+failed_later old before now (Err Output) disk wire failed = failed

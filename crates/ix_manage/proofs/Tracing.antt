@@ -19,7 +19,7 @@ use Rattle.ix_lines.specs.TextLines.{lines_of}
 use Rattle.ix_manage.specs.Trace.{Answers, Verdict, answered, short, lost_answer}
 use Rattle.ix_manage.specs.Puts.{LastLine}
 use Rattle.ix_manage.specs.declared.run.Stop.{Stop}
-use Rattle.ix_manage.specs.declared.run.Stop.TheVariants.{Refused, OtherExpression, Output}
+use Rattle.ix_manage.specs.declared.run.Stop.TheVariants.{Refused, Words, OtherExpression, Output}
 use Rattle.ix_manage.specs.inside.Leaves.{AwaitsLine, StopsAfter}
 use Rattle.ix_manage.specs.inside.Refusal.{refusal_line, refusal_status}
 use Rattle.ix_manage.specs.inside.TracesLines.{StopsAnswer, TracesLines}
@@ -157,6 +157,7 @@ module _ (x : Form) (limit : ℕ) (all rest : List ℕ) (front history : Word) (
         may = trace_short so_far good answers;
         put = is.1 ∙ put_before;
       })
+  trace_stops engine action next cut start was now form most same cuts valid named so_far good answers put_before le (Words text) is = absurd is
   trace_stops engine action next cut start was now form most same cuts valid named so_far good answers put_before le (OtherExpression kept) is = absurd is
   trace_stops engine action next cut start was now form most same cuts valid named so_far good answers put_before le Output it = (
     record {

@@ -1,4 +1,4 @@
--- What a replay makes of its journal.
+-- What a replay and a serve make of their journal.
 use Rattle.std.specs.Prelude.{◌≡◌, ◌≢◌, ℕ, List, [], ◌++◌, length, codes, decimal, ⊤}
 use Rattle.std.specs.Prelude.{Option, None, Some}
 use Rattle.ix_values.specs.PlainAction.{Word}
@@ -17,7 +17,8 @@ use Rattle.ix_manager.specs.Runs.{Opening, going}
 use Rattle.ix_manager.specs.Starts.{HasText, IsHeavy, IsNoWord, OpensAs}
 use Rattle.ix_manager.specs.Runs.{opening_of}
 use Rattle.ix_manage.specs.ActionLines.{line}
-use Rattle.ix_manage.specs.Command.{Job, replay, trace}
+use Rattle.ix_cli.specs.Words.{Job}
+use Rattle.ix_manage.specs.Command.{expression_of, journal_of, limit_of}
 use Rattle.ix_manage.specs.Session.{Session}
 use Rattle.ix_manage.specs.Trace.{ReadsForm}
 
@@ -88,7 +89,7 @@ pub record LeavesAlone (session : Option Session) (file : List ℕ) (opened : Op
   pub only : (image : List ℕ) → is.now image → image ≡ opened.file
   pub only_since : (image : List ℕ) → is.left opened.tick image → image ≡ opened.file
 
--- what a replay of the expression under the limit makes of the file that it opened
+-- what a run of the expression under the limit makes of the file that it opened
 pub record UsesJournal (x : Form) (limit : ℕ) (session : Option Session) (file : List ℕ)
     (opened : Opened) (is : Crashes) : Type 0 where
   pub startable : (history : Word) → IsStartable (opening_of x limit history) opened.file
@@ -96,7 +97,7 @@ pub record UsesJournal (x : Form) (limit : ℕ) (session : Option Session) (file
   pub other : ((history : Word) → ¬ IsStartable (opening_of x limit history) opened.file)
       → LeavesAlone session file opened is
 
--- A replay opened nothing and took no event; or it opened the file of its journal's name, and uses
+-- A run opened nothing and took no event; or it opened the file of its journal's name, and uses
 -- it by the form that the expression's file stands for.
 abbrev pub OpensJournal : Option Listing → ℕ → List ℕ → List ℕ → Option Session → Disk → Crashes
     → Option Opened → Type 0
@@ -106,11 +107,11 @@ OpensJournal files limit expression journal session disk is (Some opened) =
     × ((x : Form) × ReadsForm files expression x
     × UsesJournal x limit session disk.file opened is)
 
--- What a job makes of its journal, where the site tells its disk before, with nothing opened, and
--- behind it. A trace has none.
+-- what a job makes of its journal, where it has one, and where the site tells its disk before, with
+-- nothing opened, and behind it
 abbrev pub OnJournal : Option Listing → Job → SiteState → SiteState → Crashes → Option Session
     → Type 0
-OnJournal files (trace limit expression actions) before after is session = ⊤
-OnJournal files (replay limit turns expression journal script) before after is session =
-    (old new : Disk) → before.disk ≡ Some old → old.opened ≡ None → after.disk ≡ Some new
-    → OpensJournal files limit expression journal session new is new.opened
+OnJournal files job before after is session = (expression journal : List ℕ)
+    → expression_of job ≡ Some expression → journal_of job ≡ Some journal
+    → (old new : Disk) → before.disk ≡ Some old → old.opened ≡ None → after.disk ≡ Some new
+    → OpensJournal files (limit_of job) expression journal session new is new.opened

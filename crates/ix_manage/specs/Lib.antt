@@ -2,6 +2,8 @@ pub mod Command
 pub mod ActionLines
 pub mod Trace
 pub mod Replay
+pub mod Serve
+pub mod Site
 pub mod Ends
 pub mod Puts
 pub mod Session

@@ -1,19 +1,14 @@
 -- What `replay` puts.
-use Rattle.std.specs.Prelude.{◌≡◌, ◌≢◌, ◌⊎◌, ℕ, ◌≤◌, List, [], ◌∷◌, ◌++◌, length, Option, codes}
-use Rattle.ix_words.specs.Each.{Each}
-use Rattle.ix_values.specs.PlainAction.{PlainAction, Word}
+use Rattle.std.specs.Prelude.{◌≡◌, ℕ, ◌≤◌, List, [], ◌∷◌, ◌++◌, length, Option}
+use Rattle.ix_values.specs.PlainAction.{Word}
 use Rattle.ix_outside.specs.Contents.{GivenEvent, send_text}
 use Rattle.ix_outside.specs.Files.{Listing, HasFile, HasLonger}
-use Rattle.ix_outside.specs.declared.event.EventKind.TheVariants.{End}
 use Rattle.ix_proto.specs.declared.reply.Reply.{Reply}
-use Rattle.ix_manager.specs.Runs.{Run, going, stopped, failed}
 use Rattle.ix_manager.specs.Wire.{all_replies, replies_text, reply_line}
 use Rattle.ix_script.specs.Events.{HasEvents}
 use Rattle.ix_script.specs.Grammar.{IsFirstScriptFault}
 use Rattle.ix_script.specs.Pieces.{pieces_of}
-use Rattle.ix_manage.specs.ActionLines.{line}
-use Rattle.ix_manage.specs.Puts.{LastLine}
-use Rattle.ix_manage.specs.Session.{Session, history_line, replay_text, session_text}
+use Rattle.ix_manage.specs.Session.{Session, SessionEnds, Takes, replay_text}
 
 -- the script of this name has these events, with whole pieces
 pub record ReadsEvents (files : Option Listing) (name : List ℕ) (events : List GivenEvent) : Type 0 where
@@ -33,32 +28,10 @@ pub data HasBadScript (files : Option Listing) (name : List ℕ) : ℕ → ℕ �
 abbrev pub AreFirst : List GivenEvent → List GivenEvent → Type 0
 AreFirst events taken = taken ≡ pieces_of 4096 (length taken) events
 
--- not the end
-abbrev pub IsNoEnd : GivenEvent → Type 0
-IsNoEnd given = given.event.kind ≢ End
-
--- these are the events before the last, and the last
-abbrev pub IsUpTo : List GivenEvent → List GivenEvent → GivenEvent → Type 0
-IsUpTo taken before last = taken ≡ before ++ last ∷ []
-
--- A session takes the first of a script's events, at most so many, and none behind the end.
+-- a session takes the first of a script's events
 pub record Plays (turns : ℕ) (events : List GivenEvent) (session : Session) : Type 0 where
-  pub run : Run session.opening session.taken session.answers session.last session.ending
+  pub takes : Takes turns session
   pub first : AreFirst events session.taken
-  pub few : length session.taken ≤ turns
-  pub before_the_end : (before : List GivenEvent) (last : GivenEvent)
-      → IsUpTo session.taken before last → Each IsNoEnd before
-
--- the last event taken was the end, or brought `stop`
-abbrev pub IsOver : Session → Type 0
-IsOver session =
-    ((before : List GivenEvent) × (last : GivenEvent)
-    × IsUpTo session.taken before last × (last.event.kind ≡ End))
-    ⊎ (session.ending ≡ stopped)
-
--- none of the events taken was the end, and none ended the run
-abbrev pub MayGoOn : Session → Type 0
-MayGoOn session = Each IsNoEnd session.taken × (session.ending ≡ going)
 
 -- The put of a reply to the last event failed: what was put before it, and what it was to put. The
 -- replies behind it are silent.
@@ -72,21 +45,15 @@ pub data LosesReply (history : Word)
       (replay_text history before answers ++ replies_text given.event.conn sent)
       (send_text given.event.conn (reply_line lost))
 
--- How a session ends under the most turns, by the status: what it puts whole, and what a put was to
--- put that failed. With 5 the disk failed at a confirm; with 7 as many events as turns were taken,
--- and the run may still go on.
-pub data SessionEnds (turns : ℕ) (session : Session) : ℕ → List ℕ → List ℕ → Type 0 where
-  over : IsOver session → SessionEnds turns session 0 (session_text session) []
-  out_of_turns : {status : ℕ} {whole part : List ℕ}
-      → length session.taken ≡ turns → MayGoOn session
-      → LastLine 7 (session_text session) (line (codes "refused turns")) status whole part
-      → SessionEnds turns session status whole part
-  disk_failed : {a : PlainAction} {status : ℕ} {whole part : List ℕ}
-      → session.ending ≡ failed a
-      → LastLine 5 (session_text session) (line (codes "refused disk")) status whole part
-      → SessionEnds turns session status whole part
-  lost_history : session.taken ≡ []
-      → SessionEnds turns session 10 [] (history_line session.opening.history)
+-- the text of a session: the line of the history, and the replies
+abbrev pub session_text : Session → List ℕ
+session_text session = replay_text session.opening.history session.taken session.answers
+
+-- how a replay's session ends: behind its text, or at a put of a reply that failed
+pub data ReplayEnds (turns : ℕ) (session : Session) : ℕ → List ℕ → List ℕ → Type 0 where
+  ends : {status : ℕ} {whole part : List ℕ}
+      → SessionEnds turns (session_text session) session status whole part
+      → ReplayEnds turns session status whole part
   lost_reply : {whole part : List ℕ}
       → LosesReply session.opening.history session.taken session.answers whole part
-      → SessionEnds turns session 10 whole part
+      → ReplayEnds turns session 10 whole part

@@ -1,7 +1,10 @@
 -- What contracts between crates and private ones cite, and no claim of the program or law reaches.
 pub mod Jobs
 pub mod Leaves
+pub mod Opening
 pub mod Playing
 pub mod Refusal
 pub mod ReplayProgress
+pub mod ServeProgress
 pub mod TracesLines
+pub mod Turns

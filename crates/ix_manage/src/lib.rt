@@ -6,22 +6,27 @@ ghost use Rattle.ix_outside.specs.Counts.{Rose};
 ghost use Rattle.ix_outside.specs.FilesState.{OnlyFaults};
 ghost use Rattle.ix_outside.specs.SinkState.{OnlyPuts};
 ghost use Rattle.ix_outside.specs.SiteState.{OnlyDisk};
-ghost use Rattle.ix_manage.specs.Command.{NamesNoReplay};
+ghost use Rattle.ix_manage.specs.Command.{NamesNoJournal, NamesNoSocket};
 ghost use Rattle.ix_manage.specs.Ends.{Ended, EndsOver};
 ghost use Rattle.ix_outside.specs.Sink.{AppendsPart};
+ghost use Rattle.ix_manage.specs.Site.{OnlyCalls};
 ghost use Rattle.std.specs.Io.KnownBytes.{append_known};
 ghost use Rattle.ix_manage.specs.Journal.{other_line};
 
 mod actions;
+mod history;
 mod job;
 mod load;
+mod open;
 mod refusal;
 mod replay;
 mod run;
+mod serve;
+mod serving;
 mod start;
 mod trace;
+mod turn;
 mod turns;
-mod words;
 
 use ix_outside::{Failed, Files, Sink, Site};
 use run::{Stop, run};
@@ -29,8 +34,8 @@ use std::alloc::Global;
 
 /// Runs the program on the words after its name, and gives its status.
 ///
-/// `EndsOver` says what is put, with which status a run ends, and what becomes of the journal. The
-/// words are those of a trace or of a replay:
+/// `EndsOver` says what is put, with which status a run ends, and what becomes of the journal and
+/// of the connections. The first word names a command, and the words behind it are read by `clap`:
 ///
 /// - `trace EXPR ACTIONS` puts one line for each action of the file ACTIONS by the expression
 ///   of the file EXPR, which is `no`, `full`, `large` or `yes`, and then `complete` or
@@ -41,17 +46,20 @@ use std::alloc::Global;
 ///   the script's end or `stop` with status 0, or to the number of turns with status 7 and a line
 ///   that says so. Each confirmed action is in the journal before it is answered. Where the disk
 ///   fails then, the run ends behind the reply that says so, with status 5.
+/// - `serve EXPR JOURNAL SOCKET` does the same over the site's own connections: it listens on
+///   SOCKET, puts `history N`, and then sends the replies to the events that the site gives. Where
+///   the wire fails the run ends with status 6; a client that is gone doesn't end it.
 ///
-/// Directly behind the command may stand `--nodes N`, the limit of Size from 1 to 1,000,000,
-/// which is 100,000 otherwise, and in a replay then `--turns N`, the most events that are taken,
-/// from 1 to 1,000,000,000.
+/// `--nodes N` is the limit of Size, from 1 to 1,000,000, which is 100,000 otherwise, and in a
+/// replay and a serve `--turns N` the most events that are taken, from 1 to 1,000,000,000.
 ///
-/// Otherwise a run ends with a refusal as its last line. A text that stands for no expression is
-/// refused with its first fault, one whose initial tree is above the limit with 14, an actions file
-/// or a script with the first line that isn't in its grammar. A journal from which no run starts is
-/// refused with status 8 and left as it is, and one whose disk fails with 5. A put that fails ends
-/// the run with status 10, a replay after the event in which it failed; what went out by then is a
-/// front of such a text. A file that `files` doesn't tell may hold any text.
+/// Otherwise a run ends with a refusal as its last line. Words that `clap` refuses end it with
+/// status 2 and a text for people. A text that stands for no expression is refused with its first
+/// fault, one whose initial tree is above the limit with 14, an actions file or a script with the
+/// first line that isn't in its grammar. A journal from which no run starts is refused with status
+/// 8 and left as it is, and one whose disk fails with 5. A put that fails ends the run with status
+/// 10, a replay after the event in which it failed; what went out by then is a front of such a
+/// text. A file that `files` doesn't tell may hold any text.
 pub fn manage<F: Files, S: Site, K: Sink>(
     alloc: Global,
     words: &[String],
@@ -61,29 +69,37 @@ pub fn manage<F: Files, S: Site, K: Sink>(
 ) -> u8
     requires { (S.state site.old).attached ≡ false }
 
-    // With this status, a session and what went out, whole and in part, the run may end so, and
-    // what it leaves of its journal is that session's history.
+    // With this status, a session and what went out, whole and in part, the run may end so; what it
+    // leaves of its journal is that session's history, and what it sent the session's replies.
     ensures ends { Ended (EndsOver (map string_bytes words.now) (F.state files.old).contents
         (S.state site.old) (S.state site.new) (S.crashes site.new))
         result (K.state out.old) (K.state out.new) }
 
-    // A file is lost, the disk fails, and a put fails, only where the count rose.
+    // A file is lost, the disk and the wire fail, and a put fails, only where the count rose.
     ensures file_fault { result ≡ 4 → Rose (F.state files.old).faults (F.state files.new).faults }
     ensures disk_fault { result ≡ 5
         → Rose (S.state site.old).counts.disk (S.state site.new).counts.disk }
+    ensures wire_fault { result ≡ 6
+        → Rose (S.state site.old).counts.wire (S.state site.new).counts.wire }
     ensures output_fault { result ≡ 10 → Rose (K.state out.old).faults (K.state out.new).faults }
 
-    // What stays: all of the files but their count of faults, all of the site but its disk, which
-    // stays too where the words name no replay, and of the output what it holds.
+    // What stays: all of the files but their count of faults; of the site what it holds, without a
+    // socket all but its disk, and without a journal all; and of the output what it holds.
     ensures files { OnlyFaults (F.state files.old) (F.state files.new) }
-    ensures site { OnlyDisk (S.state site.old) (S.state site.new) }
-    ensures no_replay { NamesNoReplay (map string_bytes words.now)
+    ensures site { OnlyCalls (S.state site.old) (S.state site.new) }
+    ensures no_socket { NamesNoSocket (map string_bytes words.now)
+        → OnlyDisk (S.state site.old) (S.state site.new) }
+    ensures no_journal { NamesNoJournal (map string_bytes words.now)
         → S.state site.new ≡ S.state site.old }
     ensures puts { OnlyPuts (K.state out.old) (K.state out.new) }
 {
     match run(alloc, words, files, site, out) {
         Ok(()) => 0,
         Err(Stop::Output) => 10,
+        Err(Stop::Words { text }) => match out.put(text.as_bytes()) {
+            Ok(()) => 2,
+            Err(_) => 10,
+        },
         Err(Stop::OtherExpression { kept }) => match put_other(&kept, out) {
             Ok(()) => 8,
             Err(_) => 10,

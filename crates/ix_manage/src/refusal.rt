@@ -11,8 +11,6 @@ use itoa::Buffer;
 /// Why a run ends before it has its answer. Each refusal has a line and a status.
 #[derive(Clone, Copy)]
 pub(crate) enum Refusal {
-    /// The words name no command.
-    Words,
     /// The expression file has this fault.
     BadText { code: u8, at: usize },
     /// The initial tree is above this limit of Size.
@@ -29,6 +27,8 @@ pub(crate) enum Refusal {
     LostScript,
     /// A call of the disk failed.
     Disk,
+    /// The socket couldn't be listened to, or no event came since the wire failed.
+    Wire,
     /// No run starts from the journal.
     Journal(JournalRefusal),
     /// As many events were taken as the words allow, and the run hadn't ended.
@@ -60,7 +60,6 @@ impl Refusal {
     {
         let mut line = ArrayVec::new();
         match self {
-            Refusal::Words => append(&mut line, b"refused words\n"),
             Refusal::BadText { code, at } => append_fault(&mut line, b"expression", code, at),
             Refusal::Large { limit } => append_large(&mut line, limit),
             Refusal::LostExpression => append(&mut line, b"refused file expression\n"),
@@ -69,6 +68,7 @@ impl Refusal {
             Refusal::BadScript { code, at } => append_fault(&mut line, b"script", code, at),
             Refusal::LostScript => append(&mut line, b"refused file script\n"),
             Refusal::Disk => append(&mut line, b"refused disk\n"),
+            Refusal::Wire => append(&mut line, b"refused wire\n"),
             Refusal::Journal(why) => append_journal(&mut line, why),
             Refusal::Turns => append(&mut line, b"refused turns\n"),
             Refusal::Memory => append(&mut line, b"refused memory\n"),
@@ -80,11 +80,11 @@ impl Refusal {
         ensures { result ≡ refusal_status self }
     {
         match self {
-            Refusal::Words => 2,
             Refusal::BadText { .. } | Refusal::Large { .. } => 3,
             Refusal::BadActions { .. } | Refusal::BadScript { .. } => 3,
             Refusal::LostExpression | Refusal::LostActions | Refusal::LostScript => 4,
             Refusal::Disk => 5,
+            Refusal::Wire => 6,
             Refusal::Journal(_) => 8,
             Refusal::Turns => 7,
             Refusal::Memory => 9,

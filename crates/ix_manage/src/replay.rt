@@ -6,24 +6,23 @@ ghost use Rattle.ix_outside.specs.SinkState.{OnlyPuts};
 ghost use Rattle.ix_outside.specs.SiteState.{OnlyDisk};
 ghost use Rattle.ix_manager.specs.inside.OverSite.{FitsSite};
 ghost use Rattle.ix_script.specs.Events.{HasEvents};
-ghost use Rattle.ix_manage.specs.Session as spec;
+ghost use Rattle.ix_manage.specs.Ends.{JobOver};
 ghost use Rattle.ix_manage.specs.inside.Jobs.{replay_of};
 ghost use Rattle.ix_manage.specs.inside.Leaves.{FailedWhere, IsNoLoss, Leaves, LostWhere};
-ghost use Rattle.ix_manage.specs.inside.Playing.{JobOver, PlaysOver, stop_of};
-ghost use Rattle.ix_manage.specs.inside.ReplayProgress.{IsStarted, OnlyUsesDisk, ReplaysOn, between, opening_of};
+ghost use Rattle.ix_manage.specs.inside.Playing.{PlaysOver};
+ghost use Rattle.ix_manage.specs.inside.ReplayProgress.{OnlyUsesDisk, ReplaysOn, between};
+ghost use Rattle.ix_manage.specs.inside.Turns.{IsStarted, opening_of};
 
+use crate::history::history_line;
 use crate::job::ReplayWords;
 use crate::load::{load_expression, load_script, read_script};
-use crate::refusal::{JournalRefusal, Refusal, append};
+use crate::open::open;
 use crate::run::Stop;
 use crate::turns::take_events;
-use arrayvec::ArrayVec;
-use itoa::Buffer;
 use ix_expr::Expression;
-use ix_manager::{Manager, StartFault};
+use ix_manager::Manager;
 use ix_outside::{Files, Sink, Site};
 use ix_script::{Script, ScriptSite};
-use ix_values::Action;
 use std::alloc::Global;
 
 /// A refusal's line isn't put yet.
@@ -90,37 +89,9 @@ fn play<S: Site, K: Sink>(
     ensures site { OnlyDisk (S.state site.old) (S.state site.new) }
     ensures puts { OnlyPuts (K.state out.old) (K.state out.new) }
 {
-    match site.attach(names.journal) {
-        Ok(()) => {}
-        Err(_) => return Err(Stop::Refused(Refusal::Disk)),
-    }
-    let mut manager = match Manager::start(alloc, site, expression, names.limit) {
-        Ok(manager) => manager,
-        Err(fault) => return Err(start_stop(fault)),
-    };
-    run_script(alloc, &mut manager, names.turns, script, site, out)
-}
-
-/// Why the run ends where no manager was started.
-fn start_stop(fault: StartFault) -> Stop
-    ensures { result ≡ stop_of fault }
-{
-    match fault {
-        StartFault::Large { limit } => Stop::Refused(Refusal::Large { limit }),
-        StartFault::Disk => Stop::Refused(Refusal::Disk),
-        StartFault::Foreign => Stop::Refused(Refusal::Journal(JournalRefusal::Foreign)),
-        StartFault::Other { kept } => Stop::OtherExpression { kept },
-        StartFault::Damaged { at } => Stop::Refused(Refusal::Journal(JournalRefusal::Damaged {
-            at,
-        })),
-        StartFault::Many => Stop::Refused(Refusal::Journal(JournalRefusal::Many)),
-        StartFault::Word { number } => {
-            Stop::Refused(Refusal::Journal(JournalRefusal::Word { number }))
-        }
-        StartFault::Heavy { number, limit } => {
-            Stop::Refused(Refusal::Journal(JournalRefusal::Heavy { number, limit }))
-        }
-        StartFault::Memory => Stop::Refused(Refusal::Memory),
+    match open(alloc, site, names.journal, expression, names.limit) {
+        Ok(mut manager) => run_script(alloc, &mut manager, names.turns, script, site, out),
+        Err(stop) => Err(stop),
     }
 }
 
@@ -128,7 +99,7 @@ fn start_stop(fault: StartFault) -> Stop
 fn run_script<S: Site, K: Sink>(
     alloc: Global,
     manager: &mut Manager,
-    turns: usize,
+    turns: u64,
     script: Script<'_>,
     site: &mut S,
     out: &mut K,
@@ -154,15 +125,4 @@ fn run_script<S: Site, K: Sink>(
     }
     let mut all = ScriptSite::new(script, site, out);
     take_events(alloc, manager, turns, &mut all)
-}
-
-/// Says how many actions the history has.
-fn history_line(history: &[Action]) -> ArrayVec<u8, 64>
-    ensures { result.items ≡ spec.history_line history.now }
-{
-    let mut line = ArrayVec::new();
-    append(&mut line, b"history ");
-    append(&mut line, Buffer::new().format(history.len()).as_bytes());
-    append(&mut line, b"\n");
-    line
 }

@@ -1,19 +1,24 @@
 //! One run of the program, up to the last line that a refusal puts.
-ghost use Rattle.std.specs.Prelude.{◌≡◌, ◌≤◌, IfErr, false, map, string_bytes};
+ghost use Rattle.std.specs.Prelude.{◌≡◌, ◌≤◌, ℕ, List, None, IfErr, false, map, string_bytes};
+ghost use Rattle.ix_cli.specs.Words.{Names};
+ghost use Rattle.ix_cli.specs.inside.Jobs.{job_of};
 ghost use Rattle.ix_outside.specs.FilesState.{OnlyFaults};
 ghost use Rattle.ix_outside.specs.SinkState.{OnlyPuts};
 ghost use Rattle.ix_outside.specs.SiteState.{OnlyDisk};
-ghost use Rattle.ix_manage.specs.Command.{NamesNoReplay};
-ghost use Rattle.ix_manage.specs.Ends.{EndsOver};
+ghost use Rattle.ix_manage.specs.Command.{NamesNoJournal, NamesNoSocket, journal_of, socket_of};
+ghost use Rattle.ix_manage.specs.Ends.{EndsOver, JobOver};
+ghost use Rattle.ix_manage.specs.Site.{OnlyCalls};
 ghost use Rattle.ix_manage.specs.inside.Leaves.{FailedWhere, IsNoFailure, Leaves, LostWhere};
 ghost use Rattle.ix_manage.specs.inside.Playing.{TraceEnds};
 
-use crate::job::{Job, TraceWords, read_words};
+use crate::job::{ReplayWords, ServeWords, TraceWords};
 use crate::load::load_actions;
 use crate::refusal::Refusal;
 use crate::replay::replay;
+use crate::serve::serve;
 use crate::start::start;
 use crate::trace::trace;
+use ix_cli::{Job, WordsFault, read_words};
 use ix_outside::{Files, Sink, Site};
 use std::alloc::Global;
 
@@ -22,6 +27,8 @@ use std::alloc::Global;
 pub(crate) enum Stop {
     /// A line is to be put that says why.
     Refused(Refusal),
+    /// A text is to be put that says why the words name no job.
+    Words { text: String },
     /// A line is to be put that says that the journal is that of another expression, with its text.
     OtherExpression { kept: Vec<u8> },
     /// A put failed.
@@ -46,15 +53,91 @@ pub(crate) fn run<F: Files, S: Site, K: Sink>(
     ensures failed { IfErr result (FailedWhere (S.state site.old) (S.state site.new)) }
 
     ensures files { OnlyFaults (F.state files.old) (F.state files.new) }
-    ensures site { OnlyDisk (S.state site.old) (S.state site.new) }
-    ensures no_replay { NamesNoReplay (map string_bytes words.now)
+    ensures site { OnlyCalls (S.state site.old) (S.state site.new) }
+    ensures no_socket { NamesNoSocket (map string_bytes words.now)
+        → OnlyDisk (S.state site.old) (S.state site.new) }
+    ensures no_journal { NamesNoJournal (map string_bytes words.now)
         → S.state site.new ≡ S.state site.old }
     ensures puts { OnlyPuts (K.state out.old) (K.state out.new) }
 {
-    match read_words(words) {
-        Some(Job::Trace(names)) => run_trace(alloc, names, files, out),
-        Some(Job::Replay(names)) => replay(alloc, names, files, site, out),
-        None => Err(Stop::Refused(Refusal::Words)),
+    match read_words(alloc, words) {
+        Ok(job) => run_job(alloc, &job, files, site, out),
+        Err(WordsFault::Bad { text }) => Err(Stop::Words { text }),
+        Err(WordsFault::Memory) => Err(Stop::Refused(Refusal::Memory)),
+    }
+}
+
+/// Does the job that the words name.
+fn run_job<F: Files, S: Site, K: Sink>(
+    alloc: Global,
+    job: &Job,
+    files: &mut F,
+    site: &mut S,
+    out: &mut K,
+) -> Result<(), Stop>
+    requires named { (words : List (List ℕ)) × Names words (job_of job.now) }
+    requires attached { (S.state site.old).attached ≡ false }
+
+    ensures leaves { Leaves
+        (JobOver (F.state files.old).contents (job_of job.now)
+        (S.state site.old) (S.state site.new) (S.crashes site.new))
+        (K.state out.old) (K.state out.new) result }
+    ensures lost { IfErr result (LostWhere (F.state files.old) (F.state files.new)) }
+    ensures failed { IfErr result (FailedWhere (S.state site.old) (S.state site.new)) }
+
+    ensures files { OnlyFaults (F.state files.old) (F.state files.new) }
+    ensures site { OnlyCalls (S.state site.old) (S.state site.new) }
+    ensures no_socket { socket_of (job_of job.now) ≡ None
+        → OnlyDisk (S.state site.old) (S.state site.new) }
+    ensures no_journal { journal_of (job_of job.now) ≡ None
+        → S.state site.new ≡ S.state site.old }
+    ensures puts { OnlyPuts (K.state out.old) (K.state out.new) }
+{
+    match job {
+        Job::Trace {
+            expr,
+            actions,
+            nodes,
+        } => {
+            let names = TraceWords {
+                expression: expr.as_str(),
+                actions: actions.as_str(),
+                limit: *nodes,
+            };
+            run_trace(alloc, names, files, out)
+        }
+        Job::Replay {
+            expr,
+            journal,
+            script,
+            nodes,
+            turns,
+        } => {
+            let names = ReplayWords {
+                expression: expr.as_str(),
+                journal: journal.as_str(),
+                script: script.as_str(),
+                limit: *nodes,
+                turns: *turns,
+            };
+            replay(alloc, names, files, site, out)
+        }
+        Job::Serve {
+            expr,
+            journal,
+            socket,
+            nodes,
+            turns,
+        } => {
+            let names = ServeWords {
+                expression: expr.as_str(),
+                journal: journal.as_str(),
+                socket: socket.as_str(),
+                limit: *nodes,
+                turns: *turns,
+            };
+            serve(alloc, names, files, site, out)
+        }
     }
 }
 

@@ -1,39 +1,23 @@
 //! Takes the events of a script one by one.
-ghost use Rattle.std.specs.Prelude.{◌≡◌, ◌≢◌, ◌≤◌, true, length, IfErr, MatchBool};
-ghost use Rattle.ix_outside.specs.Contents.{piece_of};
-ghost use Rattle.ix_outside.specs.Event.{KindFits};
-ghost use Rattle.ix_outside.specs.declared.event.EventKind.TheVariants.{End};
-ghost use Rattle.ix_manager.specs.Runs.{Ending};
-ghost use Rattle.ix_manager.specs.inside.OverSite.{EndsBy};
+ghost use Rattle.std.specs.Prelude.{◌≡◌, ◌≤◌, true, length, IfErr};
 ghost use Rattle.ix_manage.specs.inside.Leaves.{FailedWhere, IsNoLoss};
-ghost use Rattle.ix_manage.specs.inside.ReplayProgress.{FitsDisk, IsAtStart, IsBetween, IsStarted, IsTurn};
+ghost use Rattle.ix_manage.specs.inside.ReplayProgress.{FitsDisk, IsAtStart, IsBetween};
 ghost use Rattle.ix_manage.specs.inside.ReplayProgress.{OnlyPlays, TakesEvents, TakesTurn, between, player};
+ghost use Rattle.ix_manage.specs.inside.Turns.{IsStarted};
 
 use crate::refusal::Refusal;
 use crate::run::Stop;
-use ix_manager::{Go, Manager, Stop as Halt};
-use ix_outside::{EventKind, Sink, Site};
+use crate::turn::{Turn, piece, turn_of};
+use ix_manager::Manager;
+use ix_outside::{Sink, Site};
 use ix_script::ScriptSite;
 use std::alloc::Global;
-
-/// What became of a run by an event.
-#[derive(Clone, Copy)]
-pub(crate) enum Turn {
-    /// It may go on.
-    More,
-    /// The event was the end or brought `stop`.
-    Done,
-    /// A put failed.
-    Cut,
-    /// The disk failed at a confirm.
-    Failed,
-}
 
 /// Hands the script's events to the manager, as many as `turns` at most, until the run ends.
 pub(crate) fn take_events<S: Site, K: Sink>(
     alloc: Global,
     manager: &mut Manager,
-    turns: usize,
+    turns: u64,
     site: &mut ScriptSite<'_, S, K>,
 ) -> Result<(), Stop>
     requires turns { turns ≤ 1000000000 }
@@ -87,37 +71,4 @@ fn take_event<S: Site, K: Sink>(
     let event = site.next_event(buffer);
     let go = manager.handle(alloc, event, piece(event.kind, buffer), site);
     turn_of(site.sink_failed(), go, event.kind)
-}
-
-fn turn_of(failed: bool, go: Result<Go, Halt>, kind: EventKind) -> Turn
-    ensures { (ending : Ending) → EndsBy go ending → IsTurn failed ending kind result }
-{
-    if failed {
-        return Turn::Cut;
-    }
-    match go {
-        Ok(Go::Stopped) => Turn::Done,
-        Ok(Go::More) => { if is_end(kind) { Turn::Done } else { Turn::More } }
-        Err(Halt::Disk) => Turn::Failed,
-    }
-}
-
-/// The bytes of an event, which stand at the front of the buffer.
-fn piece(kind: EventKind, buffer: &[u8]) -> &[u8]
-    requires { KindFits (length buffer.now) 0 kind }
-    ensures { result.now ≡ piece_of kind buffer.now }
-{
-    match kind {
-        EventKind::Bytes(count) => &buffer[..count],
-        EventKind::Closed | EventKind::End => &[],
-    }
-}
-
-fn is_end(kind: EventKind) -> bool
-    ensures { MatchBool result (kind ≡ End) (kind ≢ End) }
-{
-    match kind {
-        EventKind::End => true,
-        EventKind::Bytes(_) | EventKind::Closed => false,
-    }
 }

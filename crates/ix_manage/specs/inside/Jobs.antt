@@ -1,19 +1,19 @@
--- The job that words were read into.
-use Rattle.ix_manage.specs.declared.job.Job.{Job as ReadJob}
-use Rattle.ix_manage.specs.declared.job.Job.TheVariants.{Trace, Replay}
+-- The job of words that were read.
+use Rattle.ix_cli.specs.Words.{Job, trace, replay, serve}
 use Rattle.ix_manage.specs.declared.job.TraceWords.{TraceWords}
 use Rattle.ix_manage.specs.declared.job.ReplayWords.{ReplayWords}
-use Rattle.ix_manage.specs.Command.{Job, trace, replay}
+use Rattle.ix_manage.specs.declared.job.ServeWords.{ServeWords}
 
 -- the trace that words name
 abbrev pub trace_of : TraceWords → Job
-trace_of names = trace names.limit names.expression.now names.actions.now
+trace_of names = trace names.expression.now names.actions.now names.limit
 
 -- the replay that words name
 abbrev pub replay_of : ReplayWords → Job
-replay_of names = replay names.limit names.turns names.expression.now names.journal.now names.script.now
+replay_of names =
+    replay names.expression.now names.journal.now names.script.now names.limit names.turns
 
--- the job that words name
-abbrev pub job_of : ReadJob → Job
-job_of (Trace names) = trace_of names
-job_of (Replay names) = replay_of names
+-- the serve that words name
+abbrev pub serve_of : ServeWords → Job
+serve_of names =
+    serve names.expression.now names.journal.now names.socket.now names.limit names.turns

@@ -1,12 +1,12 @@
 -- How a part of a run leaves the output, the files and the site, a refusal's line not put yet.
-use Rattle.std.specs.Prelude.{◌≡◌, ◌≢◌, ℕ, List, ◌++◌, Option, Result, Ok, Err, codes, ⊤}
+use Rattle.std.specs.Prelude.{◌≡◌, ◌≢◌, ℕ, List, Option, Result, Ok, Err, string_bytes, ⊤}
 use Rattle.std.specs.Io.KnownBytes.{append_known}
 use Rattle.ix_outside.specs.Counts.{Rose}
 use Rattle.ix_outside.specs.FilesState.{FilesState}
 use Rattle.ix_outside.specs.SinkState.{SinkState}
 use Rattle.ix_outside.specs.SiteState.{SiteState}
 use Rattle.ix_manage.specs.declared.run.Stop.{Stop}
-use Rattle.ix_manage.specs.declared.run.Stop.TheVariants.{Refused, OtherExpression, Output}
+use Rattle.ix_manage.specs.declared.run.Stop.TheVariants.{Refused, Words, OtherExpression, Output}
 use Rattle.ix_manage.specs.Ends.{Ended}
 use Rattle.ix_manage.specs.Journal.{other_line}
 use Rattle.ix_manage.specs.Puts.{LastLine}
@@ -28,6 +28,7 @@ abbrev pub StopsAfter : (ℕ → List ℕ → List ℕ → Option Session → Ty
     → SinkState → SinkState → Stop → Type 0
 StopsAfter May old new (Refused refusal) =
     AwaitsLine May (refusal_status refusal) (refusal_line refusal) old new
+StopsAfter May old new (Words text) = AwaitsLine May 2 (string_bytes text) old new
 StopsAfter May old new (OtherExpression kept) =
     AwaitsLine May 8 (other_line kept.items) old new
 StopsAfter May old new Output = Ended May 10 old new × Rose old.faults new.faults
@@ -41,24 +42,29 @@ Leaves May old new (Err stop) = StopsAfter May old new stop
 -- a file was lost only where the count rose
 abbrev pub LostWhere : FilesState → FilesState → Stop → Type 0
 LostWhere before now (Refused refusal) = refusal_status refusal ≡ 4 → Rose before.faults now.faults
+LostWhere before now (Words text) = ⊤
 LostWhere before now (OtherExpression kept) = ⊤
 LostWhere before now Output = ⊤
 
--- the disk failed only where the count rose
+-- the disk failed, and the wire, only where the count rose
 abbrev pub FailedWhere : SiteState → SiteState → Stop → Type 0
 FailedWhere before now (Refused refusal) =
-    refusal_status refusal ≡ 5 → Rose before.counts.disk now.counts.disk
+    (refusal_status refusal ≡ 5 → Rose before.counts.disk now.counts.disk)
+    × (refusal_status refusal ≡ 6 → Rose before.counts.wire now.counts.wire)
+FailedWhere before now (Words text) = ⊤
 FailedWhere before now (OtherExpression kept) = ⊤
 FailedWhere before now Output = ⊤
 
 -- no file was lost
 abbrev pub IsNoLoss : Stop → Type 0
 IsNoLoss (Refused refusal) = refusal_status refusal ≢ 4
+IsNoLoss (Words text) = ⊤
 IsNoLoss (OtherExpression kept) = ⊤
 IsNoLoss Output = ⊤
 
--- no call of the disk failed
+-- no call of the disk or of the wire failed
 abbrev pub IsNoFailure : Stop → Type 0
-IsNoFailure (Refused refusal) = refusal_status refusal ≢ 5
+IsNoFailure (Refused refusal) = (refusal_status refusal ≢ 5) × (refusal_status refusal ≢ 6)
+IsNoFailure (Words text) = ⊤
 IsNoFailure (OtherExpression kept) = ⊤
 IsNoFailure Output = ⊤

@@ -1,4 +1,4 @@
--- A trace, and a replay behind the loading of its files.
+-- A trace, and a run behind the loading of its files.
 use Rattle.std.specs.Prelude.{ℕ, List, Option}
 use Rattle.ix_expr.specs.Form.{Form}
 use Rattle.ix_outside.specs.Contents.{GivenEvent}
@@ -9,19 +9,18 @@ use Rattle.ix_outside.specs.SiteState.{SiteState}
 use Rattle.ix_manager.specs.declared.faults.StartFault.{StartFault}
 use Rattle.ix_manager.specs.declared.faults.StartFault.TheVariants as fault
 use Rattle.ix_script.specs.Events.{HasEvents}
-use Rattle.ix_manage.specs.Command.{Job}
-use Rattle.ix_manage.specs.Ends.{JobEnds}
-use Rattle.ix_manage.specs.Journal.{OnJournal}
+use Rattle.ix_manage.specs.Ends.{JobEnds, JobOver}
 use Rattle.ix_manage.specs.Replay.{ReadsEvents}
 use Rattle.ix_manage.specs.Session.{Session}
 use Rattle.ix_manage.specs.Trace.{ReadsForm}
 use Rattle.ix_manage.specs.declared.job.ReplayWords.{ReplayWords}
+use Rattle.ix_manage.specs.declared.job.ServeWords.{ServeWords}
 use Rattle.ix_manage.specs.declared.job.TraceWords.{TraceWords}
 use Rattle.ix_manage.specs.declared.refusal.Refusal.TheVariants.{Disk, Large, Memory, Journal}
 use Rattle.ix_manage.specs.declared.refusal.JournalRefusal.TheVariants.{Foreign, Damaged, Many, Word, Heavy}
 use Rattle.ix_manage.specs.declared.run.Stop.{Stop}
 use Rattle.ix_manage.specs.declared.run.Stop.TheVariants.{Refused, OtherExpression}
-use Rattle.ix_manage.specs.inside.Jobs.{replay_of, trace_of}
+use Rattle.ix_manage.specs.inside.Jobs.{replay_of, serve_of, trace_of}
 
 -- why the run ends where no manager was started
 abbrev pub stop_of : StartFault → Stop
@@ -40,12 +39,6 @@ abbrev pub TraceEnds : Option Listing → TraceWords → ℕ → List ℕ → Li
 TraceEnds files names status whole part session =
     (disk : Option SiteDisk) → JobEnds files disk (trace_of names) status whole part session
 
--- how a job may end over a site, and what it makes of its journal
-pub record JobOver (files : Option Listing) (job : Job) (before after : SiteState) (is : Crashes)
-    (status : ℕ) (whole part : List ℕ) (session : Option Session) : Type 0 where
-  pub ends : JobEnds files after.disk job status whole part session
-  pub journal : OnJournal files job before after is session
-
 -- how a replay may end over a site, where files stand for the form and the script
 abbrev pub PlaysOver : Form → ReplayWords → List ℕ → SiteState → SiteState → Crashes
     → ℕ → List ℕ → List ℕ → Option Session → Type 0
@@ -54,3 +47,10 @@ PlaysOver x names script before after is status whole part session =
     → ((events : List GivenEvent) → HasEvents script events
     → ReadsEvents files names.script.now events)
     → JobOver files (replay_of names) before after is status whole part session
+
+-- how a serve may end over a site, where a file stands for the form
+abbrev pub ServesOver : Form → ServeWords → SiteState → SiteState → Crashes
+    → ℕ → List ℕ → List ℕ → Option Session → Type 0
+ServesOver x names before after is status whole part session =
+    (files : Option Listing) → ReadsForm files names.expression.now x
+    → JobOver files (serve_of names) before after is status whole part session

@@ -1,7 +1,7 @@
 -- Why a run ends before it has its answer, and what it puts then.
 use Rattle.std.specs.Prelude.{◌≡◌, ℕ, List, ◌++◌, Option, codes, decimal, ⊤}
 use Rattle.ix_manage.specs.declared.refusal.Refusal.{Refusal}
-use Rattle.ix_manage.specs.declared.refusal.Refusal.TheVariants.{Words, BadText, Large, LostExpression, BadActions, LostActions, BadScript, LostScript, Disk, Journal, Turns, Memory}
+use Rattle.ix_manage.specs.declared.refusal.Refusal.TheVariants.{BadText, Large, LostExpression, BadActions, LostActions, BadScript, LostScript, Disk, Wire, Journal, Turns, Memory}
 use Rattle.ix_manage.specs.declared.refusal.JournalRefusal.{JournalRefusal}
 use Rattle.ix_manage.specs.declared.refusal.JournalRefusal.TheVariants.{Foreign, Damaged, Many, Word, Heavy}
 use Rattle.ix_outside.specs.Files.{Listing}
@@ -23,7 +23,6 @@ journal_words (Heavy number limit) =
 
 -- the line that says why
 abbrev pub refusal_line : Refusal → List ℕ
-refusal_line Words = line (codes "refused words")
 refusal_line (BadText code at) = fault_line (codes "expression") code at
 refusal_line (Large limit) = large_line limit
 refusal_line LostExpression = line (codes "refused file expression")
@@ -32,13 +31,13 @@ refusal_line LostActions = line (codes "refused file actions")
 refusal_line (BadScript code at) = fault_line (codes "script") code at
 refusal_line LostScript = line (codes "refused file script")
 refusal_line Disk = line (codes "refused disk")
+refusal_line Wire = line (codes "refused wire")
 refusal_line (Journal why) = journal_line (journal_words why)
 refusal_line Turns = line (codes "refused turns")
 refusal_line Memory = line (codes "refused memory")
 
 -- the status of the run
 abbrev pub refusal_status : Refusal → ℕ
-refusal_status Words = 2
 refusal_status (BadText code at) = 3
 refusal_status (Large limit) = 3
 refusal_status LostExpression = 4
@@ -47,6 +46,7 @@ refusal_status LostActions = 4
 refusal_status (BadScript code at) = 3
 refusal_status LostScript = 4
 refusal_status Disk = 5
+refusal_status Wire = 6
 refusal_status (Journal why) = 8
 refusal_status Turns = 7
 refusal_status Memory = 9

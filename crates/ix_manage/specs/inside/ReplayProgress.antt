@@ -28,31 +28,16 @@ use Rattle.ix_script.specs.inside.NextPiece.{IsNextPiece}
 use Rattle.ix_script.specs.inside.Site.{given_of}
 use Rattle.ix_script.specs.inside.WithoutSends.{without_sends}
 use Rattle.ix_script.specs.declared.site.ScriptSite.{ScriptSite}
-use Rattle.ix_manage.specs.Session.{Session, history_line}
-use Rattle.ix_manage.specs.Replay.{AreFirst, IsNoEnd, Plays, SessionEnds}
+use Rattle.ix_manage.specs.Session.{IsNoEnd, Session, history_line}
+use Rattle.ix_manage.specs.Replay.{AreFirst, Plays, ReplayEnds}
 use Rattle.ix_manage.specs.declared.run.Stop.{Stop}
-use Rattle.ix_manage.specs.declared.turns.Turn.{Turn}
-use Rattle.ix_manage.specs.declared.turns.Turn.TheVariants.{More, Done, Cut, Failed}
+use Rattle.ix_manage.specs.declared.turn.Turn.{Turn}
+use Rattle.ix_manage.specs.inside.Turns.{IsTurn, SavesFrom, Stretch, opening_of}
 use Rattle.ix_manage.specs.inside.Leaves.{Leaves}
-
--- what a manager's run would start from as the manager stands
-abbrev pub opening_of : ManagerState → Opening
-opening_of m = record { form = m.form; limit = m.limit; history = m.machine.history }
-
--- the manager was just started
-abbrev pub IsStarted : ManagerState → Type 0
-IsStarted m = m ≡ started (opening_of m) m.store
 
 -- a site's disk alone: nothing is told of its connections
 abbrev pub disk_alone : SiteState → SiteState
 disk_alone site = record site { contents = nothing_told }
-
--- a stretch of calls of a site's disk: the site before and after it, and what a crash may leave
-pub record Stretch : Type 1 where
-  pub before : SiteState
-  pub after : SiteState
-  pub was : Crashes
-  pub is : Crashes
 
 -- between two states of a site
 abbrev pub between : {S : Type 0} → (S → SiteState) → (S → Crashes) → S → S → Stretch
@@ -119,14 +104,6 @@ pub record IsBetween (m : ManagerState) (player : Player) : Type 0 where
   pub tickets : m.machine.ticket < 2 ^ 63
   pub open_sink : player.failed ≡ false
 
--- what an event's turn is: a put failed; or none did, and the disk failed, or the event was the end
--- or brought `stop`; or else the run may go on
-abbrev pub IsTurn : Bool → Ending → EventKind → Turn → Type 0
-IsTurn lost ending kind More = (lost ≡ false) × (ending ≡ going) × (kind ≢ End)
-IsTurn lost ending kind Done = (lost ≡ false) × ((kind ≡ End) ⊎ (ending ≡ stopped))
-IsTurn lost ending kind Cut = lost ≡ true
-IsTurn lost ending kind Failed = (lost ≡ false) × ((a : PlainAction) × (ending ≡ failed a))
-
 -- the manager took the script's next event, its replies were put, and the journal kept its history
 pub record TakesTurn (old : ManagerState) (was : Player) (new : ManagerState) (now : Player)
     (stretch : Stretch) (turn : Turn) : Type 0 where
@@ -142,13 +119,6 @@ pub record TakesTurn (old : ManagerState) (was : Player) (new : ManagerState) (n
   pub turn_is : IsTurn now.failed ending event.kind turn
   pub fault : now.failed ≡ true → Rose was.sink.faults now.sink.faults
   pub saves : SavesRun ending old new stretch.before stretch.after stretch.was stretch.is
-
--- over a stretch of calls the journal kept the history of a run that started from the opening, and
--- goes on or ended so with this history
-abbrev pub SavesFrom : Opening → Ending → Word → Keeping → Stretch → Type 0
-SavesFrom opening ending history store stretch =
-    Saves ending opening.form opening.history history store
-    stretch.before stretch.after stretch.was stretch.is
 
 -- a manager that took the events given so far, none of them the end, and put its replies behind what
 -- was known before; it may go on
@@ -174,7 +144,7 @@ pub record ReplaysScript (opening : Opening) (turns : ℕ) (script : List ℕ)
   pub taken_is : played.taken ≡ taken
   pub last_is : played.last ≡ last
   pub plays : (events : List GivenEvent) → HasEvents script events → Plays turns events played
-  pub ends : SessionEnds turns played status whole part
+  pub ends : ReplayEnds turns played status whole part
   pub store : Keeping
   pub saves : SavesFrom opening played.ending last.history store stretch
 

@@ -12,7 +12,7 @@ use Rattle.ix_manage.specs.Session.{Session}
 use Rattle.ix_manage.specs.Trace.{Answers, Traces}
 use Rattle.ix_manage.specs.declared.refusal.Refusal.TheVariants.{Memory}
 use Rattle.ix_manage.specs.declared.run.Stop.{Stop}
-use Rattle.ix_manage.specs.declared.run.Stop.TheVariants.{Refused, OtherExpression, Output}
+use Rattle.ix_manage.specs.declared.run.Stop.TheVariants.{Refused, Words, OtherExpression, Output}
 
 -- what `trace` may put for a form, a limit and the bytes of an actions file, by the status
 pub record TracesLines (x : Form) (limit : ℕ) (bytes : List ℕ) (status : ℕ) (whole part : List ℕ) (session : Option Session) : Type 0 where
@@ -30,6 +30,7 @@ AnswersOne engine action text after =
 abbrev pub StopsAnswer : EngineState → PlainAction → SinkState → SinkState → Stop → Type 0
 StopsAnswer engine action old new (Refused refusal) =
     (refusal ≡ Memory) × (new.written ≡ old.written)
+StopsAnswer engine action old new (Words text) = ⊥
 StopsAnswer engine action old new (OtherExpression kept) = ⊥
 StopsAnswer engine action old new Output =
     (text : List ℕ) × (history : Word) × AnswersOne engine action text history

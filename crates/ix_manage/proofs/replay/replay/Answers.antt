@@ -1,7 +1,9 @@
 use Rattle.std.proofs.Common.{refl, subst, ◌∙◌}
+use Rattle.std.proofs.lemmas.Option.{none-some}
 use Rattle.ix_outside.specs.Files.{HasFile}
+use Rattle.ix_manage.specs.inside.Jobs.{replay_of}
 use Rattle.ix_manage.specs.inside.Refusal.{RefusesScript}
-use Rattle.ix_manage.proofs.Ending.{replay_expression, replay_refused, replay_reads, script_refused}
+use Rattle.ix_manage.proofs.Ending.{expression_refused, replay_refused, replay_reads, script_refused}
 use Rattle.ix_manage.proofs.Opening.{none_opened}
 use Rattle.ix_manage.proofs.Stops.{leaves_on, nothing_lost, nothing_put}
 use Rattle.ix_manage.proofs.replay.replay.Goals as goal
@@ -14,9 +16,10 @@ returns-in-Err-clause-leaves g c =
     let is = g.S.Site.crashes c.args.site.now in
     nothing_put c.in-Err.refusal (g.K.Sink.state c.args.out.now)
     (λ status whole part last. record {
-      ends = replay_expression files names.limit names.turns names.expression.now names.journal.now names.script.now
+      ends = expression_refused files (replay_of names) names.expression.now refl
           c.in-Err.refusal c.in-Err.ensures.err status whole part last site.disk;
-      journal = none_opened files names.limit names.turns names.expression.now names.journal.now names.script.now site site is refl;
+      journal = none_opened files (replay_of names) site site is refl;
+      wire = λ socket none. absurd (none-some socket none);
     })
 
 pub returns-in-Err-load_script-clause-leaves : goal.returns-in-Err-load_script-clause-leaves
@@ -28,11 +31,12 @@ returns-in-Err-load_script-clause-leaves g c =
     let refusal = c.in-Err-load_script.refusal in
     nothing_put refusal (g.K.Sink.state c.args.out.now)
     (λ status whole part last. record {
-      ends = replay_refused files names.limit names.turns names.expression.now names.journal.now names.script.now
+      ends = replay_refused files names.expression.now names.journal.now names.script.now names.limit names.turns
           c.in-Ok.expression c.in-Ok.ensures.ok refusal
           (subst (λ files. RefusesScript files names.script.now refusal) c.in-Ok.ensures.files.contents
           c.in-Err-load_script.ensures.err) status whole part last site.disk;
-      journal = none_opened files names.limit names.turns names.expression.now names.journal.now names.script.now site site is refl;
+      journal = none_opened files (replay_of names) site site is refl;
+      wire = λ socket none. absurd (none-some socket none);
     })
 
 pub returns-in-Err-read_script-clause-leaves : goal.returns-in-Err-read_script-clause-leaves
@@ -45,14 +49,15 @@ returns-in-Err-read_script-clause-leaves g c =
     let refusal = c.in-Err-read_script.refusal in
     nothing_put refusal (g.K.Sink.state c.args.out.now)
     (λ status whole part last. record {
-      ends = replay_refused files names.limit names.turns names.expression.now names.journal.now names.script.now
+      ends = replay_refused files names.expression.now names.journal.now names.script.now names.limit names.turns
           c.in-Ok.expression c.in-Ok.ensures.ok refusal
           (script_refused files names.script.now bytes c.deref.result.now
           (subst (λ files. HasFile files names.script.now bytes) c.in-Ok.ensures.files.contents
           c.in-Ok-load_script.ensures.file)
           c.in-Ok-load_script.ensures.short c.deref.ensures.value refusal c.in-Err-read_script.ensures.err)
           status whole part last site.disk;
-      journal = none_opened files names.limit names.turns names.expression.now names.journal.now names.script.now site site is refl;
+      journal = none_opened files (replay_of names) site site is refl;
+      wire = λ socket none. absurd (none-some socket none);
     })
 
 pub returns-clause-leaves : goal.returns-clause-leaves
@@ -66,7 +71,7 @@ returns-clause-leaves g c =
     load.ensures.file in
     leaves_on
     (λ status whole part session plays. plays files c.in-Ok.ensures.ok
-    (λ events has. replay_reads files names.limit names.turns names.expression.now names.journal.now names.script.now
+    (λ events has. replay_reads files names.expression.now names.journal.now names.script.now names.limit names.turns
     bytes c.in-Ok-read_script.script.bytes.now file load.ensures.short (read.same ∙ c.deref.ensures.value) events has))
     (g.K.Sink.state c.args.out.now) (g.K.Sink.state c.play.new.out)
     c.play.result c.play.ensures.leaves

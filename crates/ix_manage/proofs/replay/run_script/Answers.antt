@@ -1,6 +1,7 @@
 use Rattle.std.proofs.Common.{refl, ap, rules, sym, subst, ◌∙◌}
 use Rattle.ix_manage.specs.Session.{history_line}
-use Rattle.ix_manage.specs.inside.ReplayProgress.{FitsDisk, between, opening_of, player}
+use Rattle.ix_manage.specs.inside.ReplayProgress.{FitsDisk, between, player}
+use Rattle.ix_manage.specs.inside.Turns.{opening_of}
 use Rattle.ix_manage.proofs.Journaling.{alone_lawful, fits_again}
 use Rattle.ix_manage.proofs.Replaying.{history_lost, history_put, leaves_over, replays_on}
 use Rattle.ix_manage.proofs.Stops.{leaves_on}

@@ -2,7 +2,8 @@ use Rattle.std.proofs.Common.{◌≡◌, length, refl, ap, sym, ◌∙◌, subst
 use Rattle.ix_outside.specs.SinkState.{SinkState}
 use Rattle.ix_manager.specs.inside.Saving.{SavesRun}
 use Rattle.ix_script.specs.inside.WithoutSends.{without_sends}
-use Rattle.ix_manage.specs.inside.ReplayProgress.{FitsDisk, IsTurn, OnlyUsesDisk, between, disk_alone, player}
+use Rattle.ix_manage.specs.inside.ReplayProgress.{FitsDisk, OnlyUsesDisk, between, disk_alone, player}
+use Rattle.ix_manage.specs.inside.Turns.{IsTurn}
 use Rattle.ix_manage.proofs.Devices.{holds_same, site_used}
 use Rattle.ix_manage.proofs.Journaling.{event_saves, fits_again, ok_fits, passes_again}
 use Rattle.ix_manage.proofs.Replaying.{event_taken}

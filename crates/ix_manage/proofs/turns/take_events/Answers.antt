@@ -4,7 +4,8 @@ use Rattle.ix_manage.specs.Ends.{Ended}
 use Rattle.ix_manage.specs.declared.refusal.Refusal.TheVariants.{Disk, Turns}
 use Rattle.ix_manage.specs.declared.run.Stop.TheVariants.{Refused}
 use Rattle.ix_manage.specs.inside.Leaves.{StopsAfter}
-use Rattle.ix_manage.specs.inside.ReplayProgress.{ReplaysScript, between, opening_of, player}
+use Rattle.ix_manage.specs.inside.ReplayProgress.{ReplaysScript, between, player}
+use Rattle.ix_manage.specs.inside.Turns.{opening_of}
 use Rattle.ix_manage.proofs.Devices.{plays_still, plays_then}
 use Rattle.ix_manage.proofs.Journaling.{alone_lawful}
 use Rattle.ix_manage.proofs.Replaying.{stands_first, stands_between, stands_fits, out_of_turns_put}
@@ -99,9 +100,10 @@ returns-in-Failed-clause-leaves g c = λ start put.
     at.2.script failed
 
 pub returns-in-Failed-clause-failed : goal.returns-in-Failed-clause-failed
-returns-in-Failed-clause-failed g c = λ is.
-    Rose-earlier _ _ _ c.loop-turn.invariant.2.site.rest.disk
-    (failed_rose c.take_event.ensures.turn c.in-Failed.is)
+returns-in-Failed-clause-failed g c = (
+  λ is. Rose-earlier _ _ _ c.loop-turn.invariant.2.site.rest.disk (failed_rose c.take_event.ensures.turn c.in-Failed.is),
+  λ is. absurd (omega (arith, is)),
+)
 
 pub returns-clause-leaves : goal.returns-clause-leaves
 returns-clause-leaves g c = λ start put.

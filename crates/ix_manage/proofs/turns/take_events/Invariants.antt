@@ -1,5 +1,6 @@
 use Rattle.std.proofs.Common.{◌≡◌, length}
-use Rattle.ix_manage.specs.inside.ReplayProgress.{OnlyPlays, Stands, between, opening_of, player}
+use Rattle.ix_manage.specs.inside.ReplayProgress.{OnlyPlays, Stands, between, player}
+use Rattle.ix_manage.specs.inside.Turns.{opening_of}
 use Rattle.ix_manage.proofs.turns.take_events.Given as goal
 
 -- the manager took the events given so far, one for each turn, and what the site was lent stays

@@ -1,0 +1,341 @@
+-- What one more event makes of a serve.
+use Rattle.std.proofs.Common.{◌≡◌, ◌⊎◌, inl, inr, ℕ, ◌+◌, ◌<◌, ◌≤◌, Bool, true, false, true≢false, List, [], ◌∷◌, ◌++◌}
+use Rattle.std.proofs.Common.{length, get_or, replicate, Option, None, Some, Result, Ok, Err, append_assoc, append-nil, refl, sym, ◌∙◌, ap, subst, arith}
+use Rattle.std.specs.Option.{option_map}
+use Rattle.std.proofs.lemmas.List.{length_push, length-replicate, get_or-replicate, same_from_push}
+use Rattle.ix_words.specs.Each.{Each, no_item, item}
+use Rattle.ix_words.proofs.Each.{Each-append, Each-left}
+use Rattle.ix_expr.specs.Form.{Form}
+use Rattle.ix_values.specs.PlainAction.{Word}
+use Rattle.ix_outside.specs.Contents.{Contents, GivenEvent, Sends, SendsPart, SendsWhole, with_event, with_pair}
+use Rattle.ix_outside.specs.Counts.{Rose}
+use Rattle.ix_outside.specs.Crashes.{Crashes, AreLawful, LeavesTheSame, OneCall}
+use Rattle.ix_outside.specs.SiteState.{SiteState, OnlyWire}
+use Rattle.ix_outside.proofs.Counting.{Rose-earlier, Rose-later}
+use Rattle.ix_outside.specs.declared.event.EventKind.TheVariants.{Closed, End}
+use Rattle.ix_proto.specs.declared.reply.Reply.{Reply}
+use Rattle.ix_store.specs.Keeping.{Keeping}
+use Rattle.ix_manager.specs.Handled.{ManagerState, SendsReplies, held_at}
+use Rattle.ix_manager.specs.Machine.{MachineState}
+use Rattle.ix_manager.specs.RunLaws.{FollowsRun, given_event}
+use Rattle.ix_manager.specs.Runs.{Ending, Opening, Run, begin as run_begins, going, stopped, failed}
+use Rattle.ix_manager.specs.Wire.{SendsInOrder, Wire, all_replies, begin, done, lost, marks_after, reply_line, sent, silent, unmarked}
+use Rattle.ix_manager.specs.inside.OverSite.{FitsSite, FitsWith}
+use Rattle.ix_manager.specs.inside.Saving.{OnlySends, Saves, WhereFailed}
+use Rattle.ix_manager.proofs.RunLemmas.{started_follows, taken_follows, taken_goes_on}
+use Rattle.ix_manager.proofs.SavingLemmas.{saves_join, saves_none, saves_sends}
+use Rattle.ix_manager.proofs.SendLemmas.{untold_sends, wire_goes_on}
+use Rattle.ix_manage.specs.Puts.{LastLine}
+use Rattle.ix_manage.specs.Serve.{ServesWire, ends, wire_failed, with_heard}
+use Rattle.ix_manage.specs.Session.{IsNoEnd, IsOver, Session, disk_failed, history_line, lost_history, out_of_turns, over}
+use Rattle.ix_manage.specs.declared.refusal.Refusal.TheVariants.{Disk, Turns, Wire as WireRefusal}
+use Rattle.ix_manage.specs.declared.run.Stop.{Stop}
+use Rattle.ix_manage.specs.declared.run.Stop.TheVariants.{OtherExpression, Output, Refused, Words}
+use Rattle.ix_manage.specs.declared.turn.Turn.{Turn}
+use Rattle.ix_manage.specs.declared.turn.Turn.TheVariants.{More, Done, Cut, Failed}
+use Rattle.ix_manage.specs.inside.ServeProgress.{SentFor, ServedSession, Serves, ServesTo, ServesTurn, TakesOver, took, unheard}
+use Rattle.ix_manage.specs.inside.Turns.{IsStarted, IsTurn, SavesFrom, Stretch, opening_of}
+use Rattle.ix_manage.proofs.Replaying.{few_bytes, given_told, marks_same, new_mark, no_answers, nothing_sent}
+
+-- a call of the wire sends nothing, and leaves the disk alone
+pub wire_only : (old new : SiteState) (was is : Crashes) → OnlyWire old new → LeavesTheSame was.now is.now
+    → OneCall old new was is → OnlySends old new was is
+wire_only old new was is only same call = record {
+  count = only.disk;
+  disk = inl only.file;
+  now = same;
+  passes = call.passes;
+  images = λ image left. elim (call.images image left) [ inl now ↦ now | inr now ↦ (same image).0 now ];
+}
+
+-- so the history is kept over it
+pub wire_saves : (x : Form) (h : Word) (store : Keeping) (old new : SiteState) (was is : Crashes)
+    → AreLawful old was → AreLawful new is → FitsWith x h store old was → OnlySends old new was is
+    → Saves going x h h store old new was is
+wire_saves x h store old new was is before lawful fits only =
+    saves_sends going x h h store old old new was was is before lawful (saves_none x h store old was before fits) only
+
+-- where replies leave an open connection unmarked, none of the sends answered Gone
+gone_same : {conn : ℕ} {replies : List Reply} {marked : Bool} {before after : Contents}
+    → SendsInOrder (λ reply. SendsWhole conn (reply_line reply)) (λ reply. SendsPart conn (reply_line reply)) replies false before marked after
+    → marked ≡ false → (old new : Sends) → before.sends ≡ Some old → after.sends ≡ Some new → new.gone ≡ old.gone
+gone_same done is old new told told' = let same : Some old ≡ Some new = sym told ∙ told' in ap (λ (s : Sends). s.gone) (sym (some_is same))
+  where
+    some_is : {a b : Sends} → Some a ≡ Some b → a ≡ b
+    some_is e = cc
+gone_same {conn = conn} (sent {reply = reply} goes rest) is old new told told' =
+    gone_same rest is (with_pair conn (reply_line reply) old) new
+    (goes.sends ∙ ap (option_map (with_pair conn (reply_line reply))) told) told'
+gone_same (lost part rest) is old new told told' = absurd (true≢false is)
+
+-- events that are told with one more were told before
+told_before : (known : Option (List GivenEvent)) (given : GivenEvent) (all : List GivenEvent)
+    → option_map (λ events. events ++ given ∷ []) known ≡ Some all
+    → (old : List GivenEvent) × (known ≡ Some old) × (all ≡ old ++ given ∷ [])
+told_before None given all told = cc
+told_before (Some old) given all told = (old, refl, cc)
+
+-- sends that are told were told before
+sends_before : (known now : Option Sends) (new : Sends) → (known ≡ None → now ≡ None) → now ≡ Some new
+    → (old : Sends) × (known ≡ Some old)
+sends_before None now new stays told = let none = stays refl in cc
+sends_before (Some old) now new stays told = (old, refl)
+
+-- a manager that was just started serves a site without events
+pub serves_first : (m : ManagerState) (site : SiteState) (crashes : Crashes) → IsStarted m
+    → AreLawful site crashes → FitsSite m site crashes
+    → Serves (opening_of m) [] m (record { before = site; after = site; was = crashes; is = crashes })
+serves_first m site crashes fresh lawful fits =
+    let marks : m.marks ≡ unmarked = ap (λ (s : ManagerState). s.marks) fresh in
+    let ticket : m.machine.ticket ≡ 1 = ap (λ (s : ManagerState). s.machine.ticket) fresh in record {
+      answers = [];
+      follows = subst (λ s. FollowsRun (opening_of m) [] [] s) (sym fresh) (started_follows (opening_of m) m.store);
+      tickets = omega (arith, ticket);
+      no_end = no_item;
+      sent = record {
+        given = λ new told. (new, told, sym (append-nil new));
+        wire = λ new told. (new, told, subst (λ marks. Wire new [] [] marks new) (sym marks) begin);
+        whole = λ none. (marks, λ old new told told'. gone_is old new (sym told ∙ told'));
+      };
+      saves = saves_none m.form m.machine.history m.store site crashes lawful fits;
+    }
+  where
+    gone_is : (old new : Sends) → Some old ≡ Some new → new.gone ≡ old.gone
+    gone_is old new same = let is : new ≡ old = cc in ap (λ (s : Sends). s.gone) is
+
+module _ {opening : Opening} {taken : List GivenEvent} {m : ManagerState} {a b : SiteState} {p q : Crashes}
+    (serves : Serves opening taken m (record { before = a; after = b; was = p; is = q }))
+  where
+    -- the store fits what was made of the site
+    pub serves_fits : FitsSite m b q
+    serves_fits = subst (λ x. FitsWith x m.machine.history m.store b q) (sym serves.follows.form_is) serves.saves.fits
+
+    -- the session so far
+    abbrev pub so_far : Session
+    so_far = record { opening = opening; taken = taken; answers = serves.answers; last = m.machine; ending = going }
+
+    -- over calls of the wire more
+    pub served_so_far : (turns : ℕ) → length taken ≤ turns
+        → ServedSession opening turns m.machine (record { before = a; after = b; was = p; is = q }) so_far
+    served_so_far turns few = record {
+      opening_is = refl;
+      last_is = refl;
+      takes = record {
+        run = serves.follows.run;
+        few = few;
+        before_the_end = λ before last is. Each-left before (last ∷ []) (subst (Each IsNoEnd) is serves.no_end);
+      };
+      store = m.store;
+      saves = serves.saves;
+    }
+
+-- a turn that wasn't cut short took an event
+pub taken_over : {old new : ManagerState} {stretch : Stretch} {turn : Turn} → ServesTurn old new stretch turn
+    → (turn ≡ Cut → ⊥) → TakesOver old new stretch turn
+taken_over (unheard same contents rose saves) not = absurd (not refl)
+taken_over (took it) not = it
+
+module _ {old new : ManagerState} {turn : Turn} {a b c : SiteState} {p q r : Crashes}
+    (it : TakesOver old new (record { before = b; after = c; was = q; is = r }) turn)
+    {opening : Opening} {taken : List GivenEvent}
+    (serves : Serves opening taken old (record { before = a; after = b; was = p; is = q }))
+    (lawful : AreLawful c r)
+    (first : a.counts.send ≤ b.counts.send) (second : b.counts.send ≤ c.counts.send)
+  where
+    -- from the start on
+    abbrev stretch : Stretch
+    stretch = record { before = a; after = c; was = p; is = r }
+
+    abbrev given : GivenEvent
+    given = given_event it.event it.piece
+
+    abbrev longer : List GivenEvent
+    longer = taken ++ given ∷ []
+
+    abbrev answers : List (List (List Reply))
+    answers = serves.answers ++ it.handled.answers ∷ []
+
+    abbrev pub played : Session
+    played = record { opening = opening; taken = longer; answers = answers; last = new.machine; ending = it.ending }
+
+    saved : SavesFrom opening it.ending new.machine.history new.store stretch
+    saved = saves_join it.ending opening.form opening.history old.machine.history new.machine.history old.store new.store a b c p q r lawful
+        serves.saves
+        (subst (λ x. Saves it.ending x old.machine.history new.machine.history new.store b c q r) serves.follows.form_is it.saves)
+
+    -- the mark that the event's replies left, where the count of sends didn't rise
+    none_marked : old.marks ≡ unmarked → ¬ Rose b.counts.send c.counts.send → it.handled.sends.marked ≡ false
+    none_marked marks none = by_cases it.handled.sends.marked refl
+      where
+        opened : get_or old.marks it.event.conn false ≡ false
+        opened = ap (λ marks. get_or marks it.event.conn false) marks ∙ get_or-replicate 64 it.event.conn false false it.fits.0
+
+        within : it.event.conn < length old.marks
+        within = subst (λ n. it.event.conn < n) (sym (ap length marks ∙ length-replicate 64 false)) it.fits.0
+
+        mark_is : get_or new.marks it.event.conn false ≡ it.handled.sends.marked
+        mark_is =
+            ap (λ marks. get_or marks it.event.conn false) it.handled.sends.marks
+            ∙ new_mark it.event.kind it.event.conn it.handled.sends.marked old.marks within
+            (λ closed. nothing_sent it.handled.sends.sends (ap all_replies (no_answers it.event.kind (held_at it.event.conn old.lines) it.piece it.handled.takes.steps closed)) ∙ opened)
+
+        by_cases : (marked : Bool) → it.handled.sends.marked ≡ marked → it.handled.sends.marked ≡ false
+        by_cases true is = absurd (none (it.marked it.event.conn opened (mark_is ∙ is)))
+        by_cases false is = is
+
+    pub sent_now : SentFor longer answers new.marks a c
+    sent_now = record {
+      given = λ all told.
+          let mine = told_before b.contents.given given all (given_told it.handled.sends.sends told) in
+          let earlier = serves.sent.given mine.0 mine.1 in
+          (earlier.0, earlier.1, mine.2 ∙ ap (λ events. events ++ given ∷ []) earlier.2 ∙ append_assoc earlier.0 taken (given ∷ []));
+      wire = λ sends told.
+          let mine = sends_before b.contents.sends c.contents.sends sends (untold_sends it.event.conn it.handled.sends.sends) told in
+          let earlier = serves.sent.wire mine.0 mine.1 in
+          (earlier.0, earlier.1,
+          wire_goes_on earlier.0 taken serves.answers mine.0 sends old it.event it.piece it.handled.answers new
+          (with_event it.event it.piece b.contents) c.contents earlier.2 it.handled.sends mine.1 told);
+      whole = λ none.
+          let earlier = serves.sent.whole (λ rose. none (Rose-later a.counts.send b.counts.send c.counts.send rose second)) in
+          let marked = none_marked earlier.0 (λ rose. none (Rose-earlier a.counts.send b.counts.send c.counts.send first rose)) in
+          (it.handled.sends.marks ∙ (λ i. marks_after it.event.kind it.event.conn (marked i) (earlier.0 i)) ∙ marks_same it.event.kind it.event.conn,
+          λ start last told told'.
+          let mine = sends_before b.contents.sends c.contents.sends last (untold_sends it.event.conn it.handled.sends.sends) told' in
+          gone_same (opened_sends earlier.0) marked mine.0 last mine.1 told' ∙ earlier.1 start mine.0 told mine.1);
+    }
+      where
+        opened_sends : old.marks ≡ unmarked
+            → SendsInOrder (λ reply. SendsWhole it.event.conn (reply_line reply)) (λ reply. SendsPart it.event.conn (reply_line reply))
+            (all_replies it.handled.answers) false (with_event it.event it.piece b.contents) it.handled.sends.marked c.contents
+        opened_sends marks = subst (λ m. SendsInOrder (λ reply. SendsWhole it.event.conn (reply_line reply)) (λ reply. SendsPart it.event.conn (reply_line reply))
+            (all_replies it.handled.answers) m (with_event it.event it.piece b.contents) it.handled.sends.marked c.contents)
+            (ap (λ marks. get_or marks it.event.conn false) marks ∙ get_or-replicate 64 it.event.conn false false it.fits.0)
+            it.handled.sends.sends
+
+    -- it may go on
+    pub serves_more : turn ≡ More → Serves opening longer new stretch
+    serves_more same =
+        let is = subst (IsTurn false it.ending it.event.kind) same it.turn_is in record {
+          answers = answers;
+          follows = taken_follows opening taken serves.answers old it.event it.piece it.handled.answers new it.ending serves.follows it.fits it.handled.takes is.1;
+          tickets =
+              let few = few_bytes it.event.kind it.piece it.fits.1 in
+              let long = length_push taken given in
+              let least = serves.tickets in
+              let rises = it.tickets in omega (arith, few, long, least, rises);
+          no_end = Each-append serves.no_end (item is.2 no_item);
+          sent = sent_now;
+          saves = subst (λ e. SavesFrom opening e new.machine.history new.store stretch) is.1 saved;
+        }
+
+    -- the session so far
+    pub served_played : (turns : ℕ) → length longer ≤ turns → ServedSession opening turns new.machine stretch played
+    served_played turns few = record {
+      opening_is = refl;
+      last_is = refl;
+      takes = record {
+        run = taken_goes_on opening taken serves.answers old it.event it.piece it.handled.answers new it.ending serves.follows it.fits it.handled.takes;
+        few = few;
+        before_the_end = λ before last is. subst (Each IsNoEnd) (same_from_push taken before given last is).0 serves.no_end;
+      };
+      store = new.store;
+      saves = saved;
+    }
+
+    module _ {T : Type 0} (turns : ℕ) (few : length longer ≤ turns) (start : ManagerState) (same_opening : opening ≡ opening_of start)
+      where
+        -- the event was the end or brought `stop`
+        pub turn_done : (value : T) → turn ≡ Done → ServesTo turns start new stretch (Ok value)
+        turn_done value same = record {
+          session = played;
+          served = subst (λ o. ServedSession o turns new.machine stretch played) same_opening (served_played turns few);
+          marks = new.marks;
+          sent = sent_now;
+          ends = is_over ((subst (IsTurn false it.ending it.event.kind) same it.turn_is).1);
+        }
+          where
+            is_over : (it.event.kind ≡ End) ⊎ (it.ending ≡ stopped) → IsOver played
+            is_over (inl end) = inl (taken, given, refl, end)
+            is_over (inr stops) = inr stops
+
+        -- the disk failed
+        pub turn_failed : turn ≡ Failed → ServesTo {T = T} turns start new stretch (Err (Refused Disk))
+        turn_failed same = record {
+          session = played;
+          served = subst (λ o. ServedSession o turns new.machine stretch played) same_opening (served_played turns few);
+          marks = new.marks;
+          sent = sent_now;
+          ends = λ status whole part last. ends (disk_failed (subst (IsTurn false it.ending it.event.kind) same it.turn_is).1.1 last);
+        }
+
+-- where the disk failed, its count rose
+pub disk_rose : {old new : ManagerState} {stretch : Stretch} {turn : Turn} → TakesOver old new stretch turn → turn ≡ Failed
+    → Rose stretch.before.counts.disk stretch.after.counts.disk
+disk_rose {stretch = stretch} it same =
+    let is = subst (IsTurn false it.ending it.event.kind) same it.turn_is in
+    let P : Ending → Type 0 = λ e. WhereFailed e (Rose stretch.before.counts.disk stretch.after.counts.disk) in
+    subst P is.1.1 it.saves.faults
+
+-- a turn that was cut short took no event
+module _ {old new : ManagerState} {b c : SiteState} {q r : Crashes} where
+  pub cut_unheard : {turn : Turn} → ServesTurn old new (record { before = b; after = c; was = q; is = r }) turn → turn ≡ Cut
+      → (new ≡ old) × (c.contents ≡ b.contents) × Rose b.counts.wire c.counts.wire
+      × Saves going old.form old.machine.history new.machine.history new.store b c q r
+  cut_unheard (unheard same contents rose saves) is = (same, contents, rose, saves)
+  cut_unheard (took it) is =
+      let no : false ≡ true = subst (IsTurn false it.ending it.event.kind) is it.turn_is in absurd (true≢false (sym no))
+
+-- where the wire failed, no further event came
+module _ {old new : ManagerState} {a b c : SiteState} {p q r : Crashes}
+    {opening : Opening} {taken : List GivenEvent}
+    (serves : Serves opening taken old (record { before = a; after = b; was = p; is = q }))
+    (cut : (new ≡ old) × (c.contents ≡ b.contents) × Rose b.counts.wire c.counts.wire
+    × Saves going old.form old.machine.history new.machine.history new.store b c q r)
+    (lawful : AreLawful c r) (sends : b.counts.send ≤ c.counts.send)
+  where
+    abbrev over_all : Stretch
+    over_all = record { before = a; after = c; was = p; is = r }
+
+    contents_are : c.contents ≡ b.contents
+    contents_are = cut.1
+
+    sent_still : SentFor taken serves.answers old.marks a c
+    sent_still = record {
+      given = λ new told. serves.sent.given new (sym (ap (λ (k : Contents). k.given) contents_are) ∙ told);
+      wire = λ new told. serves.sent.wire new (sym (ap (λ (k : Contents). k.sends) contents_are) ∙ told);
+      whole = λ none.
+          let earlier = serves.sent.whole (λ rose. none (Rose-later a.counts.send b.counts.send c.counts.send rose sends)) in
+          (earlier.0, λ start last told told'. earlier.1 start last told (sym (ap (λ (k : Contents). k.sends) contents_are) ∙ told'));
+    }
+
+    pub turn_cut : {T : Type 0} (turns : ℕ) → length taken < turns → (start : ManagerState) → opening ≡ opening_of start
+        → ServesTo {T = T} turns start new over_all (Err (Refused WireRefusal))
+    turn_cut turns few start same_opening = record {
+      session = so_far serves;
+      served = subst (λ o. ServedSession o turns new.machine over_all (so_far serves)) same_opening (record {
+        opening_is = refl;
+        last_is = sym (ap (λ (s : ManagerState). s.machine) cut.0);
+        takes = (served_so_far serves turns (omega (arith, few))).takes;
+        store = new.store;
+        saves = saves_join going opening.form opening.history old.machine.history new.machine.history old.store new.store a b c p q r lawful
+            serves.saves
+            (subst (λ x. Saves going x old.machine.history new.machine.history new.store b c q r) serves.follows.form_is cut.3);
+      });
+      marks = old.marks;
+      sent = sent_still;
+      ends = λ status whole part last. wire_failed few (serves.no_end, refl) last;
+    }
+
+-- as many events as turns were taken
+pub turns_out : {T : Type 0} {opening : Opening} {taken : List GivenEvent} {m : ManagerState} {a b : SiteState} {p q : Crashes}
+    (serves : Serves opening taken m (record { before = a; after = b; was = p; is = q }))
+    (turns : ℕ) → length taken ≡ turns → (start : ManagerState) → opening ≡ opening_of start
+    → ServesTo {T = T} turns start m (record { before = a; after = b; was = p; is = q }) (Err (Refused Turns))
+turns_out {m = m} {a = a} {b = b} {p = p} {q = q} serves turns all start same_opening = record {
+  session = so_far serves;
+  served = subst (λ o. ServedSession o turns m.machine (record { before = a; after = b; was = p; is = q }) (so_far serves)) same_opening
+      (served_so_far serves turns (omega (arith, all)));
+  marks = m.marks;
+  sent = serves.sent;
+  ends = λ status whole part last. ends (out_of_turns all (serves.no_end, refl) last);
+}

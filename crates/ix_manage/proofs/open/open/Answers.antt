@@ -1,0 +1,73 @@
+use Rattle.std.proofs.Common.{inl, None, Ok, Err, refl, sym, ap, subst}
+use Rattle.ix_can.specs.TreeOf.{tree_size}
+use Rattle.ix_manager.specs.inside.StartAnswers.{IsFault}
+use Rattle.ix_manager.proofs.SavingLemmas.{told_disk}
+use Rattle.ix_manage.specs.Journal.{UsesJournal}
+use Rattle.ix_manage.specs.inside.Leaves.{StopsAfter}
+use Rattle.ix_manage.specs.inside.Opening.{EndsUnstarted}
+use Rattle.ix_manage.proofs.Opening.{left_at, none_opened, of_journal, on_journal, start_keeps, start_uses}
+use Rattle.ix_manage.proofs.Playing.{disk_stops, fault_kind, start_stops, started_small}
+use Rattle.ix_manage.proofs.open.open.Goals as goal
+
+-- nothing was attached
+pub returns-in-Err-clause-stops : goal.returns-in-Err-clause-stops
+returns-in-Err-clause-stops g c = λ sink.
+    let before = g.S.Site.state c.args.site.now in
+    let after = g.S.Site.state c.attach.new.self in
+    let is = g.S.Site.crashes c.attach.new.self in
+    disk_stops c.args.expression c.args.limit c.args.journal.now before after is
+    (λ files job it. none_opened files job before after is c.in-Err.ensures.file) sink
+
+-- no manager was started
+pub returns-in-Err-start-clause-stops : goal.returns-in-Err-start-clause-stops
+returns-in-Err-start-clause-stops g c = λ sink.
+    let x = c.args.expression in
+    let limit = c.args.limit in
+    let name = c.args.journal.now in
+    let before = g.S.Site.state c.args.site.now in
+    let at = g.S.Site.state c.attach.new.self in
+    let p = g.S.Site.crashes c.attach.new.self in
+    let mid = g.S.Site.state c.start.new.site in
+    let q = g.S.Site.crashes c.start.new.site in
+    let why = c.in-Err-start.fault in
+    let told = c.in-Err-start.ensures in
+    subst (λ stop. StopsAfter (EndsUnstarted x limit name before mid q) sink sink stop) (sym c.start_stop.ensures)
+    (start_stops x limit name before mid q
+    (λ files job it. on_journal files job it.expression name x it.of_expression it.has_journal it.reads None before at mid q
+    c.in-Ok.ensures.file (inl told.calls.opened)
+    (λ d is e after. subst (λ n. UsesJournal x n None e.file (record { name = name; tick = at.tick; file = d.file }) q)
+    (sym it.limit_is)
+    (start_uses x limit at mid p q d name is
+    (left_at at.disk p.now c.in-Ok.ensures.now d is) (told.leaves d is)
+    (g.met.S.Site.lawful c.start.new.site) told.calls.passes.left.later e after)))
+    sink why (λ l same. told.only_large l (ap Err same))
+    (fault_kind limit (tree_size x _) (Err why) why refl told.large)
+    (λ small. of_journal (λ file. IsFault x limit file why) name at.tick before.disk at.disk mid.disk
+    c.in-Ok.ensures.file told.calls.opened (λ d is. told.not_large small d is)))
+
+-- a manager was started
+pub returns-in-Ok-start-clause-starts : goal.returns-in-Ok-start-clause-starts
+returns-in-Ok-start-clause-starts g c =
+    let x = c.args.expression in
+    let limit = c.args.limit in
+    let at = g.S.Site.state c.attach.new.self in
+    let p = g.S.Site.crashes c.attach.new.self in
+    let mid = g.S.Site.state c.start.new.site in
+    let q = g.S.Site.crashes c.start.new.site in
+    let told = c.in-Ok-start.ensures in
+    let m = c.in-Ok-start.manager in
+    let small = started_small limit (tree_size x _) (Ok m) m refl told.large in record {
+      at = at;
+      fresh = told.starts;
+      small = small;
+      opened = c.in-Ok.ensures.file;
+      stays = told.calls.opened;
+      later = told.calls.passes.left.later;
+      starts = λ d is. told.not_large small d is;
+      keeps = λ some.
+          let disk = told_disk at.disk some in
+          start_keeps x limit at mid p q disk.0 c.args.journal.now disk.1
+          (left_at at.disk p.now c.in-Ok.ensures.now disk.0 disk.1) (told.leaves disk.0 disk.1)
+          m.machine.history (told.not_large small disk.0 disk.1);
+      fits = told.fits;
+    }

@@ -1,0 +1,30 @@
+use Rattle.std.proofs.Common.{◌≡◌, ℕ, List, Option, sym, ◌∙◌, ap, subst}
+use Rattle.std.proofs.lemmas.Option.{none-some}
+use Rattle.ix_cli.specs.Words.{Job, trace}
+use Rattle.ix_cli.specs.inside.Jobs.{job_of}
+use Rattle.ix_manage.specs.Ends.{JobOver}
+use Rattle.ix_manage.specs.Session.{Session}
+use Rattle.ix_manage.specs.inside.Playing.{TraceEnds}
+use Rattle.ix_manage.proofs.Stops.{leaves_on}
+use Rattle.ix_manage.proofs.run.run_job.Goals as goal
+
+pub returns-in-Trace-clause-leaves : goal.returns-in-Trace-clause-leaves
+returns-in-Trace-clause-leaves g c =
+    let files = (g.F.Files.state c.args.files.now).contents in
+    let site = g.S.Site.state c.args.site.now in
+    let crashes = g.S.Site.crashes c.args.site.now in
+    let limit = c.in-Trace.nodes in
+    let named : job_of c.args.job.now ≡ trace c.as_str.result.now c.as_str-in-Trace.result.now limit =
+    ap job_of c.in-Trace.is ∙ (λ i. trace (sym c.as_str.ensures.value i) (sym c.as_str-in-Trace.ensures.value i) limit) in
+    let ends : (status : ℕ) (whole part : List ℕ) (session : Option Session)
+    → TraceEnds files (record { expression = c.as_str.result; actions = c.as_str-in-Trace.result; limit = limit }) status whole part session
+    → JobOver files (job_of c.args.job.now) site site crashes status whole part session =
+    λ status whole part session end.
+    subst (λ (job : Job). JobOver files job site site crashes status whole part session) (sym named)
+    (record {
+      ends = end site.disk;
+      journal = λ expression journal of_expression has_journal. absurd (none-some journal has_journal);
+      wire = λ socket same. absurd (none-some socket same);
+    }) in
+    leaves_on ends (g.K.Sink.state c.args.out.now) (g.K.Sink.state c.run_trace.new.out)
+    c.run_trace.result c.run_trace.ensures.leaves

@@ -1,0 +1,87 @@
+use Rattle.std.proofs.Common.{ap, ◌∙◌, arith}
+use Rattle.std.specs.Io.KnownBytes.{append_known}
+use Rattle.ix_manager.proofs.SavingLemmas.{fits_sends}
+use Rattle.ix_manage.specs.Session.{history_line}
+use Rattle.ix_manage.specs.declared.refusal.Refusal.TheVariants.{Wire}
+use Rattle.ix_manage.specs.inside.ServeProgress.{unheard}
+use Rattle.ix_manage.proofs.Devices.{served_then, served_wire}
+use Rattle.ix_manage.proofs.ServeEnding.{history_lost, leaves_serving}
+use Rattle.ix_manage.proofs.ServeLemmas.{wire_only, wire_saves}
+use Rattle.ix_manage.proofs.Stops.{failed_later, nothing_put}
+use Rattle.ix_manage.proofs.serve.take_connections.Goals as goal
+
+-- nothing was listened to
+pub returns-in-Err-clause-leaves : goal.returns-in-Err-clause-leaves
+returns-in-Err-clause-leaves g c =
+    let m = c.args.manager.now in
+    let old = c.args.site.now in
+    let new = c.listen.new.self in
+    let saves = wire_saves m.form m.machine.history m.store (g.S.Site.state old) (g.S.Site.state new) (g.S.Site.crashes old) (g.S.Site.crashes new)
+    (g.met.S.Site.lawful old) (g.met.S.Site.lawful new) c.requires.fits
+    (wire_only (g.S.Site.state old) (g.S.Site.state new) (g.S.Site.crashes old) (g.S.Site.crashes new)
+    c.in-Err.ensures.rest c.in-Err.ensures.now c.in-Err.ensures.call) in
+    nothing_put Wire (g.K.Sink.state c.args.out.now)
+    (λ status whole part last. unheard m.store c.in-Err.ensures.contents saves last)
+
+pub returns-in-Err-clause-site : goal.returns-in-Err-clause-site
+returns-in-Err-clause-site g c = served_wire _ _ c.in-Err.ensures.rest
+
+-- the put of the history's line fails
+pub returns-in-Err-put-clause-leaves : goal.returns-in-Err-put-clause-leaves
+returns-in-Err-put-clause-leaves g c =
+    let m = c.args.manager.now in
+    let old = c.args.site.now in
+    let new = c.listen.new.self in
+    let saves = wire_saves m.form m.machine.history m.store (g.S.Site.state old) (g.S.Site.state new) (g.S.Site.crashes old) (g.S.Site.crashes new)
+    (g.met.S.Site.lawful old) (g.met.S.Site.lawful new) c.requires.fits
+    (wire_only (g.S.Site.state old) (g.S.Site.state new) (g.S.Site.crashes old) (g.S.Site.crashes new)
+    c.in-Ok.ensures.rest c.in-Ok.ensures.now c.in-Ok.ensures.call) in (
+      history_lost m c.requires.manager c.args.names.turns c.args.names.socket.now c.deref.result.now
+          (g.S.Site.state old) (g.S.Site.state new) (g.S.Site.crashes old) (g.S.Site.crashes new) saves
+          c.in-Ok.ensures.contents c.in-Ok.ensures.rest.send
+          (g.K.Sink.state c.args.out.now) (g.K.Sink.state c.put.new.self)
+          (c.deref.ensures.0 ∙ c.history_line.ensures ∙ ap history_line c.history.ensures)
+          c.in-Err-put.ensures.part,
+      c.in-Err-put.ensures.failed,
+    )
+
+pub returns-in-Err-put-clause-site : goal.returns-in-Err-put-clause-site
+returns-in-Err-put-clause-site g c = served_wire _ _ c.in-Ok.ensures.rest
+
+pub serve_events-requires-clause-fits : goal.serve_events-requires-clause-fits
+serve_events-requires-clause-fits g c =
+    let m = c.args.manager.now in
+    let old = c.args.site.now in
+    let new = c.listen.new.self in
+    fits_sends m.form m.machine.history m.store (g.S.Site.state old) (g.S.Site.state new) (g.S.Site.crashes old) (g.S.Site.crashes new)
+    (wire_only (g.S.Site.state old) (g.S.Site.state new) (g.S.Site.crashes old) (g.S.Site.crashes new)
+    c.in-Ok.ensures.rest c.in-Ok.ensures.now c.in-Ok.ensures.call)
+    c.requires.fits
+
+pub returns-clause-leaves : goal.returns-clause-leaves
+returns-clause-leaves g c =
+    let m = c.args.manager.now in
+    let old = c.args.site.now in
+    let new = c.listen.new.self in
+    let end = c.serve_events.new.site in
+    let saves = wire_saves m.form m.machine.history m.store (g.S.Site.state old) (g.S.Site.state new) (g.S.Site.crashes old) (g.S.Site.crashes new)
+    (g.met.S.Site.lawful old) (g.met.S.Site.lawful new) c.requires.fits
+    (wire_only (g.S.Site.state old) (g.S.Site.state new) (g.S.Site.crashes old) (g.S.Site.crashes new)
+    c.in-Ok.ensures.rest c.in-Ok.ensures.now c.in-Ok.ensures.call) in
+    leaves_serving c.args.names.turns c.args.names.socket.now m c.serve_events.new.manager
+    (g.S.Site.state old) (g.S.Site.state new) (g.S.Site.state end)
+    (g.S.Site.crashes old) (g.S.Site.crashes new) (g.S.Site.crashes end)
+    (g.met.S.Site.lawful end) saves c.in-Ok.ensures.contents c.in-Ok.ensures.rest.send
+    (g.K.Sink.state c.args.out.now) (g.K.Sink.state c.put.new.self)
+    (c.in-Ok-put.ensures.whole ∙ ap (λ line. append_known (g.K.Sink.state c.args.out.now).written line)
+    (c.deref.ensures.0 ∙ c.history_line.ensures ∙ ap history_line c.history.ensures))
+    c.serve_events.result c.serve_events.ensures.serves
+
+pub returns-clause-failed : goal.returns-clause-failed
+returns-clause-failed g c =
+    let only = c.in-Ok.ensures.rest in
+    failed_later (g.S.Site.state c.args.site.now) (g.S.Site.state c.listen.new.self) (g.S.Site.state c.serve_events.new.site)
+    c.serve_events.result (omega (arith, only.disk)) only.wire c.serve_events.ensures.failed
+
+pub returns-clause-site : goal.returns-clause-site
+returns-clause-site g c = served_then _ _ _ (served_wire _ _ c.in-Ok.ensures.rest) c.serve_events.ensures.site

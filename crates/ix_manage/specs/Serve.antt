@@ -1,0 +1,47 @@
+-- What `serve` puts, and what it makes of its connections.
+use Rattle.std.specs.Prelude.{◌≡◌, ℕ, ◌<◌, List, [], ◌∷◌, ◌++◌, length, Bool, Option, None, Some, codes}
+use Rattle.ix_outside.specs.Contents.{GivenEvent, Sends}
+use Rattle.ix_outside.specs.Counts.{Rose}
+use Rattle.ix_outside.specs.SiteState.{SiteState}
+use Rattle.ix_manager.specs.Wire.{Wire}
+use Rattle.ix_cli.specs.Words.{Job}
+use Rattle.ix_manage.specs.ActionLines.{line}
+use Rattle.ix_manage.specs.Command.{socket_of}
+use Rattle.ix_manage.specs.Puts.{LastLine}
+use Rattle.ix_manage.specs.Session.{MayGoOn, Session, SessionEnds, history_line}
+
+-- how a session of `serve` ends: behind the line of the history, or where no further event came
+-- since the wire failed
+pub data ServeEnds (turns : ℕ) (session : Session) : ℕ → List ℕ → List ℕ → Type 0 where
+  ends : {status : ℕ} {whole part : List ℕ}
+      → SessionEnds turns (history_line session.opening.history) session status whole part
+      → ServeEnds turns session status whole part
+  wire_failed : {status : ℕ} {whole part : List ℕ}
+      → length session.taken < turns → MayGoOn session
+      → LastLine 6 (history_line session.opening.history) (line (codes "refused wire")) status whole part
+      → ServeEnds turns session status whole part
+
+-- with one more name behind those heard
+abbrev pub with_heard : List ℕ → Sends → Sends
+with_heard name sends = record sends { heard = sends.heard ++ name ∷ [] }
+
+-- A session's events are those that the site gave since, its replies are what was sent since, and
+-- only the socket was listened to, once: each where the site tells it. Where the count of sends
+-- didn't rise, no send answered Gone.
+pub record ServesWire (socket : List ℕ) (session : Session) (before after : SiteState) : Type 0 where
+  pub given : (old new : List GivenEvent) → before.contents.given ≡ Some old
+      → after.contents.given ≡ Some new → new ≡ old ++ session.taken
+  pub wire : (old new : Sends) → before.contents.sends ≡ Some old → after.contents.sends ≡ Some new
+      → (marks : List Bool) × Wire (with_heard socket old) session.taken session.answers marks new
+  pub whole : ¬ Rose before.counts.send after.counts.send → (old new : Sends)
+      → before.contents.sends ≡ Some old → after.contents.sends ≡ Some new → new.gone ≡ old.gone
+
+-- where no session came to be, no event was given, nothing was sent and nothing was listened to
+abbrev pub UsesWire : List ℕ → Option Session → SiteState → SiteState → Type 0
+UsesWire socket None before after = after.contents ≡ before.contents
+UsesWire socket (Some session) before after = ServesWire socket session before after
+
+-- what a job makes of the connections of its socket, where it has one
+abbrev pub OnWire : Job → SiteState → SiteState → Option Session → Type 0
+OnWire job before after session = (socket : List ℕ) → socket_of job ≡ Some socket
+    → UsesWire socket session before after

@@ -1,0 +1,52 @@
+-- A run as far as it went: what it started from, what an event's turn is, and what its journal keeps.
+use Rattle.std.specs.Prelude.{◌≡◌, ◌≢◌, ◌⊎◌, Bool, true, false}
+use Rattle.ix_values.specs.PlainAction.{PlainAction, Word}
+use Rattle.ix_outside.specs.Crashes.{Crashes}
+use Rattle.ix_outside.specs.SiteState.{SiteState}
+use Rattle.ix_outside.specs.declared.event.EventKind.{EventKind}
+use Rattle.ix_outside.specs.declared.event.EventKind.TheVariants.{End}
+use Rattle.ix_store.specs.Keeping.{Keeping}
+use Rattle.ix_manager.specs.Handled.{ManagerState, started}
+use Rattle.ix_manager.specs.Runs.{Ending, Opening, going, stopped, failed}
+use Rattle.ix_manager.specs.inside.Saving.{Saves}
+use Rattle.ix_manage.specs.declared.turn.Turn.{Turn}
+use Rattle.ix_manage.specs.declared.turn.Turn.TheVariants.{More, Done, Cut, Failed}
+
+-- what a manager's run would start from as the manager stands
+abbrev pub opening_of : ManagerState → Opening
+opening_of m = record { form = m.form; limit = m.limit; history = m.machine.history }
+
+-- the manager was just started
+abbrev pub IsStarted : ManagerState → Type 0
+IsStarted m = m ≡ started (opening_of m) m.store
+
+-- a stretch of calls of a site: the site before and after it, and what a crash may leave
+pub record Stretch : Type 1 where
+  pub before : SiteState
+  pub after : SiteState
+  pub was : Crashes
+  pub is : Crashes
+
+-- between two states of a site
+abbrev pub stretch_of : {S : Type 0} → (S → SiteState) → (S → Crashes) → S → S → Stretch
+stretch_of site_state site_crashes old new = record {
+  before = site_state old;
+  after = site_state new;
+  was = site_crashes old;
+  is = site_crashes new;
+}
+
+-- what an event's turn is: a put failed; or none did, and the disk failed, or the event was the end
+-- or brought `stop`; or else the run may go on
+abbrev pub IsTurn : Bool → Ending → EventKind → Turn → Type 0
+IsTurn lost ending kind More = (lost ≡ false) × (ending ≡ going) × (kind ≢ End)
+IsTurn lost ending kind Done = (lost ≡ false) × ((kind ≡ End) ⊎ (ending ≡ stopped))
+IsTurn lost ending kind Cut = lost ≡ true
+IsTurn lost ending kind Failed = (lost ≡ false) × ((a : PlainAction) × (ending ≡ failed a))
+
+-- over a stretch of calls the journal kept the history of a run that started from the opening, and
+-- goes on or ended so with this history
+abbrev pub SavesFrom : Opening → Ending → Word → Keeping → Stretch → Type 0
+SavesFrom opening ending history store stretch =
+    Saves ending opening.form opening.history history store
+    stretch.before stretch.after stretch.was stretch.is

@@ -1,0 +1,117 @@
+//! One serve, up to the last line that a refusal puts.
+ghost use Rattle.std.specs.Prelude.{◌≡◌, ◌≤◌, IfErr, true, false};
+ghost use Rattle.ix_outside.specs.FilesState.{OnlyFaults};
+ghost use Rattle.ix_outside.specs.SinkState.{OnlyPuts};
+ghost use Rattle.ix_manager.specs.inside.OverSite.{FitsSite};
+ghost use Rattle.ix_manage.specs.Ends.{JobOver};
+ghost use Rattle.ix_manage.specs.Site.{OnlyCalls};
+ghost use Rattle.ix_manage.specs.inside.Jobs.{serve_of};
+ghost use Rattle.ix_manage.specs.inside.Leaves.{FailedWhere, IsNoLoss, Leaves, LostWhere};
+ghost use Rattle.ix_manage.specs.inside.Playing.{ServesOver};
+ghost use Rattle.ix_manage.specs.inside.ServeProgress.{OnlyServed, ServesOn};
+ghost use Rattle.ix_manage.specs.inside.Turns.{IsStarted, opening_of, stretch_of};
+
+use crate::history::history_line;
+use crate::job::ServeWords;
+use crate::load::load_expression;
+use crate::open::open;
+use crate::refusal::Refusal;
+use crate::run::Stop;
+use crate::serving::serve_events;
+use ix_expr::Expression;
+use ix_manager::Manager;
+use ix_outside::{Files, Sink, Site};
+use std::alloc::Global;
+
+/// A refusal's line isn't put yet.
+pub(crate) fn serve<F: Files, S: Site, K: Sink>(
+    alloc: Global,
+    names: ServeWords<'_>,
+    files: &mut F,
+    site: &mut S,
+    out: &mut K,
+) -> Result<(), Stop>
+    requires least { 1 ≤ names.limit }
+    requires most { names.limit ≤ 1000000 }
+    requires turns { names.turns ≤ 1000000000 }
+    requires attached { (S.state site.old).attached ≡ false }
+
+    ensures leaves { Leaves
+        (JobOver (F.state files.old).contents (serve_of names.entry)
+        (S.state site.old) (S.state site.new) (S.crashes site.new))
+        (K.state out.old) (K.state out.new) result }
+    ensures lost { IfErr result (LostWhere (F.state files.old) (F.state files.new)) }
+    ensures failed { IfErr result (FailedWhere (S.state site.old) (S.state site.new)) }
+
+    ensures files { OnlyFaults (F.state files.old) (F.state files.new) }
+    ensures site { OnlyCalls (S.state site.old) (S.state site.new) }
+    ensures puts { OnlyPuts (K.state out.old) (K.state out.new) }
+{
+    match load_expression(alloc, files, names.expression) {
+        Ok(expression) => begin(alloc, names, expression, site, out),
+        Err(refusal) => Err(Stop::Refused(refusal)),
+    }
+}
+
+/// Opens the journal, and takes connections.
+fn begin<S: Site, K: Sink>(
+    alloc: Global,
+    names: ServeWords<'_>,
+    expression: Expression,
+    site: &mut S,
+    out: &mut K,
+) -> Result<(), Stop>
+    requires least { 1 ≤ names.limit }
+    requires most { names.limit ≤ 1000000 }
+    requires turns { names.turns ≤ 1000000000 }
+    requires attached { (S.state site.old).attached ≡ false }
+
+    ensures leaves { Leaves
+        (ServesOver expression names.entry
+        (S.state site.old) (S.state site.new) (S.crashes site.new))
+        (K.state out.old) (K.state out.new) result }
+    ensures lost { IfErr result IsNoLoss }
+    ensures failed { IfErr result (FailedWhere (S.state site.old) (S.state site.new)) }
+
+    ensures site { OnlyCalls (S.state site.old) (S.state site.new) }
+    ensures puts { OnlyPuts (K.state out.old) (K.state out.new) }
+{
+    match open(alloc, site, names.journal, expression, names.limit) {
+        Ok(mut manager) => take_connections(alloc, &mut manager, names, site, out),
+        Err(stop) => Err(stop),
+    }
+}
+
+/// Listens, puts the line of the history and takes events: the manager was just started.
+fn take_connections<S: Site, K: Sink>(
+    alloc: Global,
+    manager: &mut Manager,
+    names: ServeWords<'_>,
+    site: &mut S,
+    out: &mut K,
+) -> Result<(), Stop>
+    requires turns { names.turns ≤ 1000000000 }
+    requires manager { IsStarted manager.old }
+    requires attached { (S.state site.old).attached ≡ true }
+    requires fits { FitsSite manager.old (S.state site.old) (S.crashes site.old) }
+
+    ensures leaves { Leaves
+        (ServesOn (opening_of manager.old) names.entry.turns names.entry.socket.now
+        manager.new.machine (stretch_of S.state S.crashes site.old site.new))
+        (K.state out.old) (K.state out.new) result }
+    ensures lost { IfErr result IsNoLoss }
+    ensures failed { IfErr result (FailedWhere (S.state site.old) (S.state site.new)) }
+
+    ensures site { OnlyServed (S.state site.old) (S.state site.new) }
+    ensures puts { OnlyPuts (K.state out.old) (K.state out.new) }
+{
+    match site.listen(names.socket) {
+        Ok(()) => {}
+        Err(_) => return Err(Stop::Refused(Refusal::Wire)),
+    }
+    match out.put(&history_line(manager.history())) {
+        Ok(()) => {}
+        Err(_) => return Err(Stop::Output),
+    }
+    serve_events(alloc, manager, names.turns, site)
+}

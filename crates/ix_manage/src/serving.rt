@@ -1,0 +1,67 @@
+//! Takes the events of a site one by one.
+ghost use Rattle.std.specs.Prelude.{◌≡◌, ◌^◌, ◌<◌, ◌≤◌, true, false, length, IfErr};
+ghost use Rattle.ix_manager.specs.inside.OverSite.{FitsSite};
+ghost use Rattle.ix_manage.specs.inside.Leaves.{FailedWhere, IsNoLoss};
+ghost use Rattle.ix_manage.specs.inside.ServeProgress.{OnlyServed, ServesTo, ServesTurn};
+ghost use Rattle.ix_manage.specs.inside.Turns.{IsStarted, stretch_of};
+
+use crate::refusal::Refusal;
+use crate::run::Stop;
+use crate::turn::{Turn, piece, turn_of};
+use ix_manager::Manager;
+use ix_outside::Site;
+use std::alloc::Global;
+
+/// Hands the site's events to the manager, as many as `turns` at most, until the run ends.
+pub(crate) fn serve_events<S: Site>(
+    alloc: Global,
+    manager: &mut Manager,
+    turns: u64,
+    site: &mut S,
+) -> Result<(), Stop>
+    requires turns { turns ≤ 1000000000 }
+    requires manager { IsStarted manager.old }
+    requires attached { (S.state site.old).attached ≡ true }
+    requires fits { FitsSite manager.old (S.state site.old) (S.crashes site.old) }
+
+    ensures serves { ServesTo turns manager.old manager.new
+        (stretch_of S.state S.crashes site.old site.new) result }
+    ensures lost { IfErr result IsNoLoss }
+    ensures failed { IfErr result (FailedWhere (S.state site.old) (S.state site.new)) }
+    ensures site { OnlyServed (S.state site.old) (S.state site.new) }
+{
+    let mut buffer = [0; 4096];
+    for _turn in 0..turns {
+        match serve_event(alloc, manager, &mut buffer, site) {
+            Turn::More => {}
+            Turn::Done => return Ok(()),
+            Turn::Cut => return Err(Stop::Refused(Refusal::Wire)),
+            Turn::Failed => return Err(Stop::Refused(Refusal::Disk)),
+        }
+    }
+    Err(Stop::Refused(Refusal::Turns))
+}
+
+fn serve_event<S: Site>(
+    alloc: Global,
+    manager: &mut Manager,
+    buffer: &mut [u8],
+    site: &mut S,
+) -> Turn
+    requires buffer { length buffer.old ≡ 4096 }
+    requires going { manager.old.ended ≡ false }
+    requires tickets { manager.old.machine.ticket < 2 ^ 63 }
+    requires attached { (S.state site.old).attached ≡ true }
+    requires fits { FitsSite manager.old (S.state site.old) (S.crashes site.old) }
+
+    ensures turn { ServesTurn manager.old manager.new
+        (stretch_of S.state S.crashes site.old site.new) result }
+    ensures site { OnlyServed (S.state site.old) (S.state site.new) }
+{
+    let event = match site.next(buffer) {
+        Ok(event) => event,
+        Err(_) => return Turn::Cut,
+    };
+    let go = manager.handle(alloc, event, piece(event.kind, buffer), site);
+    turn_of(false, go, event.kind)
+}

@@ -1,0 +1,58 @@
+//! What an event makes of a run.
+ghost use Rattle.std.specs.Prelude.{◌≡◌, ◌≢◌, length, MatchBool};
+ghost use Rattle.ix_outside.specs.Contents.{piece_of};
+ghost use Rattle.ix_outside.specs.Event.{KindFits};
+ghost use Rattle.ix_outside.specs.declared.event.EventKind.TheVariants.{End};
+ghost use Rattle.ix_manager.specs.Runs.{Ending};
+ghost use Rattle.ix_manager.specs.inside.OverSite.{EndsBy};
+ghost use Rattle.ix_manage.specs.inside.Turns.{IsTurn};
+
+use ix_manager::{Go, Stop as Halt};
+use ix_outside::EventKind;
+
+/// What became of a run by an event.
+#[derive(Clone, Copy)]
+pub(crate) enum Turn {
+    /// It may go on.
+    More,
+    /// The event was the end or brought `stop`.
+    Done,
+    /// A put of a replay failed, or no event came to a serve since the wire failed.
+    Cut,
+    /// The disk failed at a confirm.
+    Failed,
+}
+
+/// `failed` says whether a put failed.
+pub(crate) fn turn_of(failed: bool, go: Result<Go, Halt>, kind: EventKind) -> Turn
+    ensures { (ending : Ending) → EndsBy go ending → IsTurn failed ending kind result }
+{
+    if failed {
+        return Turn::Cut;
+    }
+    match go {
+        Ok(Go::Stopped) => Turn::Done,
+        Ok(Go::More) => { if is_end(kind) { Turn::Done } else { Turn::More } }
+        Err(Halt::Disk) => Turn::Failed,
+    }
+}
+
+/// The bytes of an event, which stand at the front of the buffer.
+pub(crate) fn piece(kind: EventKind, buffer: &[u8]) -> &[u8]
+    requires { KindFits (length buffer.now) 0 kind }
+    ensures { result.now ≡ piece_of kind buffer.now }
+{
+    match kind {
+        EventKind::Bytes(count) => &buffer[..count],
+        EventKind::Closed | EventKind::End => &[],
+    }
+}
+
+fn is_end(kind: EventKind) -> bool
+    ensures { MatchBool result (kind ≡ End) (kind ≢ End) }
+{
+    match kind {
+        EventKind::End => true,
+        EventKind::Bytes(_) | EventKind::Closed => false,
+    }
+}
