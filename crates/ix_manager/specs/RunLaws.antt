@@ -1,9 +1,9 @@
 -- Laws of runs: what the events that a manager takes make of a run, any cutting of a piece, and what is sent.
-use Rattle.std.specs.Prelude.{◌≡◌, ◌≢◌, ◌⊎◌, ◌↔◌, ℕ, ◌<◌, Bool, true, false, List, [], ◌∷◌, ◌++◌}
+use Rattle.std.specs.Prelude.{◌≡◌, ◌≢◌, ◌⊎◌, ◌↔◌, ℕ, ◌+◌, ◌<◌, Bool, true, false, List, [], ◌∷◌, ◌++◌}
 use Rattle.std.specs.Prelude.{length, get_or, None, Some}
 use Rattle.std.specs.Io.KnownBytes.{append_known}
 use Rattle.ix_lines.specs.Feeding.{held}
-use Rattle.ix_outside.specs.Contents.{GivenEvent, Contents, Sends}
+use Rattle.ix_outside.specs.Contents.{GivenEvent, SentBytes, Contents, Sends}
 use Rattle.ix_outside.specs.Sink.{AppendsPart}
 use Rattle.ix_outside.specs.declared.event.Event.{Event}
 use Rattle.ix_outside.specs.declared.event.EventKind.TheVariants.{Bytes}
@@ -12,7 +12,7 @@ use Rattle.ix_proto.specs.declared.reply.Reply.{Reply}
 use Rattle.ix_manager.specs.Machine.{MachineState}
 use Rattle.ix_manager.specs.Runs.{Opening, Ending, going, Run, text_behind}
 use Rattle.ix_manager.specs.Handled.{ManagerState, held_at, TakesEvent, SendsReplies, Handles, FitsEvent, started}
-use Rattle.ix_manager.specs.Wire.{Wire, all_replies, replies_text, run_text}
+use Rattle.ix_manager.specs.Wire.{SentReplies, Wire, all_replies, replies_text, run_text}
 
 -- an event with its bytes, as a run has it
 abbrev pub given_event : Event → List ℕ → GivenEvent
@@ -79,14 +79,26 @@ AnyCuttingGivesTheSameRun =
     ↔ RunsOverBoth opening events answers (piece conn moment front) (piece conn moment back)
     replies later more s ending
 
--- over a site that tells its sends, sending the replies to one more event makes of them the wire of the run with that event
+-- Of replies that were sent in order: those that the sends since carry, one each, and those left over, on a connection
+-- that was found gone.
+pub record Carries (replies : List Reply) (before after : List SentBytes) (marked : Bool) : Type 0 where
+  pub carried : List Reply
+  pub silent : List Reply
+  pub all : carried ++ silent ≡ replies
+  pub count : length after ≡ length before + length carried
+  pub whole : (silent ≡ []) ⊎ (marked ≡ true)
+
+-- over a site that tells its sends, sending the replies to one more event makes of them the wire of the run with that
+-- event, in which the new sends carry the first ones of these replies
 abbrev pub WireGoesOn : Type 0
 WireGoesOn =
-    (start : Sends) (events : List GivenEvent) (answers : List (List (List Reply))) (s s' : Sends)
+    (start : Sends) (events : List GivenEvent) (answers : List (List (List Reply))) (sent : SentReplies) (s' : Sends)
     (old : ManagerState) (event : Event) (bytes : List ℕ) (last : List (List Reply)) (new : ManagerState) (before after : Contents)
-    → Wire start events answers old.marks s → SendsReplies old event last new before after
-    → before.sends ≡ Some s → after.sends ≡ Some s'
-    → Wire start (events ++ given_event event bytes ∷ []) (answers ++ last ∷ []) new.marks s'
+    → Wire start events answers old.marks sent → (goes : SendsReplies old event last new before after)
+    → before.sends ≡ Some sent.sends → after.sends ≡ Some s'
+    → (part : Carries (all_replies last) sent.sends.sent s'.sent goes.marked)
+    × Wire start (events ++ given_event event bytes ∷ []) (answers ++ last ∷ []) new.marks
+    (record { sends = s'; replies = sent.replies ++ part.carried })
 
 -- a site that doesn't tell its sends before an event doesn't tell them after it
 abbrev pub StaysUntold : Type 0
