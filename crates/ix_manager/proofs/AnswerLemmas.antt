@@ -65,7 +65,7 @@ poll_step old between new name plain state form limit tells is =
     subst (λ p. Step old.form old.limit old.state p replies new.state) (sym is) fifth
 
 -- each line of a request that lends so makes the step that ends so
-line_steps : (old new : Core) (request : Request) (go : Go) (replies : List Reply)
+pub line_steps : (old new : Core) (request : Request) (go : Go) (replies : List Reply)
     → ((plain : PlainRequest) → IsRequest plain → Lends request plain → Step old.form old.limit old.state plain replies new.state)
     → ending_after go ≡ request_ending request
     → (plain : PlainRequest) → IsRequest plain → Lends request plain → (bytes : List ℕ) → words_of bytes ≡ request_words plain
@@ -76,7 +76,7 @@ line_steps old new request go replies steps ends plain valid lends bytes same =
     (requested plain valid same (steps plain valid lends))
 
 -- a request is answered by one reply
-pub one_answered : (conn : ℕ) (request : Request) (go : Go) (reply : Reply) (old new : Core) (before after : WireState)
+abbrev pub one_answered : (conn : ℕ) (request : Request) (go : Go) (reply : Reply) (old new : Core) (before after : WireState)
     → MachineAnswers old request (answer.One reply) new → ending_after go ≡ request_ending request
     → SendsAll conn (reply ∷ []) before after → new.form ≡ old.form → new.limit ≡ old.limit → new.state.ticket ≤ old.state.ticket + 1
     → AnswersRequest conn request (ending_after go) old new before after
@@ -90,7 +90,7 @@ one_answered conn request go reply old new before after answers ends sends form 
 }
 
 -- a poll is answered
-pub poll_answered : (conn : ℕ) (request : Request) (go : Go) (name : List ℕ) (old between new : Core) (before after : WireState)
+abbrev pub poll_answered : (conn : ℕ) (request : Request) (go : Go) (name : List ℕ) (old between new : Core) (before after : WireState)
     → Lends request (poll name) → ending_after go ≡ request_ending request
     → between.state ≡ old.state → between.form ≡ old.form → between.limit ≡ old.limit
     → TellsPoll between name new → SendsAll conn (poll_replies (changes_of name between.noted)) before after
@@ -108,12 +108,12 @@ poll_answered conn request go name old between new before after lends ends state
 }
 
 -- a confirm lends a confirm of its ticket
-lends_confirm : (ticket : ℕ) (P : PlainRequest → Type 0) → P (confirm ticket) → (plain : PlainRequest) → Lends (Confirm ticket) plain → P plain
+pub lends_confirm : (ticket : ℕ) (P : PlainRequest → Type 0) → P (confirm ticket) → (plain : PlainRequest) → Lends (Confirm ticket) plain → P plain
 lends_confirm ticket P p (confirm other) lends = subst (λ (n : ℕ). P (confirm n)) lends p
 lends_confirm ticket P p _ lends = absurd lends
 
 -- a confirm is answered
-pub confirm_answered : (conn ticket : ℕ) (reply : Reply) (old new : Core) (before after : WireState)
+abbrev pub confirm_answered : (conn ticket : ℕ) (reply : Reply) (old new : Core) (before after : WireState)
     → Does old (confirm ticket) reply new → SendsAll conn (reply ∷ []) before after
     → AnswersRequest conn (Confirm ticket) going old new before after
 confirm_answered conn ticket reply old new before after does sends = record {
@@ -129,7 +129,7 @@ confirm_answered conn ticket reply old new before after does sends = record {
 }
 
 -- a confirm failed
-pub confirm_failed : (conn ticket : ℕ) (a : PlainAction) (deadline : ℕ) (reply : Reply) (old new : Core) (before after : WireState)
+abbrev pub confirm_failed : (conn ticket : ℕ) (a : PlainAction) (deadline : ℕ) (reply : Reply) (old new : Core) (before after : WireState)
     → old.state.slot ≡ Held ticket a deadline → old.state.moment < deadline → new ≡ old → reply ≡ disk
     → SendsAll conn (reply ∷ []) before after
     → AnswersRequest conn (Confirm ticket) (failed a) old new before after
@@ -147,7 +147,7 @@ confirm_failed conn ticket a deadline reply old new before after held open_still
 }
 
 -- a line that is a request is answered
-pub line_answered : (conn : ℕ) (bytes : List ℕ) (request : Request) (ending : Ending) (old new : Core) (before after : WireState)
+abbrev pub line_answered : (conn : ℕ) (bytes : List ℕ) (request : Request) (ending : Ending) (old new : Core) (before after : WireState)
     → Reads (words_of bytes) request → AnswersRequest conn request ending old new before after
     → AnswersItem conn (line bytes) ending old new before after
 line_answered conn bytes request ending old new before after reads answers = record {
@@ -160,7 +160,7 @@ line_answered conn bytes request ending old new before after reads answers = rec
 }
 
 -- a line that is no request is refused
-pub line_refused : (conn : ℕ) (bytes : List ℕ) (code : ℕ) (told : Reply) (core : Core) (before after : WireState)
+abbrev pub line_refused : (conn : ℕ) (bytes : List ℕ) (code : ℕ) (told : Reply) (core : Core) (before after : WireState)
     → IsRequestFault (words_of bytes) code → told ≡ reply.Refused code 0 → SendsAll conn (told ∷ []) before after
     → AnswersItem conn (line bytes) going core core before after
 line_refused conn bytes code told core before after fault is sends = record {
@@ -173,7 +173,7 @@ line_refused conn bytes code told core before after fault is sends = record {
 }
 
 -- a line that is too long is refused
-pub long_line_refused : (conn : ℕ) (told : Reply) (core : Core) (before after : WireState)
+abbrev pub long_line_refused : (conn : ℕ) (told : Reply) (core : Core) (before after : WireState)
     → told ≡ reply.Refused 10 0 → SendsAll conn (told ∷ []) before after → AnswersItem conn too_long going core core before after
 long_line_refused conn told core before after is sends = record {
   replies = reply.Refused 10 0 ∷ [];

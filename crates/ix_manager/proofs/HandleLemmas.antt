@@ -1,6 +1,7 @@
 -- Events, handled.
-use Rattle.std.proofs.Common.{◌≡◌, ℕ, false, List, [], get_or, set, Result, Ok, Err, OnOk, OnErr, refl, sym, ◌∙◌, ap, subst}
+use Rattle.std.proofs.Common.{◌≡◌, ℕ, false, List, [], length, get_or, set, Result, Ok, Err, OnOk, OnErr, refl, sym, ◌∙◌, ap, subst}
 use Rattle.std.proofs.lemmas.List.{set-get_or}
+use Rattle.ix_words.specs.Each.{no_item}
 use Rattle.ix_lines.specs.Feeding.{unfinished}
 use Rattle.ix_outside.specs.Contents.{Contents}
 use Rattle.ix_outside.specs.Counts.{Rose}
@@ -9,31 +10,31 @@ use Rattle.ix_outside.specs.SiteState.{SiteState}
 use Rattle.ix_outside.specs.declared.event.Event.{Event}
 use Rattle.ix_outside.specs.declared.event.EventKind.TheVariants.{Bytes, Closed, End}
 use Rattle.ix_manager.specs.Runs.{Ending, going, Steps, none, raised}
-use Rattle.ix_manager.specs.Wire.{done, marks_after}
+use Rattle.ix_manager.specs.Wire.{done, marks_after, all_replies}
 use Rattle.ix_manager.specs.Handled.{ManagerState, Handles, held_at, completed_by, held_after}
-use Rattle.ix_manager.specs.inside.WireState.{WireState}
+use Rattle.ix_manager.specs.inside.Acknowledging.{Acknowledges}
+use Rattle.ix_manager.specs.inside.WireState.{WireState, wired}
 use Rattle.ix_manager.specs.declared.faults.Go.{Go}
 use Rattle.ix_manager.specs.declared.faults.Go.TheVariants.{More, Stopped}
 use Rattle.ix_manager.specs.declared.faults.Stop.{Stop}
 use Rattle.ix_manager.specs.declared.faults.Stop.TheVariants.{Disk}
 use Rattle.ix_manager.specs.inside.OverSite.{FitsWith, FitsSite, EndsBy, HandlesOver}
-use Rattle.ix_manager.specs.inside.Saving.{UnlessFailed, WhereFailed, SavesRun}
+use Rattle.ix_manager.specs.inside.Saving.{UnlessFailed, WhereFailed}
 use Rattle.ix_manager.specs.inside.TakenItems.{TakesBytes, BytesOver}
+use Rattle.ix_manager.proofs.AcknowledgeSteps.{saves_acknowledges}
 use Rattle.ix_manager.proofs.SavingLemmas.{saves_none, saves_same}
+use Rattle.ix_manager.proofs.SendSteps.{nothing_sent}
 
 -- a manager whose moment was raised
 abbrev pub at_moment : ℕ → ManagerState → ManagerState
 at_moment moment old = record old { machine = raised moment old.machine }
 
 -- bytes came
-pub bytes_handled : (old between new : ManagerState) (event : Event) (n : ℕ) (bytes : List ℕ) (ending : Ending) (before after : WireState)
-    → event.kind ≡ Bytes n → between ≡ at_moment event.moment old → before.gone ≡ get_or between.marks event.conn false
-    → TakesBytes event.conn bytes ending between new before after
+abbrev pub bytes_handled : (old new : ManagerState) (event : Event) (n : ℕ) (bytes : List ℕ) (ending : Ending) (before after : WireState)
+    → event.kind ≡ Bytes n → before.gone ≡ get_or old.marks event.conn false
+    → TakesBytes event.conn bytes ending (at_moment event.moment old) new before after
     → Handles old event bytes ending new before.site.contents after.site.contents
-bytes_handled old between new event n bytes ending before after is same gone_between takes =
-    let taken : TakesBytes event.conn bytes ending (at_moment event.moment old) new before after =
-    subst (λ m. TakesBytes event.conn bytes ending m new before after) same takes in
-    let gone : before.gone ≡ get_or old.marks event.conn false = gone_between ∙ ap (λ (m : ManagerState). get_or m.marks event.conn false) same in
+bytes_handled old new event n bytes ending before after is gone taken =
     let held = held_at event.conn old.lines in
     record {
       answers = taken.answers;
@@ -56,7 +57,7 @@ abbrev pub without_line : ℕ → ManagerState → ManagerState
 without_line conn old = record old { lines = set old.lines conn (unfinished []); marks = set old.marks conn false }
 
 -- the connection was closed
-pub closed_handled : (old between new : ManagerState) (event : Event) (bytes : List ℕ) (contents : Contents)
+abbrev pub closed_handled : (old between new : ManagerState) (event : Event) (bytes : List ℕ) (contents : Contents)
     → event.kind ≡ Closed → old.ended ≡ false → between ≡ at_moment event.moment old → new ≡ without_line event.conn between
     → Handles old event bytes going new contents contents
 closed_handled old between new event bytes contents is open_before begun closes =
@@ -81,7 +82,7 @@ closed_handled old between new event bytes contents is open_before begun closes 
     }
 
 -- the end came
-pub end_handled : (old new : ManagerState) (event : Event) (bytes : List ℕ) (contents : Contents)
+abbrev pub end_handled : (old new : ManagerState) (event : Event) (bytes : List ℕ) (contents : Contents)
     → event.kind ≡ End → old.ended ≡ false → new ≡ at_moment event.moment old
     → Handles old event bytes going new contents contents
 end_handled old new event bytes contents is open_before same =
@@ -123,37 +124,40 @@ fits_along (Err Disk) P Q to p = tt
 
 module _ (old between new : ManagerState) (event : Event) (n : ℕ) (bytes : List ℕ) (result : Result Go Stop)
     (before after : WireState) (p q : Crashes) (is : event.kind ≡ Bytes n) (same : between ≡ at_moment event.moment old)
-    (over : BytesOver event.conn bytes result between new before after p q) where
-  saves : SavesRun over.ending old new before.site after.site p q
-  saves = subst (λ (m : ManagerState). SavesRun over.ending m new before.site after.site p q) same over.saves
+    (taken : BytesOver event.conn bytes result between new before after p q) where
+  over : BytesOver event.conn bytes result (at_moment event.moment old) new before after p q
+  over = subst (λ (m : ManagerState). BytesOver event.conn bytes result m new before after p q) same taken
 
   -- bytes came, over a site
   pub bytes_over : before.gone ≡ get_or between.marks event.conn false → HandlesOver old event bytes result new before.site after.site q
   bytes_over gone_between = record {
     ending = over.ending;
     answered = over.answered;
-    handles = bytes_handled old between new event n bytes over.ending before after is same gone_between over.takes;
-    keeps = saves.keeps;
-    ends = saves.ends;
+    handles = bytes_handled old new event n bytes over.ending before after is
+        (gone_between ∙ ap (λ (m : ManagerState). get_or m.marks event.conn false) same) over.takes;
+    keeps = over.saves.keeps;
+    ends = over.saves.ends;
+    acknowledges = over.acknowledges;
+    sends = over.saves.sends;
   }
 
   pub bytes_failed : OnErr result (Rose before.site.counts.disk after.site.counts.disk)
-  bytes_failed = rose_where result over.ending _ over.answered saves.faults
+  bytes_failed = rose_where result over.ending _ over.answered over.saves.faults
 
   pub bytes_fit : OnOk result (FitsSite new after.site q)
   bytes_fit =
-      let form : new.form ≡ old.form = over.takes.form ∙ ap (λ (m : ManagerState). m.form) same in
+      let form : new.form ≡ old.form = over.takes.form in
       fits_along result (FitsWith old.form new.machine.history new.store after.site q) _ (λ fits. subst (λ x. FitsWith x new.machine.history new.store after.site q) (sym form) fits)
-      (fits_where result over.ending _ over.answered saves.fits)
+      (fits_where result over.ending _ over.answered over.saves.fits)
 
   pub bytes_pass : Passes before.site after.site p q
-  bytes_pass = saves.passes
+  bytes_pass = over.saves.passes
 
 -- no call was made, over a site
 pub rest_over : (old new : ManagerState) (event : Event) (bytes : List ℕ) (site : SiteState) (crashes : Crashes) → AreLawful site crashes
-    → FitsSite old site crashes → Handles old event bytes going new site.contents site.contents → new.machine.history ≡ old.machine.history
-    → HandlesOver old event bytes (Ok More) new site site crashes
-rest_over old new event bytes site crashes lawful fits handles same =
+    → FitsSite old site crashes → (handles : Handles old event bytes going new site.contents site.contents) → handles.answers ≡ []
+    → new.machine.history ≡ old.machine.history → HandlesOver old event bytes (Ok More) new site site crashes
+rest_over old new event bytes site crashes lawful fits handles nothing same =
     let none = saves_same going old.form old.machine.history old.machine.history new.machine.history old.store site site crashes crashes same
     (saves_none old.form old.machine.history old.store site crashes lawful fits) in
     record {
@@ -162,4 +166,8 @@ rest_over old new event bytes site crashes lawful fits handles same =
       handles = handles;
       keeps = none.keeps;
       ends = none.ends;
+      acknowledges = subst (λ answers. Acknowledges old.form (length old.machine.history) new.machine.history (all_replies answers) site site crashes) (sym nothing)
+          (saves_acknowledges going old.form old.machine.history new.machine.history old.store 0 [] (wired false site) (wired false site) crashes crashes
+          lawful none (nothing_sent 0 (wired false site)) no_item);
+      sends = none.sends;
     }

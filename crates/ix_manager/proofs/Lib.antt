@@ -12,6 +12,8 @@ pub mod HandleLemmas
 pub mod SendSteps
 pub mod TableLemmas
 pub mod SavingLemmas
+pub mod AcknowledgedLemmas
+pub mod AcknowledgeSteps
 pub mod HistoryLemmas
 pub mod OverLemmas
 pub mod RecoverLemmas

@@ -2,6 +2,7 @@
 use Rattle.std.proofs.Common.{◌≡◌, ℕ, Bool, false, List, [], ◌∷◌, ◌++◌, Result, Ok, Err, refl, sym, ap, subst}
 use Rattle.std.specs.Option.{ForSome}
 use Rattle.ix_values.specs.PlainAction.{PlainAction, Word}
+use Rattle.ix_words.specs.Each.{Each, no_item, item}
 use Rattle.ix_expr.specs.CanonicalText.{canonical_text}
 use Rattle.ix_lease.specs.declared.Take.TheVariants.{Taken, Expired, NoSuch}
 use Rattle.ix_lines.specs.Items.{line, too_long}
@@ -34,6 +35,8 @@ use Rattle.ix_manager.specs.inside.Does.{Does}
 use Rattle.ix_manager.specs.inside.OverSite.{ending_after}
 use Rattle.ix_manager.specs.inside.Saving.{FitsJournal, OnlySends, Saves, SavesJournal, Finds, Commits, ConfirmsOver}
 use Rattle.ix_manager.specs.inside.WireState.{WireState, wired, SendsAll, AnswersRequest, RequestOver, ItemOver}
+use Rattle.ix_manager.proofs.AcknowledgedLemmas.{TellsNoConfirm}
+use Rattle.ix_manager.proofs.AcknowledgeSteps.{saves_acknowledges, confirm_acknowledges}
 use Rattle.ix_manager.proofs.AnswerLemmas.{confirm_answered, confirm_failed, line_answered, line_refused, long_line_refused}
 use Rattle.ix_manager.proofs.SavingLemmas.{saves_none, saves_same, saves_sends, answered_saves, appended_saves, failed_saves}
 use Rattle.ix_manager.proofs.SendSteps.{disk_sent, sends-append}
@@ -123,6 +126,7 @@ module _ (conn ticket : ℕ) (old new : Journaled) (was_gone gone : Bool) (a b c
         (sends-append conn [] (one ∷ []) (wired was_gone a) (wired was_gone b) (wired gone c) (disk_sent conn was_gone a b p q over.calls) sends);
     saves = saves_sends going old.machine.form old.machine.state.history new.machine.state.history (kept new.store) a b c p q r between lawful
         (subst (λ e. SavesJournal e old new a b p q) over.confirms.1 over.saves) only;
+    acknowledges = confirm_acknowledges conn ticket one old new was_gone gone a b c p q r between lawful only over sends;
   }
 
   -- that the disk failed is sent
@@ -131,28 +135,43 @@ module _ (conn ticket : ℕ) (old new : Journaled) (was_gone gone : Bool) (a b c
       → RequestOver conn (Confirm ticket) (Err stop) old new (wired was_gone a) (wired gone c) p r
   failure_over Disk one over is sends =
       let facts = over.confirms in
+      let before = wired was_gone a in
+      let after = wired gone c in
+      let x = old.machine.form in
+      let h = old.machine.state.history in
+      let w = new.machine.state.history in
+      let answers = confirm_failed conn ticket facts.0 facts.1 one old.machine new.machine before after facts.2 facts.3 facts.4 is
+      (sends-append conn [] (one ∷ []) before (wired was_gone b) after (disk_sent conn was_gone a b p q over.calls) sends) in
+      let saves : SavesJournal (failed facts.0) old new a c p r =
+      saves_sends (failed facts.0) x h w (kept new.store) a b c p q r between lawful (subst (λ e. SavesJournal e old new a b p q) facts.5 over.saves) only in
       record {
         ending = failed facts.0;
         answered = (facts.0, refl);
-        answers = confirm_failed conn ticket facts.0 facts.1 one old.machine new.machine (wired was_gone a) (wired gone c) facts.2 facts.3 facts.4 is
-            (sends-append conn [] (one ∷ []) (wired was_gone a) (wired was_gone b) (wired gone c) (disk_sent conn was_gone a b p q over.calls) sends);
-        saves = saves_sends (failed facts.0) old.machine.form old.machine.state.history new.machine.state.history (kept new.store) a b c p q r between lawful
-            (subst (λ e. SavesJournal e old new a b p q) facts.5 over.saves) only;
+        answers = answers;
+        saves = saves;
+        acknowledges = saves_acknowledges (failed facts.0) x h w (kept new.store) conn (disk ∷ []) before after p r lawful saves answers.sends (item tt no_item);
       }
 
 -- a request is answered that leaves the journal alone
 pub request_over : (conn : ℕ) (request : Request) (go : Go) (old new : Journaled) (before after : WireState) (p q : Crashes)
     → AreLawful before.site p → AreLawful after.site q → FitsJournal old before.site p
     → new.machine.state.history ≡ old.machine.state.history → kept new.store ≡ kept old.store
-    → AnswersRequest conn request (ending_after go) old.machine new.machine before after → OnlySends before.site after.site p q
-    → RequestOver conn request (Ok go) old new before after p q
-request_over conn request go old new before after p q lawful lawful' fits same store answers only = record {
-  ending = ending_after go;
-  answered = refl;
-  answers = answers;
-  saves = subst (λ s. Saves (ending_after go) old.machine.form old.machine.state.history new.machine.state.history s before.site after.site p q) (sym store)
-      (answered_saves go old.machine.form old.machine.state.history new.machine.state.history (kept old.store) before.site after.site p q lawful lawful' fits same only);
-}
+    → (answers : AnswersRequest conn request (ending_after go) old.machine new.machine before after) → OnlySends before.site after.site p q
+    → Each TellsNoConfirm answers.replies → RequestOver conn request (Ok go) old new before after p q
+request_over conn request go old new before after p q lawful lawful' fits same store answers only none =
+    let x = old.machine.form in
+    let h = old.machine.state.history in
+    let w = new.machine.state.history in
+    let saves : SavesJournal (ending_after go) old new before.site after.site p q =
+    subst (λ s. Saves (ending_after go) x h w s before.site after.site p q) (sym store)
+    (answered_saves go x h w (kept old.store) before.site after.site p q lawful lawful' fits same only) in
+    record {
+      ending = ending_after go;
+      answered = refl;
+      answers = answers;
+      saves = saves;
+      acknowledges = saves_acknowledges (ending_after go) x h w (kept new.store) conn answers.replies before after p q lawful' saves answers.sends none;
+    }
 
 -- a line that is a request
 pub line_over : (conn : ℕ) (bytes : List ℕ) (request : Request) (result : Result Go Stop) (old new : Journaled) (before after : WireState) (p q : Crashes)
@@ -163,6 +182,7 @@ line_over conn bytes request result old new before after p q reads over = record
   answered = over.answered;
   answers = line_answered conn bytes request over.ending old.machine new.machine before after reads over.answers;
   saves = over.saves;
+  acknowledges = over.acknowledges;
 }
 
 -- a line that is no request
@@ -170,24 +190,38 @@ pub fault_over : (conn : ℕ) (bytes : List ℕ) (code : ℕ) (told : Reply) (j 
     → AreLawful before.site p → AreLawful after.site q → FitsJournal j before.site p → OnlySends before.site after.site p q
     → IsRequestFault (words_of bytes) code → told ≡ reply.Refused code 0 → SendsAll conn (told ∷ []) before after
     → ItemOver conn (line bytes) (Ok More) j j before after p q
-fault_over conn bytes code told j before after p q lawful lawful' fits only fault is sends = record {
-  ending = going;
-  answered = refl;
-  answers = line_refused conn bytes code told j.machine before after fault is sends;
-  saves = answered_saves More j.machine.form j.machine.state.history j.machine.state.history (kept j.store) before.site after.site p q lawful lawful' fits refl only;
-}
+fault_over conn bytes code told j before after p q lawful lawful' fits only fault is sends =
+    let x = j.machine.form in
+    let h = j.machine.state.history in
+    let answers = line_refused conn bytes code told j.machine before after fault is sends in
+    let saves : SavesJournal going j j before.site after.site p q =
+    answered_saves More x h h (kept j.store) before.site after.site p q lawful lawful' fits refl only in
+    record {
+      ending = going;
+      answered = refl;
+      answers = answers;
+      saves = saves;
+      acknowledges = saves_acknowledges going x h h (kept j.store) conn answers.replies before after p q lawful' saves answers.sends (item tt no_item);
+    }
 
 -- a line that is too long
 pub long_over : (conn : ℕ) (told : Reply) (j : Journaled) (before after : WireState) (p q : Crashes)
     → AreLawful before.site p → AreLawful after.site q → FitsJournal j before.site p → OnlySends before.site after.site p q
     → told ≡ reply.Refused 10 0 → SendsAll conn (told ∷ []) before after
     → ItemOver conn too_long (Ok More) j j before after p q
-long_over conn told j before after p q lawful lawful' fits only is sends = record {
-  ending = going;
-  answered = refl;
-  answers = long_line_refused conn told j.machine before after is sends;
-  saves = answered_saves More j.machine.form j.machine.state.history j.machine.state.history (kept j.store) before.site after.site p q lawful lawful' fits refl only;
-}
+long_over conn told j before after p q lawful lawful' fits only is sends =
+    let x = j.machine.form in
+    let h = j.machine.state.history in
+    let answers = long_line_refused conn told j.machine before after is sends in
+    let saves : SavesJournal going j j before.site after.site p q =
+    answered_saves More x h h (kept j.store) before.site after.site p q lawful lawful' fits refl only in
+    record {
+      ending = going;
+      answered = refl;
+      answers = answers;
+      saves = saves;
+      acknowledges = saves_acknowledges going x h h (kept j.store) conn answers.replies before after p q lawful' saves answers.sends (item tt no_item);
+    }
 
 -- a request that lends a confirm's ticket is that confirm
 is_confirm : (request : Request) (ticket : ℕ) (P : Request → Type 0) → Lends request (confirm ticket) → P (Confirm ticket) → P request

@@ -1,11 +1,12 @@
 -- What calls on a site make of what a crash may leave, one after the other.
-use Rattle.std.proofs.Common.{◌≡◌, ◌⊎◌, ℕ, ◌≤◌, List, [], ◌∷◌, ◌++◌, length, append_assoc, append-nil, Option, None, Some, IsSome, true≢false, inl, inr, refl, sym, ◌∙◌, ap, subst, arith}
+use Rattle.std.proofs.Common.{◌≡◌, ◌⊎◌, ℕ, ◌≤◌, List, [], ◌∷◌, ◌++◌, length, append_assoc, append-nil, Option, None, Some, IsSome, Result, true≢false, inl, inr, refl, sym, ◌∙◌, ap, subst, arith}
 use Rattle.std.proofs.lemmas.List.{length-append}
 use Rattle.ix_values.specs.PlainAction.{PlainAction, Word}
 use Rattle.ix_expr.specs.CanonicalText.{canonical_text}
 use Rattle.ix_expr.specs.Form.{Form}
 use Rattle.ix_journal.specs.Recovery as journal
 use Rattle.ix_journal.specs.Recovery.{IsJournal, Recovers}
+use Rattle.ix_outside.specs.Contents.{SendsBytes}
 use Rattle.ix_outside.specs.Counts.{Rose}
 use Rattle.ix_outside.specs.Crashes.{Crashes, AreLawful, OneCall, LeavesTheSame}
 use Rattle.ix_outside.specs.Disk.{Disk}
@@ -21,12 +22,8 @@ use Rattle.ix_manager.specs.Runs.{Ending, going, stopped, failed}
 use Rattle.ix_manager.specs.Images as image
 use Rattle.ix_manager.specs.Images.{IsOwn, Keeps, with_failed, EndsAs}
 use Rattle.ix_manager.specs.inside.OverSite.{FitsWith, ending_after}
+use Rattle.ix_manager.proofs.AcknowledgedLemmas.{the_value, more_none, more_call, sent_told, sent_more, more_disk, more_join}
 use Rattle.ix_manager.specs.inside.Saving.{UnlessFailed, WhereFailed, OnlySends, Saves}
-
--- a disk that is told
-pub told_disk : (disk : Option Disk) → IsSome disk → (d : Disk) × (disk ≡ Some d)
-told_disk None told = absurd (true≢false (sym told))
-told_disk (Some d) told = (d, refl)
 
 -- a disk that is told as before, or no more, was told
 pub still_told : (old new : Option Disk) → (new ≡ old) ⊎ (new ≡ None) → IsSome new → IsSome old
@@ -41,7 +38,7 @@ kept_told None new keeps told = let P : Option Disk → Type 0 = λ disk. IsSome
 kept_told (Some old) new keeps told = refl
 
 -- a journal of the expression keeps its history, whatever follows that
-pub journal_keeps : (x : Form) (least : ℕ) (h rest history : Word) (gate : ℕ) (at : List ℕ)
+abbrev pub journal_keeps : (x : Form) (least : ℕ) (h rest history : Word) (gate : ℕ) (at : List ℕ)
     → IsJournal at (canonical_text x) h gate → h ++ rest ≡ history → least ≤ length h → Keeps x least history at
 journal_keeps x least h rest history gate at is same long = record {
   own = image.ready h gate is;
@@ -53,7 +50,7 @@ journal_keeps x least h rest history gate at is same long = record {
 }
 
 -- of a longer history too
-pub keeps_longer : (x : Form) (least : ℕ) (h more history : Word) (at : List ℕ)
+abbrev pub keeps_longer : (x : Form) (least : ℕ) (h more history : Word) (at : List ℕ)
     → h ++ more ≡ history → Keeps x least h at → Keeps x least history at
 keeps_longer x least h more history at longer keeps = record {
   own = keeps.own;
@@ -65,7 +62,7 @@ keeps_longer x least h more history at longer keeps = record {
 }
 
 -- and of fewer actions
-pub keeps_fewer : (x : Form) (least fewer : ℕ) (h : Word) (at : List ℕ) → fewer ≤ least → Keeps x least h at → Keeps x fewer h at
+abbrev pub keeps_fewer : (x : Form) (least fewer : ℕ) (h : Word) (at : List ℕ) → fewer ≤ least → Keeps x least h at → Keeps x fewer h at
 keeps_fewer x least fewer h at le keeps = record {
   own = keeps.own;
   kept = keeps.kept;
@@ -78,7 +75,7 @@ keeps_fewer x least fewer h at le keeps = record {
 -- where a store fits, each image that a crash may leave now is a journal of the history
 pub fits_images : (x : Form) (h : Word) (store : Keeping) (site : SiteState) (crashes : Crashes) → FitsWith x h store site crashes
     → IsSome site.disk → (at : List ℕ) → crashes.now at → IsJournal at (canonical_text x) h store.gate
-fits_images x h store site crashes fits told = let disk = told_disk site.disk told in fits.fits.images disk.0 disk.1
+fits_images x h store site crashes fits told = let disk = the_value site.disk told in fits.fits.images disk.0 disk.1
 
 pub unless_failed : (e : Ending) {P Q : Type 0} → (P → Q) → UnlessFailed e P → UnlessFailed e Q
 unless_failed going to p = to p
@@ -95,6 +92,7 @@ pub saves_none : (x : Form) (h : Word) (store : Keeping) (site : SiteState) (cra
     → FitsWith x h store site crashes → Saves going x h h store site site crashes crashes
 saves_none x h store site crashes lawful fits = record {
   passes = Passes-none site crashes;
+  sends = more_none site crashes lawful;
   count = omega arith;
   told = λ told. told;
   rest = [];
@@ -111,6 +109,7 @@ pub saves_join : (e : Ending) (x : Form) (h mid new : Word) (one two : Keeping) 
     → Saves going x h mid one a b p q → Saves e x mid new two b c q r → Saves e x h new two a c p r
 saves_join e x h mid new one two a b c p q r lawful first second = record {
   passes = Passes-join a b c p q r lawful first.passes second.passes;
+  sends = more_join a b c q r first.passes.left.later second.passes.left_since first.sends second.sends;
   count = let le = first.count in let le2 = second.count in omega arith;
   told = λ told. first.told (second.told told);
   rest = first.rest ++ second.rest;
@@ -138,6 +137,7 @@ pub saves_after : (go : Go) (x : Form) (h new : Word) (store : Keeping) (a b : S
 saves_after More x h new store a b p q saves = saves
 saves_after Stopped x h new store a b p q saves = record {
   passes = saves.passes;
+  sends = saves.sends;
   count = saves.count;
   told = saves.told;
   rest = saves.rest;
@@ -156,17 +156,21 @@ only_none site crashes lawful = record {
   now = λ at. (λ now. now, λ now. now);
   passes = Passes-none site crashes;
   images = LeavesOnly-none crashes.now site crashes lawful (λ at now. now);
+  sends = more_none site crashes lawful;
 }
 
 -- one send
-pub only_one : (old new : SiteState) (was is : Crashes) → OnlySend old new → LeavesTheSame was.now is.now → OneCall old new was is
+pub only_one : {T E : Type 0} (conn : ℕ) (bytes : List ℕ) (result : Result T E) (old new : SiteState) (was is : Crashes)
+    → OnlySend old new → SendsBytes conn bytes result old.contents new.contents → LeavesTheSame was.now is.now → OneCall old new was is
     → OnlySends old new was is
-only_one old new was is only same call = record {
+only_one conn bytes result old new was is only contents same call = record {
   count = only.disk;
   disk = only.file;
   now = same;
   passes = call.passes;
   images = λ at left. elim (call.images at left) [ inl now ↦ now | inr now ↦ (same at).0 now ];
+  sends = more_call old new was is call (sent_told conn bytes result old.contents new.contents contents)
+      (λ s s' told told'. sent_more conn bytes result old.contents new.contents s s' contents told told');
 }
 
 -- sends and further ones
@@ -181,6 +185,7 @@ only_join a b c p q r lawful first second = record {
   passes = Passes-join a b c p q r lawful first.passes second.passes;
   images = LeavesOnly-join p.now a b c q r first.images second.passes.left first.passes.left.later
       (λ at left. (first.now at).0 (second.images at left));
+  sends = more_join a b c q r first.passes.left.later second.passes.left_since first.sends second.sends;
 }
 
 -- where a store fits, it does after sends
@@ -202,6 +207,7 @@ pub saves_sends : (e : Ending) (x : Form) (h new : Word) (store : Keeping) (a b 
     → AreLawful b q → AreLawful c r → Saves e x h new store a b p q → OnlySends b c q r → Saves e x h new store a c p r
 saves_sends e x h new store a b c p q r before lawful first only = record {
   passes = Passes-join a b c p q r lawful first.passes only.passes;
+  sends = more_join a b c q r first.passes.left.later only.passes.left_since first.sends only.sends;
   count = let le = first.count in let same = only.count in omega arith;
   told = λ told. first.told (still_told b.disk c.disk only.disk told);
   rest = first.rest;
@@ -230,7 +236,7 @@ module _ (x : Form) (h : Word) (action : PlainAction) (new : Keeping) (a b : Sit
   was_told told = kept_told a.disk b.disk calls.opened told
 
   with_or_without : IsSome b.disk → LeavesOnly (IsWithOrWithout (canonical_text x) h action) a q
-  with_or_without told = let disk = told_disk a.disk (was_told told) in images disk.0 disk.1
+  with_or_without told = let disk = the_value a.disk (was_told told) in images disk.0 disk.1
 
   longer : length h ≤ length (h ++ action ∷ [])
   longer = let counts = length-append h (action ∷ []) in omega arith
@@ -247,6 +253,7 @@ module _ (x : Form) (h : Word) (action : PlainAction) (new : Keeping) (a b : Sit
   pub appended_saves : FitsWith x (h ++ action ∷ []) new b q → Saves going x h (h ++ action ∷ []) new a b p q
   appended_saves fits = record {
     passes = calls.passes;
+    sends = more_disk a b p q calls;
     count = calls.rest.disk;
     told = was_told;
     rest = action ∷ [];
@@ -262,6 +269,7 @@ module _ (x : Form) (h : Word) (action : PlainAction) (new : Keeping) (a b : Sit
   pub failed_saves : Rose a.counts.disk b.counts.disk → Saves (failed action) x h h new a b p q
   failed_saves rose = record {
     passes = calls.passes;
+    sends = more_disk a b p q calls;
     count = calls.rest.disk;
     told = was_told;
     rest = action ∷ [];

@@ -1,7 +1,9 @@
 -- A piece, item by item.
-use Rattle.std.proofs.Common.{◌≡◌, ◌≢◌, ℕ, true, Result, Ok, Err, zero, suc, ◌+◌, ◌-◌, ◌≤◌, ◌<◌, List, [], ◌∷◌, ◌++◌, Some, length, take, drop, refl, sym, ◌∙◌, ap, subst, arith, set, replicate}
+use Rattle.std.proofs.Common.{◌≡◌, ◌≢◌, ℕ, Bool, true, false, get_or, Result, Ok, Err, zero, suc, ◌+◌, ◌-◌, ◌≤◌, ◌<◌, List, [], ◌∷◌, ◌++◌, Some, length, take, drop, refl, sym, ◌∙◌, ap, subst, arith, set, replicate}
 use Rattle.std.proofs.Math.ListN.{length-set}
-use Rattle.std.proofs.lemmas.List.{take_rest, length-drop, length-replicate, take-append-drop, append-nil, append_cancel_left}
+use Rattle.std.proofs.lemmas.Grind.{flat_map-append}
+use Rattle.std.proofs.lemmas.List.{take_rest, length-append, append_assoc, length-drop, length-replicate, take-append-drop, append-nil, append_cancel_left}
+use Rattle.ix_words.specs.Each.{no_item}
 use Rattle.ix_lines.specs.Items.{Item}
 use Rattle.ix_lines.specs.Feeding.{UnfinishedLine, unfinished, Feeds, completes, holds_after}
 use Rattle.ix_lines.proofs.FeedLemmas.{any_cutting}
@@ -15,15 +17,19 @@ use Rattle.ix_manager.specs.declared.faults.Stop.{Stop}
 use Rattle.ix_manager.specs.declared.faults.Stop.TheVariants.{Disk}
 use Rattle.ix_manager.specs.declared.journaled.Journaled.{Journaled}
 use Rattle.ix_outside.specs.Crashes.{Crashes, AreLawful}
+use Rattle.ix_outside.specs.SiteState.{SiteState}
 use Rattle.ix_store.specs.inside.KeptBy.{kept}
-use Rattle.ix_manager.specs.Handled.{held_at}
+use Rattle.ix_manager.specs.Handled.{ManagerState, held_at, has_ended}
+use Rattle.ix_manager.specs.Images.{with_failed}
+use Rattle.ix_manager.specs.inside.Acknowledging.{Acknowledges}
 use Rattle.ix_manager.specs.inside.OverSite.{ending_after, EndsBy, FitsWith}
 use Rattle.ix_manager.specs.inside.Saving.{FitsJournal, Saves, SavesJournal}
-use Rattle.ix_manager.specs.inside.TakenItems.{TakesOne, TakesNone}
+use Rattle.ix_manager.specs.inside.TakenItems.{TakesOne, TakesNone, BytesOver}
 use Rattle.ix_manager.specs.inside.Core.{Core}
 use Rattle.ix_manager.specs.inside.Clean.{IsClean, AreClean}
-use Rattle.ix_manager.specs.inside.WireState.{WireState, SendsAll, AnswersItem, AnswersItems, ItemsOver}
+use Rattle.ix_manager.specs.inside.WireState.{WireState, wired, SendsAll, AnswersItem, AnswersItems, ItemsOver}
 use Rattle.ix_manager.proofs.SavingLemmas.{saves_none, saves_join}
+use Rattle.ix_manager.proofs.AcknowledgeSteps.{saves_acknowledges, acknowledges_join}
 use Rattle.ix_manager.proofs.SendSteps.{nothing_sent, sends-append}
 
 -- what is held behind a piece completes nothing by itself
@@ -54,65 +60,80 @@ takes_a_byte held piece item (suc used) feeds clean = omega arith
 
 -- the items so far were answered, and these are left
 pub record Progress (conn : ℕ) (all : List Item) (first : Core) (before : WireState) (items : List Item) (now : Core) (here : WireState) : Type 0 where
-  pub with_later : List (List Reply) → List (List Reply)
+  pub answers : List (List Reply)
   pub steps : (later : List (List Reply)) (after : MachineState) (ending : Ending)
       → Steps first.form first.limit now.state items later after ending
-      → Steps first.form first.limit first.state all (with_later later) after ending
-  pub sends : (later : List (List Reply)) (end : WireState)
-      → SendsAll conn (all_replies later) here end → SendsAll conn (all_replies (with_later later)) before end
+      → Steps first.form first.limit first.state all (answers ++ later) after ending
+  pub sends : SendsAll conn (all_replies answers) before here
   pub form : now.form ≡ first.form
   pub limit : now.limit ≡ first.limit
 
-pub progress_begins : (conn : ℕ) (items : List Item) (core : Core) (w : WireState) → Progress conn items core w items core w
+abbrev pub progress_begins : (conn : ℕ) (items : List Item) (core : Core) (w : WireState) → Progress conn items core w items core w
 progress_begins conn items core w = record {
-  with_later = λ later. later;
+  answers = [];
   steps = λ later after ending steps. steps;
-  sends = λ later end sends. sends;
+  sends = nothing_sent conn w;
   form = refl;
   limit = refl;
 }
 
 -- a step for the expression and the limit of the start
-step_of_first : (x y : _) (l m : ℕ) → x ≡ y → l ≡ m → (s : MachineState) (item : Item) (replies : List Reply) (after : MachineState) (ending : Ending)
+pub step_of_first : (x y : _) (l m : ℕ) → x ≡ y → l ≡ m → (s : MachineState) (item : Item) (replies : List Reply) (after : MachineState) (ending : Ending)
     → ItemStep x l s item replies after ending → ItemStep y m s item replies after ending
 step_of_first x y l m e f s item replies after ending step =
     subst (λ z. ItemStep z m s item replies after ending) e (subst (λ k. ItemStep x k s item replies after ending) f step)
 
-pub progress_goes_on : (conn : ℕ) (all : List Item) (first : Core) (before : WireState) (item : Item) (items : List Item) (now : Core) (here : WireState) (next : Core) (there : WireState)
+-- the replies to one item more
+pub one_item_more : (answers : List (List Reply)) (replies : List Reply) → all_replies (answers ++ replies ∷ []) ≡ all_replies answers ++ replies
+one_item_more answers replies =
+    flat_map-append (λ (rs : List Reply). rs) answers (replies ∷ []) ∙ ap (λ rs. all_replies answers ++ rs) (append-nil replies)
+
+-- are sent behind those so far
+pub progress_sends : (conn : ℕ) (answers : List (List Reply)) (replies : List Reply) (before here there : WireState)
+    → SendsAll conn (all_replies answers) before here → SendsAll conn replies here there
+    → SendsAll conn (all_replies (answers ++ replies ∷ [])) before there
+progress_sends conn answers replies before here there first then_sent =
+    subst (λ rs. SendsAll conn rs before there) (sym (one_item_more answers replies))
+    (sends-append conn (all_replies answers) replies before here there first then_sent)
+
+abbrev pub progress_goes_on : (conn : ℕ) (all : List Item) (first : Core) (before : WireState) (item : Item) (items : List Item) (now : Core) (here : WireState) (next : Core) (there : WireState)
     → Progress conn all first before (item ∷ items) now here → AnswersItem conn item going now next here there
     → Progress conn all first before items next there
 progress_goes_on conn all first before item items now here next there progress answers = record {
-  with_later = λ later. progress.with_later (answers.replies ∷ later);
-  steps = λ later after ending steps. progress.steps (answers.replies ∷ later) after ending
-      (more (step_of_first now.form first.form now.limit first.limit progress.form progress.limit now.state item answers.replies next.state going answers.step) steps);
-  sends = λ later end sends. progress.sends (answers.replies ∷ later) end
-      (sends-append conn answers.replies (all_replies later) here there end answers.sends sends);
+  answers = progress.answers ++ answers.replies ∷ [];
+  steps = λ later after ending steps.
+      subst (λ replies. Steps first.form first.limit first.state all replies after ending) (sym (append_assoc progress.answers (answers.replies ∷ []) later))
+      (progress.steps (answers.replies ∷ later) after ending
+      (more (step_of_first now.form first.form now.limit first.limit progress.form progress.limit now.state item answers.replies next.state going answers.step) steps));
+  sends = progress_sends conn progress.answers answers.replies before here there progress.sends answers.sends;
   form = answers.form ∙ progress.form;
   limit = answers.limit ∙ progress.limit;
 }
 
-pub progress_stops : (conn : ℕ) (all : List Item) (first : Core) (before : WireState) (item : Item) (items : List Item) (now : Core) (here : WireState) (next : Core) (there : WireState)
+abbrev pub progress_stops : (conn : ℕ) (all : List Item) (first : Core) (before : WireState) (item : Item) (items : List Item) (now : Core) (here : WireState) (next : Core) (there : WireState)
     (ending : Ending) → ending ≢ going
     → Progress conn all first before (item ∷ items) now here → AnswersItem conn item ending now next here there
     → AnswersItems conn all ending first next before there
 progress_stops conn all first before item items now here next there ending ends progress answers = record {
-  answers = progress.with_later (answers.replies ∷ []);
+  answers = progress.answers ++ answers.replies ∷ [];
   steps = progress.steps (answers.replies ∷ []) next.state ending
       (last (step_of_first now.form first.form now.limit first.limit progress.form progress.limit now.state item answers.replies next.state ending answers.step) ends);
-  sends = progress.sends (answers.replies ∷ []) there
-      (sends-append conn answers.replies [] here there there answers.sends (nothing_sent conn there));
+  sends = progress_sends conn progress.answers answers.replies before here there progress.sends answers.sends;
   form = answers.form ∙ progress.form;
   limit = answers.limit ∙ progress.limit;
 }
 
-pub progress_ends : (conn : ℕ) (all : List Item) (first : Core) (before : WireState) (now : Core) (here : WireState)
-    → Progress conn all first before [] now here → AnswersItems conn all going first now before here
-progress_ends conn all first before now here progress = record {
-  answers = progress.with_later [];
-  steps = progress.steps [] now.state going none;
-  sends = progress.sends [] here (nothing_sent conn here);
-  form = progress.form;
-  limit = progress.limit;
+abbrev pub progress_ends : (conn : ℕ) (all : List Item) (first : Core) (before : WireState) (now : Core) (here : WireState) (next : Core) (there : WireState)
+    → Progress conn all first before [] now here → next ≡ now → SendsAll conn [] here there → AnswersItems conn all going first next before there
+progress_ends conn all first before now here next there progress same nothing = record {
+  answers = progress.answers;
+  steps = subst (λ (core : Core). Steps first.form first.limit first.state all progress.answers core.state going) (sym same)
+      (subst (λ replies. Steps first.form first.limit first.state all replies now.state going) (append-nil progress.answers)
+      (progress.steps [] now.state going none));
+  sends = subst (λ replies. SendsAll conn replies before there) (append-nil (all_replies progress.answers))
+      (sends-append conn (all_replies progress.answers) [] before here there progress.sends nothing);
+  form = ap (λ (core : Core). core.form) same ∙ progress.form;
+  limit = ap (λ (core : Core). core.limit) same ∙ progress.limit;
 }
 
 each-set : (lines : List UnfinishedLine) (conn : ℕ) (held : UnfinishedLine) → ((k : ℕ) → IsClean (held_at k lines)) → IsClean held
@@ -133,13 +154,20 @@ pub record Reaches (conn : ℕ) (all : List Item) (first : Journaled) (before : 
     (items : List Item) (now : Journaled) (here : WireState) (q : Crashes) : Type 0 where
   pub progress : Progress conn all first.machine before items now.machine here
   pub saves : SavesJournal going first now before.site here.site p q
+  pub acknowledges : Acknowledges first.machine.form (length first.machine.state.history) now.machine.state.history
+      (all_replies progress.answers) before.site here.site q
 
 pub reach_begins : (conn : ℕ) (items : List Item) (j : Journaled) (w : WireState) (p : Crashes) → AreLawful w.site p
     → FitsJournal j w.site p → Reaches conn items j w p items j w p
-reach_begins conn items j w p lawful fits = record {
-  progress = progress_begins conn items j.machine w;
-  saves = saves_none j.machine.form j.machine.state.history (kept j.store) w.site p lawful fits;
-}
+reach_begins conn items j w p lawful fits =
+    let x = j.machine.form in
+    let h = j.machine.state.history in
+    let saves = saves_none x h (kept j.store) w.site p lawful fits in
+    record {
+      progress = progress_begins conn items j.machine w;
+      saves = saves;
+      acknowledges = saves_acknowledges going x h h (kept j.store) conn [] w w p p lawful saves (nothing_sent conn w) no_item;
+    }
 
 -- the run goes on only after `More`
 pub ends_run : (result : Result Go Stop) (ending : Ending) → (result ≡ Ok More → ⊥) → EndsBy result ending → ending ≢ going
@@ -156,6 +184,55 @@ saves_of_first ending conn all items first now next before here there p q r lawf
     (kept now.store) (kept next.store) before.site here.site there.site p q r lawful reach.saves
     (subst (λ x. Saves ending x now.machine.state.history next.machine.state.history (kept next.store) here.site there.site q r) reach.progress.form saves)
 
+-- what was acknowledged so far, and with an item
+reach_acknowledges : (ending : Ending) (conn : ℕ) (all items : List Item) (first now next : Journaled) (before here there : WireState) (p q r : Crashes)
+    → AreLawful here.site q → (reach : Reaches conn all first before p items now here q) → (replies : List Reply)
+    → SavesJournal ending now next here.site there.site q r → SendsAll conn replies here there
+    → Acknowledges now.machine.form (length now.machine.state.history) (with_failed ending next.machine.state.history) replies here.site there.site r
+    → Acknowledges first.machine.form (length first.machine.state.history) (with_failed ending next.machine.state.history)
+    (all_replies reach.progress.answers ++ replies) before.site there.site r
+reach_acknowledges ending conn all items first now next before here there p q r lawful reach replies saves sends acknowledges =
+    let x = first.machine.form in
+    let h = first.machine.state.history in
+    let mid = now.machine.state.history in
+    let new = with_failed ending next.machine.state.history in
+    let longer = sym (ap length reach.saves.grows) ∙ length-append h reach.saves.rest in
+    acknowledges_join x h mid new saves.rest conn (all_replies reach.progress.answers) replies before here there q r lawful reach.saves.passes.left.later
+    saves.passes.left_since reach.progress.sends sends reach.saves.sends saves.sends saves.told reach.acknowledges
+    (subst (λ y. Acknowledges y (length mid) new replies here.site there.site r) reach.progress.form acknowledges)
+    saves.grows (omega (arith, longer))
+
+-- of the replies to an item behind those so far
+reach_item_acknowledges : (ending : Ending) (conn : ℕ) (all items : List Item) (first now next : Journaled) (before here there : WireState) (p q r : Crashes)
+    → AreLawful here.site q → (reach : Reaches conn all first before p items now here q) → (replies : List Reply)
+    → SavesJournal ending now next here.site there.site q r → SendsAll conn replies here there
+    → Acknowledges now.machine.form (length now.machine.state.history) (with_failed ending next.machine.state.history) replies here.site there.site r
+    → Acknowledges first.machine.form (length first.machine.state.history) (with_failed ending next.machine.state.history)
+    (all_replies (reach.progress.answers ++ replies ∷ [])) before.site there.site r
+reach_item_acknowledges ending conn all items first now next before here there p q r lawful reach replies saves sends acknowledges =
+    subst (λ rs. Acknowledges first.machine.form (length first.machine.state.history) (with_failed ending next.machine.state.history) rs before.site there.site r)
+    (sym (one_item_more reach.progress.answers replies))
+    (reach_acknowledges ending conn all items first now next before here there p q r lawful reach replies saves sends acknowledges)
+
+-- an item is answered that ends so
+record ItemGoes (conn : ℕ) (item : Item) (ending : Ending) (now next : Journaled) (here there : WireState) (q r : Crashes) : Type 0 where
+  pub answers : AnswersItem conn item ending now.machine next.machine here there
+  pub saves : SavesJournal ending now next here.site there.site q r
+  pub acknowledges : Acknowledges now.machine.form (length now.machine.state.history) (with_failed ending next.machine.state.history)
+      answers.replies here.site there.site r
+
+-- one item more was answered
+reach_goes_on : (conn : ℕ) (all : List Item) (first : Journaled) (before : WireState) (p : Crashes) (item : Item) (others : List Item)
+    (now : Journaled) (here : WireState) (next : Journaled) (there : WireState) (q r : Crashes) → AreLawful here.site q → AreLawful there.site r
+    → Reaches conn all first before p (item ∷ others) now here q → ItemGoes conn item going now next here there q r
+    → Reaches conn all first before p others next there r
+reach_goes_on conn all first before p item others now here next there q r lawful_here lawful reach goes = record {
+  progress = progress_goes_on conn all first.machine before item others now.machine here next.machine there reach.progress goes.answers;
+  saves = saves_of_first going conn all (item ∷ others) first now next before here there p q r lawful reach goes.saves;
+  acknowledges = reach_item_acknowledges going conn all (item ∷ others) first now next before here there p q r lawful_here reach goes.answers.replies
+      goes.saves goes.answers.sends goes.acknowledges;
+}
+
 -- the journal fits where the items so far were answered
 pub reach_fits : (conn : ℕ) (all items : List Item) (first now : Journaled) (before here : WireState) (p q : Crashes)
     → Reaches conn all first before p items now here q → FitsJournal now here.site q
@@ -166,67 +243,74 @@ reach_fits conn all items first now before here p q reach =
 pub reach_attached : (conn : ℕ) (all items : List Item) (first now : Journaled) (before here : WireState) (p q : Crashes)
     → Reaches conn all first before p items now here q → before.site.attached ≡ true → here.site.attached ≡ true
 reach_attached conn all items first now before here p q reach was =
-    (reach.progress.sends [] here (nothing_sent conn here)).site.attached ∙ was
+    reach.progress.sends.site.attached ∙ was
 
 module _ (conn : ℕ) (all : List Item) (first : Journaled) (before : WireState) (p : Crashes)
     (held : UnfinishedLine) (piece : List ℕ) (after_it : UnfinishedLine)
     (now next : Journaled) (here there : WireState) (q r : Crashes) where
   -- an item of a piece was taken, and the rest of the piece is left
-  pub taken_goes_on : (used : ℕ) (go : Go) → AreLawful there.site r
+  pub taken_goes_on : (used : ℕ) (go : Go) → AreLawful here.site q → AreLawful there.site r
       → Reaches conn all first before p (completes held piece) now here q
       → TakesOne conn held piece used (Ok go) after_it now next here there q r → go ≡ More
       → Reaches conn all first before p (completes after_it (take (length piece - used) (drop used piece))) next there r
-  taken_goes_on used go lawful reach one goes =
+  taken_goes_on used go lawful_here lawful reach one goes =
       let rest = drop used piece in
       let over = one.answers in
       let is : over.ending ≡ going = over.answered ∙ ap ending_after goes in
-      let answers : AnswersItem conn one.item going now.machine next.machine here there =
-      subst (λ e. AnswersItem conn one.item e now.machine next.machine here there) is over.answers in
-      let saves : SavesJournal going now next here.site there.site q r =
-      subst (λ e. SavesJournal e now next here.site there.site q r) is over.saves in
-      let begun : Progress conn all first.machine before (one.item ∷ completes (holds_after held (take used piece)) rest) now.machine here =
-      subst (λ its. Progress conn all first.machine before its now.machine here) (items_behind held piece one.item used one.feeds) reach.progress in
-      let same : completes (holds_after held (take used piece)) rest ≡ completes after_it (take (length piece - used) rest) =
+      let goes_on : ItemGoes conn one.item going now next here there q r =
+      subst (λ e. ItemGoes conn one.item e now next here there q r) is
+      (record { answers = over.answers; saves = over.saves; acknowledges = over.acknowledges }) in
+      let others = completes (holds_after held (take used piece)) rest in
+      let begun : Reaches conn all first before p (one.item ∷ others) now here q =
+      subst (λ its. Reaches conn all first before p its now here q) (items_behind held piece one.item used one.feeds) reach in
+      let same : others ≡ completes after_it (take (length piece - used) rest) =
       ap (λ h. completes h rest) (sym one.held_is) ∙ ap (completes after_it) (sym (take_rest piece used)) in
-      record {
-        progress = subst (λ its. Progress conn all first.machine before its next.machine there) same
-            (progress_goes_on conn all first.machine before one.item (completes (holds_after held (take used piece)) rest) now.machine here next.machine there begun answers);
-        saves = saves_of_first going conn all (completes held piece) first now next before here there p q r lawful reach saves;
-      }
+      subst (λ its. Reaches conn all first before p its next there r) same
+      (reach_goes_on conn all first before p one.item others now here next there q r lawful_here lawful begun goes_on)
 
   -- an item was taken that ended the run
-  pub taken_stops : (used : ℕ) (result : Result Go Stop) → (result ≡ Ok More → ⊥) → AreLawful there.site r
+  pub taken_stops : (used : ℕ) (result : Result Go Stop) → (result ≡ Ok More → ⊥) → AreLawful here.site q → AreLawful there.site r
       → Reaches conn all first before p (completes held piece) now here q
       → TakesOne conn held piece used result after_it now next here there q r
       → ItemsOver conn all result first next before there p r
-  taken_stops used result ends lawful reach one =
+  taken_stops used result ends lawful_here lawful reach one =
       let rest = drop used piece in
       let over = one.answers in
-      let begun : Progress conn all first.machine before (one.item ∷ completes (holds_after held (take used piece)) rest) now.machine here =
-      subst (λ its. Progress conn all first.machine before its now.machine here) (items_behind held piece one.item used one.feeds) reach.progress in
+      let others = completes (holds_after held (take used piece)) rest in
+      let begun : Reaches conn all first before p (one.item ∷ others) now here q =
+      subst (λ its. Reaches conn all first before p its now here q) (items_behind held piece one.item used one.feeds) reach in
       record {
         ending = over.ending;
         answered = over.answered;
-        answers = progress_stops conn all first.machine before one.item (completes (holds_after held (take used piece)) rest) now.machine here next.machine there
-            over.ending (ends_run result over.ending ends over.answered) begun over.answers;
-        saves = saves_of_first over.ending conn all (completes held piece) first now next before here there p q r lawful reach over.saves;
+        answers = progress_stops conn all first.machine before one.item others now.machine here next.machine there
+            over.ending (ends_run result over.ending ends over.answered) begun.progress over.answers;
+        saves = saves_of_first over.ending conn all (one.item ∷ others) first now next before here there p q r lawful begun over.saves;
+        acknowledges = reach_item_acknowledges over.ending conn all (one.item ∷ others) first now next before here there p q r lawful_here begun over.answers.replies
+            over.saves over.answers.sends over.acknowledges;
       }
 
   -- the piece was taken to its end
-  pub taken_ends : AreLawful there.site r → Reaches conn all first before p (completes held piece) now here q
+  pub taken_ends : AreLawful here.site q → AreLawful there.site r → Reaches conn all first before p (completes held piece) now here q
       → TakesNone held piece after_it now next here there q r
       → ItemsOver conn all (Ok More) first next before there p r
-  taken_ends lawful reach none_taken =
-      let left : Progress conn all first.machine before [] now.machine here =
-      subst (λ its. Progress conn all first.machine before its now.machine here) none_taken.completes_none reach.progress in
-      let moved : Progress conn all first.machine before [] next.machine here =
-      subst (λ core. Progress conn all first.machine before [] core here) (sym none_taken.rests.machine) left in
+  taken_ends lawful_here lawful reach none_taken =
+      let rests = none_taken.rests in
+      let left : Reaches conn all first before p [] now here q =
+      subst (λ its. Reaches conn all first before p its now here q) none_taken.completes_none reach in
+      let nothing : SendsAll conn [] here there = subst (λ w. SendsAll conn [] here w) (sym rests.wire) (nothing_sent conn here) in
+      let x = now.machine.form in
+      let h = now.machine.state.history in
+      let so_far = all_replies left.progress.answers in
+      let w = next.machine.state.history in
       record {
         ending = going;
         answered = refl;
-        answers = progress_ends conn all first.machine before next.machine there
-            (subst (λ w. Progress conn all first.machine before [] next.machine w) (sym none_taken.rests.wire) moved);
-        saves = saves_of_first going conn all (completes held piece) first now next before here there p q r lawful reach none_taken.rests.saves;
+        answers = progress_ends conn all first.machine before now.machine here next.machine there left.progress rests.machine nothing;
+        saves = saves_of_first going conn all [] first now next before here there p q r lawful left rests.saves;
+        acknowledges = subst (λ replies. Acknowledges first.machine.form (length first.machine.state.history) w replies before.site there.site r)
+            (append-nil so_far)
+            (reach_acknowledges going conn all [] first now next before here there p q r lawful_here left [] rests.saves nothing
+            (saves_acknowledges going x h w (kept next.store) conn [] here there q r lawful rests.saves nothing no_item));
       }
 
   -- what is held behind the rest is what is held behind the piece
@@ -266,3 +350,61 @@ each-none (suc n) (suc k) = each-none n k
 -- no text so far is clean
 pub clean_at_start : AreClean (replicate 64 (unfinished []))
 clean_at_start = record { count = length-replicate 64 (unfinished []); clean = each-none 64 }
+
+-- a manager with these parts
+abbrev pub managed : Journaled → List UnfinishedLine → List Bool → Bool → ManagerState
+managed j lines marks ended = record {
+  form = j.machine.form;
+  limit = j.machine.limit;
+  machine = j.machine.state;
+  store = kept j.store;
+  lines = lines;
+  marks = marks;
+  ended = ended;
+}
+
+-- whether the run ended, by the answer
+abbrev pub ended_by : Result Go Stop → Bool
+ended_by (Ok More) = false
+ended_by _ = true
+
+ended_as : (result : Result Go Stop) (ending : Ending) → EndsBy result ending → ended_by result ≡ has_ended ending
+ended_as (Ok More) ending answered = ap has_ended (sym answered)
+ended_as (Ok Stopped) ending answered = ap has_ended (sym answered)
+ended_as (Err Disk) ending answered = ap has_ended (sym answered.1)
+
+goes_on_after : (result : Result Go Stop) (ending : Ending) → EndsBy result ending → ending ≡ going → result ≡ Ok More
+goes_on_after (Ok More) ending answered goes = refl
+goes_on_after (Ok Stopped) ending answered goes = let e : stopped ≡ going = sym answered ∙ goes in cc
+goes_on_after (Err Disk) ending answered goes = let e : failed answered.0 ≡ going = sym answered.1 ∙ goes in cc
+
+-- the bytes of a connection were taken
+pub bytes_taken : (conn : ℕ) (bytes : List ℕ) (result : Result Go Stop) (j next : Journaled) (lines : List UnfinishedLine) (marks : List Bool)
+    (was ended : Bool) (behind : UnfinishedLine) (gone : Bool) (a b : SiteState) (p q : Crashes)
+    → ended ≡ ended_by result → (result ≡ Ok More → behind ≡ holds_after (held_at conn lines) bytes)
+    → ItemsOver conn (completes (held_at conn lines) bytes) result j next (wired (get_or marks conn false) a) (wired gone b) p q
+    → BytesOver conn bytes result (managed j lines marks was) (managed next (set lines conn behind) (set marks conn gone) ended)
+    (wired (get_or marks conn false) a) (wired false b) p q
+bytes_taken conn bytes result j next lines marks was ended behind gone a b p q ends holds over = record {
+  ending = over.ending;
+  answered = over.answered;
+  takes = record {
+    answers = over.answers.answers;
+    marked = gone;
+    steps = over.answers.steps;
+    sends = over.answers.sends;
+    lines = λ goes. ap (set lines conn) (holds (goes_on_after result over.ending over.answered goes));
+    marks = refl;
+    ended = ends ∙ ended_as result over.ending over.answered;
+    form = over.answers.form;
+    limit = over.answers.limit;
+  };
+  saves = over.saves;
+  acknowledges = over.acknowledges;
+}
+
+-- within a list what stands for the items behind it doesn't matter
+pub get_or_any : (lines : List UnfinishedLine) (index : ℕ) (one two : UnfinishedLine) → index < length lines → get_or lines index one ≡ get_or lines index two
+get_or_any [] index one two within = absurd (omega arith)
+get_or_any (line ∷ lines) zero one two within = refl
+get_or_any (line ∷ lines) (suc index) one two within = get_or_any lines index one two (omega arith)

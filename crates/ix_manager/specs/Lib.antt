@@ -5,6 +5,7 @@ pub mod Wire
 pub mod RunLaws
 pub mod MachineLaws
 pub mod Images
+pub mod Acknowledged
 pub mod Handled
 pub mod Starts
 pub mod inside

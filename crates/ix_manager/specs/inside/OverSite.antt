@@ -17,6 +17,8 @@ use Rattle.ix_manager.specs.declared.faults.Stop.TheVariants.{Disk}
 use Rattle.ix_manager.specs.Runs.{Ending, going, stopped, failed}
 use Rattle.ix_manager.specs.Images.{Keeps, with_failed, EndsAs}
 use Rattle.ix_manager.specs.Handled.{ManagerState, Handles}
+use Rattle.ix_manager.specs.Wire.{all_replies}
+use Rattle.ix_manager.specs.inside.Acknowledging.{Acknowledges, SendsMore}
 
 -- a store whose append hasn't failed fits the site with the expression's canonical text and the
 -- history
@@ -42,7 +44,8 @@ EndsBy (Err Disk) ending = (a : PlainAction) × (ending ≡ failed a)
 -- An event is handled over a site. Where the site still tells its disk, each image that a crash
 -- since the call began may leave keeps all actions that were confirmed before, and no others than
 -- those that are confirmed now and the one whose confirm failed; and each that a crash now may
--- leave is as the run ends.
+-- leave is as the run ends. Where it still tells its sends too, each image that a crash at some
+-- moment since the call began may have left keeps all that was acknowledged by then.
 pub record HandlesOver (old : ManagerState) (event : Event) (bytes : List ℕ)
     (result : Result Go Stop) (new : ManagerState) (before after : SiteState) (is : Crashes)
     : Type 0 where
@@ -53,6 +56,9 @@ pub record HandlesOver (old : ManagerState) (event : Event) (bytes : List ℕ)
       → Keeps old.form (length old.machine.history) (with_failed ending new.machine.history) image
   pub ends : IsSome after.disk
       → (image : List ℕ) → is.now image → EndsAs ending new.machine.history image
+  pub acknowledges : Acknowledges old.form (length old.machine.history)
+      (with_failed ending new.machine.history) (all_replies handles.answers) before after is
+  pub sends : SendsMore before after is
 
 -- Nothing changed but the counts of the disk and of sends, neither of which fell, the tick, and
 -- what the site tells of its connections and its disk; what was attached stays, where it is still

@@ -21,6 +21,7 @@ use Rattle.ix_manager.specs.declared.faults.Stop.TheVariants.{Disk}
 use Rattle.ix_manager.specs.Runs.{Ending, going, stopped, failed}
 use Rattle.ix_manager.specs.Images.{Keeps, with_failed, EndsAs}
 use Rattle.ix_manager.specs.Handled.{ManagerState}
+use Rattle.ix_manager.specs.inside.Acknowledging.{SendsMore}
 use Rattle.ix_manager.specs.inside.Core.{Core}
 use Rattle.ix_manager.specs.inside.Does.{Does}
 use Rattle.ix_manager.specs.inside.OverSite.{FitsWith}
@@ -43,20 +44,22 @@ WhereFailed stopped P = ⊤
 WhereFailed (failed a) P = P
 
 -- Only sends were made: the disk is told as before or no more, what a crash now may leave stays,
--- and what else it may leave since they began is that too.
+-- and what else it may leave since they began is that too, beside what had been sent by then.
 pub record OnlySends (old new : SiteState) (was is : Crashes) : Type 0 where
   pub count : new.counts.disk ≡ old.counts.disk
   pub disk : (new.disk ≡ old.disk) ⊎ (new.disk ≡ None)
   pub now : LeavesTheSame was.now is.now
   pub passes : Passes old new was is
   pub images : LeavesOnly was.now old is
+  pub sends : SendsMore old new is
 
 -- Over calls for a machine of the expression, which ended so: the history went on, and each image
 -- keeps the actions of the one before, and no others than those of the new one and the one whose
--- confirm failed. Unless one did, the store as it is then fits.
+-- confirm failed; what had been sent by each moment stands between. Unless one did, the store as it is then fits.
 pub record Saves (ending : Ending) (x : Form) (old new : Word) (store : Keeping)
     (before after : SiteState) (was is : Crashes) : Type 0 where
   pub passes : Passes before after was is
+  pub sends : SendsMore before after is
   pub count : before.counts.disk ≤ after.counts.disk
   pub told : IsSome after.disk → IsSome before.disk
   pub rest : Word

@@ -1,12 +1,10 @@
 -- What starting a manager answers, and what a crash meanwhile may leave.
-use Rattle.std.specs.Prelude.{◌≡◌, ◌≢◌, ◌⊎◌, ℕ, ◌-◌, ◌<◌, ◌≤◌, List, [], length, take, ⊤}
+use Rattle.std.specs.Prelude.{◌≡◌, ◌≢◌, ◌⊎◌, ℕ, List, ⊤}
 use Rattle.std.specs.Prelude.{Result, Ok, Err}
 use Rattle.ix_values.specs.PlainAction.{Word}
 use Rattle.ix_expr.specs.CanonicalText.{canonical_text}
 use Rattle.ix_expr.specs.Form.{Form}
-use Rattle.ix_expr.specs.Meaning.{IsPartial}
-use Rattle.ix_can.specs.TreeOf.{tree_size}
-use Rattle.ix_journal.specs.Kinds.{IsUnfinished, IsUnopened, IsForeign}
+use Rattle.ix_journal.specs.Kinds.{IsUnfinished, IsForeign}
 use Rattle.ix_journal.specs.Recovery.{IsDamaged, IsMany, Recovers}
 use Rattle.ix_outside.specs.Crashes.{Crashes}
 use Rattle.ix_outside.specs.Disk.{MakesFile, Stays}
@@ -15,7 +13,7 @@ use Rattle.ix_store.specs.Opening.{IsReadyWith}
 use Rattle.ix_manager.specs.declared.faults.StartFault.{StartFault}
 use Rattle.ix_manager.specs.declared.faults.StartFault.TheVariants as fault
 use Rattle.ix_manager.specs.Runs.{opening_of}
-use Rattle.ix_manager.specs.Images.{IsOwn, EachPrefixIsWithin, IsStartable}
+use Rattle.ix_manager.specs.Images.{IsOwn, IsStartable}
 use Rattle.ix_manager.specs.Handled.{ManagerState}
 use Rattle.ix_manager.specs.Starts.{HasText, IsHeavy, IsNoWord, OpensAs}
 

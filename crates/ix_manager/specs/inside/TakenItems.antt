@@ -1,5 +1,5 @@
 -- What taking one item of a piece makes, and what taking all bytes of an event makes.
-use Rattle.std.specs.Prelude.{◌≡◌, ℕ, Bool, List, [], take, set}
+use Rattle.std.specs.Prelude.{◌≡◌, ℕ, Bool, List, [], length, take, set}
 use Rattle.std.specs.Prelude.{Option, Some, None, Result, Ok, Err}
 use Rattle.ix_lines.specs.Items.{Item}
 use Rattle.ix_lines.specs.Feeding.{UnfinishedLine, Feeds, completes, holds_after}
@@ -12,6 +12,8 @@ use Rattle.ix_manager.specs.declared.journaled.Journaled.{Journaled}
 use Rattle.ix_manager.specs.Runs.{Ending, going, Steps}
 use Rattle.ix_manager.specs.Wire.{all_replies}
 use Rattle.ix_manager.specs.Handled.{ManagerState, held_at, has_ended}
+use Rattle.ix_manager.specs.Images.{with_failed}
+use Rattle.ix_manager.specs.inside.Acknowledging.{Acknowledges}
 use Rattle.ix_manager.specs.inside.OverSite.{EndsBy}
 use Rattle.ix_manager.specs.inside.Saving.{SavesRun}
 use Rattle.ix_manager.specs.inside.WireState.{WireState, SendsAll, ItemOver, Rests}
@@ -61,3 +63,5 @@ pub record BytesOver (conn : ℕ) (bytes : List ℕ) (result : Result Go Stop) (
   pub answered : EndsBy result ending
   pub takes : TakesBytes conn bytes ending old new before after
   pub saves : SavesRun ending old new before.site after.site was is
+  pub acknowledges : Acknowledges old.form (length old.machine.history)
+      (with_failed ending new.machine.history) (all_replies takes.answers) before.site after.site is

@@ -21,6 +21,8 @@ use Rattle.ix_manager.specs.declared.faults.Stop.{Stop}
 use Rattle.ix_manager.specs.declared.journaled.Journaled.{Journaled}
 use Rattle.ix_manager.specs.inside.OverSite.{EndsBy, OnlyServes}
 use Rattle.ix_manager.specs.inside.Saving.{SavesJournal}
+use Rattle.ix_manager.specs.Images.{with_failed}
+use Rattle.ix_manager.specs.inside.Acknowledging.{Acknowledges}
 use Rattle.ix_manager.specs.inside.Core.{Core, change_replies}
 
 -- whether the connection is marked as gone, and the site
@@ -66,6 +68,8 @@ pub record RequestOver (conn : ℕ) (request : Request) (result : Result Go Stop
   pub answered : EndsBy result ending
   pub answers : AnswersRequest conn request ending old.machine new.machine before after
   pub saves : SavesJournal ending old new before.site after.site was is
+  pub acknowledges : Acknowledges old.machine.form (length old.machine.state.history)
+      (with_failed ending new.machine.state.history) answers.replies before.site after.site is
 
 -- an item is answered by the machine, and the replies are sent
 pub record AnswersItem (conn : ℕ) (item : Item) (ending : Ending) (old new : Core) (before after : WireState) : Type 0 where
@@ -83,6 +87,8 @@ pub record ItemOver (conn : ℕ) (item : Item) (result : Result Go Stop) (old ne
   pub answered : EndsBy result ending
   pub answers : AnswersItem conn item ending old.machine new.machine before after
   pub saves : SavesJournal ending old new before.site after.site was is
+  pub acknowledges : Acknowledges old.machine.form (length old.machine.state.history)
+      (with_failed ending new.machine.state.history) answers.replies before.site after.site is
 
 -- nothing happened
 pub record Rests (old new : Journaled) (before after : WireState) (was is : Crashes) : Type 0 where
@@ -115,6 +121,8 @@ pub record ItemsOver (conn : ℕ) (items : List Item) (result : Result Go Stop) 
   pub answered : EndsBy result ending
   pub answers : AnswersItems conn items ending old.machine new.machine before after
   pub saves : SavesJournal ending old new before.site after.site was is
+  pub acknowledges : Acknowledges old.machine.form (length old.machine.state.history)
+      (with_failed ending new.machine.state.history) (all_replies answers.answers) before.site after.site is
 
 -- `stop` ends the run
 abbrev pub request_ending : Request → Ending

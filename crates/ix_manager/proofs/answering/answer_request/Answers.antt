@@ -1,7 +1,10 @@
-use Rattle.std.proofs.Common.{refl, ◌∙◌, ap}
+use Rattle.std.proofs.Common.{refl, ◌∙◌, ap, length}
 use Rattle.ix_manager.specs.Machine.{MachineState}
 use Rattle.ix_manager.specs.inside.Core.{Core}
 use Rattle.ix_manager.specs.inside.WireState.{wired}
+use Rattle.ix_words.specs.Each.{item}
+use Rattle.ix_watch.specs.inside.Watches.{changes_of}
+use Rattle.ix_manager.proofs.AcknowledgedLemmas.{no_confirm_answered, changes_confirm_none}
 use Rattle.ix_manager.proofs.AnswerLemmas.{one_answered, poll_answered}
 use Rattle.ix_manager.proofs.OverLemmas.{request_over, confirm_request}
 use Rattle.ix_manager.proofs.answering.answer_request.Goals as goal
@@ -19,6 +22,8 @@ returns-in-One g c =
     (one_answered c.args.conn c.args.request.now c.go_behind.result c.in-One.reply old c.answer.new.self before after
     c.in-One.ensures.answers c.go_behind.ensures c.send_reply.ensures.sends c.answer.ensures.form c.answer.ensures.limit c.answer.ensures.tickets)
     c.send_reply.ensures.only
+    (let asked = c.requires.plain in
+    no_confirm_answered (c.in-One.ensures.answers.0 asked.0 asked.1 asked.2) (ap length c.answer.ensures.history))
 
 -- a poll is told
 pub returns-in-Poll : goal.returns-in-Poll
@@ -34,7 +39,7 @@ returns-in-Poll g c =
     (ap (λ (s : MachineState). s.history) c.tell.ensures.rest ∙ c.answer.ensures.history) refl
     (poll_answered c.args.conn c.args.request.now c.go_behind-in-Poll.result c.in-Poll.name old c.answer.new.self c.tell.new.self before after
     polls.0 c.go_behind-in-Poll.ensures polls.1 c.answer.ensures.form c.answer.ensures.limit c.tell.ensures c.send_changes.ensures.sends)
-    c.send_changes.ensures.only
+    c.send_changes.ensures.only (item tt (changes_confirm_none (changes_of c.in-Poll.name c.answer.new.self.noted)))
 
 -- a confirm
 pub returns-in-Confirm : goal.returns-in-Confirm
