@@ -14,6 +14,8 @@ pub mod TableLemmas
 pub mod SavingLemmas
 pub mod AcknowledgedLemmas
 pub mod AcknowledgeSteps
+pub mod GrowingLemmas
+pub mod ServingLemmas
 pub mod HistoryLemmas
 pub mod OverLemmas
 pub mod RecoverLemmas

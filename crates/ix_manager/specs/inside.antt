@@ -7,6 +7,7 @@ pub mod OverSite
 pub mod Recovering
 pub mod Ready
 pub mod Saving
+pub mod Serving
 pub mod StartAnswers
 pub mod StartFaults
 pub mod TakenItems
