@@ -16,6 +16,7 @@ pub mod AcknowledgedLemmas
 pub mod AcknowledgeSteps
 pub mod GrowingLemmas
 pub mod ServingLemmas
+pub mod WithinLemmas
 pub mod HistoryLemmas
 pub mod OverLemmas
 pub mod RecoverLemmas

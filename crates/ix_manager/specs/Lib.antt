@@ -6,6 +6,7 @@ pub mod RunLaws
 pub mod MachineLaws
 pub mod Images
 pub mod Acknowledged
+pub mod ImageLaws
 pub mod Handled
 pub mod Starts
 pub mod inside

@@ -1,4 +1,5 @@
 //! Laws of the protocol machine's table and of its runs.
+ghost use Rattle.ix_manager.specs.ImageLaws.{KeptImagesAreStartable, RunsStayWithin};
 ghost use Rattle.ix_manager.specs.MachineLaws.{OnlySomeWantMemory, OpenTicketsAreConfirmed, PollsTellWhatChanged};
 ghost use Rattle.ix_manager.specs.RunLaws.{AnyCuttingGivesTheSameRun, CallsMakeARun, SentRepliesAreTheWire, UnmarkedRepliesAreTheText};
 
@@ -35,7 +36,7 @@ pub fn any_cutting_gives_the_same_run()
 
 /// Over a site that tells its sends, sending the replies to each event of a run makes exactly the
 /// wire of that run: each reply one send in order, a front of one where the site answers Gone, and
-/// none on a connection that is marked.
+/// none on a connection that is marked. The wire tells which replies its sends carry.
 pub fn sent_replies_are_the_wire()
     ensures { SentRepliesAreTheWire }
 {}
@@ -45,4 +46,18 @@ pub fn sent_replies_are_the_wire()
 /// sent. The text of a run grows by that of each event's replies.
 pub fn unmarked_replies_are_the_text()
     ensures { UnmarkedRepliesAreTheText }
+{}
+
+/// From an opening of whose history each prefix is partial and of a Size within the limit, so is
+/// each prefix of every run's last history, also with the action of a confirm that failed behind
+/// it: an action is granted only where it may come next, and nothing changes the history while it
+/// is reserved.
+pub fn runs_stay_within_the_limit()
+    ensures { RunsStayWithin }
+{}
+
+/// Every image that keeps the first actions of such a history, and no others, as each does that a
+/// crash may leave, can be started from, and gives the actions that it keeps.
+pub fn kept_images_can_be_started_from()
+    ensures { KeptImagesAreStartable }
 {}
