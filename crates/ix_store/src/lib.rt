@@ -16,3 +16,6 @@ mod write;
 
 pub use fault::OpenFault;
 pub use store::Store;
+
+#[cfg(test)]
+mod tests;

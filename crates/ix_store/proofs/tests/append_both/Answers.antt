@@ -1,0 +1,16 @@
+use Rattle.std.proofs.Common.{arith}
+use Rattle.std.proofs.lemmas.List.{length_push}
+use Rattle.ix_store.proofs.tests.append_both.Goals as goal
+
+-- behind the first append the store keeps one action more
+pub append-requires-2-clause-few : goal.append-requires-2-clause-few
+append-requires-2-clause-few g c =
+    let history = c.in-Ok.opened.1 in
+    let fits = c.in-Ok-append.ensures.appended _ _ c.in-Ok.ensures.fits in
+    let counts = fits.count in
+    let few = c.if-len-gt1000.false in
+    omega (arith, length_push history.items c.args.first.now, c.len.ensures, history.ok.0)
+
+pub append-requires-2-clause-fits : goal.append-requires-2-clause-fits
+append-requires-2-clause-fits g c =
+    (_, _, c.in-Ok-append.ensures.appended _ _ c.in-Ok.ensures.fits)

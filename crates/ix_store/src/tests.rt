@@ -1,0 +1,220 @@
+//! Journals in memory that are opened and appended to, with answers worked out by hand.
+ghost use Rattle.std.specs.Prelude.{◌≡◌, ◌<◌, length, true, IfOk};
+
+use super::*;
+use arrayvec::ArrayVec;
+use ix_memory::MemorySite;
+use ix_outside::Site;
+use ix_values::Action;
+use std::alloc::Global;
+use std::test::Fail;
+
+/// Journals of `a - b`: without records, with the action `a`, and with `b` behind it.
+const EMPTY: &[u8] = b"\xA5IXJ1\x00\x05a - b\x00";
+
+const ONE: &[u8] = b"\xA5IXJ1\x00\x05a - b\xA5\x00\x01a\x00";
+
+const BOTH: &[u8] = b"\xA5IXJ1\x00\x05a - b\xA5\x00\x01a\xA5\x00\x01b\x00";
+
+/// One that was never opened.
+const UNOPENED: &[u8] = b"\x7FIXJ1\x00\x05a - b\x00";
+
+/// A site with this file, whose calls of these numbers fail. Call 0 attached the file.
+fn site_with(alloc: Global, file: &[u8], fail: &[u64]) -> Result<MemorySite, Fail>
+    ensures { IfOk result (λ site. site.attached ≡ true) }
+{
+    let file = file.to_vec(alloc)?;
+    let fail = fail.to_vec(alloc)?;
+    let mut site = MemorySite::new(alloc, file, Vec::new(alloc), 4096, fail, None)?;
+    if site.attach("journal").is_err() {
+        return Err("not attached".into());
+    }
+    Ok(site)
+}
+
+/// The texts of the actions, with a space behind each.
+fn texts_of(alloc: Global, actions: &[Action]) -> Result<Vec<u8>, Fail> {
+    let mut texts = Vec::new(alloc);
+    for action in actions {
+        let mut text = ArrayVec::new();
+        action.write(&mut text);
+        texts.extend_from_slice(&text)?;
+        texts.push(b' ')?;
+    }
+    Ok(texts)
+}
+
+/// What a start answered: a word, the history's texts or the text that is kept, and the place of
+/// damage; and the file then.
+#[derive(Drop)]
+struct Told {
+    word: &'static str,
+    text: Vec<u8>,
+    at: usize,
+    file: Vec<u8>,
+}
+
+/// Starts on a file with the text of an expression.
+fn start_on(alloc: Global, file: &[u8], text: &[u8], fail: &[u64]) -> Result<Told, Fail>
+    requires { length text.now < 65536 }
+{
+    let mut site = site_with(alloc, file, fail)?;
+    let (word, text, at) = match Store::start(alloc, &mut site, text) {
+        Ok((store, history)) => {
+            let word = if store.has_failed() {
+                "failed"
+            } else {
+                "opened"
+            };
+            (word, texts_of(alloc, &history)?, 0)
+        }
+        Err(OpenFault::Disk) => ("disk", Vec::new(alloc), 0),
+        Err(OpenFault::NotJournal) => ("foreign", Vec::new(alloc), 0),
+        Err(OpenFault::OtherExpression { kept }) => ("other", kept, 0),
+        Err(OpenFault::Damaged { at }) => ("damaged", Vec::new(alloc), at),
+        Err(OpenFault::Many) => ("many", Vec::new(alloc), 0),
+        Err(OpenFault::Memory) => return Err("no memory".into()),
+    };
+    let file = site.image().to_vec(alloc)?;
+    Ok(Told {
+        word,
+        text,
+        at,
+        file,
+    })
+}
+
+#[test]
+fn files_that_are_opened(rt: HostRuntime) -> Result<(), Fail> {
+    // The file, the history, and what the file then is.
+    let cases: [(&[u8], &[u8], &[u8]); 7] = [
+        // Absent, and unfinished.
+        (b"", b"", EMPTY),
+        (b"\x5A", b"", EMPTY),
+        (b"\x00\x00\x00IXJ", b"", EMPTY),
+        (UNOPENED, b"", EMPTY),
+        (ONE, b"a ", ONE),
+        (BOTH, b"a b ", BOTH),
+        // The gate in front of the record is closed.
+        (
+            b"\xA5IXJ1\x00\x05a - b\x7F\x00\x01a\x00",
+            b"",
+            b"\xA5IXJ1\x00\x05a - b\x7F\x00\x01a\x00",
+        ),
+    ];
+    for (file, history, then) in cases {
+        let told = start_on(rt.alloc(), file, b"a - b", &[])?;
+        assert_eq!(rt; told.word, "opened", "{file:?}");
+        assert!(rt; told.text.as_slice() == history, "the history of {file:?}");
+        assert!(rt; told.file.as_slice() == then, "the file from {file:?}");
+    }
+    Ok(())
+}
+
+#[test]
+fn files_that_are_refused(rt: HostRuntime) -> Result<(), Fail> {
+    // The file, the text handed in, the answer, the text kept, and the place of damage.
+    let cases: [(&[u8], &[u8], &str, &[u8], usize); 5] = [
+        (b"#!/bin/sh", b"a - b", "foreign", b"", 0),
+        (ONE, b"a - c", "other", b"a - b", 0),
+        (UNOPENED, b"a", "other", b"a - b", 0),
+        (&ONE[..16], b"a - b", "damaged", b"", 13),
+        // Another text is told before damage.
+        (&ONE[..16], b"a - c", "other", b"a - b", 0),
+    ];
+    for (file, text, word, kept, at) in cases {
+        let told = start_on(rt.alloc(), file, text, &[])?;
+        assert_eq!(rt; told.word, word, "{file:?}");
+        assert!(rt; told.text.as_slice() == kept, "the text kept by {file:?}");
+        assert_eq!(rt; told.at, at, "{file:?}");
+        assert!(rt; told.file.as_slice() == file, "the file from {file:?}");
+    }
+    Ok(())
+}
+
+/// How far a store came.
+#[derive(Clone, Copy, Debug, PartialEq, Eq)]
+enum Went {
+    /// It wasn't opened: the disk failed.
+    NotOpened,
+    /// The first append failed.
+    Opened { has_failed: bool },
+    /// The second append failed.
+    AppendedFirst { has_failed: bool },
+    AppendedBoth,
+}
+
+/// Opens the journal of `a - b`, and appends two actions, unless a call of the disk fails.
+fn append_both<S: Site>(
+    alloc: Global,
+    site: &mut S,
+    first: &Action,
+    second: &Action,
+) -> Result<Went, Fail>
+    requires { (S.state site.old).attached ≡ true }
+{
+    let (mut store, history) = match Store::start(alloc, site, b"a - b") {
+        Ok(opened) => opened,
+        Err(OpenFault::Disk) => return Ok(Went::NotOpened),
+        Err(_) => return Err("another fault".into()),
+    };
+    if history.len() > 1000 {
+        return Err("too many actions".into());
+    }
+    let Ok(()) = store.append(site, first) else {
+        let has_failed = store.has_failed();
+        return Ok(Went::Opened { has_failed });
+    };
+    let Ok(()) = store.append(site, second) else {
+        let has_failed = store.has_failed();
+        return Ok(Went::AppendedFirst { has_failed });
+    };
+    Ok(Went::AppendedBoth)
+}
+
+/// The action whose text this is.
+fn action(text: &[u8]) -> Result<Action, Fail> {
+    Ok(Action::read(text).map_err(|_| "no action")?)
+}
+
+#[test]
+fn appended_actions_are_in_the_journal(rt: HostRuntime) -> Result<(), Fail> {
+    let mut site = site_with(rt.alloc(), b"", &[])?;
+    let went = append_both(rt.alloc(), &mut site, &action(b"a")?, &action(b"b")?)?;
+    assert_eq!(rt; went, Went::AppendedBoth);
+    assert!(rt; site.image() == BOTH);
+    let told = start_on(rt.alloc(), site.image(), b"a - b", &[])?;
+    assert!(rt; told.text.as_slice() == b"a b ".as_slice());
+    Ok(())
+}
+
+#[test]
+fn each_call_of_the_disk_fails_in_turn(rt: HostRuntime) -> Result<(), Fail> {
+    for file in [b"".as_slice(), UNOPENED, b"\x00IXJ", EMPTY] {
+        for number in 1..24 {
+            let mut site = site_with(rt.alloc(), file, &[number])?;
+            let went = append_both(rt.alloc(), &mut site, &action(b"a")?, &action(b"b")?)?;
+            assert_eq!(rt;
+                went == Went::AppendedBoth,
+                site.calls() <= number,
+                "call {number}"
+            );
+            let histories: [&[u8]; 2] = match went {
+                Went::NotOpened => [b"", b""],
+                Went::Opened { has_failed } => {
+                    assert!(rt; has_failed, "call {number}");
+                    [b"", b"a "]
+                }
+                Went::AppendedFirst { has_failed } => {
+                    assert!(rt; has_failed, "call {number}");
+                    [b"a ", b"a b "]
+                }
+                Went::AppendedBoth => [b"a b ", b"a b "],
+            };
+            let told = start_on(rt.alloc(), site.image(), b"a - b", &[])?;
+            assert_eq!(rt; told.word, "opened", "call {number}");
+            assert!(rt; histories.contains(&told.text.as_slice()), "call {number}");
+        }
+    }
+    Ok(())
+}
