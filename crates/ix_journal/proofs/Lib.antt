@@ -10,6 +10,7 @@ pub mod OutcomeLaws
 pub mod SameFronts
 pub mod WritingLaws
 pub mod LentTexts
+pub mod KindFronts
 pub mod EnoughLemmas
 pub mod SlideLemmas
 pub mod SlideLaws

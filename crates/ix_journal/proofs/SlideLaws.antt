@@ -57,7 +57,7 @@ module _ (front : List ℕ) (first : ℕ) (is : length front ≡ first) where
       }
 
 -- of bytes that aren't short a missing record stays away, whatever the rest that may come
-stays_away : (bytes rest : List ℕ) (ended : Bool) → IsOpen bytes 0
+pub stays_away : (bytes rest : List ℕ) (ended : Bool) → IsOpen bytes 0
     → ((ended ≡ false) × WantMore bytes → ⊥) → (ended ≡ true → rest ≡ [])
     → (action : PlainAction) → BeginsWithRecord (drop 1 bytes ++ rest) action
     → BeginsWithRecord (drop 1 bytes) action

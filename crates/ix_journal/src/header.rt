@@ -1,11 +1,11 @@
 //! The header, and the kind of a file.
 
-ghost use Rattle.std.specs.Prelude.{ℕ, List, MatchOption};
+ghost use Rattle.std.specs.Prelude.{◌≡◌, ◌<◌, ℕ, List, MatchOption, length, take};
 ghost use Rattle.ix_journal.specs.inside.Fronts.{BeginsWithHeader, BeginsWithText};
-ghost use Rattle.ix_journal.specs.Kinds.{HasKind};
+ghost use Rattle.ix_journal.specs.Kinds.{HasHeader, HasKind};
 ghost use Rattle.ix_journal.specs.inside.KindOf.{kind_of};
 
-use crate::{MAGIC, OPEN};
+use crate::{FRONT_LENGTH, MAGIC, OPEN};
 use byteorder::{BigEndian, ByteOrder};
 
 /// The kind of a file, and what its header tells.
@@ -43,6 +43,18 @@ pub fn header_of<'a>(bytes: &'a [u8]) -> Head<'a>
         return Head::Unopened { text };
     }
     Head::Foreign
+}
+
+/// How many bytes the text of a file's header has, if the file has one, where these are the first
+/// seven bytes of the file.
+pub fn text_length(front: &[u8]) -> usize
+    requires { length front.now ≡ FRONT_LENGTH }
+    ensures value { (file : List ℕ) (head : ℕ) (text behind : List ℕ)
+        → take FRONT_LENGTH file ≡ front.now → HasHeader file head text behind
+        → result ≡ length text }
+    ensures short { result < 65536 }
+{
+    usize::from(BigEndian::read_u16(&front[FRONT_LENGTH - 2..]))
 }
 
 /// The text of the header that the bytes begin with, where the header is whole and a byte follows

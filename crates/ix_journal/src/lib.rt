@@ -17,7 +17,7 @@ mod scanning;
 mod slide;
 mod writing;
 
-pub use header::{Head, header_of};
+pub use header::{Head, header_of, text_length};
 pub use outcome::{JournalFault, Scan};
 pub use records::{Damaged, Records};
 pub use scanning::scan;
@@ -32,6 +32,10 @@ pub const OPEN: u8 = 0xA5;
 
 /// The byte that is written for a closed gate.
 pub const CLOSED: u8 = 0;
+
+/// How many bytes stand in front of the text of a header: the head gate, the magic and the length of
+/// the text.
+pub const FRONT_LENGTH: usize = 7;
 
 /// The most records of a journal that are open.
 pub const MOST_RECORDS: usize = 1_000_000;
