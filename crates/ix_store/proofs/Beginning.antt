@@ -2,7 +2,8 @@
 use Rattle.std.proofs.Common.{◌≡◌, ℕ, ◌+◌, ◌<◌, ◌≤◌, Bool, true, false, List, [], ◌∷◌, ◌++◌, length}
 use Rattle.std.proofs.Common.{get_or, take, drop, Option, Some, Result}
 use Rattle.std.proofs.Common.{sym, ◌∙◌, ap, subst, arith, inl, inr}
-use Rattle.std.proofs.lemmas.List.{append-nil, drop_all, drop_more, length-take, length-drop}
+use Rattle.std.proofs.lemmas.List.{append-nil, drop_all, drop_more, length-append, length-take}
+use Rattle.std.proofs.lemmas.List.{length-drop}
 use Rattle.std.proofs.lemmas.Bool.Decides.{Decides-eqb}
 use Rattle.std.proofs.lemmas.Slice.Eq.{starts_is}
 use Rattle.std.specs.Prelude.{slice_get, nat_eq, unwrap_or}
@@ -13,6 +14,7 @@ use Rattle.ix_journal.specs.Format.{header}
 use Rattle.ix_journal.specs.Kinds.{IsUnfinished}
 use Rattle.ix_journal.proofs.WritingLaws.{begun}
 use Rattle.ix_store.specs.Opening.{IsNew}
+use Rattle.ix_store.specs.inside.Reading.{IsHeadOf}
 use Rattle.ix_store.specs.inside.Steps.{IsBegun}
 use Rattle.ix_store.proofs.Calls.{torn_now}
 use Rattle.ix_store.proofs.Told.{just}
@@ -78,47 +80,48 @@ module _ (text : List ℕ) (short : length text < 65536) where
       let whole = first_torn (0 ∷ (header text ++ 0 ∷ [])) image (omega arith) torn in
       subst (IsBegun text) (sym whole) (begun_behind (get_or image 0 0) text 0 short (omega arith))
 
--- what was read tells whether the file begins with 00
+-- the front tells whether the file begins with 00
 module _ (bytes file : List ℕ) (r : Bool) (starts : r ≡ starts_with nat_eq bytes (0 ∷ []))
-    (read : bytes ≡ take 168065543 file) where
-  first_read : r ≡ true → bytes ≡ 0 ∷ drop 1 bytes
-  first_read passed = (starts_is Decides-eqb bytes (0 ∷ []) r starts).0 passed
-
+    (head : IsHeadOf bytes file) where
   -- it does
   pub closed_there : r ≡ true → file ≡ 0 ∷ drop 1 file
-  closed_there passed = first_of_front file (sym read ∙ first_read passed)
-    where
-      first_of_front : (f : List ℕ) → take 168065543 f ≡ 0 ∷ drop 1 bytes → f ≡ 0 ∷ drop 1 f
-      first_of_front [] e = absurd cc
-      first_of_front (x ∷ f) e = ap (λ (n : ℕ). n ∷ f) (ap (λ (l : List ℕ). get_or l 0 1) e)
+  closed_there passed =
+      let begins : bytes ≡ 0 ∷ drop 1 bytes =
+      (starts_is Decides-eqb bytes (0 ∷ []) r starts).0 passed in
+      let whole : file ≡ 0 ∷ (drop 1 bytes ++ head.rest) =
+      head.whole ∙ ap (λ (b : List ℕ). b ++ head.rest) begins in
+      whole ∙ ap (λ (b : List ℕ). 0 ∷ b) (ap (drop 1) (sym whole))
 
   -- it doesn't
   pub other_there : r ≡ false → slice_get file 0 ≡ Some 0 → ⊥
   other_there failed first =
       let passed : r ≡ true =
-      (starts_is Decides-eqb bytes (0 ∷ []) r starts).1 (drop 1 (take 168065543 file))
-      (read ∙ front_of_first file first) in
+      (starts_is Decides-eqb bytes (0 ∷ []) r starts).1 (drop 1 bytes)
+      (begins bytes head.rest head.all
+      (ap (λ (f : List ℕ). slice_get f 0) (sym head.whole) ∙ first)) in
       absurd cc
     where
-      front_of_first : (f : List ℕ) → slice_get f 0 ≡ Some 0
-          → take 168065543 f ≡ 0 ∷ drop 1 (take 168065543 f)
-      front_of_first [] e = absurd cc
-      front_of_first (x ∷ f) e =
-          ap (λ (n : ℕ). n ∷ take 168065542 f) (ap (λ (o : Option ℕ). unwrap_or o 0) e)
+      begins : (b rest : List ℕ) → (length b ≤ 1 → rest ≡ []) → slice_get (b ++ rest) 0 ≡ Some 0
+          → b ≡ 0 ∷ drop 1 b
+      begins [] rest all e =
+          absurd (let none : slice_get [] 0 ≡ Some 0 =
+          ap (λ (l : List ℕ). slice_get l 0) (sym (all (omega arith))) ∙ e in cc)
+      begins (x ∷ b) rest all e =
+          ap (λ (n : ℕ). n ∷ b) (ap (λ (o : Option ℕ). unwrap_or o 0) e)
 
--- a file that is longer than its first byte was so as it was read
-pub longer_read : (bytes file : List ℕ) → bytes ≡ take 168065543 file → length bytes ≤ 1
+-- a file of whose front no more than a byte was told has no more
+pub longer_read : (bytes file : List ℕ) → IsHeadOf bytes file → length bytes ≤ 1
     → length file ≤ 1
-longer_read bytes file read few = let n =
-    length-take 168065543 file in omega (arith, ap length read)
+longer_read bytes file head few =
+    omega (arith, ap length head.whole, length-append bytes head.rest, ap length (head.all few))
 
--- nor is it longer once its first byte is closed
-pub longer_closed : (bytes before file : List ℕ) → bytes ≡ take 168065543 before
+-- nor has it once its first byte is closed
+pub longer_closed : (bytes before file : List ℕ) → IsHeadOf bytes before
     → file ≡ 0 ∷ drop 1 before
     → length bytes ≤ 1 → length file ≤ 1
-longer_closed bytes before file read closed few =
-    let short =
-    longer_read bytes before read few in omega (arith, ap length closed, length-drop 1 before)
+longer_closed bytes before file head closed few =
+    let short = longer_read bytes before head few in
+    omega (arith, ap length closed, length-drop 1 before)
 
 module _ (text : List ℕ) (short : length text < 65536) (disk : Option Disk) (told : Disk)
     (is : disk ≡ Some told)

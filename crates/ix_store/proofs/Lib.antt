@@ -1,5 +1,6 @@
 mod Told
 mod Calls
+mod ReadCalls
 mod Appending
 mod Appended
 mod Reading

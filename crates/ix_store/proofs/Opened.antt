@@ -1,29 +1,37 @@
 -- What a file is, from its first bytes, and what a start leaves of it.
-use Rattle.std.proofs.Common.{◌≡◌, ◌⊎◌, ℕ, ◌+◌, ◌<◌, List, [], ◌∷◌, ◌++◌, length, take, Option}
-use Rattle.std.proofs.Common.{None, Some}
+use Rattle.std.proofs.Common.{◌≡◌, ◌⊎◌, ℕ, ◌+◌, ◌<◌, List, [], ◌∷◌, ◌++◌, length, Some}
+use Rattle.std.proofs.Common.{◌*◌, ◌≤◌, Option, Vec, Result, Ok, Err, MatchResult, OnOk}
 use Rattle.std.proofs.Common.{sym, subst, arith, inl, inr}
+use Rattle.std.specs.Prelude.{All}
+use Rattle.std.specs.declared.alloc.Global.{Global}
+use Rattle.ix_values.specs.Texts.{IsAction}
 use Rattle.ix_values.specs.PlainAction.{Word}
 use Rattle.ix_outside.specs.Crashes.{Crashes, LeavesTheFile}
-use Rattle.ix_outside.specs.Disk.{Disk, MakesFile, Stays}
+use Rattle.ix_outside.specs.Disk.{Disk, OfFile, MakesFile, Stays}
 use Rattle.ix_outside.specs.SiteState.{SiteState}
 use Rattle.ix_outside.specs.inside.DiskCalls.{DiskCalls, LeavesOnly}
 use Rattle.ix_journal.specs.Format.{header}
-use Rattle.ix_journal.specs.Kinds.{Kind, HasKind, unfinished, unopened, foreign, ready}
-use Rattle.ix_journal.specs.Recovery.{IsJournal, IsDamaged, IsMany, Recovers}
-use Rattle.ix_journal.proofs.EnoughLemmas.{enough_bytes}
+use Rattle.ix_journal.specs.Kinds.{IsReady, unfinished, unopened, foreign, ready}
+use Rattle.ix_journal.specs.Records.{ClosesAt}
+use Rattle.ix_journal.specs.Recovery.{IsJournal, Recovers}
 use Rattle.ix_journal.proofs.OutcomeLaws.{one_history}
 use Rattle.ix_journal.proofs.WritingLaws.{opened}
 use Rattle.ix_store.specs.declared.fault.OpenFault.{OpenFault}
 use Rattle.ix_store.specs.declared.fault.OpenFault.TheVariants as fault
-use Rattle.ix_store.specs.declared.judge.Kept.{Kept}
+use Rattle.ix_store.specs.declared.find.Found.{Found}
+use Rattle.ix_store.specs.declared.find.Found.TheVariants as fd
+use Rattle.ix_store.specs.declared.records.Kept.{Kept}
 use Rattle.ix_store.specs.Opening.{IsNew, IsReadyWith}
 use Rattle.ix_store.specs.inside.Opens.{IsOwn, Opens}
 use Rattle.ix_store.specs.inside.Keeping.{Fits}
 use Rattle.ix_store.specs.Keeping.{Keeping}
+use Rattle.ix_store.specs.inside.Reading.{IsHeadOf}
 use Rattle.ix_store.specs.inside.Refusals.{Refuses}
 use Rattle.ix_store.specs.inside.Starting.{LeavesOnStart}
-use Rattle.ix_store.specs.inside.Steps.{IsBegun, IsJudged}
+use Rattle.ix_store.specs.inside.Steps.{IsBegun, IsFound, IsSound, RefusesHead}
+use Rattle.ix_store.specs.inside.Steps.{StopsReading}
 use Rattle.ix_store.proofs.Calls.{calls_more}
+use Rattle.ix_store.proofs.ReadCalls.{stayed_of}
 use Rattle.ix_store.proofs.Told.{just}
 
 -- a new file recovers no action
@@ -39,53 +47,81 @@ begun_own : (text image : List ℕ) → IsBegun text image → IsOwn image text
 begun_own text image (inl new) = inl new
 begun_own text image (inr journal) = inr (journal.first, journal.ready)
 
--- what was judged
-pub judged_journal : (bytes text : List ℕ) (found : Option Kept) (kept : Kept) → found ≡ Some kept
-    → IsJudged bytes text found → IsJournal bytes text kept.history.items kept.gate
-judged_journal bytes text found kept is judged = subst (IsJudged bytes text) is judged
+-- what was found, of the file and whatever the site tells
+pub found_journal : (text : List ℕ) (found : Found) (kept : Kept) (file : List ℕ)
+    → found ≡ fd.Journal kept → IsFound text found file
+    → IsJournal file text kept.history.items kept.gate
+found_journal text found kept file is found_so =
+    let P : Found → Type 0 = λ f. IsFound text f file in subst P is found_so
 
-pub judged_new : (bytes text : List ℕ) (found : Option Kept) → found ≡ None
-    → IsJudged bytes text found
-    → IsNew bytes text
-judged_new bytes text found is judged = subst (IsJudged bytes text) is judged
+pub found_new : (text : List ℕ) (found : Found) (head : Vec ℕ Global) (file : List ℕ)
+    → found ≡ fd.New head → IsFound text found file → IsNew file text × IsHeadOf head.items file
+found_new text found head file is found_so =
+    let P : Found → Type 0 = λ f. IsFound text f file in subst P is found_so
 
--- the bytes that were read tell what the file is
-module _ (bytes file text : List ℕ) (read : bytes ≡ take 168065543 file) where
-  kind_read : (kind : Kind) → HasKind bytes kind → HasKind file kind
-  kind_read kind has =
-      (enough_bytes file 168065543 (omega arith)).3 kind
-      (subst (λ (b : List ℕ). HasKind b kind) read has)
+pub found_sound : (found : Found) (kept : Kept) → found ≡ fd.Journal kept → IsSound found
+    → (kept.gate ≤ 65542 + 168 * length kept.history.items) × All IsAction kept.history.items
+found_sound found kept is sound = subst IsSound is sound
 
-  pub new_read : IsNew bytes text → IsNew file text
-  new_read (inl new) = inl (kind_read unfinished new)
-  new_read (inr new) = inr (kind_read (unopened text) new)
+-- what was found of a file that stays was found of it before
+pub found_before : (text : List ℕ) (result : Result Found OpenFault) (old new : Option Disk)
+    → MakesFile Stays old new
+    → MatchResult result (λ found. OfFile (IsFound text found) new)
+    (λ fault. OfFile (λ file. Refuses file text fault) new)
+    → MatchResult result (λ found. OfFile (IsFound text found) old)
+    (λ fault. OfFile (λ file. Refuses file text fault) old)
+found_before text (Ok found) old new stays holds = stayed_of (IsFound text found) old new stays holds
+found_before text (Err fault) old new stays holds =
+    stayed_of (λ file. Refuses file text fault) old new stays holds
 
-  ready_read : (kept : List ℕ) → IsReadyWith bytes kept → IsReadyWith file kept
-  ready_read kept (gate, is_ready) = (gate, kind_read (ready kept gate) is_ready)
+-- what holds whatever is answered
+pub on_ok : {T E : Type 0} (P : Type 0) (result : Result T E) → P → OnOk result P
+on_ok P (Ok value) holds = holds
+on_ok P (Err fault) holds = tt
 
-  pub journal_read : (history : Word) (gate : ℕ) → IsJournal bytes text history gate
-      → IsJournal file text history gate
-  journal_read history gate journal =
-      (enough_bytes file 168065543 (omega arith)).0 text history gate
-      (subst (λ (b : List ℕ). IsJournal b text history gate) read journal)
+-- the front of a file tells what it is
+module _ (head file text : List ℕ) (is_head : IsHeadOf head file) where
+  ready_read : (kept : List ℕ) → IsReadyWith head kept → IsReadyWith file kept
+  ready_read kept (gate, is_ready) = (gate, is_head.kind (ready kept gate) is_ready)
 
-  pub refusal_read : (fault : OpenFault) → Refuses bytes text fault → Refuses file text fault
-  refusal_read fault.NotJournal refused = kind_read foreign refused
+  pub new_read : IsNew head text → IsNew file text
+  new_read (inl new) = inl (is_head.kind unfinished new)
+  new_read (inr new) = inr (is_head.kind (unopened text) new)
+
+  pub refusal_read : (fault : OpenFault) → RefusesHead head text fault → Refuses file text fault
+  refusal_read fault.NotJournal refused = is_head.kind foreign refused
   refusal_read (fault.OtherExpression kept) (inl is_unopened, other) =
-      (inl (kind_read (unopened kept.items) is_unopened), other)
+      (inl (is_head.kind (unopened kept.items) is_unopened), other)
   refusal_read (fault.OtherExpression kept) (inr is_ready, other) =
       (inr (ready_read kept.items is_ready), other)
-  refusal_read (fault.Damaged at) (is_ready, damaged) = (
-    ready_read text is_ready,
-    (enough_bytes file 168065543 (omega arith)).1 at
-        (subst (λ (b : List ℕ). IsDamaged b at) read damaged),
-  )
-  refusal_read fault.Many (is_ready, many) = (
-    ready_read text is_ready,
-    (enough_bytes file 168065543 (omega arith)).2 (subst (λ (b : List ℕ). IsMany b) read many),
-  )
+  refusal_read (fault.Damaged at) refused = absurd refused
+  refusal_read fault.Many refused = absurd refused
   refusal_read fault.Disk refused = tt
   refusal_read fault.Memory refused = tt
+
+  -- so do its records from the first gate on
+  module _ (first : ℕ) (is_ready : IsReady head text first) where
+    ready_there : IsReady file text first
+    ready_there = is_head.kind (ready text first) is_ready
+
+    pub journal_read : (history : Word) (gate : ℕ) → ClosesAt file first history gate
+        → IsJournal file text history gate
+    journal_read history gate closes =
+        record { first = first; ready = ready_there; closes = closes }
+
+    pub stop_read : (fault : OpenFault) → StopsReading first fault file → Refuses file text fault
+    stop_read fault.NotJournal stops = absurd stops
+    stop_read (fault.OtherExpression kept) stops = absurd stops
+    stop_read (fault.Damaged at) stops = (
+      (first, ready_there),
+      record { text = text; first = first; ready = ready_there; damaged = stops },
+    )
+    stop_read fault.Many stops = (
+      (first, ready_there),
+      record { text = text; first = first; ready = ready_there; many = stops },
+    )
+    stop_read fault.Disk stops = tt
+    stop_read fault.Memory stops = tt
 
 -- a new file and a journal are opened
 pub opens_new : (file text : List ℕ) → IsNew file text → Opens file text []

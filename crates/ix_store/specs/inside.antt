@@ -2,6 +2,7 @@
 pub mod Keeping
 pub mod KeptBy
 pub mod Opens
+pub mod Reading
 pub mod Refusals
 pub mod Starting
 pub mod Steps

@@ -9,10 +9,10 @@ ghost use Rattle.ix_outside.specs.Disk.{OfFile, MakesFile};
 ghost use Rattle.ix_outside.specs.inside.DiskCalls.{DiskCalls, LeavesOnly};
 ghost use Rattle.ix_journal.specs.Format.{header};
 ghost use Rattle.ix_store.specs.Opening.{IsNew};
+ghost use Rattle.ix_store.specs.inside.Reading.{IsHeadOf};
 ghost use Rattle.ix_store.specs.inside.Steps.{IsBegun, TellsNothing};
 
 use crate::OpenFault;
-use crate::read::MOST_BYTES;
 use crate::write::write_through;
 use ix_journal::{CLOSED, OPEN, header_bytes};
 use ix_outside::{DiskFailed, Site};
@@ -28,7 +28,7 @@ pub(crate) fn begin<S: Site>(
 ) -> Result<(), OpenFault>
     requires attached { (S.state site.old).attached ≡ true }
     requires short { length text.now < 65536 }
-    requires read { OfFile (λ file. bytes.now ≡ take MOST_BYTES file) (S.state site.old).disk }
+    requires read { OfFile (IsHeadOf bytes.now) (S.state site.old).disk }
     requires is_new { OfFile (λ file. IsNew file text.now) (S.state site.old).disk }
     requires settled { LeavesTheFile (S.state site.old).disk (S.crashes site.old).now }
     ensures begun { OnOk result (MakesFile
@@ -62,7 +62,7 @@ pub(crate) fn begin<S: Site>(
 /// Leaves a closed head gate of a file that begins with these bytes, and nothing else.
 fn clear<S: Site>(site: &mut S, bytes: &[u8]) -> Result<(), DiskFailed>
     requires attached { (S.state site.old).attached ≡ true }
-    requires read { OfFile (λ file. bytes.now ≡ take MOST_BYTES file) (S.state site.old).disk }
+    requires read { OfFile (IsHeadOf bytes.now) (S.state site.old).disk }
     requires settled { LeavesTheFile (S.state site.old).disk (S.crashes site.old).now }
     ensures cleared { OnOk result (MakesFile (λ _ file. file ≡ CLOSED ∷ [])
         (S.state site.old).disk (S.state site.new).disk) }
@@ -84,7 +84,7 @@ fn clear<S: Site>(site: &mut S, bytes: &[u8]) -> Result<(), DiskFailed>
 /// Closes the head gate of a file that begins with these bytes, unless it holds 00.
 fn close_head<S: Site>(site: &mut S, bytes: &[u8]) -> Result<(), DiskFailed>
     requires attached { (S.state site.old).attached ≡ true }
-    requires read { OfFile (λ file. bytes.now ≡ take MOST_BYTES file) (S.state site.old).disk }
+    requires read { OfFile (IsHeadOf bytes.now) (S.state site.old).disk }
     requires settled { LeavesTheFile (S.state site.old).disk (S.crashes site.old).now }
     ensures closed { OnOk result (MakesFile (λ before after. after ≡ CLOSED ∷ drop 1 before)
         (S.state site.old).disk (S.state site.new).disk) }

@@ -1,31 +1,20 @@
-//! What a file that was read is.
+//! What a file is, from its front.
 
-ghost use Rattle.std.specs.Prelude.{◌≡◌, ◌≢◌, ◌<◌, length, IsErrOf, MatchResult};
-ghost use Rattle.ix_journal.specs.Records.{ClosesAt};
-ghost use Rattle.ix_store.specs.inside.Refusals.{Refuses};
-ghost use Rattle.ix_store.specs.inside.Steps.{IsJudged, StopsReading, KeepsOther};
+ghost use Rattle.std.specs.Prelude.{MatchResult};
+ghost use Rattle.ix_store.specs.inside.Steps.{IsJudged, KeepsOther, RefusesHead};
 
 use crate::OpenFault;
-use ix_journal::{Head, MOST_RECORDS, Records, header_of};
-use ix_values::Action;
+use ix_journal::{Head, header_of};
 use std::alloc::Global;
 
-/// The open records of a ready file, and the place of its first closed gate.
-#[derive(Drop)]
-pub(crate) struct Kept {
-    pub(crate) history: Vec<Action>,
-    pub(crate) gate: usize,
-}
-
-/// What a file with these bytes keeps, or None where it is to be made anew. The text that it keeps
-/// is compared with the one handed in before its records are read.
-pub(crate) fn judge(alloc: Global, bytes: &[u8], text: &[u8]) -> Result<Option<Kept>, OpenFault>
-    ensures file { MatchResult result
-        (IsJudged bytes.now text.now)
-        (Refuses bytes.now text.now) }
-    ensures no_call { ¬ IsErrOf result OpenFault.Disk }
+/// The first gate of a journal of the text that begins with these bytes, or None where it is to be
+/// made anew.
+pub(crate) fn judge(alloc: Global, head: &[u8], text: &[u8]) -> Result<Option<usize>, OpenFault>
+    ensures { MatchResult result
+        (IsJudged head.now text.now)
+        (RefusesHead head.now text.now) }
 {
-    match header_of(bytes) {
+    match header_of(head) {
         Head::Unfinished => Ok(None),
         Head::Foreign => Err(OpenFault::NotJournal),
         Head::Unopened { text: kept } => {
@@ -38,10 +27,7 @@ pub(crate) fn judge(alloc: Global, bytes: &[u8], text: &[u8]) -> Result<Option<K
             if kept != text {
                 return Err(other_expression(alloc, kept));
             }
-            match read_records(alloc, bytes, gate) {
-                Ok(kept) => Ok(Some(kept)),
-                Err(fault) => Err(fault),
-            }
+            Ok(Some(gate))
         }
     }
 }
@@ -54,33 +40,4 @@ fn other_expression(alloc: Global, kept: &[u8]) -> OpenFault
         Ok(kept) => OpenFault::OtherExpression { kept },
         Err(_) => OpenFault::Memory,
     }
-}
-
-/// The open records from this gate on, and the place of the first closed gate.
-fn read_records(alloc: Global, bytes: &[u8], first: usize) -> Result<Kept, OpenFault>
-    requires { first < length bytes.now }
-    ensures { MatchResult result
-        (λ kept. ClosesAt bytes.now first kept.history.items kept.gate)
-        (StopsReading bytes.now first) }
-{
-    let mut records = Records::new(bytes, first);
-    let mut history = Vec::new(alloc);
-    while let Some(item) = records.next() {
-        // The gate behind a million records is open: what follows it means nothing.
-        if history.len() == MOST_RECORDS {
-            return Err(OpenFault::Many);
-        }
-        match item {
-            Ok(text) => {
-                if history.push(Action::of_text(text)).is_err() {
-                    return Err(OpenFault::Memory);
-                }
-            }
-            Err(damaged) => return Err(OpenFault::Damaged { at: damaged.at }),
-        }
-    }
-    Ok(Kept {
-        history,
-        gate: records.gate(),
-    })
 }

@@ -9,8 +9,10 @@
 
 mod begin;
 mod fault;
+mod find;
 mod judge;
 mod read;
+mod records;
 mod store;
 mod write;
 

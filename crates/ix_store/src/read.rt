@@ -1,50 +1,62 @@
-//! The bytes of a file, as they stand on the disk.
+//! The front of a file, as it stands on the disk.
 
-ghost use Rattle.std.specs.Prelude.{◌≡◌, true, take, IfOk, IfErr, OnOk, IsErrOf};
-ghost use Rattle.std.specs.Option.{ForSome};
+ghost use Rattle.std.specs.Prelude.{◌≡◌, ◌+◌, ℕ, true, take, IfOk, IfErr, OnOk, IsErrOf};
 ghost use Rattle.ix_outside.specs.Counts.{Rose};
-ghost use Rattle.ix_outside.specs.Crashes.{LeavesTheFile};
-ghost use Rattle.ix_outside.specs.Disk.{OfFile, MakesFile, Stays};
-ghost use Rattle.ix_outside.specs.inside.DiskCalls.{DiskCalls, LeavesOnly};
+ghost use Rattle.ix_outside.specs.Disk.{OfFile};
+ghost use Rattle.ix_store.specs.inside.Reading.{IsHeadOf, OnlyReads};
 ghost use Rattle.ix_store.specs.inside.Steps.{TellsNothing};
 
 use crate::OpenFault;
+use ix_journal::{FRONT_LENGTH, text_length};
 use ix_outside::Site;
 use std::alloc::Global;
 
-/// The most bytes of a file that are read: 65,543 in front of the records, and 168 for each of a
-/// million records.
-pub(crate) const MOST_BYTES: usize = 168_065_543;
-
-/// Syncs, and reads what a journal may have of bytes. After Ok just the file may be left.
-pub(crate) fn read_file<S: Site>(alloc: Global, site: &mut S) -> Result<Vec<u8>, OpenFault>
+/// The front of the file that tells its kind: what stands in front of the text of its header, a
+/// text of the length told there, the gate behind it and one byte more, as far as they are there.
+pub(crate) fn read_head<S: Site>(alloc: Global, site: &mut S) -> Result<Vec<u8>, OpenFault>
     requires { (S.state site.old).attached ≡ true }
-    ensures bytes { IfOk result
-        (λ bytes. OfFile (λ file. bytes.items ≡ take MOST_BYTES file) (S.state site.old).disk) }
-    ensures settled { OnOk result
-        (LeavesTheFile (S.state site.new).disk (S.crashes site.new).now) }
-    ensures stays { MakesFile Stays (S.state site.old).disk (S.state site.new).disk }
-    ensures images { ForSome (S.state site.old).disk (λ _.
-        LeavesOnly (S.crashes site.old).now (S.state site.old) (S.crashes site.new)) }
+    ensures head { IfOk result (λ head. OfFile (IsHeadOf head.items) (S.state site.old).disk) }
+    ensures reads { OnlyReads (S.state site.old) (S.state site.new)
+        (S.crashes site.old) (S.crashes site.new) }
     ensures fault { IfErr result TellsNothing }
     ensures failed { IsErrOf result OpenFault.Disk
         → Rose (S.state site.old).counts.disk (S.state site.new).counts.disk }
-    ensures calls { DiskCalls (S.state site.old) (S.state site.new)
-        (S.crashes site.old) (S.crashes site.new) }
 {
-    let Ok(()) = site.sync() else {
-        return Err(OpenFault::Disk);
-    };
-    let Ok(length) = site.length() else {
-        return Err(OpenFault::Disk);
-    };
-    let length = length.min(MOST_BYTES as u64) as usize;
-    let Ok(mut bytes) = vec![in alloc; 0; length] else {
+    let mut head = Vec::new(alloc);
+    read_more(alloc, site, &mut head, FRONT_LENGTH)?;
+    if head.len() != FRONT_LENGTH {
+        return Ok(head);
+    }
+    let length = text_length(&head);
+    read_more(alloc, site, &mut head, length)?;
+    read_more(alloc, site, &mut head, 2)?;
+    Ok(head)
+}
+
+/// Reads so many more bytes of the file of which these are the front, as far as they are there.
+fn read_more<S: Site>(
+    alloc: Global,
+    site: &mut S,
+    front: &mut Vec<u8>,
+    count: usize,
+) -> Result<(), OpenFault>
+    requires { (S.state site.old).attached ≡ true }
+    ensures front { OnOk result (OfFile (λ file. (so_far : ℕ) → front.old.items ≡ take so_far file
+        → front.new.items ≡ take (so_far + count) file) (S.state site.old).disk) }
+    ensures reads { OnlyReads (S.state site.old) (S.state site.new)
+        (S.crashes site.old) (S.crashes site.new) }
+    ensures fault { IfErr result TellsNothing }
+    ensures failed { IsErrOf result OpenFault.Disk
+        → Rose (S.state site.old).counts.disk (S.state site.new).counts.disk }
+{
+    let Ok(mut piece) = vec![in alloc; 0; count] else {
         return Err(OpenFault::Memory);
     };
-    let Ok(count) = site.read_at(0, &mut bytes) else {
+    let Ok(read) = site.read_at(front.len() as u64, &mut piece) else {
         return Err(OpenFault::Disk);
     };
-    bytes.truncate(count);
-    Ok(bytes)
+    match front.extend_from_slice(&piece[..read]) {
+        Ok(()) => Ok(()),
+        Err(_) => Err(OpenFault::Memory),
+    }
 }

@@ -4,8 +4,7 @@ ghost use Rattle.std.specs.Prelude.{◌≡◌, ◌+◌, ◌*◌, ◌<◌, ◌≤
 
 use crate::OpenFault;
 use crate::begin::begin;
-use crate::judge::judge;
-use crate::read::read_file;
+use crate::find::{Found, sync_and_find};
 use crate::write::write_through;
 use arrayvec::ArrayVec;
 use ix_journal::{MOST_RECORDS, OPEN, record_bytes};
@@ -70,20 +69,16 @@ impl Store {
         ensures calls { DiskCalls (S.state site.old) (S.state site.new)
             (S.crashes site.old) (S.crashes site.new) }
     {
-        let bytes = match read_file(alloc, site) {
-            Ok(bytes) => bytes,
-            Err(fault) => return Err(fault),
-        };
-        match judge(alloc, &bytes, text) {
-            Ok(Some(kept)) => {
+        match sync_and_find(alloc, site, text) {
+            Ok(Found::Journal(kept)) => {
                 let store = Store {
-                    gate: kept.gate as u64,
+                    gate: kept.gate,
                     count: kept.history.len(),
                     failed: false,
                 };
                 Ok((store, kept.history))
             }
-            Ok(None) => match begin(alloc, site, &bytes, text) {
+            Ok(Found::New { head }) => match begin(alloc, site, &head, text) {
                 Ok(()) => {
                     let store = Store {
                         gate: 7 + text.len() as u64,

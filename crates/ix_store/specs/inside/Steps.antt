@@ -1,13 +1,17 @@
 -- What the parts of a start and an append come to.
-use Rattle.std.specs.Prelude.{◌≡◌, ◌⊎◌, ℕ, ◌+◌, List, [], length, ⊤}
+use Rattle.std.specs.Prelude.{◌≡◌, ◌≢◌, ◌⊎◌, ℕ, ◌+◌, ◌*◌, ◌≤◌, List, [], length, All, ⊤}
 use Rattle.std.specs.Prelude.{Option, Some, None}
+use Rattle.ix_values.specs.Texts.{IsAction}
 use Rattle.ix_outside.specs.Disk.{Torn}
+use Rattle.ix_journal.specs.Kinds.{IsForeign, IsReady, IsUnopened}
 use Rattle.ix_journal.specs.Records.{IsDamagedFrom, IsManyFrom}
 use Rattle.ix_journal.specs.Recovery.{IsJournal}
 use Rattle.ix_store.specs.declared.fault.OpenFault.{OpenFault}
 use Rattle.ix_store.specs.declared.fault.OpenFault.TheVariants as fault
-use Rattle.ix_store.specs.declared.judge.Kept.{Kept}
-use Rattle.ix_store.specs.Opening.{IsNew}
+use Rattle.ix_store.specs.declared.find.Found.{Found}
+use Rattle.ix_store.specs.declared.find.Found.TheVariants as found
+use Rattle.ix_store.specs.Opening.{IsNew, IsReadyWith}
+use Rattle.ix_store.specs.inside.Reading.{IsHeadOf}
 use Rattle.ix_store.specs.inside.Refusals.{Refuses}
 
 -- an image that might have been left, or one after a write in this range that was cut short
@@ -19,10 +23,29 @@ MaybeTorn at count was image =
 abbrev pub IsBegun : List ℕ → List ℕ → Type 0
 IsBegun text image = IsNew image text ⊎ IsJournal image text [] (7 + length text)
 
--- a file with these bytes is to be made anew, or keeps this history of the text
-abbrev pub IsJudged : List ℕ → List ℕ → Option Kept → Type 0
+-- a file with this front is to be made anew, or is ready with the text and this first gate
+abbrev pub IsJudged : List ℕ → List ℕ → Option ℕ → Type 0
 IsJudged bytes text None = IsNew bytes text
-IsJudged bytes text (Some kept) = IsJournal bytes text kept.history.items kept.gate
+IsJudged bytes text (Some gate) = IsReady bytes text gate
+
+-- what a front tells against opening the file for the text, unless memory ran out
+abbrev pub RefusesHead : List ℕ → List ℕ → OpenFault → Type 0
+RefusesHead head text fault.NotJournal = IsForeign head
+RefusesHead head text (fault.OtherExpression kept) =
+    (IsUnopened head kept.items ⊎ IsReadyWith head kept.items) × (kept.items ≢ text)
+RefusesHead head text fault.Memory = ⊤
+RefusesHead head text _ = ⊥
+
+-- the file is to be made anew, and begins so, or keeps this history of the text
+abbrev pub IsFound : List ℕ → Found → List ℕ → Type 0
+IsFound text (found.New head) file = IsNew file text × IsHeadOf head.items file
+IsFound text (found.Journal kept) file = IsJournal file text kept.history.items kept.gate
+
+-- whatever the site tells, the gate is as near as those of a journal, and the actions are actions
+abbrev pub IsSound : Found → Type 0
+IsSound (found.New head) = ⊤
+IsSound (found.Journal kept) =
+    (kept.gate ≤ 65542 + 168 * length kept.history.items) × All IsAction kept.history.items
 
 -- the fault says nothing of any file
 abbrev pub TellsNothing : OpenFault → Type 0
@@ -34,9 +57,10 @@ KeepsOther text (fault.OtherExpression kept) = kept.items ≡ text
 KeepsOther text fault.Memory = ⊤
 KeepsOther text _ = ⊥
 
--- what following the gates from the first one on meets, unless memory runs out
-abbrev pub StopsReading : List ℕ → ℕ → OpenFault → Type 0
-StopsReading bytes first (fault.Damaged at) = IsDamagedFrom bytes first at
-StopsReading bytes first fault.Many = IsManyFrom bytes first
-StopsReading bytes first fault.Memory = ⊤
-StopsReading bytes first _ = ⊥
+-- what following the gates from the first one on meets, unless the disk fails or memory runs out
+abbrev pub StopsReading : ℕ → OpenFault → List ℕ → Type 0
+StopsReading first (fault.Damaged at) file = IsDamagedFrom file first at
+StopsReading first fault.Many file = IsManyFrom file first
+StopsReading first fault.Disk file = ⊤
+StopsReading first fault.Memory file = ⊤
+StopsReading first _ file = ⊥

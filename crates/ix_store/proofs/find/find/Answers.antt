@@ -1,0 +1,35 @@
+use Rattle.std.proofs.Common.{List, ℕ, sym, subst}
+use Rattle.ix_store.specs.declared.find.Found.TheVariants as found
+use Rattle.ix_store.specs.inside.Reading.{IsHeadOf}
+use Rattle.ix_store.specs.inside.Refusals.{Refuses}
+use Rattle.ix_store.specs.inside.Steps.{IsFound, IsJudged}
+use Rattle.ix_store.proofs.Opened.{new_read, refusal_read}
+use Rattle.ix_store.proofs.Told.{of_told, to_told}
+use Rattle.ix_store.proofs.find.find.Goals as goal
+
+-- the front wasn't read
+pub returns-in-Err-clause-file : goal.returns-in-Err-clause-file
+returns-in-Err-clause-file g c =
+    to_told (λ file. Refuses file c.args.text.now c.in-Err.fault)
+    (g.S.Site.state c.args.site.now).disk (λ told is.
+    c.in-Err.ensures.fault told.file c.args.text.now)
+
+pub returns-in-Ok-None-clause-file : goal.returns-in-Ok-None-clause-file
+returns-in-Ok-None-clause-file g c =
+    to_told (IsFound c.args.text.now (found.New c.in-Ok.head))
+    (g.S.Site.state c.args.site.now).disk (λ told is.
+    let is_head = of_told _ _ told is c.in-Ok.ensures.head in
+    let same : IsHeadOf c.deref.result.now told.file =
+    subst (λ (b : List ℕ). IsHeadOf b told.file) (sym c.deref.ensures.value) is_head in
+    let judged = subst (IsJudged c.deref.result.now c.args.text.now) c.in-Ok-None.field-0-is
+    c.in-Ok-None.ensures in
+    (new_read c.deref.result.now told.file c.args.text.now same judged, is_head))
+
+pub returns-in-Err-judge-clause-file : goal.returns-in-Err-judge-clause-file
+returns-in-Err-judge-clause-file g c =
+    to_told (λ file. Refuses file c.args.text.now c.in-Err-judge.fault)
+    (g.S.Site.state c.args.site.now).disk (λ told is.
+    let is_head = of_told _ _ told is c.in-Ok.ensures.head in
+    let same : IsHeadOf c.deref.result.now told.file =
+    subst (λ (b : List ℕ). IsHeadOf b told.file) (sym c.deref.ensures.value) is_head in
+    refusal_read c.deref.result.now told.file c.args.text.now same _ c.in-Err-judge.ensures)

@@ -1,0 +1,81 @@
+//! What the attached file is to a store.
+
+ghost use Rattle.std.specs.Prelude.{◌≡◌, true, IfOk, OnOk, IsErrOf, MatchResult};
+ghost use Rattle.std.specs.Option.{ForSome};
+ghost use Rattle.ix_outside.specs.Counts.{Rose};
+ghost use Rattle.ix_outside.specs.Crashes.{LeavesTheFile};
+ghost use Rattle.ix_outside.specs.Disk.{OfFile, MakesFile, Stays};
+ghost use Rattle.ix_outside.specs.inside.DiskCalls.{DiskCalls, LeavesOnly};
+ghost use Rattle.ix_store.specs.inside.Reading.{OnlyReads};
+ghost use Rattle.ix_store.specs.inside.Refusals.{Refuses};
+ghost use Rattle.ix_store.specs.inside.Steps.{IsFound, IsSound};
+
+use crate::OpenFault;
+use crate::judge::judge;
+use crate::read::read_head;
+use crate::records::{Kept, read_records};
+use ix_outside::Site;
+use std::alloc::Global;
+
+/// A file that isn't refused.
+#[derive(Drop)]
+pub(crate) enum Found {
+    /// It is to be made anew. It begins with these bytes.
+    New { head: Vec<u8> },
+    /// It is a journal of the text.
+    Journal(Kept),
+}
+
+/// Syncs, and finds out what the file is. After Ok just the file may be left.
+pub(crate) fn sync_and_find<S: Site>(
+    alloc: Global,
+    site: &mut S,
+    text: &[u8],
+) -> Result<Found, OpenFault>
+    requires { (S.state site.old).attached ≡ true }
+    ensures file { MatchResult result
+        (λ found. OfFile (IsFound text.now found) (S.state site.old).disk)
+        (λ fault. OfFile (λ file. Refuses file text.now fault) (S.state site.old).disk) }
+    ensures sound { IfOk result IsSound }
+    ensures settled { OnOk result
+        (LeavesTheFile (S.state site.new).disk (S.crashes site.new).now) }
+    ensures stays { MakesFile Stays (S.state site.old).disk (S.state site.new).disk }
+    ensures images { ForSome (S.state site.old).disk (λ _.
+        LeavesOnly (S.crashes site.old).now (S.state site.old) (S.crashes site.new)) }
+    ensures failed { IsErrOf result OpenFault.Disk
+        → Rose (S.state site.old).counts.disk (S.state site.new).counts.disk }
+    ensures calls { DiskCalls (S.state site.old) (S.state site.new)
+        (S.crashes site.old) (S.crashes site.new) }
+{
+    let Ok(()) = site.sync() else {
+        return Err(OpenFault::Disk);
+    };
+    find(alloc, site, text)
+}
+
+/// Finds out what the file is: its kind, then whether it keeps the text, then its records.
+fn find<S: Site>(alloc: Global, site: &mut S, text: &[u8]) -> Result<Found, OpenFault>
+    requires { (S.state site.old).attached ≡ true }
+    ensures file { MatchResult result
+        (λ found. OfFile (IsFound text.now found) (S.state site.old).disk)
+        (λ fault. OfFile (λ file. Refuses file text.now fault) (S.state site.old).disk) }
+    ensures sound { IfOk result IsSound }
+    ensures reads { OnlyReads (S.state site.old) (S.state site.new)
+        (S.crashes site.old) (S.crashes site.new) }
+    ensures failed { IsErrOf result OpenFault.Disk
+        → Rose (S.state site.old).counts.disk (S.state site.new).counts.disk }
+{
+    let head = match read_head(alloc, site) {
+        Ok(head) => head,
+        Err(fault) => return Err(fault),
+    };
+    let first = match judge(alloc, &head, text) {
+        Ok(Some(first)) => first,
+        Ok(None) => return Ok(Found::New { head }),
+        Err(fault) => return Err(fault),
+    };
+    match read_records(alloc, site, &head, first) {
+        Ok(kept) => Ok(Found::Journal(kept)),
+        Err(fault) => Err(fault),
+    }
+}
