@@ -133,6 +133,7 @@ showing shown = record {
   name = shown.name;
   past = shown.past;
   told = shown.told;
+  longest_read = 0;
   counts = shown.counts;
 }
 

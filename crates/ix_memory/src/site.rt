@@ -12,7 +12,7 @@ ghost use Rattle.ix_memory.specs.Plan.{fails_at, is_full};
 ghost use Rattle.ix_memory.specs.inside.SentState.{with_heard};
 ghost use Rattle.ix_memory.specs.inside.MemorySiteState.{fresh_site, state_of, crashes_of, called};
 ghost use Rattle.ix_memory.specs.inside.MemorySiteState.{wire_failed, disk_failed, send_failed};
-ghost use Rattle.ix_memory.specs.inside.MemorySiteState.{half_sent, half_written, written};
+ghost use Rattle.ix_memory.specs.inside.MemorySiteState.{half_sent, half_written, read_into, written};
 ghost use Rattle.ix_memory.specs.inside.CanCome.{CanAllCome, events_beside};
 ghost use Rattle.ix_memory.specs.declared.past.Effect.TheVariants.{Kept, Wrote, Cut};
 ghost use Rattle.ix_memory.specs.declared.past.Effect.TheVariants.{Synced, Attached};
@@ -50,6 +50,7 @@ pub struct MemorySite {
     attached: bool,
     past: Past,
     told: bool,
+    longest_read: usize,
     disk: u64,
     wire: u64,
     send: u64,
@@ -74,6 +75,7 @@ impl Model for MemorySite {
       name = s.sent.name;
       past = s.past;
       told = s.told;
+      longest_read = s.longest_read;
       counts = record { disk = s.disk; wire = s.wire; send = s.send };
     } };
 
@@ -106,6 +108,7 @@ impl MemorySite {
             attached: false,
             past: Past::new(),
             told: true,
+            longest_read: 0,
             disk: 0,
             wire: 0,
             send: 0,
@@ -132,6 +135,13 @@ impl MemorySite {
         ensures { slice_get self.now.sends.sent index ≡ Some (record { conn = result.0; bytes = result.1.now }) }
     {
         self.sent.at(index)
+    }
+
+    /// The length of the longest buffer that was handed to `read_at` so far, 0 before the first.
+    pub fn longest_read(&self) -> usize
+        ensures { result ≡ self.now.longest_read }
+    {
+        self.longest_read
     }
 
     /// The file, as a read gives it.
@@ -322,8 +332,8 @@ impl Site for MemorySite {
             (λ count. count ≡ min (length buf.old) (length self.old.image - at)) }
         ensures read { IfOk result (λ count. take count buf.new ≡ take count (drop at self.old.image)) }
         ensures behind { IfOk result (λ count. drop count buf.new ≡ drop count buf.old) }
-        ensures ok { OnOk result (self.new ≡ called 16 Kept self.old) }
-        ensures err { OnErr result (self.new ≡ disk_failed (called 16 Kept self.old)) }
+        ensures ok { OnOk result (self.new ≡ read_into (length buf.old) self.old) }
+        ensures err { OnErr result (self.new ≡ disk_failed (read_into (length buf.old) self.old)) }
 
         ensures failed { OnErr result (Rose self.old.counts.disk self.new.counts.disk) }
         ensures attached { self.new.attached ≡ true }
@@ -337,6 +347,7 @@ impl Site for MemorySite {
             (crashes_of self.old) (crashes_of self.new) }
         ensures rest { OnlyDisk (state_of self.old) (state_of self.new) }
     {
+        self.longest_read = self.longest_read.max(buf.len());
         self.past.add(Effect::Kept, &self.image, &self.sent);
         match self.plan.make(LEAST_COST) {
             Fate::Works => Ok(image::read(&self.image, at, buf)),

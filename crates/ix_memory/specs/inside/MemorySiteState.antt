@@ -1,6 +1,7 @@
 -- A site in memory as contracts see it, and what its calls make of it.
 use Rattle.std.specs.Prelude.{ℕ, ◌+◌, ◌/◌, nat_le, if◌then◌else◌, Bool, true, false}
-use Rattle.std.specs.Prelude.{List, [], ◌∷◌, ◌++◌, length, take, drop, Option, None, Some}
+use Rattle.std.specs.Prelude.{List, [], ◌∷◌, ◌++◌, length, take, drop, max}
+use Rattle.std.specs.Prelude.{Option, None, Some}
 use Rattle.ix_outside.specs.Contents.{GivenEvent, SentBytes, Sends, Contents, with_gone}
 use Rattle.ix_outside.specs.Counts.{Counts}
 use Rattle.ix_outside.specs.Crashes.{Crashes}
@@ -20,7 +21,8 @@ use Rattle.ix_memory.specs.declared.past.Effect.TheVariants.{Kept, Wrote, Cut, S
 
 -- which calls fail; the events to come, the moment of the last one and the events given; the sends
 -- and the names heard; the file, whether it is attached, and by which name; the calls that were
--- made, the last one first; whether the site still tells its contents; and its counts of faults
+-- made, the last one first; whether the site still tells its contents; the length of the longest
+-- buffer that was read into; and its counts of faults
 pub record MemorySiteState : Type 0 where
   pub plan : PlanState
   pub coming : List GivenEvent
@@ -32,6 +34,7 @@ pub record MemorySiteState : Type 0 where
   pub name : List ℕ
   pub past : List PastCall
   pub told : Bool
+  pub longest_read : ℕ
   pub counts : Counts
 
 -- a site that was just made
@@ -47,6 +50,7 @@ fresh_site image events room fail fuse = record {
   name = [];
   past = [];
   told = true;
+  longest_read = 0;
   counts = record { disk = 0; wire = 0; send = 0 };
 }
 
@@ -102,6 +106,11 @@ called cost effect site = record site {
   plan = plan_after site.plan cost;
   past = record { effect = effect; file = site.image; sent = site.sends.sent } ∷ site.past;
 }
+
+-- after a read into a buffer of this length
+abbrev pub read_into : ℕ → MemorySiteState → MemorySiteState
+read_into size site =
+    record (called 16 Kept site) { longest_read = max site.longest_read size }
 
 -- with one more fault of the wire
 abbrev pub wire_failed : MemorySiteState → MemorySiteState
