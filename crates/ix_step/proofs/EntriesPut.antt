@@ -1,5 +1,5 @@
 -- Entries in memory as entries: the tree at a value, and what they hold after a tree is put among them.
-use Rattle.std.proofs.Common.{◌≡◌, ◌⊎◌, inl, inr, ℕ, suc, ◌+◌, ◌<◌, ◌≤◌, Bool, true, false, not, cond, List, [], ◌∷◌, ◌++◌, length, take, drop, get_or, map, append-nil, Some, Result, Ok, Err, refl, sym, ap, ◌∙◌, subst, true≢false, arith, Ordering, Less, Equal, Greater, if◌then◌else◌}
+use Rattle.std.proofs.Common.{◌≡◌, ◌⊎◌, inl, inr, ℕ, suc, ◌+◌, ◌<◌, ◌≤◌, Bool, true, false, not, cond, List, [], ◌∷◌, ◌++◌, length, take, drop, get_or, map, append-nil, Some, refl, sym, ap, ◌∙◌, subst, true≢false, arith, Ordering, Less, Equal, Greater, if◌then◌else◌}
 use Rattle.std.specs.BTreeMap.{is_at, insert_entry}
 use Rattle.std.specs.Cmp.{tied_itself}
 use Rattle.std.specs.Cmp.Lexicographic.{texts_ties}
@@ -26,11 +26,8 @@ use Rattle.ix_can.specs.TreeOf.{entries_of}
 use Rattle.ix_can.specs.inside.May.{tree_at}
 use Rattle.ix_can.proofs.Lists.{itself, one_test, when_not}
 use Rattle.ix_can.proofs.Nodes.{same_is, entry_is}
-use Rattle.ix_step.specs.inside.Builds.{IsAbove, put_all}
-use Rattle.ix_step.specs.inside.EnterTrees.{entries_put, HoldTrees, EnterTrees, Counts}
-use Rattle.ix_step.specs.declared.fault.BuildFault.{BuildFault}
-use Rattle.ix_step.specs.declared.fault.BuildFault.TheVariants.{Over, Memory}
-use Rattle.ix_step.proofs.Limits.{above_grows}
+use Rattle.ix_step.specs.inside.Makes.{put_all}
+use Rattle.ix_step.specs.inside.EnterTrees.{entries_put, HoldTrees}
 use Rattle.ix_step.proofs.Gathered.{put_all-nothing, put_all-append, put_all_grows, put_all_holds, size_all}
 
 -- Keys
@@ -194,34 +191,12 @@ value_size common tree values v m = by_test (same_tree (tree v) common) refl
         let k : size_of (entry v (tree v)) ≤ size_all (put_all (entries_of common tree values) []) = put_all_holds (entry v (tree v)) (entries_of common tree values) [] (flat_map-Member (λ u. when (not (same_tree (tree u) common)) (entry u (tree u) ∷ [])) m (when-Member ((when_not (same_tree (tree v) common) itself).1 e) here)) in
         omega arith
 
--- a fault of a value's tree
-pub fault_of_value : (limit : ℕ) (common : Plain) (tree : List ℕ → Plain) (values : List (List ℕ)) (v : List ℕ) (fault : BuildFault) → Member v values → IsAbove limit (tree v) fault → IsAbove limit (pair common (listed (entries_put common tree values))) fault
-fault_of_value limit common tree values v fault m h = above_grows limit (tree v) (pair common (listed (entries_put common tree values))) fault (value_size common tree values v m) h
-
--- a fault met before the last values
-pub fault_of_some : (limit : ℕ) (common : Plain) (tree : List ℕ → Plain) (us vs : List (List ℕ)) (fault : BuildFault) → IsAbove limit (pair common (listed (entries_put common tree us))) fault → IsAbove limit (pair common (listed (entries_put common tree (us ++ vs)))) fault
-fault_of_some limit common tree us vs fault h =
-    above_grows limit (pair common (listed (entries_put common tree us))) (pair common (listed (entries_put common tree (us ++ vs)))) fault (omega (arith, grown)) h
-  where
-    grown : size_all (put_all (entries_of common tree us) []) ≤ size_all (put_all (entries_of common tree (us ++ vs)) [])
-    grown =
-        subst (λ l. size_all (put_all (entries_of common tree us) []) ≤ size_all l)
-        (sym (ap (λ l. put_all l []) (flat_map-append (λ u. when (not (same_tree (tree u) common)) (entry u (tree u) ∷ [])) us vs) ∙ put_all-append (entries_of common tree us) (entries_of common tree vs) []))
-        (put_all_grows (entries_of common tree vs) (put_all (entries_of common tree us) []))
-
--- what the count tells of the entries
-pub entered_counts : {common : Plain} {tree : List ℕ → Plain} {values : List (List ℕ)} {old new : List (List ℕ × Plain)} {total : ℕ} {x : Plain} (limit size : ℕ) → Entered common tree values old total new x → size ≡ size_of x → total ≤ limit → (b : Bool) → (b ≡ true → length old < length new) → (b ≡ false → length new ≤ length old) → (r : Result ℕ BuildFault) → Counts limit total (1 + size) b r → EnterTrees limit common tree values new r
-entered_counts limit size d s w false more less (Ok now) h =
-    (record { items = d.items; counted = h ∙ d.kept (less refl) }, omega (arith, h))
-entered_counts limit size d s w false more less (Err fault) h = absurd h
-entered_counts limit size d s w true more less (Ok now) h =
-    let k = d.grown (more refl) in
-    (record { items = d.items; counted = omega (arith, h.0, s, k) }, omega (arith, h.0, h.1))
-entered_counts {common} {tree} {values} {new = new} limit size d s w true more less (Err (Over told)) h =
-    let k = d.grown (more refl) in
-    let i : size_all (map plain_entry new) ≡ size_all (entries_put common tree values) = ap size_all d.items in
-    (h.0, omega (arith, h.1, s, k, i))
-entered_counts limit size d s w true more less (Err Memory) h = absurd h
+-- the entries of some values are no larger than those of more
+pub some_size : (common : Plain) (tree : List ℕ → Plain) (us vs : List (List ℕ)) → size_all (entries_put common tree us) ≤ size_all (entries_put common tree (us ++ vs))
+some_size common tree us vs =
+    subst (λ l. size_all (put_all (entries_of common tree us) []) ≤ size_all l)
+    (sym (ap (λ l. put_all l []) (flat_map-append (λ u. when (not (same_tree (tree u) common)) (entry u (tree u) ∷ [])) us vs) ∙ put_all-append (entries_of common tree us) (entries_of common tree vs) []))
+    (put_all_grows (entries_of common tree vs) (put_all (entries_of common tree us) []))
 
 -- Nothing is put yet
 
@@ -235,17 +210,15 @@ nothing_held common tree es e = subst (λ l. HoldTrees common tree [] l 0) (sym 
 -- One value after the other
 
 -- the entries of the values up to the next
-pub after_put : (limit : ℕ) (common : Plain) (tree : List ℕ → Plain) (vs : List (List ℕ)) (i : ℕ) (v : List ℕ) (new : List (List ℕ × Plain)) (r : Result ℕ BuildFault) (sum : ℕ) → i < length vs → v ≡ get_or vs i v → EnterTrees limit common tree (take i vs ++ v ∷ []) new r → r ≡ Ok sum → HoldTrees common tree (take (i + 1) vs) new sum × (sum ≤ limit)
-after_put limit common tree vs i v new r sum lt same h e =
-    subst (λ us. HoldTrees common tree us new sum × (sum ≤ limit))
-    (ap (λ u. take i vs ++ u ∷ []) same ∙ sym (take_more vs i v lt))
-    (subst (EnterTrees limit common tree (take i vs ++ v ∷ []) new) e h)
+pub after_put : (common : Plain) (tree : List ℕ → Plain) (vs : List (List ℕ)) (i : ℕ) (v : List ℕ) (new : List (List ℕ × Plain)) (sum : ℕ) → i < length vs → v ≡ get_or vs i v → HoldTrees common tree (take i vs ++ v ∷ []) new sum → HoldTrees common tree (take (i + 1) vs) new sum
+after_put common tree vs i v new sum lt same h =
+    subst (λ us. HoldTrees common tree us new sum)
+    (ap (λ u. take i vs ++ u ∷ []) same ∙ sym (take_more vs i v lt)) h
 
--- a fault met at the next value
-pub fault_at : (limit : ℕ) (common : Plain) (tree : List ℕ → Plain) (vs : List (List ℕ)) (i : ℕ) (v : List ℕ) (new : List (List ℕ × Plain)) (r : Result ℕ BuildFault) (fault : BuildFault) → i < length vs → v ≡ get_or vs i v → EnterTrees limit common tree (take i vs ++ v ∷ []) new r → r ≡ Err fault → IsAbove limit (pair common (listed (entries_put common tree vs))) fault
-fault_at limit common tree vs i v new r fault lt same h e =
+-- those up to the next are no larger than all
+pub upto_size : (common : Plain) (tree : List ℕ → Plain) (vs : List (List ℕ)) (i : ℕ) (v : List ℕ) → i < length vs → v ≡ get_or vs i v → size_all (entries_put common tree (take i vs ++ v ∷ [])) ≤ size_all (entries_put common tree vs)
+upto_size common tree vs i v lt same =
     let us : take i vs ++ v ∷ [] ≡ take (i + 1) vs = ap (λ u. take i vs ++ u ∷ []) same ∙ sym (take_more vs i v lt) in
-    subst (λ l. IsAbove limit (pair common (listed (entries_put common tree l))) fault) (take-append-drop (i + 1) vs)
-    (fault_of_some limit common tree (take (i + 1) vs) (drop (i + 1) vs) fault
-    (subst (λ l. IsAbove limit (pair common (listed (entries_put common tree l))) fault) us
-    (subst (EnterTrees limit common tree (take i vs ++ v ∷ []) new) e h)))
+    let here : size_all (entries_put common tree (take i vs ++ v ∷ [])) ≡ size_all (entries_put common tree (take (i + 1) vs)) = ap (λ l. size_all (entries_put common tree l)) us in
+    let all : size_all (entries_put common tree vs) ≡ size_all (entries_put common tree (take (i + 1) vs ++ drop (i + 1) vs)) = ap (λ l. size_all (entries_put common tree l)) (sym (take-append-drop (i + 1) vs)) in
+    omega (arith, some_size common tree (take (i + 1) vs) (drop (i + 1) vs))

@@ -1,26 +1,22 @@
 -- Lists into which trees are put one by one: what they hold at last, and that they only grow.
-use Rattle.std.proofs.Common.{◌||◌, inl, inr, not, ◌≡◌, ℕ, ◌<◌, ◌≤◌, ◌+◌, Bool, true, false, List, [], ◌∷◌, ◌++◌, map, flat_map, drop, get_or, length, add-one, drop-cons, Result, Ok, Err, refl, sym, ap, ◌∙◌, subst, arith, append_assoc, append-nil, map-id, Ordering, Equal}
+use Rattle.std.proofs.Common.{◌||◌, inl, inr, not, ◌≡◌, ℕ, ◌<◌, ◌≤◌, ◌+◌, Bool, true, false, List, [], ◌∷◌, ◌++◌, map, drop, get_or, length, add-one, drop-cons, Result, Ok, Err, refl, sym, ap, ◌∙◌, subst, arith, append_assoc, append-nil, map-id, Ordering, Equal}
 use Rattle.ix_words.specs.Each.{Member, here, there}
-use Rattle.ix_words.specs.Canon.{put_once, canon}
+use Rattle.ix_words.specs.Canon.{put_once, canon, when}
 use Rattle.std.specs.List.{list_any, sum_by}
 use Rattle.ix_tree.proofs.PlainLists.{size_of-listed}
 use Rattle.std.proofs.lemmas.List.{drop_all}
-use Rattle.ix_words.specs.Canon.{when}
 use Rattle.ix_words.proofs.Canon.{Member-cases, canon-end, canon-members, by_order-has}
-use Rattle.ix_tree.specs.Plain.{dead, is_dead}
-use Rattle.ix_can.specs.Nodes.{live, set_of}
+use Rattle.ix_can.specs.Nodes.{is_live}
 use Rattle.ix_can.proofs.Nodes.{dead_is}
 use Rattle.ix_can.proofs.Lists.{any_same}
 use Rattle.ix_tree.proofs.Alternatives.{insert_key-put_once, Member-HasItem, weight_of-list}
 use Rattle.ix_alts.specs.inside.Alternatives.{Alternatives, HasItem}
-use Rattle.ix_tree.specs.Plain.{Plain, listed}
+use Rattle.ix_tree.specs.Plain.{Plain, listed, is_dead}
 use Rattle.ix_tree.specs.Order.{tree_cmp}
 use Rattle.ix_tree.specs.Size.{size_of}
 use Rattle.ix_tree.specs.lemmas.TreeOrder.{tree_order, tree_cmp-same}
-use Rattle.ix_step.specs.inside.Builds.{IsAbove, put_all, Gathers, Puts}
-use Rattle.ix_step.specs.declared.fault.BuildFault.{BuildFault}
-use Rattle.ix_step.specs.declared.fault.BuildFault.TheVariants.{Over, Memory}
-use Rattle.ix_step.proofs.Limits.{above_grows}
+use Rattle.ix_step.specs.inside.Makes.{put_all, Gathers, Puts}
+use Rattle.ix_step.specs.declared.fault.Unbuilt.{Unbuilt}
 
 -- What the list holds
 
@@ -78,18 +74,6 @@ put_adds y (x ∷ xs) n =
     (λ e. absurd (n x here e))
     (λ e. let h = put_adds y xs (λ z m. n z (there m)) in omega (arith, h))
 
--- Faults
-
--- a fault of some trees of the list
-pub fault_of_tree : (limit : ℕ) (y : Plain) (ys xs : List Plain) (fault : BuildFault) → Member y ys → IsAbove limit y fault → IsAbove limit (listed (put_all ys xs)) fault
-fault_of_tree limit y ys xs fault m h = above_grows limit y (listed (put_all ys xs)) fault (put_all_holds y ys xs m) h
-
--- a fault met before the last trees were put
-pub fault_before : (limit : ℕ) (us vs xs : List Plain) (fault : BuildFault) → IsAbove limit (listed (put_all us xs)) fault → IsAbove limit (listed (put_all (us ++ vs) xs)) fault
-fault_before limit us vs xs fault h =
-    above_grows limit (listed (put_all us xs)) (listed (put_all (us ++ vs) xs)) fault
-    (subst (λ l. size_all (put_all us xs) ≤ size_all l) (sym (put_all-append us vs xs)) (put_all_grows vs (put_all us xs))) h
-
 -- Sets of items in memory
 
 module _ {T : Type 0} (f : T → Plain) (cmp : T → T → Ordering) (is : (x y : T) → cmp x y ≡ tree_cmp (f x) (f y)) where
@@ -97,79 +81,40 @@ module _ {T : Type 0} (f : T → Plain) (cmp : T → T → Ordering) (is : (x y 
   is_new xs item n x m e = n (Member-HasItem f cmp is xs item (subst (λ y. Member y (map f xs)) (sym (tree_cmp-same (f item) x e)) m))
 
   -- an item that is put into a set is its tree put into the list of trees
-  pub gathers_put : (set : Alternatives T) (new : List T) (item : T) (r : Result (Unit {0}) BuildFault) → Puts cmp (λ x. size_of (f x)) set new item r → Gathers set.budget (f item ∷ []) (map f set.items) (map f new) r
+  pub gathers_put : (set : Alternatives T) (new : List T) (item : T) (r : Result (Unit {0}) Unbuilt) → Puts cmp (λ x. size_of (f x)) set new item r → Gathers set.budget (f item ∷ []) (map f set.items) (map f new) r
   gathers_put set new item (Ok done) h = ap (map f) h ∙ insert_key-put_once f cmp is set.items item
-  gathers_put set new item (Err (Over told)) h =
+  gathers_put set new item (Err fault) h = λ e.
+      let k = h e in
       let sum = weight_of-list f set.items in
-      let size = put_adds (f item) (map f set.items) (is_new set.items item h.1) in
-      (h.0, omega (arith, h.2, sum, size))
-  gathers_put set new item (Err Memory) h = tt
+      let size = put_adds (f item) (map f set.items) (is_new set.items item k.0) in
+      omega (arith, k.1, sum, size)
 
--- Loops over the items of a list
+-- Trees that may be dead
 
-module _ {T : Type 0} (h : T → Plain) (f : Plain → List Plain) (ts : List T) (i : ℕ) (d : T) where
-  rest_is : i < length ts → flat_map f (map h (drop i ts)) ≡ f (h (get_or ts i d)) ++ flat_map f (map h (drop (i + 1) ts))
-  rest_is lt =
-      let cut : drop i ts ≡ get_or ts i d ∷ drop (i + 1) ts = rw (add-one, drop-cons ts i d) refl in
-      ap (λ l. flat_map f (map h l)) cut
-
-  -- the trees of one item were put into the list, and those of the items after it are still to be
-  pub gather_next : (s new total : List Plain) → i < length ts → put_all (flat_map f (map h (drop i ts))) s ≡ total → new ≡ put_all (f (h (get_or ts i d))) s → put_all (flat_map f (map h (drop (i + 1) ts))) new ≡ total
-  gather_next s new total lt e g =
-      ap (put_all (flat_map f (map h (drop (i + 1) ts)))) g
-      ∙ sym (put_all-append (f (h (get_or ts i d))) (flat_map f (map h (drop (i + 1) ts))) s)
-      ∙ ap (λ l. put_all l s) (sym (rest_is lt)) ∙ e
-
-  -- a fault met at one item
-  pub gather_fault : (limit : ℕ) (s total : List Plain) (fault : BuildFault) → i < length ts → put_all (flat_map f (map h (drop i ts))) s ≡ total → IsAbove limit (listed (put_all (f (h (get_or ts i d))) s)) fault → IsAbove limit (listed total) fault
-  gather_fault limit s total fault lt e g =
-      subst (λ l. IsAbove limit (listed l) fault) (ap (λ l. put_all l s) (sym (rest_is lt)) ∙ e)
-      (fault_before limit (f (h (get_or ts i d))) (flat_map f (map h (drop (i + 1) ts))) s fault g)
-
--- so with trees
-module _ (f : Plain → List Plain) (ts : List Plain) (i : ℕ) (d : Plain) where
-  trees_is : i < length ts → flat_map f (drop i ts) ≡ f (get_or ts i d) ++ flat_map f (drop (i + 1) ts)
-  trees_is lt =
-      let cut : drop i ts ≡ get_or ts i d ∷ drop (i + 1) ts = rw (add-one, drop-cons ts i d) refl in
-      ap (flat_map f) cut
-
-  pub next_tree : (s new total : List Plain) → i < length ts → put_all (flat_map f (drop i ts)) s ≡ total → new ≡ put_all (f (get_or ts i d)) s → put_all (flat_map f (drop (i + 1) ts)) new ≡ total
-  next_tree s new total lt e g =
-      ap (put_all (flat_map f (drop (i + 1) ts))) g
-      ∙ sym (put_all-append (f (get_or ts i d)) (flat_map f (drop (i + 1) ts)) s)
-      ∙ ap (λ l. put_all l s) (sym (trees_is lt)) ∙ e
-
-  pub fault_tree : (limit : ℕ) (s total : List Plain) (fault : BuildFault) → i < length ts → put_all (flat_map f (drop i ts)) s ≡ total → IsAbove limit (listed (put_all (f (get_or ts i d)) s)) fault → IsAbove limit (listed total) fault
-  fault_tree limit s total fault lt e g =
-      subst (λ l. IsAbove limit (listed l) fault) (ap (λ l. put_all l s) (sym (trees_is lt)) ∙ e)
-      (fault_before limit (f (get_or ts i d)) (flat_map f (drop (i + 1) ts)) s fault g)
-
--- Faults of trees that may be dead
-
-absent : (limit : ℕ) (fault : BuildFault) (y : Plain) → 1 ≤ limit → IsAbove limit dead fault → IsAbove limit y fault
-absent limit (Over told) y le h = absurd (omega (arith, h.1, le))
-absent limit Memory y le h = tt
-
--- a tree above the limit is live, so it would be put into the list
-pub live_fault : (limit : ℕ) (x : Plain) (xs : List Plain) (fault : BuildFault) → 1 ≤ limit → IsAbove limit x fault → IsAbove limit (listed (put_all (live x) xs)) fault
-live_fault limit x xs fault le h = go (is_dead x) refl
+-- a tree above the limit is live
+pub above_lives : (limit : ℕ) (x : Plain) → 1 ≤ limit → limit < size_of x → is_dead x ≡ false
+above_lives limit x le lt = by_test (is_dead x) refl
   where
-    go : (b : Bool) → is_dead x ≡ b → IsAbove limit (listed (put_all (when (not b) (x ∷ [])) xs)) fault
-    go true e = absent limit fault (listed xs) le (subst (λ y. IsAbove limit y fault) (dead_is x e) h)
-    go false e = fault_of_tree limit x (x ∷ []) xs fault here h
+    by_test : (b : Bool) → is_dead x ≡ b → b ≡ false
+    by_test false e = refl
+    by_test true e = let s : size_of x ≡ 1 = ap size_of (dead_is x e) in absurd (omega arith)
 
--- a fault met before some trees were put is one of the whole set
-pub set_fault : (limit : ℕ) (us vs : List Plain) (fault : BuildFault) → IsAbove limit (listed (put_all us [])) fault → IsAbove limit (set_of (us ++ vs)) fault
-set_fault limit us vs fault h = subst (λ l. IsAbove limit (listed l) fault) (put_all-nothing (us ++ vs)) (fault_before limit us vs [] fault h)
+-- so what is made of it is put into the list, which is then above the limit
+pub live_over : (limit : ℕ) (x made : Plain) (old : List Plain) → 1 ≤ limit → size_of x ≤ size_of made → limit < size_of x → limit < size_all (put_all (when (is_live x) (made ∷ [])) old)
+live_over limit x made old le grows lt =
+    let k : size_of made ≤ size_all (put_all (made ∷ []) old) = put_all_holds made (made ∷ []) old here in
+    let e : size_all (put_all (when (is_live x) (made ∷ [])) old) ≡ size_all (put_all (made ∷ []) old) = ap (λ b. size_all (put_all (when (not b) (made ∷ [])) old)) (above_lives limit x le lt) in
+    omega arith
 
--- a fault met at the last trees
-pub last_fault : (limit : ℕ) (us vs old : List Plain) (fault : BuildFault) → old ≡ put_all us [] → IsAbove limit (listed (put_all vs old)) fault → IsAbove limit (set_of (us ++ vs)) fault
-last_fault limit us vs old fault e h =
-    subst (λ l. IsAbove limit (listed l) fault) (ap (put_all vs) e ∙ sym (put_all-append us vs []) ∙ put_all-nothing (us ++ vs)) h
+module _ (limit : ℕ) (x made : Plain) (old : List Plain) where
+  -- a dead tree adds nothing
+  pub dead_adds : is_dead x ≡ true → Gathers limit (when (is_live x) (made ∷ [])) old old (Ok tt)
+  dead_adds e = sym (ap (λ b. put_all (when (not b) (made ∷ [])) old) e)
 
--- what the set holds at last
-pub set_is : (us vs old new : List Plain) → old ≡ put_all us [] → new ≡ put_all vs old → new ≡ canon tree_cmp (us ++ vs)
-set_is us vs old new e f = f ∙ ap (put_all vs) e ∙ sym (put_all-append us vs []) ∙ put_all-nothing (us ++ vs)
+  -- a live tree adds what is made of it
+  pub live_adds : (y : Plain) (new : List Plain) (r : Result (Unit {0}) Unbuilt) → is_dead x ≡ false → y ≡ made → Gathers limit (y ∷ []) old new r → Gathers limit (when (is_live x) (made ∷ [])) old new r
+  live_adds y new r e same h =
+      subst (λ ys. Gathers limit ys old new r) (ap (λ z. z ∷ []) same ∙ sym (ap (λ b. when (not b) (made ∷ [])) e)) h
 
 -- a test of the items of a set
 pub any_of_set : (test : Plain → Bool) (us : List Plain) → list_any test (canon tree_cmp us) ≡ list_any test us
@@ -192,12 +137,8 @@ module _ (test : Plain → Bool) (ts : List Plain) (i : ℕ) where
   pub any_none : length ts ≤ i → false ≡ list_any test ((drop i ts))
   any_none le = ap (λ l. list_any test l) (sym (drop_all i ts le))
 
-  -- where no tree is left, nothing more is put
-  pub gather_end : (f : Plain → List Plain) (s total : List Plain) → length ts ≤ i → put_all (flat_map f ((drop i ts))) s ≡ total → s ≡ total
-  gather_end f s total le e = ap (λ l. put_all (flat_map f l) s) (sym (drop_all i ts le)) ∙ e
-
 -- a tree put into a set of trees
-pub gathers_tree : (set : Alternatives Plain) (new : List Plain) (item : Plain) (r : Result (Unit {0}) BuildFault) → Puts tree_cmp size_of set new item r → Gathers set.budget (item ∷ []) set.items new r
+pub gathers_tree : (set : Alternatives Plain) (new : List Plain) (item : Plain) (r : Result (Unit {0}) Unbuilt) → Puts tree_cmp size_of set new item r → Gathers set.budget (item ∷ []) set.items new r
 gathers_tree set new item r h =
     subst (λ l. Gathers set.budget (item ∷ []) l new r) (map-id set.items)
     (subst (λ l. Gathers set.budget (item ∷ []) (map (λ x. x) set.items) l r) (map-id new)

@@ -1,4 +1,3 @@
-pub mod Shapes
 pub mod Limits
 pub mod Gathered
 pub mod Beginnings
@@ -6,10 +5,11 @@ pub mod Measure
 pub mod Arms
 pub mod BagsPut
 pub mod Gathering
-pub mod LivePuts
 pub mod ParallelArms
 pub mod EntriesPut
 pub mod SameTrees
 pub mod Quantifying
 pub mod MapEntries
 pub mod Mapping
+pub mod MovedIs
+pub mod Exits

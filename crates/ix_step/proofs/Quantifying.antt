@@ -1,5 +1,5 @@
 -- The quantifiers' trees: what is asked of the trees of values before they are moved, and the entries after an action.
-use Rattle.std.proofs.Common.{◌≡◌, ℕ, ◌+◌, ◌≤◌, Bool, true, false, not, List, [], ◌∷◌, ◌++◌, map, flat_map, Some, None, Result, Ok, Err, Vec, Global, refl, sym, ap, ◌∙◌, subst, true≢false, arith, Less, if◌then◌else◌}
+use Rattle.std.proofs.Common.{◌≡◌, ℕ, ◌+◌, ◌≤◌, Bool, true, false, List, [], ◌∷◌, ◌++◌, map, flat_map, Option, Some, None, refl, sym, ap, ◌∙◌, subst, true≢false, arith, Less, if◌then◌else◌}
 use Rattle.std.specs.Map.{keys_of}
 use Rattle.std.specs.Ordering.{is_eq}
 use Rattle.ix_words.specs.Each.{Each, no_item, item}
@@ -11,23 +11,23 @@ use Rattle.ix_values.specs.lemmas.Order.{text_eq-decides}
 use Rattle.ix_values.specs.PlainAction.{PlainAction}
 use Rattle.ix_expr.specs.Form.{Form, any, every, sync}
 use Rattle.ix_expr.specs.Environment.{Environment, bind}
+use Rattle.ix_expr.specs.Fitting.{FitsInside}
+use Rattle.ix_expr.specs.FormFaults.{Fits}
 use Rattle.ix_expr.proofs.Parts.{fits-operands}
-use Rattle.ix_tree.specs.Plain.{Plain, pair, listed, items_of, any as any_of, every as every_of, sync as sync_of}
+use Rattle.ix_tree.specs.Plain.{Plain, listed, items_of, any as any_of, every as every_of, sync as sync_of}
 use Rattle.ix_tree.specs.PlainOf.{plain_entry, plain_entries}
 use Rattle.ix_tree.specs.Order.{key, first_part}
 use Rattle.ix_tree.specs.Size.{size_of}
 use Rattle.ix_tree.proofs.PlainLists.{items_of-listed}
-use Rattle.ix_can.specs.Nodes.{set_of, dead_if}
+use Rattle.ix_can.specs.Nodes.{set_of}
 use Rattle.ix_can.specs.TreeOf.{entries_of}
 use Rattle.ix_can.specs.Laws.{IsProper, ProperEntries}
-use Rattle.ix_can.specs.inside.May.{may, tree_at}
-use Rattle.ix_can.specs.inside.Moved.{moved, entry_with}
-use Rattle.ix_step.specs.inside.Builds.{Builds, IsAbove}
-use Rattle.ix_step.specs.declared.fault.BuildFault.{BuildFault}
+use Rattle.ix_can.specs.inside.May.{tree_at}
+use Rattle.ix_can.specs.inside.Moved.{entry_with}
 use Rattle.ix_step.specs.inside.Ready.{Ready}
 use Rattle.ix_step.specs.inside.EnterTrees.{entries_put}
-use Rattle.ix_step.specs.inside.ValueTrees.{ReadyInside, moved_part, common_after, tree_after, touched, BuildsParts, AreSmallParts}
-use Rattle.ix_step.proofs.Limits.{above_grows, builds_arm}
+use Rattle.ix_step.specs.inside.ValueTrees.{ReadyInside, moved_part, common_after, tree_after, entries_after, touched}
+use Rattle.ix_step.specs.declared.bodies.Reach.{Reach}
 use Rattle.ix_step.proofs.Gathered.{put_all-nothing}
 use Rattle.ix_step.proofs.EntriesPut.{key_at}
 
@@ -73,69 +73,41 @@ tree_at_own common (x ∷ xs) (below g h) =
 
 -- What is asked of them
 
-module _ (limit : ℕ) (p : List ℕ) (y : Form) (e : Environment) (common : Plain) where
+-- the body is ready under each value
+pub at_ready : {p : List ℕ} {y : Form} {e : Environment} {t : Plain} (v : Option (List ℕ)) (f : Environment) → f ≡ bind p v e → FitsInside p y e → IsProper y t → size_of t ≤ 1000000 → Ready y f t
+at_ready {y = y} v f is fits proper small =
+    record { fits = subst (Fits y) (sym is) (fits.body v); proper = proper; small = small }
+
+module _ (p : List ℕ) (y : Form) (e : Environment) (common : Plain) where
   -- of the common tree
-  pub common_ready : (xs : List Plain) → ReadyInside limit p y e common xs → Ready limit y (bind p None e) common
-  common_ready xs r =
-      record { fits = r.fits.body None; proper = r.proper; small = omega (arith, r.small); positive = r.positive; bounded = r.bounded }
+  pub common_ready : (xs : List Plain) → ReadyInside p y e common xs → Ready y (bind p None e) common
+  common_ready xs r = record { fits = r.fits.body None; proper = r.proper; small = omega (arith, r.small) }
 
   -- of the tree of each value
-  pub value_ready : (es : List (List ℕ × Plain)) (v : List ℕ) → ReadyInside limit p y e common (map plain_entry es) → Ready limit y (bind p (Some v) e) (tree_at v common (map plain_entry es))
+  pub value_ready : (es : List (List ℕ × Plain)) (v : List ℕ) → ReadyInside p y e common (map plain_entry es) → Ready y (bind p (Some v) e) (tree_at v common (items_of (plain_entries es)))
   value_ready es v r =
-      record {
+      subst (λ l. Ready y (bind p (Some v) e) (tree_at v common l)) (sym (items_of-listed (map plain_entry es)))
+      (record {
         fits = r.fits.body (Some v);
         proper = tree_at_has (IsProper y) v common (map plain_entry es) r.proper r.beside.each;
         small = omega (arith, r.small, tree_at_size v common es);
-        positive = r.positive;
-        bounded = r.bounded;
-      }
+      })
 
-module _ (limit : ℕ) (p : List ℕ) (y : Form) (e : Environment) (common : Plain) (es : List (List ℕ × Plain)) where
-  beside_listed : ProperEntries (IsProper y) common (items_of (plain_entries es)) → ProperEntries (IsProper y) common (map plain_entry es)
-  beside_listed h = subst (ProperEntries (IsProper y) common) (items_of-listed (map plain_entry es)) h
+beside_listed : (y : Form) (common : Plain) (es : List (List ℕ × Plain)) → ProperEntries (IsProper y) common (items_of (plain_entries es)) → ProperEntries (IsProper y) common (map plain_entry es)
+beside_listed y common es h = subst (ProperEntries (IsProper y) common) (items_of-listed (map plain_entry es)) h
 
-  pub any_ready : Ready limit (any p y) e (any_of common (plain_entries es)) → ReadyInside limit p y e common (map plain_entry es)
+module _ {p : List ℕ} {y : Form} {e : Environment} {common : Plain} (es : List (List ℕ × Plain)) where
+  pub any_ready : Ready (any p y) e (any_of common (plain_entries es)) → ReadyInside p y e common (map plain_entry es)
   any_ready r =
-      record {
-        fits = fits-operands (any p y) e r.fits;
-        proper = r.proper.0;
-        beside = beside_listed r.proper.1;
-        small = r.small;
-        positive = r.positive;
-        bounded = r.bounded;
-      }
+      record { fits = fits-operands (any p y) e r.fits; proper = r.proper.0; beside = beside_listed y common es r.proper.1; small = r.small }
 
-  pub every_ready : Ready limit (every p y) e (every_of common (plain_entries es)) → ReadyInside limit p y e common (map plain_entry es)
+  pub every_ready : Ready (every p y) e (every_of common (plain_entries es)) → ReadyInside p y e common (map plain_entry es)
   every_ready r =
-      record {
-        fits = fits-operands (every p y) e r.fits;
-        proper = r.proper.0;
-        beside = beside_listed r.proper.1;
-        small = r.small;
-        positive = r.positive;
-        bounded = r.bounded;
-      }
+      record { fits = fits-operands (every p y) e r.fits; proper = r.proper.0; beside = beside_listed y common es r.proper.1; small = r.small }
 
-  pub sync_ready : Ready limit (sync p y) e (sync_of common (plain_entries es)) → ReadyInside limit p y e common (map plain_entry es)
+  pub sync_ready : Ready (sync p y) e (sync_of common (plain_entries es)) → ReadyInside p y e common (map plain_entry es)
   sync_ready r =
-      record {
-        fits = fits-operands (sync p y) e r.fits;
-        proper = r.proper.0;
-        beside = beside_listed r.proper.1;
-        small = r.small;
-        positive = r.positive;
-        bounded = r.bounded;
-      }
-
--- the same is asked of an equal tree in an equal environment
-pub ready_same : (limit : ℕ) (y : Form) (e f : Environment) (t u : Plain) → f ≡ e → u ≡ t → Ready limit y e t → Ready limit y f u
-ready_same limit y e f t u p q r =
-    subst (λ (x : Plain). Ready limit y f x) (sym q) (subst (λ (g : Environment). Ready limit y g t) (sym p) r)
-
--- what was built from an equal tree in an equal environment
-pub builds_same : (limit : ℕ) (only_inside : Bool) (y : Form) (e f : Environment) (a : PlainAction) (t u : Plain) (r : Result Plain BuildFault) → f ≡ e → u ≡ t → Builds limit (moved_part only_inside y f a u) r → Builds limit (moved_part only_inside y e a t) r
-builds_same limit only_inside y e f a t u r p q b =
-    subst (λ (x : Plain). Builds limit (moved_part only_inside y e a x) r) q (subst (λ (g : Environment). Builds limit (moved_part only_inside y g a u) r) p b)
+      record { fits = fits-operands (sync p y) e r.fits; proper = r.proper.0; beside = beside_listed y common es r.proper.1; small = r.small }
 
 -- The entries after an action
 
@@ -176,58 +148,26 @@ module _ (move : List ℕ → Plain → Plain) (common next : Plain) (vs : List 
       (Each-weaker {G = λ x. tree_at (key x) common xs ≡ first_part x} {H = λ x. own_made x ≡ entry_at next (tree_moved xs) (key x)} (own_is_moved xs) (tree_at_own common xs h))
 
   -- and for the entries in memory
-  pub entries_after : (es : List (List ℕ × Plain)) → Ascending (λ x z. text_cmp (key x) (key z)) (map plain_entry es) → set_of (flat_map (λ x. entry_with next (key x) (move (key x) (first_part x))) (items_of (plain_entries es)) ++ flat_map (λ v. entry_with next v (move v (tree_at v common (items_of (plain_entries es))))) vs) ≡ listed (entries_put next (λ v. move v (tree_at v common (map plain_entry es))) (keys_of es ++ vs))
-  entries_after es h =
+  pub moved_are_put : (es : List (List ℕ × Plain)) → Ascending (λ x z. text_cmp (key x) (key z)) (map plain_entry es) → set_of (flat_map (λ x. entry_with next (key x) (move (key x) (first_part x))) (items_of (plain_entries es)) ++ flat_map (λ v. entry_with next v (move v (tree_at v common (items_of (plain_entries es))))) vs) ≡ listed (entries_put next (λ v. move v (tree_at v common (map plain_entry es))) (keys_of es ++ vs))
+  moved_are_put es h =
       ap (λ (xs : List Plain). set_of (flat_map own_made xs ++ flat_map (λ v. entry_with next v (move v (tree_at v common xs))) vs)) (items_of-listed (map plain_entry es))
       ∙ moved_is_put (map plain_entry es) h
       ∙ ap (λ (ks : List (List ℕ)). listed (entries_put next (tree_moved (map plain_entry es)) (ks ++ vs))) (keys_listed es)
 
--- The arms
+-- the entries after an action are those of the touched values
+pub entries_touched : (reach : Reach) (p : List ℕ) (y : Form) (e : Environment) (a : PlainAction) (common : Plain) (es : List (List ℕ × Plain)) → ReadyInside p y e common (map plain_entry es) → entries_after reach p y e a common (plain_entries es) ≡ listed (entries_put (common_after reach p y e a common) (tree_after reach p y e a common (map plain_entry es)) (touched es a))
+entries_touched reach p y e a common es r =
+    moved_are_put (λ v t. moved_part reach y (bind p (Some v) e) a t) common (common_after reach p y e a common) a.values es r.beside.ascending
 
-module _ (p : List ℕ) (y : Form) (e : Environment) (a : PlainAction) (common : Plain) (es : List (List ℕ × Plain)) (ascending : Ascending (λ x z. text_cmp (key x) (key z)) (map plain_entry es)) where
-  pub any_after : moved (any p y) e (any_of common (plain_entries es)) a ≡ dead_if (not (may (any p y) e (any_of common (plain_entries es)) a)) (any_of (common_after false p y e a common) (listed (entries_put (common_after false p y e a common) (tree_after false p y e a common (map plain_entry es)) (touched es a))))
-  any_after =
-      ap (λ t. dead_if (not (may (any p y) e (any_of common (plain_entries es)) a)) (any_of (common_after false p y e a common) t))
-      (entries_after (λ v t. moved_part false y (bind p (Some v) e) a t) common (common_after false p y e a common) a.values es ascending)
+module _ (reach : Reach) (p : List ℕ) (y : Form) (e : Environment) (a : PlainAction) (common : Plain) (es : List (List ℕ × Plain)) where
+  -- so with an equal common tree and equal values
+  pub entries_are : (next : Plain) (vs : List (List ℕ)) → ReadyInside p y e common (map plain_entry es) → next ≡ common_after reach p y e a common → vs ≡ touched es a → entries_after reach p y e a common (plain_entries es) ≡ listed (entries_put next (tree_after reach p y e a common (map plain_entry es)) vs)
+  entries_are next vs r n v =
+      entries_touched reach p y e a common es r
+      ∙ ap (λ x. listed (entries_put x (tree_after reach p y e a common (map plain_entry es)) (touched es a))) (sym n)
+      ∙ ap (λ l. listed (entries_put next (tree_after reach p y e a common (map plain_entry es)) l)) (sym v)
 
-  pub every_after : moved (every p y) e (every_of common (plain_entries es)) a ≡ dead_if (not (may (every p y) e (every_of common (plain_entries es)) a)) (every_of (common_after false p y e a common) (listed (entries_put (common_after false p y e a common) (tree_after false p y e a common (map plain_entry es)) (touched es a))))
-  every_after =
-      ap (λ t. dead_if (not (may (every p y) e (every_of common (plain_entries es)) a)) (every_of (common_after false p y e a common) t))
-      (entries_after (λ v t. moved_part false y (bind p (Some v) e) a t) common (common_after false p y e a common) a.values es ascending)
-
-  pub sync_after : moved (sync p y) e (sync_of common (plain_entries es)) a ≡ dead_if (not (may (sync p y) e (sync_of common (plain_entries es)) a)) (sync_of (common_after true p y e a common) (listed (entries_put (common_after true p y e a common) (tree_after true p y e a common (map plain_entry es)) (touched es a))))
-  sync_after =
-      ap (λ t. dead_if (not (may (sync p y) e (sync_of common (plain_entries es)) a)) (sync_of (common_after true p y e a common) t))
-      (entries_after (λ v t. moved_part true y (bind p (Some v) e) a t) common (common_after true p y e a common) a.values es ascending)
-
--- What was built
-
--- a fault of the common tree
-pub fault_of_common : (limit : ℕ) (common : Plain) (rest : Plain) (fault : BuildFault) → IsAbove limit common fault → IsAbove limit (pair common rest) fault
-fault_of_common limit common rest fault h = above_grows limit common (pair common rest) fault (omega arith) h
-
--- the parts of an equal common tree, for equal values
-pub parts_same : (limit : ℕ) (common next : Plain) (tree : List ℕ → Plain) (us vs : List (List ℕ)) (r : Result (Plain × Vec (List ℕ × Plain) Global) BuildFault) → common ≡ next → us ≡ vs → BuildsParts limit common tree us r → BuildsParts limit next tree vs r
-parts_same limit common next tree us vs r p q h =
-    subst (λ (x : Plain). BuildsParts limit x tree vs r) p (subst (λ (l : List (List ℕ)). BuildsParts limit common tree l r) q h)
-
--- parts that were built are small
-pub parts_small : (limit : ℕ) (common : Plain) (tree : List ℕ → Plain) (values : List (List ℕ)) (r : Result (Plain × Vec (List ℕ × Plain) Global) BuildFault) → limit ≤ 1000000 → BuildsParts limit common tree values r → AreSmallParts r
-parts_small limit common tree values (Ok parts) le h = (omega (arith, ap size_of h.0, h.2), omega (arith, h.3))
-parts_small limit common tree values (Err fault) le h = tt
-
-module _ (limit : ℕ) (p : List ℕ) (y : Form) (e : Environment) (a : PlainAction) (x : Plain) (common : Plain) (es : List (List ℕ × Plain)) (r : Result Plain BuildFault) where
-  pub any_built : x ≡ any_of common (plain_entries es) → ReadyInside limit p y e common (map plain_entry es) → may (any p y) e x a ≡ true → Builds limit (any_of (common_after false p y e a common) (listed (entries_put (common_after false p y e a common) (tree_after false p y e a common (map plain_entry es)) (touched es a)))) r → Builds limit (moved (any p y) e x a) r
-  any_built shape ready h b =
-      builds_arm limit (any p y) e a x (any_of common (plain_entries es)) (any_of (common_after false p y e a common) (listed (entries_put (common_after false p y e a common) (tree_after false p y e a common (map plain_entry es)) (touched es a)))) r
-      shape (any_after p y e a common es ready.beside.ascending) h b
-
-  pub every_built : x ≡ every_of common (plain_entries es) → ReadyInside limit p y e common (map plain_entry es) → may (every p y) e x a ≡ true → Builds limit (every_of (common_after false p y e a common) (listed (entries_put (common_after false p y e a common) (tree_after false p y e a common (map plain_entry es)) (touched es a)))) r → Builds limit (moved (every p y) e x a) r
-  every_built shape ready h b =
-      builds_arm limit (every p y) e a x (every_of common (plain_entries es)) (every_of (common_after false p y e a common) (listed (entries_put (common_after false p y e a common) (tree_after false p y e a common (map plain_entry es)) (touched es a)))) r
-      shape (every_after p y e a common es ready.beside.ascending) h b
-
-  pub sync_built : x ≡ sync_of common (plain_entries es) → ReadyInside limit p y e common (map plain_entry es) → may (sync p y) e x a ≡ true → Builds limit (sync_of (common_after true p y e a common) (listed (entries_put (common_after true p y e a common) (tree_after true p y e a common (map plain_entry es)) (touched es a)))) r → Builds limit (moved (sync p y) e x a) r
-  sync_built shape ready h b =
-      builds_arm limit (sync p y) e a x (sync_of common (plain_entries es)) (sync_of (common_after true p y e a common) (listed (entries_put (common_after true p y e a common) (tree_after true p y e a common (map plain_entry es)) (touched es a)))) r
-      shape (sync_after p y e a common es ready.beside.ascending) h b
+  -- the tree of a value after the action
+  pub value_moves : (v : List ℕ) (t : Plain) → t ≡ tree_at v common (items_of (plain_entries es)) → moved_part reach y (bind p (Some v) e) a t ≡ tree_after reach p y e a common (map plain_entry es) v
+  value_moves v t h =
+      ap (moved_part reach y (bind p (Some v) e) a) (h ∙ ap (tree_at v common) (items_of-listed (map plain_entry es)))

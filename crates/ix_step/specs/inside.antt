@@ -1,5 +1,6 @@
 -- What contracts between crates and private ones cite, and no claim of the program or law reaches.
 pub mod Builds
+pub mod Makes
 pub mod EnterTrees
 pub mod Initial
 pub mod MapsAfter
@@ -7,3 +8,4 @@ pub mod Moves
 pub mod ParallelMoves
 pub mod Ready
 pub mod ValueTrees
+pub mod MovedNode

@@ -1,274 +1,179 @@
 //! The tree of a word moved by one action.
 
-ghost use Rattle.std.specs.Prelude.{◌≡◌, ◌≤◌, true, map};
+ghost use Rattle.std.specs.Prelude.{◌≡◌, ◌≤◌, true};
+ghost use Rattle.std.specs.List.{list_any};
 ghost use Rattle.ix_words.specs.Each.{Each};
 ghost use Rattle.ix_expr.specs.inside.FormOf.{form_of};
-ghost use Rattle.ix_expr.specs.Form.{opt, seq, star, or, and, couple};
-ghost use Rattle.ix_can.specs.inside.May.{may};
+ghost use Rattle.ix_expr.specs.Form.{seq, star};
+ghost use Rattle.ix_tree.specs.Plain.{listed, seq as seq_of, star as star_of};
 ghost use Rattle.ix_can.specs.Tests.{in_alphabet};
+ghost use Rattle.ix_can.specs.TreeOf.{is_final as is_final_by};
+ghost use Rattle.ix_can.specs.inside.May.{may};
 ghost use Rattle.ix_can.specs.inside.Moved.{moved, moved_inside};
-ghost use Rattle.ix_step.specs.inside.Builds.{Builds, Gathers};
 ghost use Rattle.ix_step.specs.inside.Initial.{initial_tree};
+ghost use Rattle.ix_step.specs.inside.Makes.{Makes, Collects};
+ghost use Rattle.ix_step.specs.inside.MovedNode.{moved_node};
 ghost use Rattle.ix_step.specs.inside.Moves.{live_moves, begun_again};
 ghost use Rattle.ix_step.specs.inside.Ready.{Ready};
 
-use crate::alternatives::{put_live, seq_node, star_node};
-use crate::fault::BuildFault;
+use crate::bodies::{Body, Reach};
+use crate::fault::Unbuilt;
 use crate::first::first_tree;
 use crate::maps::advance_all;
-use crate::nodes::{and_node, couple_node, dead, done, opt_node, or_node, shared};
+use crate::nodes::{bounded, within};
+use crate::one_step::Step;
 use crate::parallel::{advance_par, advance_par_star};
-use crate::quantifiers::{advance_any, advance_every, advance_sync};
+use crate::quantifiers::advance_values;
+use crate::sets::{put_first, put_live};
 use ix_alts::AltSet;
-use ix_can::goes_on;
-use ix_expr::{Env, Expr, contains};
+use ix_can::{completes, goes_on};
+use ix_expr::{Expr, contains};
 use ix_tree::{Knot, Node};
-use ix_values::Action;
-use std::alloc::Global;
 
 /// The moved tree, dead where the action may not come next.
 ///
 /// `goes_on` is asked anew at each node: that it holds of a node doesn't say that it holds of its
 /// parts, as of `y | z` one side may do. A part of which it doesn't hold is dead.
-///
-/// `#[tactic(none)]` stands here and in the files beside this one since the answers are written by
-/// hand: `auto` took minutes on the cycle.
 #[cycle(advance)]
-#[tactic(none)]
-pub(crate) fn advance(
-    expr: &Expr,
-    tree: &Knot,
-    env: &Env,
-    action: &Action,
-    alloc: Global,
-    limit: usize,
-) -> Result<Knot, BuildFault>
-    requires { Ready limit (form_of expr.now) env.now tree.now }
-    ensures { Builds limit (moved (form_of expr.now) env.now tree.now action.now) result }
+pub(crate) fn advance(step: Step, expr: &Expr, tree: &Knot) -> Result<Knot, Unbuilt>
+    requires { Ready (form_of expr.now) step.env.now tree.now }
+    ensures { Makes step.entry.limit (moved (form_of expr.now) step.entry.env.now tree.now step.entry.action.now) result }
 {
-    if !goes_on(expr, env, tree, action) {
-        return dead(alloc, limit);
+    if !goes_on(expr, step.env, tree, step.action) {
+        return within(step, Node::Dead);
     }
-    match expr {
-        Expr::Atom(_) => done(alloc, limit),
-        Expr::Opt(y) => advance_opt(y, tree, env, action, alloc, limit),
-        Expr::Seq(y, z) => advance_seq(y, z, tree, env, action, alloc, limit),
-        Expr::Star(y) => advance_star(y, tree, env, action, alloc, limit),
-        Expr::Or(y, z) => advance_or(y, z, tree, env, action, alloc, limit),
-        Expr::And(y, z) => advance_and(y, z, tree, env, action, alloc, limit),
-        Expr::Couple(y, z) => advance_couple(y, z, tree, env, action, alloc, limit),
-        Expr::Par(y, z) => advance_par(y, z, tree, env, action, alloc, limit),
-        Expr::ParStar(y) => advance_par_star(y, tree, env, action, alloc, limit),
-        Expr::Any(parameter, y) => advance_any(parameter, y, tree, env, action, alloc, limit),
-        Expr::Every(parameter, y) => advance_every(parameter, y, tree, env, action, alloc, limit),
-        Expr::Sync(parameter, y) => advance_sync(parameter, y, tree, env, action, alloc, limit),
-        Expr::All(parameter, y) => advance_all(parameter, y, tree, env, action, alloc, limit),
+    advance_node(step, expr, tree)
+}
+
+/// The moved tree of an action that may come next.
+#[cycle(advance)]
+fn advance_node(step: Step, expr: &Expr, tree: &Knot) -> Result<Knot, Unbuilt>
+    requires ready { Ready (form_of expr.now) step.env.now tree.now }
+    requires may { may (form_of expr.now) step.env.now tree.now step.action.now ≡ true }
+    ensures { Makes step.entry.limit (moved_node (form_of expr.now) step.entry.env.now tree.now step.entry.action.now) result }
+{
+    match (expr, tree.node()) {
+        (Expr::Atom(_), Node::Start) => within(step, Node::Done),
+        (Expr::Opt(y), Node::Opt(_, x)) => {
+            // The flag is false: after an action the word isn't empty.
+            let x = advance(step, y, x)?;
+            within(step, Node::Opt(false, x))
+        }
+        (Expr::Seq(y, z), Node::Seq(first, rest)) => advance_seq(step, y, z, first, rest),
+        (Expr::Star(y), Node::Star(again, rest)) => advance_star(step, y, *again, rest),
+        (Expr::Par(y, z), Node::Par(pairs)) => advance_par(step, y, z, pairs),
+        (Expr::ParStar(y), Node::ParStar(bags)) => advance_par_star(step, y, bags),
+        (Expr::Or(y, z), Node::Or(left, right)) => {
+            let left = advance(step, y, left)?;
+            let right = advance(step, z, right)?;
+            within(step, Node::Or(left, right))
+        }
+        (Expr::And(y, z), Node::And(left, right)) => {
+            let left = advance(step, y, left)?;
+            let right = advance(step, z, right)?;
+            within(step, Node::And(left, right))
+        }
+        (Expr::Couple(y, z), Node::Couple(left, right)) => {
+            let left = advance_inside(step, y, left)?;
+            let right = advance_inside(step, z, right)?;
+            within(step, Node::Couple(left, right))
+        }
+        (Expr::Any(parameter, expr), Node::Any(common, entries)) => {
+            let body = Body { parameter, expr };
+            let (common, entries) = advance_values(step, body, Reach::All, common, entries)?;
+            within(step, Node::Any(common, entries))
+        }
+        (Expr::Every(parameter, expr), Node::Every(common, entries)) => {
+            let body = Body { parameter, expr };
+            let (common, entries) = advance_values(step, body, Reach::All, common, entries)?;
+            within(step, Node::Every(common, entries))
+        }
+        (Expr::Sync(parameter, expr), Node::Sync(common, entries)) => {
+            let body = Body { parameter, expr };
+            let own = Reach::OwnAlphabet;
+            let (common, entries) = advance_values(step, body, own, common, entries)?;
+            within(step, Node::Sync(common, entries))
+        }
+        (Expr::All(parameter, expr), Node::All(maps)) => {
+            advance_all(step, Body { parameter, expr }, maps)
+        }
+        _ => within(step, Node::Dead),
     }
-}
-
-#[cycle(advance)]
-#[tactic(none)]
-fn advance_opt(
-    y: &Expr,
-    tree: &Knot,
-    env: &Env,
-    action: &Action,
-    alloc: Global,
-    limit: usize,
-) -> Result<Knot, BuildFault>
-    requires ready { Ready limit (opt (form_of y.now)) env.now tree.now }
-    requires may { may (opt (form_of y.now)) env.now tree.now action.now ≡ true }
-    ensures { Builds limit (moved (opt (form_of y.now)) env.now tree.now action.now) result }
-{
-    let Node::Opt(_, inner) = tree.node() else {
-        return dead(alloc, limit);
-    };
-    let inner = advance(y, inner, env, action, alloc, limit);
-    opt_node(inner, alloc, limit)
-}
-
-#[cycle(advance)]
-#[tactic(none)]
-fn advance_or(
-    y: &Expr,
-    z: &Expr,
-    tree: &Knot,
-    env: &Env,
-    action: &Action,
-    alloc: Global,
-    limit: usize,
-) -> Result<Knot, BuildFault>
-    requires ready { Ready limit (or (form_of y.now) (form_of z.now)) env.now tree.now }
-    requires may { may (or (form_of y.now) (form_of z.now)) env.now tree.now action.now ≡ true }
-    ensures { Builds limit (moved (or (form_of y.now) (form_of z.now)) env.now tree.now action.now) result }
-{
-    let Node::Or(left, right) = tree.node() else {
-        return dead(alloc, limit);
-    };
-    let left = advance(y, left, env, action, alloc, limit);
-    let right = advance(z, right, env, action, alloc, limit);
-    or_node(left, right, alloc, limit)
-}
-
-#[cycle(advance)]
-#[tactic(none)]
-fn advance_and(
-    y: &Expr,
-    z: &Expr,
-    tree: &Knot,
-    env: &Env,
-    action: &Action,
-    alloc: Global,
-    limit: usize,
-) -> Result<Knot, BuildFault>
-    requires ready { Ready limit (and (form_of y.now) (form_of z.now)) env.now tree.now }
-    requires may { may (and (form_of y.now) (form_of z.now)) env.now tree.now action.now ≡ true }
-    ensures { Builds limit (moved (and (form_of y.now) (form_of z.now)) env.now tree.now action.now) result }
-{
-    let Node::And(left, right) = tree.node() else {
-        return dead(alloc, limit);
-    };
-    let left = advance(y, left, env, action, alloc, limit);
-    let right = advance(z, right, env, action, alloc, limit);
-    and_node(left, right, alloc, limit)
-}
-
-#[cycle(advance)]
-#[tactic(none)]
-fn advance_couple(
-    y: &Expr,
-    z: &Expr,
-    tree: &Knot,
-    env: &Env,
-    action: &Action,
-    alloc: Global,
-    limit: usize,
-) -> Result<Knot, BuildFault>
-    requires ready { Ready limit (couple (form_of y.now) (form_of z.now)) env.now tree.now }
-    requires may { may (couple (form_of y.now) (form_of z.now)) env.now tree.now action.now ≡ true }
-    ensures { Builds limit (moved (couple (form_of y.now) (form_of z.now)) env.now tree.now action.now) result }
-{
-    let Node::Couple(left, right) = tree.node() else {
-        return dead(alloc, limit);
-    };
-    let left = advance_inside(y, left, env, action, alloc, limit);
-    let right = advance_inside(z, right, env, action, alloc, limit);
-    couple_node(left, right, alloc, limit)
 }
 
 /// The moved tree where the action is in the alphabet, else the tree as it was.
 #[cycle(advance)]
-#[tactic(none)]
-pub(crate) fn advance_inside(
-    expr: &Expr,
-    tree: &Knot,
-    env: &Env,
-    action: &Action,
-    alloc: Global,
-    limit: usize,
-) -> Result<Knot, BuildFault>
-    requires { Ready limit (form_of expr.now) env.now tree.now }
-    ensures { Builds limit (moved_inside (in_alphabet (form_of expr.now) env.now action.now) (moved (form_of expr.now) env.now tree.now action.now) tree.now) result }
+pub(crate) fn advance_inside(step: Step, expr: &Expr, tree: &Knot) -> Result<Knot, Unbuilt>
+    requires { Ready (form_of expr.now) step.env.now tree.now }
+    ensures { Makes step.entry.limit (moved_inside (in_alphabet (form_of expr.now) step.entry.env.now step.entry.action.now) (moved (form_of expr.now) step.entry.env.now tree.now step.entry.action.now) tree.now) result }
 {
-    if contains(expr, env, action) {
-        advance(expr, tree, env, action, alloc, limit)
-    } else {
-        shared(tree, limit)
+    if contains(expr, step.env, step.action) {
+        return advance(step, expr, tree);
     }
+    bounded(tree.share()?, step.limit)
 }
 
+/// Beside the moved alternatives for z stands one more where the first part is final: z may begin.
 #[cycle(advance)]
-#[tactic(none)]
-fn advance_seq(
-    y: &Expr,
-    z: &Expr,
-    tree: &Knot,
-    env: &Env,
-    action: &Action,
-    alloc: Global,
-    limit: usize,
-) -> Result<Knot, BuildFault>
-    requires ready { Ready limit (seq (form_of y.now) (form_of z.now)) env.now tree.now }
-    requires may { may (seq (form_of y.now) (form_of z.now)) env.now tree.now action.now ≡ true }
-    ensures { Builds limit (moved (seq (form_of y.now) (form_of z.now)) env.now tree.now action.now) result }
+fn advance_seq(step: Step, y: &Expr, z: &Expr, first: &Knot, rest: &[Knot]) -> Result<Knot, Unbuilt>
+    requires { Ready (seq (form_of y.now) (form_of z.now)) step.env.now (seq_of first.now (listed rest.now)) }
+    ensures { Makes step.entry.limit (moved_node (seq (form_of y.now) (form_of z.now)) step.entry.env.now (seq_of first.now (listed rest.now)) step.entry.action.now) result }
 {
-    let Node::Seq(first, rest) = tree.node() else {
-        return dead(alloc, limit);
-    };
-    let first = advance(y, first, env, action, alloc, limit);
-    let mut set = AltSet::new(alloc, limit);
-    let moved = advance_each(z, rest.as_slice(), &mut set, env, action, alloc, limit);
-    seq_node(y, z, first, moved, set, alloc, limit)
+    let first = advance(step, y, first)?;
+    let mut set = advance_each(step, z, rest)?;
+    put_first(&mut set, completes(y, &first), z, step.alloc)?;
+    within(step, Node::Seq(first, set.into_items()))
 }
 
+/// Beside the moved alternatives stands one more: the run that begins with the action. The flag
+/// says whether the word is a concatenation of complete words, so that another run may begin. That
+/// is so where an alternative for the last run is final.
 #[cycle(advance)]
-#[tactic(none)]
-fn advance_star(
-    y: &Expr,
-    tree: &Knot,
-    env: &Env,
-    action: &Action,
-    alloc: Global,
-    limit: usize,
-) -> Result<Knot, BuildFault>
-    requires ready { Ready limit (star (form_of y.now)) env.now tree.now }
-    requires may { may (star (form_of y.now)) env.now tree.now action.now ≡ true }
-    ensures { Builds limit (moved (star (form_of y.now)) env.now tree.now action.now) result }
+fn advance_star(step: Step, y: &Expr, again: bool, rest: &[Knot]) -> Result<Knot, Unbuilt>
+    requires { Ready (star (form_of y.now)) step.env.now (star_of again (listed rest.now)) }
+    ensures { Makes step.entry.limit (moved_node (star (form_of y.now)) step.entry.env.now (star_of again (listed rest.now)) step.entry.action.now) result }
 {
-    let Node::Star(again, rest) = tree.node() else {
-        return dead(alloc, limit);
-    };
-    let begun = advance_again(y, *again, env, action, alloc, limit);
-    let mut set = AltSet::new(alloc, limit);
-    let moved = advance_each(y, rest.as_slice(), &mut set, env, action, alloc, limit);
-    star_node(y, moved, begun, set, alloc, limit)
+    let begun = advance_again(step, y, again)?;
+    let mut set = advance_each(step, y, rest)?;
+    put_live(&mut set, begun)?;
+    let items = set.into_items();
+    let again = some_completes(y, &items);
+    within(step, Node::Star(again, items))
 }
 
-#[cycle(advance)]
-fn advance_each(
-    expr: &Expr,
-    trees: &[Knot],
-    set: &mut AltSet<Knot>,
-    env: &Env,
-    action: &Action,
-    alloc: Global,
-    limit: usize,
-) -> Result<(), BuildFault>
-    requires ready { Each (Ready limit (form_of expr.now) env.now) trees.now }
-    requires budget { set.old.budget ≡ limit }
-    requires positive { 1 ≤ limit }
-    ensures gathers { Gathers limit (live_moves (form_of expr.now) env.now action.now trees.now) set.old.items set.new.items result }
-    ensures budget { set.new.budget ≡ limit }
+fn some_completes(y: &Expr, trees: &[Knot]) -> bool
+    ensures { result ≡ list_any (is_final_by (form_of y.now)) trees.now }
 {
     for tree in trees {
-        let moved = advance(expr, tree, env, action, alloc, limit);
-        match put_live(set, moved) {
-            Ok(()) => {}
-            Err(fault) => return Err(fault),
+        if completes(y, tree) {
+            return true;
         }
     }
-    Ok(())
+    false
+}
+
+#[cycle(advance)]
+fn advance_each(step: Step, expr: &Expr, trees: &[Knot]) -> Result<AltSet<Knot>, Unbuilt>
+    requires { Each (Ready (form_of expr.now) step.env.now) trees.now }
+    ensures { Collects (λ xs. xs) step.entry.limit (live_moves (form_of expr.now) step.entry.env.now step.entry.action.now trees.now) result }
+{
+    let mut set = AltSet::new(step.alloc, step.limit);
+    for tree in trees {
+        let tree = advance(step, expr, tree)?;
+        put_live(&mut set, tree)?;
+    }
+    Ok(set)
 }
 
 /// The tree of a run that begins with the action, dead where no further run may begin.
 #[cycle(advance)]
-#[tactic(none)]
-pub(crate) fn advance_again(
-    expr: &Expr,
-    again: bool,
-    env: &Env,
-    action: &Action,
-    alloc: Global,
-    limit: usize,
-) -> Result<Knot, BuildFault>
-    requires { Ready limit (form_of expr.now) env.now (initial_tree (form_of expr.now)) }
-    ensures { Builds limit (begun_again again (form_of expr.now) env.now action.now) result }
+pub(crate) fn advance_again(step: Step, expr: &Expr, again: bool) -> Result<Knot, Unbuilt>
+    requires { Ready (form_of expr.now) step.env.now (initial_tree (form_of expr.now)) }
+    ensures { Makes step.entry.limit (begun_again again (form_of expr.now) step.entry.env.now step.entry.action.now) result }
 {
     if !again {
-        return dead(alloc, limit);
+        return within(step, Node::Dead);
     }
-    match first_tree(expr, alloc) {
-        Ok(tree) => advance(expr, &tree, env, action, alloc, limit),
-        Err(_) => Err(BuildFault::Memory),
-    }
+    let tree = first_tree(expr, step.alloc)?;
+    advance(step, expr, &tree)
 }

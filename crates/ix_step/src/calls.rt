@@ -1,6 +1,6 @@
 //! The two calls: the tree of the empty word, and the step to the tree of a word with one more action.
 
-ghost use Rattle.std.specs.Prelude.{◌≡◌, ◌≤◌, ◌++◌, ◌∷◌, [], true, ℕ};
+ghost use Rattle.std.specs.Prelude.{◌≡◌, ◌≤◌, ◌++◌, ◌∷◌, [], true};
 ghost use Rattle.ix_values.specs.PlainAction.{Word};
 ghost use Rattle.ix_expr.specs.Environment.{Environment};
 ghost use Rattle.ix_expr.specs.FormFaults.{Fits};
@@ -11,12 +11,15 @@ ghost use Rattle.ix_can.specs.Laws.{IsProper};
 ghost use Rattle.ix_can.specs.inside.May.{may};
 ghost use Rattle.ix_can.specs.inside.Moved.{moved};
 ghost use Rattle.ix_can.specs.TreeOf.{tree_of};
-ghost use Rattle.ix_step.specs.inside.Builds.{Builds};
+ghost use Rattle.ix_step.specs.inside.Builds.{Builds, IsAbove};
+ghost use Rattle.ix_step.specs.inside.Makes.{Makes, IsOver};
+ghost use Rattle.ix_step.specs.inside.Ready.{Ready};
 
 use crate::advance::advance;
-use crate::fault::BuildFault;
+use crate::fault::{BuildFault, Unbuilt};
 use crate::first::first_tree;
 use crate::nodes::bounded;
+use crate::one_step::Step;
 use ix_expr::{Env, Expr};
 use ix_tree::{Knot, Tree};
 use ix_values::Action;
@@ -24,21 +27,19 @@ use std::alloc::Global;
 
 /// The tree of the empty word, if its Size is at most the limit, and else `Over`. It is the same
 /// under every environment that the expression fits.
-#[tactic(none)]
 pub fn initial(alloc: Global, expr: &Expr, limit: usize) -> Result<Tree, BuildFault>
     requires fits { (e : Environment) × Fits (form_of expr.now) e }
     requires limit { limit ≤ 1000000 }
     ensures { Builds limit (tree_of (form_of expr.now) [] []) result }
 {
-    match first_tree(expr, alloc) {
-        Ok(tree) => tree_of_knot(bounded(tree, limit)),
-        Err(_) => Err(BuildFault::Memory),
+    match first_within(alloc, expr, limit) {
+        Ok(knot) => Ok(Tree::of(knot)),
+        Err(unbuilt) => Err(told(unbuilt, limit)),
     }
 }
 
 /// The tree of the word with one more action, if its Size is at most the limit, and else `Over`.
 /// `tree` is that of the word before, and the action is one that may come next.
-#[tactic(none)]
 pub fn step(
     alloc: Global,
     tree: &Tree,
@@ -56,33 +57,44 @@ pub fn step(
     ensures by_word { (w : Word) → tree.now ≡ tree_of (form_of expr.now) env.now w
         → Builds limit (tree_of (form_of expr.now) env.now (w ++ action.now ∷ [])) result }
 {
-    tree_of_knot(moved_within(expr, tree.knot(), env, action, alloc, limit))
-}
-
-#[tactic(none)]
-fn moved_within(
-    expr: &Expr,
-    tree: &Knot,
-    env: &Env,
-    action: &Action,
-    alloc: Global,
-    limit: usize,
-) -> Result<Knot, BuildFault>
-    requires fits { Fits (form_of expr.now) env.now }
-    requires proper { IsProper (form_of expr.now) tree.now }
-    requires limit { limit ≤ 1000000 }
-    requires size { size_of tree.now ≤ 1000000 }
-    ensures { Builds limit (moved (form_of expr.now) env.now tree.now action.now) result }
-{
-    match advance(expr, tree, env, action, alloc, at_least_one(limit)) {
-        Ok(moved) => bounded(moved, limit),
-        Err(BuildFault::Over { .. }) => Err(BuildFault::Over { limit }),
-        Err(BuildFault::Memory) => Err(BuildFault::Memory),
+    match moved_within(alloc, tree.knot(), expr, env, action, limit) {
+        Ok(knot) => Ok(Tree::of(knot)),
+        Err(unbuilt) => Err(told(unbuilt, limit)),
     }
 }
 
-/// `advance` makes dead trees on its way, whose Size is 1, so it needs a limit of at least 1. A
-/// limit of 0, which no tree is within, is told by `within`.
+fn first_within(alloc: Global, expr: &Expr, limit: usize) -> Result<Knot, Unbuilt>
+    requires { (e : Environment) × Fits (form_of expr.now) e }
+    ensures { Makes limit (tree_of (form_of expr.now) [] []) result }
+{
+    let tree = first_tree(expr, alloc)?;
+    bounded(tree, limit)
+}
+
+fn moved_within(
+    alloc: Global,
+    tree: &Knot,
+    expr: &Expr,
+    env: &Env,
+    action: &Action,
+    limit: usize,
+) -> Result<Knot, Unbuilt>
+    requires ready { Ready (form_of expr.now) env.now tree.now }
+    requires limit { limit ≤ 1000000 }
+    ensures { Makes limit (moved (form_of expr.now) env.now tree.now action.now) result }
+{
+    let step = Step {
+        action,
+        env,
+        alloc,
+        limit: at_least_one(limit),
+    };
+    let moved = advance(step, expr, tree)?;
+    bounded(moved, limit)
+}
+
+/// Dead trees come up on the way, whose Size is 1, so a step needs a limit of at least 1. A limit
+/// of 0, which no tree is within, is told by `bounded`.
 fn at_least_one(limit: usize) -> usize
     requires { limit ≤ 1000000 }
     ensures positive { 1 ≤ result }
@@ -92,11 +104,11 @@ fn at_least_one(limit: usize) -> usize
     if limit == 0 { 1 } else { limit }
 }
 
-fn tree_of_knot(knot: Result<Knot, BuildFault>) -> Result<Tree, BuildFault>
-    ensures { (limit : ℕ) (x : Plain) → Builds limit x knot → Builds limit x result }
+fn told(unbuilt: Unbuilt, limit: usize) -> BuildFault
+    ensures { (x : Plain) → IsOver limit x unbuilt → IsAbove limit x result }
 {
-    match knot {
-        Ok(knot) => Ok(Tree::of(knot)),
-        Err(fault) => Err(fault),
+    match unbuilt {
+        Unbuilt::Over => BuildFault::Over { limit },
+        Unbuilt::Memory => BuildFault::Memory,
     }
 }

@@ -66,7 +66,6 @@ fn first_seq(y: &Expr, z: &Expr, alloc: Global) -> Result<Knot, AllocError>
     Knot::new(alloc, Node::Seq(first, rest))
 }
 
-#[tactic(none)]
 fn is_complete(expr: &Expr) -> bool
     ensures { result ≡ accepts (form_of expr.now) }
 {

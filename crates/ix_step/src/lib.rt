@@ -2,14 +2,15 @@
 #![tactic(auto)]
 
 mod advance;
-mod alternatives;
 mod bags;
+mod bodies;
 mod calls;
 mod entries;
 mod fault;
 mod first;
 mod maps;
 mod nodes;
+mod one_step;
 mod pairs;
 mod parallel;
 mod quantifiers;

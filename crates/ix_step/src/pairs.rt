@@ -1,89 +1,64 @@
-//! Sets of pairs, and the node of `+` that is made of them.
+//! Pairs put into sets of alternatives.
 
-ghost use Rattle.std.specs.Prelude.{◌≡◌, ◌≤◌, List, [], map};
-ghost use Rattle.ix_tree.specs.Plain.{Plain, par};
+ghost use Rattle.std.specs.Prelude.{◌≡◌, ◌≤◌, ◌∷◌, [], map};
+ghost use Rattle.ix_words.specs.Canon.{when};
+ghost use Rattle.ix_tree.specs.Plain.{pair, listed};
 ghost use Rattle.ix_tree.specs.PlainOf.{plain_pair};
 ghost use Rattle.ix_tree.specs.Size.{size_of};
-ghost use Rattle.ix_can.specs.Nodes.{set_of};
-ghost use Rattle.ix_step.specs.inside.Builds.{Builds, Gathers, IsSmall};
-ghost use Rattle.ix_step.specs.inside.ParallelMoves.{left_live, right_live};
+ghost use Rattle.ix_can.specs.Nodes.{is_live};
+ghost use Rattle.ix_step.specs.inside.Makes.{Gathers};
+ghost use Rattle.ix_step.specs.inside.ParallelMoves.{pairs_of};
 
-use crate::fault::BuildFault;
-use crate::nodes::within;
+use crate::fault::Unbuilt;
 use crate::sets::put;
 use ix_alts::AltSet;
-use ix_tree::{Knot, Node, Pair};
-use std::alloc::Global;
+use ix_tree::{Knot, Pair};
 
-#[tactic(none)]
-pub(crate) fn put_left(
+/// The pair gives two: one with its left side moved, and one with its right side moved.
+pub(crate) fn put_pairs(
     set: &mut AltSet<Pair>,
-    left: Result<Knot, BuildFault>,
-    right: &Knot,
-) -> Result<(), BuildFault>
-    requires left { IsSmall left }
-    requires right { size_of right.now ≤ 1000000 }
-    requires positive { 1 ≤ set.old.budget }
-    ensures gathers { (x : Plain) → Builds set.old.budget x left
-        → Gathers set.old.budget (left_live x right.now) (map plain_pair set.old.items) (map plain_pair set.new.items) result }
+    pair: &Pair,
+    left: Knot,
+    right: Knot,
+) -> Result<(), Unbuilt>
+    requires small { size_of (plain_pair pair.now) ≤ 1000000 }
+    requires left { size_of left ≤ 1000000 }
+    requires right { size_of right ≤ 1000000 }
+    requires within { size_of (listed (map plain_pair set.old.items)) ≤ set.old.budget }
+    ensures gathers { Gathers set.old.budget (pairs_of pair.now.first pair.now.second left right) (map plain_pair set.old.items) (map plain_pair set.new.items) result }
+    ensures within { size_of (listed (map plain_pair set.new.items)) ≤ set.old.budget }
     ensures budget { set.new.budget ≡ set.old.budget }
 {
-    let first = match left {
-        Ok(first) => first,
-        Err(fault) => return Err(fault),
-    };
+    put_left(set, left, &pair.second)?;
+    put_right(set, &pair.first, right)
+}
+
+fn put_left(set: &mut AltSet<Pair>, first: Knot, right: &Knot) -> Result<(), Unbuilt>
+    requires first { size_of first ≤ 1000000 }
+    requires right { size_of right.now ≤ 1000000 }
+    requires within { size_of (listed (map plain_pair set.old.items)) ≤ set.old.budget }
+    ensures gathers { Gathers set.old.budget (when (is_live first) (pair first right.now ∷ [])) (map plain_pair set.old.items) (map plain_pair set.new.items) result }
+    ensures within { size_of (listed (map plain_pair set.new.items)) ≤ set.old.budget }
+    ensures budget { set.new.budget ≡ set.old.budget }
+{
     if first.is_dead() {
         return Ok(());
     }
-    match right.share() {
-        Ok(second) => put(set, Pair { first, second }),
-        Err(_) => Err(BuildFault::Memory),
-    }
+    let second = right.share()?;
+    put(set, Pair { first, second })
 }
 
-#[tactic(none)]
-pub(crate) fn put_right(
-    set: &mut AltSet<Pair>,
-    left: &Knot,
-    right: Result<Knot, BuildFault>,
-) -> Result<(), BuildFault>
+fn put_right(set: &mut AltSet<Pair>, left: &Knot, second: Knot) -> Result<(), Unbuilt>
     requires left { size_of left.now ≤ 1000000 }
-    requires right { IsSmall right }
-    requires positive { 1 ≤ set.old.budget }
-    ensures gathers { (x : Plain) → Builds set.old.budget x right
-        → Gathers set.old.budget (right_live left.now x) (map plain_pair set.old.items) (map plain_pair set.new.items) result }
+    requires second { size_of second ≤ 1000000 }
+    requires within { size_of (listed (map plain_pair set.old.items)) ≤ set.old.budget }
+    ensures gathers { Gathers set.old.budget (when (is_live second) (pair left.now second ∷ [])) (map plain_pair set.old.items) (map plain_pair set.new.items) result }
+    ensures within { size_of (listed (map plain_pair set.new.items)) ≤ set.old.budget }
     ensures budget { set.new.budget ≡ set.old.budget }
 {
-    let second = match right {
-        Ok(second) => second,
-        Err(fault) => return Err(fault),
-    };
     if second.is_dead() {
         return Ok(());
     }
-    match left.share() {
-        Ok(first) => put(set, Pair { first, second }),
-        Err(_) => Err(BuildFault::Memory),
-    }
-}
-
-#[tactic(none)]
-pub(crate) fn par_node(
-    gathered: Result<(), BuildFault>,
-    set: AltSet<Pair>,
-    alloc: Global,
-    limit: usize,
-) -> Result<Knot, BuildFault>
-    requires budget { set.budget ≡ limit }
-    requires limit { limit ≤ 1000000 }
-    ensures { (ps : List Plain) → Gathers limit ps [] (map plain_pair set.items) gathered
-        → Builds limit (par (set_of ps)) result }
-{
-    if let Err(fault) = gathered {
-        return Err(fault);
-    }
-    if set.total() >= limit {
-        return Err(BuildFault::Over { limit });
-    }
-    within(Node::Par(set.into_items()), alloc, limit)
+    let first = left.share()?;
+    put(set, Pair { first, second })
 }

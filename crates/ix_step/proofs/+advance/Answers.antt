@@ -1,1216 +1,582 @@
-use Rattle.std.proofs.Common.{◌<◌, ◌≡◌, ◌≤◌, true, false, refl, sym, ap, ◌∙◌, subst, arith, List, [], ◌∷◌, ◌++◌, map, length, flat_map, take, get_or, rules, None, Some}
+-- The parts of a step: what each asks of the next, and what it makes.
+use Rattle.std.proofs.Common.{◌<◌, ◌≡◌, ◌≤◌, refl, sym, ap, ◌∙◌, subst, arith, [], ◌∷◌, ◌++◌, map, length, flat_map, take, get_or, Some}
+use Rattle.std.specs.List.{list_any, remove}
+use Rattle.std.proofs.lemmas.List.{length-map}
+use Rattle.ix_words.specs.Each.{Each, here}
+use Rattle.ix_words.proofs.Each.{Member-right}
+use Rattle.std.proofs.Math.Seq.{take-length}
+use Rattle.ix_words.specs.Canon.{canon, when}
 use Rattle.ix_expr.specs.inside.FormOf.{form_of}
-use Rattle.ix_expr.specs.Form.{atom, opt, seq, star, par, par_star, or, and, couple, any, every, sync, all}
-use Rattle.ix_tree.specs.Plain.{Plain, dead, done, opt as opt_of, seq as seq_of, star as star_of, or as or_of, and as and_of, couple as couple_of, listed, par as par_of, par_star as par_star_of, bag, items_of, any as any_of, every as every_of, sync as sync_of, all as all_of}
+use Rattle.ix_expr.specs.Environment.{bind}
+use Rattle.ix_expr.specs.Form.{opt, or, and, couple, any, every, sync}
+use Rattle.ix_tree.specs.Plain.{dead, bag, listed, items_of, seq as seq_of, star as star_of, par as par_of, par_star as par_star_of, any as any_of, every as every_of, sync as sync_of, all as all_of}
 use Rattle.ix_tree.specs.PlainOf.{plain_pair, plain_bag, plain_map, plain_entry, plain_entries}
 use Rattle.ix_tree.specs.inside.PlainNode.{plain_node}
-use Rattle.ix_can.specs.inside.May.{may, tree_at}
-use Rattle.ix_can.specs.Tests.{in_alphabet}
-use Rattle.ix_can.specs.inside.Moved.{moved, moved_inside, bag_with, picks, or_initial}
-use Rattle.ix_step.specs.inside.Builds.{Builds, Gathers, IsAbove, put_all}
-use Rattle.ix_step.specs.inside.Ready.{Ready}
-use Rattle.ix_step.specs.inside.Initial.{initial_tree}
-use Rattle.ix_step.specs.inside.Moves.{live_moves, begun_again, begun}
-use Rattle.std.specs.List.{list_any, remove}
-use Rattle.ix_words.specs.Each.{Each}
-use Rattle.ix_words.specs.Canon.{when}
-use Rattle.ix_can.specs.Nodes.{live, set_of}
-use Rattle.ix_can.specs.TreeOf.{is_final}
-use Rattle.ix_step.proofs.Beginnings.{initial_is, initial_small}
-use Rattle.ix_step.proofs.Gathered.{gather_next, gather_fault, gather_end, next_tree, fault_tree}
-use Rattle.ix_step.proofs.Limits.{moved_is_dead, builds_arm, small_built, same_alphabet}
-use Rattle.ix_step.proofs.Shapes.{atom_moves, else_opt, else_seq, else_star, else_or, else_and, else_couple, else_par, else_par_star, else_any, else_every, else_sync, else_all}
-use Rattle.ix_step.proofs.Measure.{form_size}
-use Rattle.ix_step.proofs.Arms.{seq_ready, star_ready, second_small, ready_at, seq_moves, star_moves, opt_ready, or_ready, and_ready, couple_ready, first_ready}
-use Rattle.std.proofs.lemmas.List.{length-map}
-use Rattle.ix_step.specs.inside.ParallelMoves.{pair_moves, IsReadyPair, bag_moves, IsReadyBag, pick_move}
-use Rattle.ix_step.proofs.Gathering.{image_at, each_at, lots_more, lots_fail, lots_end}
-use Rattle.ix_tree.specs.Order.{first_part, second_part}
-use Rattle.ix_step.proofs.ParallelArms.{pair_fails, pair_gathers, pairs_ready, par_arm, bags_ready, par_star_arm, bag_fails, bag_gathers}
-use Rattle.ix_expr.proofs.Parts.{fits-operands}
+use Rattle.ix_tree.specs.Order.{first_part, tree_cmp}
 use Rattle.ix_tree.specs.Size.{size_of}
-use Rattle.ix_tree.proofs.PlainLists.{items_of-listed}
-use Rattle.ix_step.proofs.BagsPut.{length-picks, get-picks}
-use borrow.Author.Count.{falls}
-use Rattle.ix_step.specs.inside.ValueTrees.{common_after, tree_after, touched}
-use Rattle.ix_step.proofs.Quantifying.{any_ready, parts_small, any_built, every_ready, every_built, sync_ready, sync_built, common_ready, ready_same, builds_same, fault_of_common, parts_same, value_ready}
-use Rattle.ix_expr.specs.Environment.{bind}
-use Rattle.ix_step.specs.inside.EnterTrees.{entries_put}
 use Rattle.ix_tree.specs.contracts.order.KnotPartialEq.TheImpl.{ghosts as tree_ghosts}
-use Rattle.ix_step.proofs.EntriesPut.{nothing_proper, nothing_held, after_put, fault_at, keys_ascend, tree_at_item}
-use Rattle.ix_step.specs.inside.MapsAfter.{HoldsWell, map_after, maps_after, begun_tree}
-use Rattle.ix_step.proofs.Mapping.{each_at as each_at_mapped, step_on, stop_at, put_here, fault_here, all_built, all_held, begin_ready, map_keys, start_ready}
+use Rattle.ix_tree.proofs.PlainLists.{items_of-listed}
+use Rattle.ix_can.specs.Nodes.{live, put_in, set_of}
+use Rattle.ix_can.specs.Laws.{IsProper}
+use Rattle.ix_can.specs.inside.May.{tree_at}
+use Rattle.ix_can.specs.TreeOf.{is_final}
+use Rattle.ix_can.specs.inside.Moved.{moved, moved_inside, picks, bag_with, map_with, or_initial}
+use Rattle.ix_step.specs.inside.EnterTrees.{entries_put}
+use Rattle.ix_step.specs.inside.Initial.{initial_tree}
+use Rattle.ix_step.specs.inside.Makes.{Makes, put_all}
+use Rattle.ix_step.specs.inside.MapsAfter.{HoldsWell, begun_tree, map_after, maps_after}
+use Rattle.ix_step.specs.inside.Moves.{live_move, live_moves, begun_again, last_runs, second_parts}
+use Rattle.ix_step.specs.inside.ParallelMoves.{pairs_of, pair_moves, pick_move, bag_moves, IsReadyPair, IsReadyBag}
+use Rattle.ix_step.specs.inside.Ready.{Ready}
+use Rattle.ix_step.specs.inside.ValueTrees.{tree_after}
+use Rattle.ix_step.proofs.Arms.{asked, opt_ready, or_first, or_second, and_first, and_second, couple_first, couple_second, seq_first, seq_rest, second_small, star_begins, star_rest}
+use Rattle.ix_step.proofs.Beginnings.{initial_is}
+use Rattle.ix_step.proofs.BagsPut.{length-picks, get-picks, size-put_in}
+use Rattle.ix_step.proofs.EntriesPut.{nothing_proper, nothing_held, after_put, upto_size, value_size, keys_ascend}
+use Rattle.ix_step.proofs.Exits.{exit_over}
+use Rattle.ix_step.proofs.Gathered.{live_over, size_all, any_of_set}
+use Rattle.ix_step.proofs.Gathering.{each_at, image_at, lot_over, lots_more, lots_end, set_is, front_of_set, live_in_set, left_over, right_over, first_over, made_set, picks_size, bag_put}
+use Rattle.ix_step.proofs.Limits.{moved_is_dead, same_alphabet}
+use Rattle.ix_step.proofs.Measure.{form_size}
+use Rattle.ix_step.proofs.MovedIs.{moved_is}
+use Rattle.ix_step.proofs.ParallelArms.{pairs_ready, pairs_small, bags_ready, run_begins}
+use Rattle.ix_step.proofs.Quantifying.{any_ready, every_ready, sync_ready, value_ready, entries_are, value_moves, at_ready}
+use Rattle.ix_step.proofs.Mapping.{begin_small, begin_ready, all_held, map_keys, start_ready, owner_made}
 use Rattle.ix_step.proofs.+advance.Goals as goal
-
-pub advance::advance-goes_on-requires : goal.advance::advance-goes_on-requires
-advance::advance-goes_on-requires t c = record { fits = c.requires.fits; proper = c.requires.proper }
 
 pub advance::advance-returns-then-not-goes_on : goal.advance::advance-returns-then-not-goes_on
 advance::advance-returns-then-not-goes_on t c =
-    subst (λ y. Builds c.args.limit y c.dead.result) (sym (moved_is_dead (form_of c.args.expr.now) c.args.env.now c.args.tree.now c.args.action.now (sym c.goes_on.ensures ∙ c.if-not-goes_on.true))) c.dead.ensures
+    subst (λ x. Makes c.args.step.limit x c.within.result)
+    (sym (moved_is_dead (form_of c.args.expr.now) c.args.step.env.now c.args.tree.now c.args.step.action.now (sym c.goes_on.ensures ∙ c.if-not-goes_on.true))) c.within.ensures
 
-pub advance::advance-returns-in-Atom : goal.advance::advance-returns-in-Atom
-advance::advance-returns-in-Atom t c =
-    let is : form_of c.args.expr.now ≡ atom c.in-Atom.field-0 = ap form_of c.in-Atom.is in
-    subst (λ y. Builds c.args.limit y c.done.result) (sym (subst (λ x. may x c.args.env.now c.args.tree.now c.args.action.now ≡ true → moved x c.args.env.now c.args.tree.now c.args.action.now ≡ done) (sym is)
-    (atom_moves c.in-Atom.field-0 c.args.env.now c.args.tree.now c.args.action.now) (sym c.goes_on.ensures ∙ c.if-not-goes_on.false))) c.done.ensures
+pub advance::advance-returns : goal.advance::advance-returns
+advance::advance-returns t c =
+    subst (λ x. Makes c.args.step.limit x c.advance_node.result)
+    (sym (moved_is (form_of c.args.expr.now) c.args.step.env.now c.args.tree.now c.args.step.action.now (sym c.goes_on.ensures ∙ c.if-not-goes_on.false))) c.advance_node.ensures
 
-pub advance::advance-advance_opt-requires : goal.advance::advance-advance_opt-requires
-advance::advance-advance_opt-requires t c =
-    let is : form_of c.args.expr.now ≡ opt (form_of c.deref.result.now) = ap form_of c.in-Opt.is ∙ ap (λ x. opt (form_of x)) (sym c.deref.ensures) in
-    let size : form_size (form_of c.args.expr.now) ≡ form_size (opt (form_of c.deref.result.now)) = ap form_size is in (
-      omega (arith, size),
-      (
-        subst (λ x. Ready c.args.limit x c.args.env.now c.args.tree.now) is c.requires,
-        subst (λ x. may x c.args.env.now c.args.tree.now c.args.action.now ≡ true) is (sym c.goes_on.ensures ∙ c.if-not-goes_on.false),
-      ),
-    )
-
-pub advance::advance-returns-in-Opt : goal.advance::advance-returns-in-Opt
-advance::advance-returns-in-Opt t c =
-    let is : form_of c.args.expr.now ≡ opt (form_of c.deref.result.now) = ap form_of c.in-Opt.is ∙ ap (λ x. opt (form_of x)) (sym c.deref.ensures) in
-    subst (λ x. Builds c.args.limit (moved x c.args.env.now c.args.tree.now c.args.action.now) c.advance_opt.result) (sym is) c.advance_opt.ensures
-
-pub advance::advance-advance_seq-requires : goal.advance::advance-advance_seq-requires
-advance::advance-advance_seq-requires t c =
-    let is : form_of c.args.expr.now ≡ seq (form_of c.deref-in-Seq.result.now) (form_of c.deref-in-Seq-2.result.now) = ap form_of c.in-Seq.is ∙ ap (λ x. seq (form_of x) (form_of c.in-Seq.z.value)) (sym c.deref-in-Seq.ensures) ∙ ap (λ x. seq (form_of c.deref-in-Seq.result.now) (form_of x)) (sym c.deref-in-Seq-2.ensures) in
-    let size : form_size (form_of c.args.expr.now) ≡ form_size (seq (form_of c.deref-in-Seq.result.now) (form_of c.deref-in-Seq-2.result.now)) = ap form_size is in (
-      omega (arith, size),
-      (
-        subst (λ x. Ready c.args.limit x c.args.env.now c.args.tree.now) is c.requires,
-        subst (λ x. may x c.args.env.now c.args.tree.now c.args.action.now ≡ true) is (sym c.goes_on.ensures ∙ c.if-not-goes_on.false),
-      ),
-    )
-
-pub advance::advance-returns-in-Seq : goal.advance::advance-returns-in-Seq
-advance::advance-returns-in-Seq t c =
-    let is : form_of c.args.expr.now ≡ seq (form_of c.deref-in-Seq.result.now) (form_of c.deref-in-Seq-2.result.now) = ap form_of c.in-Seq.is ∙ ap (λ x. seq (form_of x) (form_of c.in-Seq.z.value)) (sym c.deref-in-Seq.ensures) ∙ ap (λ x. seq (form_of c.deref-in-Seq.result.now) (form_of x)) (sym c.deref-in-Seq-2.ensures) in
-    subst (λ x. Builds c.args.limit (moved x c.args.env.now c.args.tree.now c.args.action.now) c.advance_seq.result) (sym is) c.advance_seq.ensures
-
-pub advance::advance-advance_star-requires : goal.advance::advance-advance_star-requires
-advance::advance-advance_star-requires t c =
-    let is : form_of c.args.expr.now ≡ star (form_of c.deref-in-Star.result.now) = ap form_of c.in-Star.is ∙ ap (λ x. star (form_of x)) (sym c.deref-in-Star.ensures) in
-    let size : form_size (form_of c.args.expr.now) ≡ form_size (star (form_of c.deref-in-Star.result.now)) = ap form_size is in (
-      omega (arith, size),
-      (
-        subst (λ x. Ready c.args.limit x c.args.env.now c.args.tree.now) is c.requires,
-        subst (λ x. may x c.args.env.now c.args.tree.now c.args.action.now ≡ true) is (sym c.goes_on.ensures ∙ c.if-not-goes_on.false),
-      ),
-    )
-
-pub advance::advance-returns-in-Star : goal.advance::advance-returns-in-Star
-advance::advance-returns-in-Star t c =
-    let is : form_of c.args.expr.now ≡ star (form_of c.deref-in-Star.result.now) = ap form_of c.in-Star.is ∙ ap (λ x. star (form_of x)) (sym c.deref-in-Star.ensures) in
-    subst (λ x. Builds c.args.limit (moved x c.args.env.now c.args.tree.now c.args.action.now) c.advance_star.result) (sym is) c.advance_star.ensures
-
-pub advance::advance-advance_or-requires : goal.advance::advance-advance_or-requires
-advance::advance-advance_or-requires t c =
-    let is : form_of c.args.expr.now ≡ or (form_of c.deref-in-Or.result.now) (form_of c.deref-in-Or-2.result.now) = ap form_of c.in-Or.is ∙ ap (λ x. or (form_of x) (form_of c.in-Or.z.value)) (sym c.deref-in-Or.ensures) ∙ ap (λ x. or (form_of c.deref-in-Or.result.now) (form_of x)) (sym c.deref-in-Or-2.ensures) in
-    let size : form_size (form_of c.args.expr.now) ≡ form_size (or (form_of c.deref-in-Or.result.now) (form_of c.deref-in-Or-2.result.now)) = ap form_size is in (
-      omega (arith, size),
-      (
-        subst (λ x. Ready c.args.limit x c.args.env.now c.args.tree.now) is c.requires,
-        subst (λ x. may x c.args.env.now c.args.tree.now c.args.action.now ≡ true) is (sym c.goes_on.ensures ∙ c.if-not-goes_on.false),
-      ),
-    )
-
-pub advance::advance-returns-in-Or : goal.advance::advance-returns-in-Or
-advance::advance-returns-in-Or t c =
-    let is : form_of c.args.expr.now ≡ or (form_of c.deref-in-Or.result.now) (form_of c.deref-in-Or-2.result.now) = ap form_of c.in-Or.is ∙ ap (λ x. or (form_of x) (form_of c.in-Or.z.value)) (sym c.deref-in-Or.ensures) ∙ ap (λ x. or (form_of c.deref-in-Or.result.now) (form_of x)) (sym c.deref-in-Or-2.ensures) in
-    subst (λ x. Builds c.args.limit (moved x c.args.env.now c.args.tree.now c.args.action.now) c.advance_or.result) (sym is) c.advance_or.ensures
-
-pub advance::advance-advance_and-requires : goal.advance::advance-advance_and-requires
-advance::advance-advance_and-requires t c =
-    let is : form_of c.args.expr.now ≡ and (form_of c.deref-in-And.result.now) (form_of c.deref-in-And-2.result.now) = ap form_of c.in-And.is ∙ ap (λ x. and (form_of x) (form_of c.in-And.z.value)) (sym c.deref-in-And.ensures) ∙ ap (λ x. and (form_of c.deref-in-And.result.now) (form_of x)) (sym c.deref-in-And-2.ensures) in
-    let size : form_size (form_of c.args.expr.now) ≡ form_size (and (form_of c.deref-in-And.result.now) (form_of c.deref-in-And-2.result.now)) = ap form_size is in (
-      omega (arith, size),
-      (
-        subst (λ x. Ready c.args.limit x c.args.env.now c.args.tree.now) is c.requires,
-        subst (λ x. may x c.args.env.now c.args.tree.now c.args.action.now ≡ true) is (sym c.goes_on.ensures ∙ c.if-not-goes_on.false),
-      ),
-    )
-
-pub advance::advance-returns-in-And : goal.advance::advance-returns-in-And
-advance::advance-returns-in-And t c =
-    let is : form_of c.args.expr.now ≡ and (form_of c.deref-in-And.result.now) (form_of c.deref-in-And-2.result.now) = ap form_of c.in-And.is ∙ ap (λ x. and (form_of x) (form_of c.in-And.z.value)) (sym c.deref-in-And.ensures) ∙ ap (λ x. and (form_of c.deref-in-And.result.now) (form_of x)) (sym c.deref-in-And-2.ensures) in
-    subst (λ x. Builds c.args.limit (moved x c.args.env.now c.args.tree.now c.args.action.now) c.advance_and.result) (sym is) c.advance_and.ensures
-
-pub advance::advance-advance_couple-requires : goal.advance::advance-advance_couple-requires
-advance::advance-advance_couple-requires t c =
-    let is : form_of c.args.expr.now ≡ couple (form_of c.deref-in-Couple.result.now) (form_of c.deref-in-Couple-2.result.now) = ap form_of c.in-Couple.is ∙ ap (λ x. couple (form_of x) (form_of c.in-Couple.z.value)) (sym c.deref-in-Couple.ensures) ∙ ap (λ x. couple (form_of c.deref-in-Couple.result.now) (form_of x)) (sym c.deref-in-Couple-2.ensures) in
-    let size : form_size (form_of c.args.expr.now) ≡ form_size (couple (form_of c.deref-in-Couple.result.now) (form_of c.deref-in-Couple-2.result.now)) = ap form_size is in (
-      omega (arith, size),
-      (
-        subst (λ x. Ready c.args.limit x c.args.env.now c.args.tree.now) is c.requires,
-        subst (λ x. may x c.args.env.now c.args.tree.now c.args.action.now ≡ true) is (sym c.goes_on.ensures ∙ c.if-not-goes_on.false),
-      ),
-    )
-
-pub advance::advance-returns-in-Couple : goal.advance::advance-returns-in-Couple
-advance::advance-returns-in-Couple t c =
-    let is : form_of c.args.expr.now ≡ couple (form_of c.deref-in-Couple.result.now) (form_of c.deref-in-Couple-2.result.now) = ap form_of c.in-Couple.is ∙ ap (λ x. couple (form_of x) (form_of c.in-Couple.z.value)) (sym c.deref-in-Couple.ensures) ∙ ap (λ x. couple (form_of c.deref-in-Couple.result.now) (form_of x)) (sym c.deref-in-Couple-2.ensures) in
-    subst (λ x. Builds c.args.limit (moved x c.args.env.now c.args.tree.now c.args.action.now) c.advance_couple.result) (sym is) c.advance_couple.ensures
-
-pub advance::advance_seq-returns-in_default : goal.advance::advance_seq-returns-in_default
-advance::advance_seq-returns-in_default t c =
-    subst (λ y. Builds c.args.limit y c.dead.result) (sym (else_seq c.args.env.now c.args.action.now c.args.tree.now c.node.result.now c.node.ensures (form_of c.args.y.now) (form_of c.args.z.now) c.in_default.not-Seq)) c.dead.ensures
-
-pub advance::advance_star-returns-in_default : goal.advance::advance_star-returns-in_default
-advance::advance_star-returns-in_default t c =
-    subst (λ y. Builds c.args.limit y c.dead.result) (sym (else_star c.args.env.now c.args.action.now c.args.tree.now c.node.result.now c.node.ensures (form_of c.args.y.now) c.in_default.not-Star)) c.dead.ensures
-
-pub advance::advance_opt-returns-in_default : goal.advance::advance_opt-returns-in_default
-advance::advance_opt-returns-in_default t c =
-    subst (λ y. Builds c.args.limit y c.dead.result) (sym (else_opt c.args.env.now c.args.action.now c.args.tree.now c.node.result.now c.node.ensures (form_of c.args.y.now) c.in_default.not-Opt)) c.dead.ensures
-
-pub advance::advance_opt-advance-inner-requires : goal.advance::advance_opt-advance-inner-requires
-advance::advance_opt-advance-inner-requires t c =
-    let shape : c.args.tree.now ≡ opt_of c.in-Opt.field-0 c.in-Opt.inner = sym c.node.ensures ∙ ap plain_node c.in-Opt.is in (
-      omega arith,
-      opt_ready c.args.limit c.args.env.now (form_of c.args.y.now) c.in-Opt.field-0 c.in-Opt.inner (subst (λ p. Ready c.args.limit (opt (form_of c.args.y.now)) c.args.env.now p) shape c.requires.ready),
-    )
-
-pub advance::advance_opt-opt_node-requires : goal.advance::advance_opt-opt_node-requires
-advance::advance_opt-opt_node-requires t c =
-    small_built c.args.limit (moved (form_of c.args.y.now) c.args.env.now c.in-Opt.inner c.args.action.now) c.advance-inner.result c.requires.ready.bounded c.advance-inner.ensures
-
-pub advance::advance_opt-returns : goal.advance::advance_opt-returns
-advance::advance_opt-returns t c =
-    let shape : c.args.tree.now ≡ opt_of c.in-Opt.field-0 c.in-Opt.inner = sym c.node.ensures ∙ ap plain_node c.in-Opt.is in
-    let inner = moved (form_of c.args.y.now) c.args.env.now c.in-Opt.inner c.args.action.now in
-    builds_arm c.args.limit (opt (form_of c.args.y.now)) c.args.env.now c.args.action.now c.args.tree.now (opt_of c.in-Opt.field-0 c.in-Opt.inner) (opt_of false inner) c.opt_node.result shape refl c.requires.may (c.opt_node.ensures inner c.advance-inner.ensures)
-
-pub advance::advance_or-returns-in_default : goal.advance::advance_or-returns-in_default
-advance::advance_or-returns-in_default t c =
-    subst (λ y. Builds c.args.limit y c.dead.result) (sym (else_or c.args.env.now c.args.action.now c.args.tree.now c.node.result.now c.node.ensures (form_of c.args.y.now) (form_of c.args.z.now) c.in_default.not-Or)) c.dead.ensures
-
-pub advance::advance_or-advance-left-requires : goal.advance::advance_or-advance-left-requires
-advance::advance_or-advance-left-requires t c =
-    let shape : c.args.tree.now ≡ or_of c.in-Or.left c.in-Or.right = sym c.node.ensures ∙ ap plain_node c.in-Or.is in (
-      omega arith,
-      (or_ready c.args.limit c.args.env.now (form_of c.args.y.now) (form_of c.args.z.now) c.in-Or.left c.in-Or.right (subst (λ p. Ready c.args.limit (or (form_of c.args.y.now) (form_of c.args.z.now)) c.args.env.now p) shape c.requires.ready)).0,
-    )
-
-pub advance::advance_or-advance-right-requires : goal.advance::advance_or-advance-right-requires
-advance::advance_or-advance-right-requires t c =
-    let shape : c.args.tree.now ≡ or_of c.in-Or.left c.in-Or.right = sym c.node.ensures ∙ ap plain_node c.in-Or.is in (
-      omega arith,
-      (or_ready c.args.limit c.args.env.now (form_of c.args.y.now) (form_of c.args.z.now) c.in-Or.left c.in-Or.right (subst (λ p. Ready c.args.limit (or (form_of c.args.y.now) (form_of c.args.z.now)) c.args.env.now p) shape c.requires.ready)).1,
-    )
-
-pub advance::advance_or-or_node-requires-clause-left : goal.advance::advance_or-or_node-requires-clause-left
-advance::advance_or-or_node-requires-clause-left t c =
-    small_built c.args.limit (moved (form_of c.args.y.now) c.args.env.now c.in-Or.left c.args.action.now) c.advance-left.result c.requires.ready.bounded c.advance-left.ensures
-
-pub advance::advance_or-or_node-requires-clause-right : goal.advance::advance_or-or_node-requires-clause-right
-advance::advance_or-or_node-requires-clause-right t c =
-    small_built c.args.limit (moved (form_of c.args.z.now) c.args.env.now c.in-Or.right c.args.action.now) c.advance-right.result c.requires.ready.bounded c.advance-right.ensures
-
-pub advance::advance_or-returns : goal.advance::advance_or-returns
-advance::advance_or-returns t c =
-    let shape : c.args.tree.now ≡ or_of c.in-Or.left c.in-Or.right = sym c.node.ensures ∙ ap plain_node c.in-Or.is in
-    let left = moved (form_of c.args.y.now) c.args.env.now c.in-Or.left c.args.action.now in
-    let right = moved (form_of c.args.z.now) c.args.env.now c.in-Or.right c.args.action.now in
-    builds_arm c.args.limit (or (form_of c.args.y.now) (form_of c.args.z.now)) c.args.env.now c.args.action.now c.args.tree.now (or_of c.in-Or.left c.in-Or.right) (or_of left right) c.or_node.result shape refl c.requires.may (c.or_node.ensures left right c.advance-left.ensures c.advance-right.ensures)
-
-pub advance::advance_and-returns-in_default : goal.advance::advance_and-returns-in_default
-advance::advance_and-returns-in_default t c =
-    subst (λ y. Builds c.args.limit y c.dead.result) (sym (else_and c.args.env.now c.args.action.now c.args.tree.now c.node.result.now c.node.ensures (form_of c.args.y.now) (form_of c.args.z.now) c.in_default.not-And)) c.dead.ensures
-
-pub advance::advance_and-advance-left-requires : goal.advance::advance_and-advance-left-requires
-advance::advance_and-advance-left-requires t c =
-    let shape : c.args.tree.now ≡ and_of c.in-And.left c.in-And.right = sym c.node.ensures ∙ ap plain_node c.in-And.is in (
-      omega arith,
-      (and_ready c.args.limit c.args.env.now (form_of c.args.y.now) (form_of c.args.z.now) c.in-And.left c.in-And.right (subst (λ p. Ready c.args.limit (and (form_of c.args.y.now) (form_of c.args.z.now)) c.args.env.now p) shape c.requires.ready)).0,
-    )
-
-pub advance::advance_and-advance-right-requires : goal.advance::advance_and-advance-right-requires
-advance::advance_and-advance-right-requires t c =
-    let shape : c.args.tree.now ≡ and_of c.in-And.left c.in-And.right = sym c.node.ensures ∙ ap plain_node c.in-And.is in (
-      omega arith,
-      (and_ready c.args.limit c.args.env.now (form_of c.args.y.now) (form_of c.args.z.now) c.in-And.left c.in-And.right (subst (λ p. Ready c.args.limit (and (form_of c.args.y.now) (form_of c.args.z.now)) c.args.env.now p) shape c.requires.ready)).1,
-    )
-
-pub advance::advance_and-and_node-requires-clause-left : goal.advance::advance_and-and_node-requires-clause-left
-advance::advance_and-and_node-requires-clause-left t c =
-    small_built c.args.limit (moved (form_of c.args.y.now) c.args.env.now c.in-And.left c.args.action.now) c.advance-left.result c.requires.ready.bounded c.advance-left.ensures
-
-pub advance::advance_and-and_node-requires-clause-right : goal.advance::advance_and-and_node-requires-clause-right
-advance::advance_and-and_node-requires-clause-right t c =
-    small_built c.args.limit (moved (form_of c.args.z.now) c.args.env.now c.in-And.right c.args.action.now) c.advance-right.result c.requires.ready.bounded c.advance-right.ensures
-
-pub advance::advance_and-returns : goal.advance::advance_and-returns
-advance::advance_and-returns t c =
-    let shape : c.args.tree.now ≡ and_of c.in-And.left c.in-And.right = sym c.node.ensures ∙ ap plain_node c.in-And.is in
-    let left = moved (form_of c.args.y.now) c.args.env.now c.in-And.left c.args.action.now in
-    let right = moved (form_of c.args.z.now) c.args.env.now c.in-And.right c.args.action.now in
-    builds_arm c.args.limit (and (form_of c.args.y.now) (form_of c.args.z.now)) c.args.env.now c.args.action.now c.args.tree.now (and_of c.in-And.left c.in-And.right) (and_of left right) c.and_node.result shape refl c.requires.may (c.and_node.ensures left right c.advance-left.ensures c.advance-right.ensures)
-
-pub advance::advance_couple-returns-in_default : goal.advance::advance_couple-returns-in_default
-advance::advance_couple-returns-in_default t c =
-    subst (λ y. Builds c.args.limit y c.dead.result) (sym (else_couple c.args.env.now c.args.action.now c.args.tree.now c.node.result.now c.node.ensures (form_of c.args.y.now) (form_of c.args.z.now) c.in_default.not-Couple)) c.dead.ensures
-
-pub advance::advance_couple-advance_inside-left-requires : goal.advance::advance_couple-advance_inside-left-requires
-advance::advance_couple-advance_inside-left-requires t c =
-    let shape : c.args.tree.now ≡ couple_of c.in-Couple.left c.in-Couple.right = sym c.node.ensures ∙ ap plain_node c.in-Couple.is in (
-      omega arith,
-      (couple_ready c.args.limit c.args.env.now (form_of c.args.y.now) (form_of c.args.z.now) c.in-Couple.left c.in-Couple.right (subst (λ p. Ready c.args.limit (couple (form_of c.args.y.now) (form_of c.args.z.now)) c.args.env.now p) shape c.requires.ready)).0,
-    )
-
-pub advance::advance_couple-advance_inside-right-requires : goal.advance::advance_couple-advance_inside-right-requires
-advance::advance_couple-advance_inside-right-requires t c =
-    let shape : c.args.tree.now ≡ couple_of c.in-Couple.left c.in-Couple.right = sym c.node.ensures ∙ ap plain_node c.in-Couple.is in (
-      omega arith,
-      (couple_ready c.args.limit c.args.env.now (form_of c.args.y.now) (form_of c.args.z.now) c.in-Couple.left c.in-Couple.right (subst (λ p. Ready c.args.limit (couple (form_of c.args.y.now) (form_of c.args.z.now)) c.args.env.now p) shape c.requires.ready)).1,
-    )
-
-pub advance::advance_couple-couple_node-requires-clause-left : goal.advance::advance_couple-couple_node-requires-clause-left
-advance::advance_couple-couple_node-requires-clause-left t c =
-    small_built c.args.limit (moved_inside (in_alphabet (form_of c.args.y.now) c.args.env.now c.args.action.now) (moved (form_of c.args.y.now) c.args.env.now c.in-Couple.left c.args.action.now) c.in-Couple.left) c.advance_inside-left.result c.requires.ready.bounded c.advance_inside-left.ensures
-
-pub advance::advance_couple-couple_node-requires-clause-right : goal.advance::advance_couple-couple_node-requires-clause-right
-advance::advance_couple-couple_node-requires-clause-right t c =
-    small_built c.args.limit (moved_inside (in_alphabet (form_of c.args.z.now) c.args.env.now c.args.action.now) (moved (form_of c.args.z.now) c.args.env.now c.in-Couple.right c.args.action.now) c.in-Couple.right) c.advance_inside-right.result c.requires.ready.bounded c.advance_inside-right.ensures
-
-pub advance::advance_couple-returns : goal.advance::advance_couple-returns
-advance::advance_couple-returns t c =
-    let shape : c.args.tree.now ≡ couple_of c.in-Couple.left c.in-Couple.right = sym c.node.ensures ∙ ap plain_node c.in-Couple.is in
-    let left = moved_inside (in_alphabet (form_of c.args.y.now) c.args.env.now c.args.action.now) (moved (form_of c.args.y.now) c.args.env.now c.in-Couple.left c.args.action.now) c.in-Couple.left in
-    let right = moved_inside (in_alphabet (form_of c.args.z.now) c.args.env.now c.args.action.now) (moved (form_of c.args.z.now) c.args.env.now c.in-Couple.right c.args.action.now) c.in-Couple.right in
-    builds_arm c.args.limit (couple (form_of c.args.y.now) (form_of c.args.z.now)) c.args.env.now c.args.action.now c.args.tree.now (couple_of c.in-Couple.left c.in-Couple.right) (couple_of left right) c.couple_node.result shape refl c.requires.may (c.couple_node.ensures left right c.advance_inside-left.ensures c.advance_inside-right.ensures)
-
-pub advance::advance_inside-contains-requires : goal.advance::advance_inside-contains-requires
-advance::advance_inside-contains-requires t c = c.requires.fits
-
-pub advance::advance_inside-advance-requires : goal.advance::advance_inside-advance-requires
-advance::advance_inside-advance-requires t c = (omega arith, c.requires)
+pub advance::advance_again-returns : goal.advance::advance_again-returns
+advance::advance_again-returns t c =
+    let x = form_of c.args.expr.now in
+    subst (λ p. Makes c.args.step.limit p c.advance.result)
+    (ap (λ p. moved x c.args.step.env.now p c.args.step.action.now) (c.in_ok-tree.ensures ∙ sym (initial_is x []))
+    ∙ ap (λ b. begun_again b x c.args.step.env.now c.args.step.action.now) (sym c.if-not-again.false)) c.advance.ensures
 
 pub advance::advance_inside-returns-then-contains : goal.advance::advance_inside-returns-then-contains
 advance::advance_inside-returns-then-contains t c =
     let x = form_of c.args.expr.now in
-    subst (λ b. Builds c.args.limit (moved_inside b (moved x c.args.env.now c.args.tree.now c.args.action.now) c.args.tree.now) c.advance.result)
-    (sym c.if-contains.true ∙ same_alphabet c.contains.result x c.args.env.now c.args.action.now c.contains.ensures) c.advance.ensures
+    let inside = sym (same_alphabet c.contains.result x c.args.step.env.now c.args.step.action.now c.contains.ensures) ∙ c.if-contains.true in
+    subst (λ i. Makes c.args.step.limit (moved_inside i (moved x c.args.step.env.now c.args.tree.now c.args.step.action.now) c.args.tree.now) c.advance.result) (sym inside) c.advance.ensures
 
-pub advance::advance_inside-returns-else-contains : goal.advance::advance_inside-returns-else-contains
-advance::advance_inside-returns-else-contains t c =
+pub advance::advance_inside-returns : goal.advance::advance_inside-returns
+advance::advance_inside-returns t c =
     let x = form_of c.args.expr.now in
-    subst (λ b. Builds c.args.limit (moved_inside b (moved x c.args.env.now c.args.tree.now c.args.action.now) c.args.tree.now) c.shared.result)
-    (sym c.if-contains.false ∙ same_alphabet c.contains.result x c.args.env.now c.args.action.now c.contains.ensures) c.shared.ensures
+    let outside = sym (same_alphabet c.contains.result x c.args.step.env.now c.args.step.action.now c.contains.ensures) ∙ c.if-contains.false in
+    subst (λ i. Makes c.args.step.limit (moved_inside i (moved x c.args.step.env.now c.args.tree.now c.args.step.action.now) c.args.tree.now) c.bounded.result) (sym outside)
+    (subst (λ t. Makes c.args.step.limit t c.bounded.result) c.in_ok-share.ensures c.bounded.ensures)
 
-pub advance::advance_seq-advance-first-requires : goal.advance::advance_seq-advance-first-requires
-advance::advance_seq-advance-first-requires t c =
-    let shape : c.args.tree.now ≡ seq_of c.in-Seq.first (listed c.in-Seq.rest.items) = sym c.node.ensures ∙ ap plain_node c.in-Seq.is in (omega arith, (seq_ready c.args.limit c.args.env.now (form_of c.args.y.now) (form_of c.args.z.now) c.in-Seq.first c.in-Seq.rest.items (subst (λ p. Ready c.args.limit (seq (form_of c.args.y.now) (form_of c.args.z.now)) c.args.env.now p) shape c.requires.ready)).0)
-
-pub advance::advance_seq-new-set-requires : goal.advance::advance_seq-new-set-requires
-advance::advance_seq-new-set-requires t c = omega (arith, c.requires.ready.bounded)
-
-pub advance::advance_seq-advance_each-moved-requires : goal.advance::advance_seq-advance_each-moved-requires
-advance::advance_seq-advance_each-moved-requires t c =
-    let shape : c.args.tree.now ≡ seq_of c.in-Seq.first (listed c.in-Seq.rest.items) = sym c.node.ensures ∙ ap plain_node c.in-Seq.is in (
-      omega arith,
-      (
-        subst (λ l. Each (Ready c.args.limit (form_of c.args.z.now) c.args.env.now) l) (sym c.as_slice.ensures.value) (seq_ready c.args.limit c.args.env.now (form_of c.args.y.now) (form_of c.args.z.now) c.in-Seq.first c.in-Seq.rest.items (subst (λ p. Ready c.args.limit (seq (form_of c.args.y.now) (form_of c.args.z.now)) c.args.env.now p) shape c.requires.ready)).1,
-        (c.new-set.ensures.budget, c.requires.ready.positive),
-      ),
+pub advance::advance_node-advance-requires : goal.advance::advance_node-advance-requires
+advance::advance_node-advance-requires t c =
+    let is : form_of c.args.expr.now ≡ opt (form_of c.deref.result.now) = ap form_of c.in-Opt-Opt.is-0 ∙ ap (λ v. opt (form_of v)) (sym c.deref.ensures) in
+    let size = ap form_size is in (
+      omega (arith, size),
+      opt_ready (asked is refl (sym c.node.ensures ∙ ap plain_node c.in-Opt-Opt.is-1) c.requires.ready),
     )
 
-pub advance::advance_seq-seq_node-requires-clause-initial : goal.advance::advance_seq-seq_node-requires-clause-initial
-advance::advance_seq-seq_node-requires-clause-initial t c = second_small c.args.limit (form_of c.args.y.now) (form_of c.args.z.now) c.args.env.now c.args.tree.now c.requires.ready
+pub advance::advance_node-advance-requires-in-Or-Or : goal.advance::advance_node-advance-requires-in-Or-Or
+advance::advance_node-advance-requires-in-Or-Or t c =
+    let is : form_of c.args.expr.now ≡ or (form_of c.deref-in-Or-Or.result.now) (form_of c.in-Or-Or.z.value) = ap form_of c.in-Or-Or.is-0 ∙ ap (λ v. or (form_of v) (form_of c.in-Or-Or.z.value)) (sym c.deref-in-Or-Or.ensures) in
+    let size = ap form_size is in (
+      omega (arith, size),
+      or_first (asked is refl (sym c.node.ensures ∙ ap plain_node c.in-Or-Or.is-1) c.requires.ready),
+    )
 
-pub advance::advance_seq-seq_node-requires-clause-budget : goal.advance::advance_seq-seq_node-requires-clause-budget
-advance::advance_seq-seq_node-requires-clause-budget t c = c.advance_each-moved.ensures.budget
+pub advance::advance_node-advance-requires-in-Or-Or-2 : goal.advance::advance_node-advance-requires-in-Or-Or-2
+advance::advance_node-advance-requires-in-Or-Or-2 t c =
+    let is : form_of c.args.expr.now ≡ or (form_of c.in-Or-Or.y.value) (form_of c.deref-in-Or-Or-2.result.now) = ap form_of c.in-Or-Or.is-0 ∙ ap (λ v. or (form_of c.in-Or-Or.y.value) (form_of v)) (sym c.deref-in-Or-Or-2.ensures) in
+    let size = ap form_size is in (
+      omega (arith, size),
+      or_second (asked is refl (sym c.node.ensures ∙ ap plain_node c.in-Or-Or.is-1) c.requires.ready),
+    )
 
-pub advance::advance_seq-seq_node-requires-clause-limit : goal.advance::advance_seq-seq_node-requires-clause-limit
-advance::advance_seq-seq_node-requires-clause-limit t c = c.requires.ready.bounded
+pub advance::advance_node-advance-requires-in-And-And : goal.advance::advance_node-advance-requires-in-And-And
+advance::advance_node-advance-requires-in-And-And t c =
+    let is : form_of c.args.expr.now ≡ and (form_of c.deref-in-And-And.result.now) (form_of c.in-And-And.z.value) = ap form_of c.in-And-And.is-0 ∙ ap (λ v. and (form_of v) (form_of c.in-And-And.z.value)) (sym c.deref-in-And-And.ensures) in
+    let size = ap form_size is in (
+      omega (arith, size),
+      and_first (asked is refl (sym c.node.ensures ∙ ap plain_node c.in-And-And.is-1) c.requires.ready),
+    )
 
-pub advance::advance_seq-seq_node-requires-clause-first : goal.advance::advance_seq-seq_node-requires-clause-first
-advance::advance_seq-seq_node-requires-clause-first t c =
-    small_built c.args.limit (moved (form_of c.args.y.now) c.args.env.now c.in-Seq.first c.args.action.now) c.advance-first.result c.requires.ready.bounded c.advance-first.ensures
+pub advance::advance_node-advance-requires-in-And-And-2 : goal.advance::advance_node-advance-requires-in-And-And-2
+advance::advance_node-advance-requires-in-And-And-2 t c =
+    let is : form_of c.args.expr.now ≡ and (form_of c.in-And-And.y.value) (form_of c.deref-in-And-And-2.result.now) = ap form_of c.in-And-And.is-0 ∙ ap (λ v. and (form_of c.in-And-And.y.value) (form_of v)) (sym c.deref-in-And-And-2.ensures) in
+    let size = ap form_size is in (
+      omega (arith, size),
+      and_second (asked is refl (sym c.node.ensures ∙ ap plain_node c.in-And-And.is-1) c.requires.ready),
+    )
+
+pub advance::advance_node-advance_inside-requires : goal.advance::advance_node-advance_inside-requires
+advance::advance_node-advance_inside-requires t c =
+    let is : form_of c.args.expr.now ≡ couple (form_of c.deref-in-Couple-Couple.result.now) (form_of c.in-Couple-Couple.z.value) = ap form_of c.in-Couple-Couple.is-0 ∙ ap (λ v. couple (form_of v) (form_of c.in-Couple-Couple.z.value)) (sym c.deref-in-Couple-Couple.ensures) in
+    let size = ap form_size is in (
+      omega (arith, size),
+      couple_first (asked is refl (sym c.node.ensures ∙ ap plain_node c.in-Couple-Couple.is-1) c.requires.ready),
+    )
+
+pub advance::advance_node-advance_inside-requires-in-Couple-Couple : goal.advance::advance_node-advance_inside-requires-in-Couple-Couple
+advance::advance_node-advance_inside-requires-in-Couple-Couple t c =
+    let is : form_of c.args.expr.now ≡ couple (form_of c.in-Couple-Couple.y.value) (form_of c.deref-in-Couple-Couple-2.result.now) = ap form_of c.in-Couple-Couple.is-0 ∙ ap (λ v. couple (form_of c.in-Couple-Couple.y.value) (form_of v)) (sym c.deref-in-Couple-Couple-2.ensures) in
+    let size = ap form_size is in (
+      omega (arith, size),
+      couple_second (asked is refl (sym c.node.ensures ∙ ap plain_node c.in-Couple-Couple.is-1) c.requires.ready),
+    )
+
+pub advance::advance_node-advance_values-requires : goal.advance::advance_node-advance_values-requires
+advance::advance_node-advance_values-requires t c =
+    let is : form_of c.args.expr.now ≡ any c.in-Any-Any.parameter (form_of c.deref-in-Any-Any.result.now) = ap form_of c.in-Any-Any.is-0 ∙ ap (λ v. any c.in-Any-Any.parameter (form_of v)) (sym c.deref-in-Any-Any.ensures) in
+    let tree = sym c.node.ensures ∙ ap plain_node c.in-Any-Any.is-1 ∙ ap (λ v. any_of c.in-Any-Any.common (plain_entries v)) (sym c.deref-in-Any-Any-2.ensures.value) in
+    let size = ap form_size is in (
+      omega (arith, size),
+      any_ready c.deref-in-Any-Any-2.result.now (asked is refl tree c.requires.ready),
+    )
+
+pub advance::advance_node-advance_values-requires-in-Every-Every : goal.advance::advance_node-advance_values-requires-in-Every-Every
+advance::advance_node-advance_values-requires-in-Every-Every t c =
+    let is : form_of c.args.expr.now ≡ every c.in-Every-Every.parameter (form_of c.deref-in-Every-Every.result.now) = ap form_of c.in-Every-Every.is-0 ∙ ap (λ v. every c.in-Every-Every.parameter (form_of v)) (sym c.deref-in-Every-Every.ensures) in
+    let tree = sym c.node.ensures ∙ ap plain_node c.in-Every-Every.is-1 ∙ ap (λ v. every_of c.in-Every-Every.common (plain_entries v)) (sym c.deref-in-Every-Every-2.ensures.value) in
+    let size = ap form_size is in (
+      omega (arith, size),
+      every_ready c.deref-in-Every-Every-2.result.now (asked is refl tree c.requires.ready),
+    )
+
+pub advance::advance_node-advance_values-requires-in-Sync-Sync : goal.advance::advance_node-advance_values-requires-in-Sync-Sync
+advance::advance_node-advance_values-requires-in-Sync-Sync t c =
+    let is : form_of c.args.expr.now ≡ sync c.in-Sync-Sync.parameter (form_of c.deref-in-Sync-Sync.result.now) = ap form_of c.in-Sync-Sync.is-0 ∙ ap (λ v. sync c.in-Sync-Sync.parameter (form_of v)) (sym c.deref-in-Sync-Sync.ensures) in
+    let tree = sym c.node.ensures ∙ ap plain_node c.in-Sync-Sync.is-1 ∙ ap (λ v. sync_of c.in-Sync-Sync.common (plain_entries v)) (sym c.deref-in-Sync-Sync-2.ensures.value) in
+    let size = ap form_size is in (
+      omega (arith, size),
+      sync_ready c.deref-in-Sync-Sync-2.result.now (asked is refl tree c.requires.ready),
+    )
+
+pub advance::advance_seq-advance-requires : goal.advance::advance_seq-advance-requires
+advance::advance_seq-advance-requires t c =
+    (omega arith, seq_first c.requires)
+
+pub advance::advance_seq-advance_each-requires : goal.advance::advance_seq-advance_each-requires
+advance::advance_seq-advance_each-requires t c =
+    (omega arith, seq_rest c.args.rest.now c.requires)
+
+pub advance::advance_seq-put_first-requires-clause-small : goal.advance::advance_seq-put_first-requires-clause-small
+advance::advance_seq-put_first-requires-clause-small t c =
+    second_small c.requires
+
+pub advance::advance_seq-returns-in_err-set : goal.advance::advance_seq-returns-in_err-set
+advance::advance_seq-returns-in_err-set t c =
+    let ms = live_moves (form_of c.args.z.now) c.args.step.env.now c.args.step.action.now (items_of (listed c.args.rest.now)) in
+    let more = when (is_final (form_of c.args.y.now) (moved (form_of c.args.y.now) c.args.step.env.now c.args.first.now c.args.step.action.now)) (initial_tree (form_of c.args.z.now) ∷ []) in
+    let same = ap (λ l. size_all (put_all (live_moves (form_of c.args.z.now) c.args.step.env.now c.args.step.action.now l) [])) (items_of-listed c.args.rest.now) in
+    let k = front_of_set ms more in
+    exit_over _ c.from_residual-in_err-set.result _ c.from_residual-in_err-set.ensures.1 c.in_err-set.ensures (λ lt. omega (arith, same, k))
+
+pub advance::advance_seq-returns-in_err-put_first : goal.advance::advance_seq-returns-in_err-put_first
+advance::advance_seq-returns-in_err-put_first t c =
+    let z = form_of c.args.z.now in
+    let m = moved (form_of c.args.y.now) c.args.step.env.now c.args.first.now c.args.step.action.now in
+    let begins = c.completes.ensures ∙ ap (is_final (form_of c.args.y.now)) c.in_ok-first.ensures.0 in
+    let whole = set_is (live_moves z c.args.step.env.now c.args.step.action.now c.args.rest.now) (when c.completes.result (initial_tree z ∷ [])) c.in_ok-set.set.items c.in_ok-set.ensures.0
+    ∙ ap (λ b. set_of (live_moves z c.args.step.env.now c.args.step.action.now c.args.rest.now ++ when b (initial_tree z ∷ []))) begins
+    ∙ ap (λ l. set_of (second_parts (form_of c.args.y.now) z c.args.step.env.now c.args.step.action.now (moved (form_of c.args.y.now) c.args.step.env.now c.args.first.now c.args.step.action.now) l)) (sym (items_of-listed c.args.rest.now)) in
+    exit_over _ c.from_residual-in_err-put_first.result _ c.from_residual-in_err-put_first.ensures.1 c.in_err-put_first.ensures.gathers (λ lt.
+    omega (arith, ap size_of whole, c.in_ok-set.ensures.1))
 
 pub advance::advance_seq-returns : goal.advance::advance_seq-returns
 advance::advance_seq-returns t c =
-    let shape : c.args.tree.now ≡ seq_of c.in-Seq.first (listed c.in-Seq.rest.items) = sym c.node.ensures ∙ ap plain_node c.in-Seq.is in
-    let first = moved (form_of c.args.y.now) c.args.env.now c.in-Seq.first c.args.action.now in
-    let moves = live_moves (form_of c.args.z.now) c.args.env.now c.args.action.now c.in-Seq.rest.items in
-    let gathered : Gathers c.args.limit moves [] c.advance_each-moved.new.set.items c.advance_each-moved.result = subst (λ l. Gathers c.args.limit (live_moves (form_of c.args.z.now) c.args.env.now c.args.action.now l) [] c.advance_each-moved.new.set.items c.advance_each-moved.result) c.as_slice.ensures.value
-    (subst (λ l. Gathers c.args.limit (live_moves (form_of c.args.z.now) c.args.env.now c.args.action.now c.as_slice.result.now) l c.advance_each-moved.new.set.items c.advance_each-moved.result) c.new-set.ensures.items c.advance_each-moved.ensures.gathers) in
-    builds_arm c.args.limit (seq (form_of c.args.y.now) (form_of c.args.z.now)) c.args.env.now c.args.action.now c.args.tree.now (seq_of c.in-Seq.first (listed c.in-Seq.rest.items)) (seq_of first (set_of (moves ++ when (is_final (form_of c.args.y.now) first) (initial_tree (form_of c.args.z.now) ∷ [])))) c.seq_node.result shape
-    (seq_moves (form_of c.args.y.now) (form_of c.args.z.now) c.args.env.now c.in-Seq.first c.in-Seq.rest.items c.args.action.now) c.requires.may (c.seq_node.ensures first moves c.advance-first.ensures gathered)
+    let z = form_of c.args.z.now in
+    let m = moved (form_of c.args.y.now) c.args.step.env.now c.args.first.now c.args.step.action.now in
+    let begins = c.completes.ensures ∙ ap (is_final (form_of c.args.y.now)) c.in_ok-first.ensures.0 in
+    let whole = set_is (live_moves z c.args.step.env.now c.args.step.action.now c.args.rest.now) (when c.completes.result (initial_tree z ∷ [])) c.in_ok-set.set.items c.in_ok-set.ensures.0
+    ∙ ap (λ b. set_of (live_moves z c.args.step.env.now c.args.step.action.now c.args.rest.now ++ when b (initial_tree z ∷ []))) begins
+    ∙ ap (λ l. set_of (second_parts (form_of c.args.y.now) z c.args.step.env.now c.args.step.action.now (moved (form_of c.args.y.now) c.args.step.env.now c.args.first.now c.args.step.action.now) l)) (sym (items_of-listed c.args.rest.now)) in
+    let items = ap listed (c.into_items.ensures.items ∙ c.in_ok-put_first.ensures.gathers) ∙ whole in
+    subst (λ x. Makes c.args.step.limit x c.within.result)
+    (ap (λ x. seq_of x (listed c.into_items.result.items)) c.in_ok-first.ensures.0 ∙ ap (seq_of (moved (form_of c.args.y.now) c.args.step.env.now c.args.first.now c.args.step.action.now)) items) c.within.ensures
 
-pub advance::advance_star-advance_again-begun-requires : goal.advance::advance_star-advance_again-begun-requires
-advance::advance_star-advance_again-begun-requires t c =
-    let shape : c.args.tree.now ≡ star_of c.in-Star.again (listed c.in-Star.rest.items) = sym c.node.ensures ∙ ap plain_node c.in-Star.is in (omega arith, (star_ready c.args.limit c.args.env.now (form_of c.args.y.now) c.in-Star.again c.in-Star.rest.items (subst (λ p. Ready c.args.limit (star (form_of c.args.y.now)) c.args.env.now p) shape c.requires.ready)).0)
+pub advance::advance_star-advance_again-requires : goal.advance::advance_star-advance_again-requires
+advance::advance_star-advance_again-requires t c =
+    (omega arith, star_begins c.requires)
 
-pub advance::advance_star-new-set-requires : goal.advance::advance_star-new-set-requires
-advance::advance_star-new-set-requires t c = omega (arith, c.requires.ready.bounded)
+pub advance::advance_star-advance_each-requires : goal.advance::advance_star-advance_each-requires
+advance::advance_star-advance_each-requires t c =
+    (omega arith, star_rest c.args.rest.now c.requires)
 
-pub advance::advance_star-advance_each-moved-requires : goal.advance::advance_star-advance_each-moved-requires
-advance::advance_star-advance_each-moved-requires t c =
-    let shape : c.args.tree.now ≡ star_of c.in-Star.again (listed c.in-Star.rest.items) = sym c.node.ensures ∙ ap plain_node c.in-Star.is in (
-      omega arith,
-      (
-        subst (λ l. Each (Ready c.args.limit (form_of c.args.y.now) c.args.env.now) l) (sym c.as_slice.ensures.value) (star_ready c.args.limit c.args.env.now (form_of c.args.y.now) c.in-Star.again c.in-Star.rest.items (subst (λ p. Ready c.args.limit (star (form_of c.args.y.now)) c.args.env.now p) shape c.requires.ready)).1,
-        (c.new-set.ensures.budget, c.requires.ready.positive),
-      ),
-    )
+pub advance::advance_star-returns-in_err-begun : goal.advance::advance_star-returns-in_err-begun
+advance::advance_star-returns-in_err-begun t c =
+    exit_over _ c.from_residual.result _ c.from_residual.ensures.1 c.in_err-begun.ensures (λ lt.
+    let k = live_in_set c.args.step.limit (live_moves (form_of c.args.y.now) c.args.step.env.now c.args.step.action.now (items_of (listed c.args.rest.now))) (begun_again c.args.again (form_of c.args.y.now) c.args.step.env.now c.args.step.action.now) c.args.step.positive lt in omega arith)
 
-pub advance::advance_star-star_node-requires-clause-budget : goal.advance::advance_star-star_node-requires-clause-budget
-advance::advance_star-star_node-requires-clause-budget t c = c.advance_each-moved.ensures.budget
+pub advance::advance_star-returns-in_err-set : goal.advance::advance_star-returns-in_err-set
+advance::advance_star-returns-in_err-set t c =
+    let same = ap (λ l. size_all (put_all (live_moves (form_of c.args.y.now) c.args.step.env.now c.args.step.action.now l) [])) (items_of-listed c.args.rest.now) in
+    let k = front_of_set (live_moves (form_of c.args.y.now) c.args.step.env.now c.args.step.action.now (items_of (listed c.args.rest.now))) (live (begun_again c.args.again (form_of c.args.y.now) c.args.step.env.now c.args.step.action.now)) in
+    exit_over _ c.from_residual-in_err-set.result _ c.from_residual-in_err-set.ensures.1 c.in_err-set.ensures (λ lt. omega (arith, same, k))
 
-pub advance::advance_star-star_node-requires-clause-positive : goal.advance::advance_star-star_node-requires-clause-positive
-advance::advance_star-star_node-requires-clause-positive t c = c.requires.ready.positive
-
-pub advance::advance_star-star_node-requires-clause-limit : goal.advance::advance_star-star_node-requires-clause-limit
-advance::advance_star-star_node-requires-clause-limit t c = c.requires.ready.bounded
-
-pub advance::advance_star-star_node-requires-clause-begun : goal.advance::advance_star-star_node-requires-clause-begun
-advance::advance_star-star_node-requires-clause-begun t c =
-    small_built c.args.limit (begun_again c.in-Star.again (form_of c.args.y.now) c.args.env.now c.args.action.now) c.advance_again-begun.result c.requires.ready.bounded c.advance_again-begun.ensures
+pub advance::advance_star-returns-in_err-put_live : goal.advance::advance_star-returns-in_err-put_live
+advance::advance_star-returns-in_err-put_live t c =
+    let whole = set_is (live_moves (form_of c.args.y.now) c.args.step.env.now c.args.step.action.now c.args.rest.now) (live c.in_ok-begun.begun) c.in_ok-set.set.items c.in_ok-set.ensures.0
+    ∙ ap (λ x. set_of (live_moves (form_of c.args.y.now) c.args.step.env.now c.args.step.action.now c.args.rest.now ++ live x)) c.in_ok-begun.ensures.0
+    ∙ ap (λ l. set_of (last_runs (form_of c.args.y.now) c.args.step.env.now c.args.step.action.now c.args.again l)) (sym (items_of-listed c.args.rest.now)) in
+    exit_over _ c.from_residual-in_err-put_live.result _ c.from_residual-in_err-put_live.ensures.1 c.in_err-put_live.ensures.gathers (λ lt.
+    omega (arith, ap size_of whole, c.in_ok-set.ensures.1))
 
 pub advance::advance_star-returns : goal.advance::advance_star-returns
 advance::advance_star-returns t c =
-    let shape : c.args.tree.now ≡ star_of c.in-Star.again (listed c.in-Star.rest.items) = sym c.node.ensures ∙ ap plain_node c.in-Star.is in
-    let begun = begun_again c.in-Star.again (form_of c.args.y.now) c.args.env.now c.args.action.now in
-    let moves = live_moves (form_of c.args.y.now) c.args.env.now c.args.action.now c.in-Star.rest.items in
-    let gathered : Gathers c.args.limit moves [] c.advance_each-moved.new.set.items c.advance_each-moved.result = subst (λ l. Gathers c.args.limit (live_moves (form_of c.args.y.now) c.args.env.now c.args.action.now l) [] c.advance_each-moved.new.set.items c.advance_each-moved.result) c.as_slice.ensures.value
-    (subst (λ l. Gathers c.args.limit (live_moves (form_of c.args.y.now) c.args.env.now c.args.action.now c.as_slice.result.now) l c.advance_each-moved.new.set.items c.advance_each-moved.result) c.new-set.ensures.items c.advance_each-moved.ensures.gathers) in
-    builds_arm c.args.limit (star (form_of c.args.y.now)) c.args.env.now c.args.action.now c.args.tree.now (star_of c.in-Star.again (listed c.in-Star.rest.items)) (star_of (list_any (is_final (form_of c.args.y.now)) (moves ++ live begun)) (set_of (moves ++ live begun))) c.star_node.result shape
-    (star_moves (form_of c.args.y.now) c.args.env.now c.in-Star.again c.in-Star.rest.items c.args.action.now) c.requires.may (c.star_node.ensures moves begun gathered c.advance_again-begun.ensures)
+    let whole = set_is (live_moves (form_of c.args.y.now) c.args.step.env.now c.args.step.action.now c.args.rest.now) (live c.in_ok-begun.begun) c.in_ok-set.set.items c.in_ok-set.ensures.0
+    ∙ ap (λ x. set_of (live_moves (form_of c.args.y.now) c.args.step.env.now c.args.step.action.now c.args.rest.now ++ live x)) c.in_ok-begun.ensures.0
+    ∙ ap (λ l. set_of (last_runs (form_of c.args.y.now) c.args.step.env.now c.args.step.action.now c.args.again l)) (sym (items_of-listed c.args.rest.now)) in
+    let items = ap listed (c.into_items-items.ensures.items ∙ c.in_ok-put_live.ensures.gathers) ∙ whole in
+    let again = c.some_completes-again.ensures ∙ ap (list_any (is_final (form_of c.args.y.now))) (c.deref.ensures.value ∙ sym (items_of-listed c.into_items-items.result.items) ∙ ap items_of items ∙ items_of-listed (canon tree_cmp (last_runs (form_of c.args.y.now) c.args.step.env.now c.args.step.action.now c.args.again (items_of (listed c.args.rest.now))))) ∙ any_of_set (is_final (form_of c.args.y.now)) (last_runs (form_of c.args.y.now) c.args.step.env.now c.args.step.action.now c.args.again (items_of (listed c.args.rest.now))) in
+    subst (λ x. Makes c.args.step.limit x c.within.result)
+    (ap (λ b. star_of b (listed c.into_items-items.result.items)) again ∙ ap (star_of (list_any (is_final (form_of c.args.y.now)) (last_runs (form_of c.args.y.now) c.args.step.env.now c.args.step.action.now c.args.again (items_of (listed c.args.rest.now))))) items) c.within.ensures
 
-pub advance::advance_again-returns-then-not-again : goal.advance::advance_again-returns-then-not-again
-advance::advance_again-returns-then-not-again t c =
-    subst (λ y. Builds c.args.limit y c.dead.result) (sym (ap (λ b. begun_again b (form_of c.args.expr.now) c.args.env.now c.args.action.now) c.if-not-again.true)) c.dead.ensures
+pub advance::advance_each-advance-requires : goal.advance::advance_each-advance-requires
+advance::advance_each-advance-requires t c =
+    (omega arith, each_at c.args.trees.now c.loop-tree.tree-index c.tree-item.result (omega arith) c.tree-item.is c.requires)
 
-pub advance::advance_again-advance-requires : goal.advance::advance_again-advance-requires
-advance::advance_again-advance-requires t c = (omega arith, subst (λ p. Ready c.args.limit (form_of c.args.expr.now) c.args.env.now p) (sym c.in-Ok.ensures) c.requires)
+pub advance::advance_each-returns-in_err-tree : goal.advance::advance_each-returns-in_err-tree
+advance::advance_each-returns-in_err-tree t c =
+    let m = moved (form_of c.args.expr.now) c.args.step.env.now c.tree-item.result c.args.step.action.now in
+    exit_over _ c.from_residual.result _ c.from_residual.ensures.1 c.in_err-tree.ensures (λ lt.
+    lot_over (live_move (form_of c.args.expr.now) c.args.step.env.now c.args.step.action.now) c.args.step.limit c.args.trees.now c.loop-tree.tree-index c.tree-item.result [] c.loop-tree.set.items (omega arith) c.tree-item.is c.loop-tree.invariant.items
+    (live_over c.args.step.limit m m c.loop-tree.set.items c.args.step.positive (omega arith) lt))
 
-pub advance::advance_again-returns-in-Ok : goal.advance::advance_again-returns-in-Ok
-advance::advance_again-returns-in-Ok t c =
-    subst (λ p. Builds c.args.limit p c.advance.result)
-    (ap (λ p. moved (form_of c.args.expr.now) c.args.env.now p c.args.action.now) (c.in-Ok.ensures ∙ sym (initial_is (form_of c.args.expr.now) [])) ∙ ap (λ b. begun_again b (form_of c.args.expr.now) c.args.env.now c.args.action.now) (sym c.if-not-again.false)) c.advance.ensures
-
-pub advance::advance_each-advance-moved-requires : goal.advance::advance_each-advance-moved-requires
-advance::advance_each-advance-moved-requires t c = (omega arith, ready_at c.args.limit (form_of c.args.expr.now) c.args.env.now c.args.trees.now c.loop-tree.tree-index c.tree-item.result (omega arith) c.tree-item.is c.requires.ready)
-
-pub advance::advance_each-put_live-requires-clause-small : goal.advance::advance_each-put_live-requires-clause-small
-advance::advance_each-put_live-requires-clause-small t c =
-    small_built c.args.limit (moved (form_of c.args.expr.now) c.args.env.now c.tree-item.result c.args.action.now) c.advance-moved.result (ready_at c.args.limit (form_of c.args.expr.now) c.args.env.now c.args.trees.now c.loop-tree.tree-index c.tree-item.result (omega arith) c.tree-item.is c.requires.ready).bounded c.advance-moved.ensures
-
-pub advance::advance_each-put_live-requires-clause-positive : goal.advance::advance_each-put_live-requires-clause-positive
-advance::advance_each-put_live-requires-clause-positive t c = omega (arith, c.requires.positive, c.loop-tree.invariant.1)
-
-pub advance::advance_each-returns-in-Err-clause-gathers : goal.advance::advance_each-returns-in-Err-clause-gathers
-advance::advance_each-returns-in-Err-clause-gathers t c =
-    let m = moved (form_of c.args.expr.now) c.args.env.now c.tree-item.result c.args.action.now in
-    let f = λ (u : Plain). live (moved (form_of c.args.expr.now) c.args.env.now u c.args.action.now) in
-    let fault : IsAbove c.args.limit (listed (put_all (live m) c.loop-tree.set.items)) c.in-Err.fault =
-    subst (λ n. IsAbove n (listed (put_all (live m) c.loop-tree.set.items)) c.in-Err.fault) c.loop-tree.invariant.1
-    (c.in-Err.ensures.gathers m (subst (λ n. Builds n m c.advance-moved.result) (sym c.loop-tree.invariant.1) c.advance-moved.ensures)) in
-    fault_tree f c.args.trees.now c.loop-tree.tree-index c.tree-item.result c.args.limit c.loop-tree.set.items (put_all (live_moves (form_of c.args.expr.now) c.args.env.now c.args.action.now c.args.trees.now) c.args.set.now.items) c.in-Err.fault (omega arith) c.loop-tree.invariant.0
-    (subst (λ u. IsAbove c.args.limit (listed (put_all (f u) c.loop-tree.set.items)) c.in-Err.fault) c.tree-item.is fault)
-
-pub advance::advance_each-returns-in-Err-clause-budget : goal.advance::advance_each-returns-in-Err-clause-budget
-advance::advance_each-returns-in-Err-clause-budget t c = c.put_live.ensures.budget ∙ c.loop-tree.invariant.1
+pub advance::advance_each-returns-in_err-put_live : goal.advance::advance_each-returns-in_err-put_live
+advance::advance_each-returns-in_err-put_live t c =
+    let m = moved (form_of c.args.expr.now) c.args.step.env.now c.tree-item.result c.args.step.action.now in
+    let same = ap (λ x. size_all (put_all (live x) c.loop-tree.set.items)) c.in_ok-tree.ensures.0 in
+    exit_over _ c.from_residual-in_err-put_live.result _ c.from_residual-in_err-put_live.ensures.1 c.in_err-put_live.ensures.gathers (λ lt.
+    lot_over (live_move (form_of c.args.expr.now) c.args.step.env.now c.args.step.action.now) c.args.step.limit c.args.trees.now c.loop-tree.tree-index c.tree-item.result [] c.loop-tree.set.items (omega arith) c.tree-item.is c.loop-tree.invariant.items
+    (omega (arith, same, lt, c.loop-tree.invariant.budget)))
 
 pub advance::advance_each-loop-tree-preserved : goal.advance::advance_each-loop-tree-preserved
 advance::advance_each-loop-tree-preserved t c =
-    let m = moved (form_of c.args.expr.now) c.args.env.now c.tree-item.result c.args.action.now in
-    let f = λ (u : Plain). live (moved (form_of c.args.expr.now) c.args.env.now u c.args.action.now) in
-    let put : c.put_live.new.set.items ≡ put_all (live m) c.loop-tree.set.items = c.in-Ok.ensures.gathers m (subst (λ n. Builds n m c.advance-moved.result) (sym c.loop-tree.invariant.1) c.advance-moved.ensures) in (
-      next_tree f c.args.trees.now c.loop-tree.tree-index c.tree-item.result c.loop-tree.set.items c.put_live.new.set.items (put_all (live_moves (form_of c.args.expr.now) c.args.env.now c.args.action.now c.args.trees.now) c.args.set.now.items) (omega arith) c.loop-tree.invariant.0
-          (put ∙ ap (λ u. put_all (f u) c.loop-tree.set.items) c.tree-item.is),
-      c.put_live.ensures.budget ∙ c.loop-tree.invariant.1,
-    )
+    record {
+      items = lots_more (live_move (form_of c.args.expr.now) c.args.step.env.now c.args.step.action.now) c.args.trees.now c.loop-tree.tree-index c.tree-item.result [] c.loop-tree.set.items c.put_live.new.set.items (omega arith) c.tree-item.is c.loop-tree.invariant.items
+          (c.in_ok-put_live.ensures.gathers ∙ ap (λ x. put_all (live x) c.loop-tree.set.items) c.in_ok-tree.ensures.0);
+      within = omega (arith, c.put_live.ensures.within, c.loop-tree.invariant.budget);
+      budget = c.put_live.ensures.budget ∙ c.loop-tree.invariant.budget;
+    }
 
-pub advance::advance_each-returns-clause-gathers : goal.advance::advance_each-returns-clause-gathers
-advance::advance_each-returns-clause-gathers t c =
-    let f = λ (u : Plain). live (moved (form_of c.args.expr.now) c.args.env.now u c.args.action.now) in
-    gather_end (λ u. true) c.args.trees.now c.loop-tree.tree-index f c.loop-tree.set.items (put_all (live_moves (form_of c.args.expr.now) c.args.env.now c.args.action.now c.args.trees.now) c.args.set.now.items) (omega arith) c.loop-tree.invariant.0
+pub parallel::advance_pairs-advance-requires : goal.parallel::advance_pairs-advance-requires
+parallel::advance_pairs-advance-requires t c =
+    (omega arith, (each_at {G = IsReadyPair (form_of c.args.y.now) (form_of c.args.z.now) c.args.step.env.now} (map plain_pair c.args.pairs.now) c.loop-pair.pair-index (plain_pair c.pair-item.result) (omega (arith, length-map c.args.pairs.now plain_pair, c.loop-pair-test.true)) (image_at plain_pair c.args.pairs.now c.loop-pair.pair-index c.pair-item.result c.pair-item.is) c.requires.ready).0)
 
-pub advance::advance_each-returns-clause-budget : goal.advance::advance_each-returns-clause-budget
-advance::advance_each-returns-clause-budget t c = c.loop-tree.invariant.1
+pub parallel::advance_pairs-advance-requires-in-loop-pair : goal.parallel::advance_pairs-advance-requires-in-loop-pair
+parallel::advance_pairs-advance-requires-in-loop-pair t c =
+    (omega arith, (each_at {G = IsReadyPair (form_of c.args.y.now) (form_of c.args.z.now) c.args.step.env.now} (map plain_pair c.args.pairs.now) c.loop-pair.pair-index (plain_pair c.pair-item.result) (omega (arith, length-map c.args.pairs.now plain_pair, c.loop-pair-test.true)) (image_at plain_pair c.args.pairs.now c.loop-pair.pair-index c.pair-item.result c.pair-item.is) c.requires.ready).1)
 
-pub parallel::gather_pairs-loop-pair-init : goal.parallel::gather_pairs-loop-pair-init
-parallel::gather_pairs-loop-pair-init t c =
-    (refl, c.requires.budget)
+pub parallel::advance_pairs-put_pairs-requires-clause-small : goal.parallel::advance_pairs-put_pairs-requires-clause-small
+parallel::advance_pairs-put_pairs-requires-clause-small t c =
+    each_at {G = λ p. size_of p ≤ 1000000} (map plain_pair c.args.pairs.now) c.loop-pair.pair-index (plain_pair c.pair-item.result) (omega (arith, length-map c.args.pairs.now plain_pair, c.loop-pair-test.true)) (image_at plain_pair c.args.pairs.now c.loop-pair.pair-index c.pair-item.result c.pair-item.is) c.requires.small
 
-pub parallel::gather_pairs-offset_bounds-pairs-pair-index : goal.parallel::gather_pairs-offset_bounds-pairs-pair-index
-parallel::gather_pairs-offset_bounds-pairs-pair-index t c =
-    search rules
+pub parallel::advance_pairs-returns-in_err-left : goal.parallel::advance_pairs-returns-in_err-left
+parallel::advance_pairs-returns-in_err-left t c =
+    exit_over _ c.from_residual.result _ c.from_residual.ensures.1 c.in_err-left.ensures (λ lt.
+    lot_over (pair_moves (form_of c.args.y.now) (form_of c.args.z.now) c.args.step.env.now c.args.step.action.now) c.args.step.limit (map plain_pair c.args.pairs.now) c.loop-pair.pair-index (plain_pair c.pair-item.result) [] (map plain_pair c.loop-pair.set.items) (omega (arith, length-map c.args.pairs.now plain_pair, c.loop-pair-test.true)) (image_at plain_pair c.args.pairs.now c.loop-pair.pair-index c.pair-item.result c.pair-item.is) c.loop-pair.invariant.items
+    (left_over c.args.step.limit c.pair-item.result.first c.pair-item.result.second (moved (form_of c.args.y.now) c.args.step.env.now c.pair-item.result.first c.args.step.action.now) (moved (form_of c.args.z.now) c.args.step.env.now c.pair-item.result.second c.args.step.action.now) (map plain_pair c.loop-pair.set.items) c.args.step.positive lt))
 
-pub parallel::gather_pairs-returns-in-Err-clause-gathers : goal.parallel::gather_pairs-returns-in-Err-clause-gathers
-parallel::gather_pairs-returns-in-Err-clause-gathers t c =
-    let xs = c.args.pairs.now in
-    let lt : c.loop-pair.pair-index < length (map plain_pair xs) = omega (arith, length-map xs plain_pair, c.loop-pair-test.true) in
-    let old : List Plain = map plain_pair c.loop-pair.set.items in
-    let new : List Plain = map plain_pair c.gather_pair.new.set.items in
-    lots_fail (pair_moves (form_of c.args.y.now) (form_of c.args.z.now) c.args.env.now c.args.action.now) c.args.limit (map plain_pair xs) c.loop-pair.pair-index (plain_pair c.pair-item.result) (map plain_pair c.args.set.now.items) old c.in-Err.fault lt
-    (image_at plain_pair xs c.loop-pair.pair-index c.pair-item.result c.pair-item.is) c.loop-pair.invariant.0
-    (subst (Gathers c.args.limit (pair_moves (form_of c.args.y.now) (form_of c.args.z.now) c.args.env.now c.args.action.now (plain_pair c.pair-item.result)) old new) c.in-Err.is c.gather_pair.ensures.gathers)
+pub parallel::advance_pairs-returns-in_err-right : goal.parallel::advance_pairs-returns-in_err-right
+parallel::advance_pairs-returns-in_err-right t c =
+    exit_over _ c.from_residual-in_err-right.result _ c.from_residual-in_err-right.ensures.1 c.in_err-right.ensures (λ lt.
+    lot_over (pair_moves (form_of c.args.y.now) (form_of c.args.z.now) c.args.step.env.now c.args.step.action.now) c.args.step.limit (map plain_pair c.args.pairs.now) c.loop-pair.pair-index (plain_pair c.pair-item.result) [] (map plain_pair c.loop-pair.set.items) (omega (arith, length-map c.args.pairs.now plain_pair, c.loop-pair-test.true)) (image_at plain_pair c.args.pairs.now c.loop-pair.pair-index c.pair-item.result c.pair-item.is) c.loop-pair.invariant.items
+    (right_over c.args.step.limit c.pair-item.result.first c.pair-item.result.second (moved (form_of c.args.y.now) c.args.step.env.now c.pair-item.result.first c.args.step.action.now) (moved (form_of c.args.z.now) c.args.step.env.now c.pair-item.result.second c.args.step.action.now) (map plain_pair c.loop-pair.set.items) c.args.step.positive lt))
 
-pub parallel::gather_pairs-returns-in-Err-clause-budget : goal.parallel::gather_pairs-returns-in-Err-clause-budget
-parallel::gather_pairs-returns-in-Err-clause-budget t c =
-    c.gather_pair.ensures.budget ∙ c.loop-pair.invariant.1 ∙ sym c.requires.budget
+pub parallel::advance_pairs-returns-in_err-put_pairs : goal.parallel::advance_pairs-returns-in_err-put_pairs
+parallel::advance_pairs-returns-in_err-put_pairs t c =
+    let same = ap (λ l. size_all (put_all l (map plain_pair c.loop-pair.set.items))) (ap (λ x. pairs_of c.pair-item.result.first c.pair-item.result.second x c.in_ok-right.right) c.in_ok-left.ensures.0 ∙ ap (λ x. pairs_of c.pair-item.result.first c.pair-item.result.second (moved (form_of c.args.y.now) c.args.step.env.now c.pair-item.result.first c.args.step.action.now) x) c.in_ok-right.ensures.0) in
+    exit_over _ c.from_residual-in_err-put_pairs.result _ c.from_residual-in_err-put_pairs.ensures.1 c.in_err-put_pairs.ensures.gathers (λ lt.
+    lot_over (pair_moves (form_of c.args.y.now) (form_of c.args.z.now) c.args.step.env.now c.args.step.action.now) c.args.step.limit (map plain_pair c.args.pairs.now) c.loop-pair.pair-index (plain_pair c.pair-item.result) [] (map plain_pair c.loop-pair.set.items) (omega (arith, length-map c.args.pairs.now plain_pair, c.loop-pair-test.true)) (image_at plain_pair c.args.pairs.now c.loop-pair.pair-index c.pair-item.result c.pair-item.is) c.loop-pair.invariant.items
+    (omega (arith, same, lt, c.loop-pair.invariant.budget)))
 
-pub parallel::gather_pairs-loop-pair-preserved : goal.parallel::gather_pairs-loop-pair-preserved
-parallel::gather_pairs-loop-pair-preserved t c =
-    let xs = c.args.pairs.now in
-    let lt : c.loop-pair.pair-index < length (map plain_pair xs) = omega (arith, length-map xs plain_pair, c.loop-pair-test.true) in
-    let old : List Plain = map plain_pair c.loop-pair.set.items in
-    let new : List Plain = map plain_pair c.gather_pair.new.set.items in (
-      lots_more (pair_moves (form_of c.args.y.now) (form_of c.args.z.now) c.args.env.now c.args.action.now) c.args.limit (map plain_pair xs) c.loop-pair.pair-index (plain_pair c.pair-item.result) (map plain_pair c.args.set.now.items) old new lt
-          (image_at plain_pair xs c.loop-pair.pair-index c.pair-item.result c.pair-item.is) c.loop-pair.invariant.0
-          (subst (Gathers c.args.limit (pair_moves (form_of c.args.y.now) (form_of c.args.z.now) c.args.env.now c.args.action.now (plain_pair c.pair-item.result)) old new) c.in_default.is c.gather_pair.ensures.gathers),
-      c.gather_pair.ensures.budget ∙ c.loop-pair.invariant.1,
-    )
+pub parallel::advance_pairs-loop-pair-preserved : goal.parallel::advance_pairs-loop-pair-preserved
+parallel::advance_pairs-loop-pair-preserved t c =
+    record {
+      items = lots_more (pair_moves (form_of c.args.y.now) (form_of c.args.z.now) c.args.step.env.now c.args.step.action.now) (map plain_pair c.args.pairs.now) c.loop-pair.pair-index (plain_pair c.pair-item.result) [] (map plain_pair c.loop-pair.set.items) (map plain_pair c.put_pairs.new.set.items) (omega (arith, length-map c.args.pairs.now plain_pair, c.loop-pair-test.true)) (image_at plain_pair c.args.pairs.now c.loop-pair.pair-index c.pair-item.result c.pair-item.is) c.loop-pair.invariant.items
+          (c.in_ok-put_pairs.ensures.gathers ∙ ap (λ l. put_all l (map plain_pair c.loop-pair.set.items)) (ap (λ x. pairs_of c.pair-item.result.first c.pair-item.result.second x c.in_ok-right.right) c.in_ok-left.ensures.0 ∙ ap (λ x. pairs_of c.pair-item.result.first c.pair-item.result.second (moved (form_of c.args.y.now) c.args.step.env.now c.pair-item.result.first c.args.step.action.now) x) c.in_ok-right.ensures.0));
+      within = omega (arith, c.put_pairs.ensures.within, c.loop-pair.invariant.budget);
+      budget = c.put_pairs.ensures.budget ∙ c.loop-pair.invariant.budget;
+    }
 
-pub parallel::gather_pairs-returns-clause-gathers : goal.parallel::gather_pairs-returns-clause-gathers
-parallel::gather_pairs-returns-clause-gathers t c =
-    let ks : List Plain = map plain_pair c.args.pairs.now in
-    let all : c.loop-pair.pair-index ≡ length ks = omega (arith, length-map c.args.pairs.now plain_pair, c.loop-pair-test.false, c.loop-pair.auto.pair-index-end) in
-    lots_end (pair_moves (form_of c.args.y.now) (form_of c.args.z.now) c.args.env.now c.args.action.now) ks (map plain_pair c.args.set.now.items) (map plain_pair c.loop-pair.set.items)
-    (subst (λ n. map plain_pair c.loop-pair.set.items ≡ put_all (flat_map (pair_moves (form_of c.args.y.now) (form_of c.args.z.now) c.args.env.now c.args.action.now) (take n ks)) (map plain_pair c.args.set.now.items)) all c.loop-pair.invariant.0)
+pub parallel::advance_par-advance_pairs-requires : goal.parallel::advance_par-advance_pairs-requires
+parallel::advance_par-advance_pairs-requires t c =
+    (omega arith, (pairs_ready (map plain_pair c.args.pairs.now) c.requires, pairs_small (map plain_pair c.args.pairs.now) c.requires))
 
-pub parallel::gather_pairs-returns-clause-budget : goal.parallel::gather_pairs-returns-clause-budget
-parallel::gather_pairs-returns-clause-budget t c =
-    c.loop-pair.invariant.1 ∙ sym c.requires.budget
-
-pub parallel::gather_pairs-gather_pair-requires : goal.parallel::gather_pairs-gather_pair-requires
-parallel::gather_pairs-gather_pair-requires t c = (
-  omega arith,
-  (
-    (let xs = c.args.pairs.now in
-        let lt : c.loop-pair.pair-index < length (map plain_pair xs) = omega (arith, length-map xs plain_pair, c.loop-pair-test.true) in
-        each_at {G = IsReadyPair c.args.limit (form_of c.args.y.now) (form_of c.args.z.now) c.args.env.now} (map plain_pair xs) c.loop-pair.pair-index (plain_pair c.pair-item.result) lt
-        (image_at plain_pair xs c.loop-pair.pair-index c.pair-item.result c.pair-item.is) c.requires.ready),
-    (c.loop-pair.invariant.1),
-  ),
-)
-
-pub parallel::gather_pair-put_left-requires-clause-left : goal.parallel::gather_pair-put_left-requires-clause-left
-parallel::gather_pair-put_left-requires-clause-left t c =
-    small_built c.args.limit (moved (form_of c.args.y.now) c.args.env.now c.args.pair.now.first c.args.action.now) c.advance-left.result c.requires.ready.0.bounded c.advance-left.ensures
-
-pub parallel::gather_pair-put_left-requires-clause-right : goal.parallel::gather_pair-put_left-requires-clause-right
-parallel::gather_pair-put_left-requires-clause-right t c =
-    (c.requires.ready.1).small
-
-pub parallel::gather_pair-put_left-requires-clause-positive : goal.parallel::gather_pair-put_left-requires-clause-positive
-parallel::gather_pair-put_left-requires-clause-positive t c =
-    omega (arith, c.requires.budget, c.requires.ready.0.positive)
-
-pub parallel::gather_pair-returns-in-Err-clause-gathers : goal.parallel::gather_pair-returns-in-Err-clause-gathers
-parallel::gather_pair-returns-in-Err-clause-gathers t c =
-    let p = c.args.pair.now in
-    let x = moved (form_of c.args.y.now) c.args.env.now p.first c.args.action.now in
-    pair_fails c.args.limit c.args.set.now.budget (form_of c.args.y.now) (form_of c.args.z.now) c.args.env.now c.args.action.now
-    (plain_pair p) p.first p.second refl (map plain_pair c.args.set.now.items) (map plain_pair c.put_left.new.set.items) c.put_left.result
-    c.in-Err.fault c.requires.budget c.in-Err.is
-    (c.put_left.ensures.gathers x (subst (λ b. Builds b x c.advance-left.result) (sym c.requires.budget) c.advance-left.ensures))
-
-pub parallel::gather_pair-returns-in-Err-clause-budget : goal.parallel::gather_pair-returns-in-Err-clause-budget
-parallel::gather_pair-returns-in-Err-clause-budget t c =
-    c.put_left.ensures.budget
-
-pub parallel::gather_pair-put_right-requires-clause-left : goal.parallel::gather_pair-put_right-requires-clause-left
-parallel::gather_pair-put_right-requires-clause-left t c =
-    (c.requires.ready.0).small
-
-pub parallel::gather_pair-put_right-requires-clause-right : goal.parallel::gather_pair-put_right-requires-clause-right
-parallel::gather_pair-put_right-requires-clause-right t c =
-    small_built c.args.limit (moved (form_of c.args.z.now) c.args.env.now c.args.pair.now.second c.args.action.now) c.advance-right.result c.requires.ready.0.bounded c.advance-right.ensures
-
-pub parallel::gather_pair-put_right-requires-clause-positive : goal.parallel::gather_pair-put_right-requires-clause-positive
-parallel::gather_pair-put_right-requires-clause-positive t c =
-    omega (arith, c.put_left.ensures.budget, c.requires.budget, c.requires.ready.0.positive)
-
-pub parallel::gather_pair-returns-clause-gathers : goal.parallel::gather_pair-returns-clause-gathers
-parallel::gather_pair-returns-clause-gathers t c =
-    let p = c.args.pair.now in
-    let x = moved (form_of c.args.y.now) c.args.env.now p.first c.args.action.now in
-    let u = moved (form_of c.args.z.now) c.args.env.now p.second c.args.action.now in
-    let budget : c.put_left.new.set.budget ≡ c.args.limit = c.put_left.ensures.budget ∙ c.requires.budget in
-    pair_gathers c.args.limit c.args.set.now.budget (form_of c.args.y.now) (form_of c.args.z.now) c.args.env.now c.args.action.now
-    (plain_pair p) p.first p.second refl (map plain_pair c.args.set.now.items) (map plain_pair c.put_left.new.set.items) c.put_left.result
-    c.in_default.field-0 c.put_left.new.set.budget (map plain_pair c.put_right.new.set.items) c.put_right.result c.in_default.is budget
-    (c.put_left.ensures.gathers x (subst (λ b. Builds b x c.advance-left.result) (sym c.requires.budget) c.advance-left.ensures))
-    (c.put_right.ensures.gathers u (subst (λ b. Builds b u c.advance-right.result) (sym budget) c.advance-right.ensures))
-
-pub parallel::gather_pair-returns-clause-budget : goal.parallel::gather_pair-returns-clause-budget
-parallel::gather_pair-returns-clause-budget t c =
-    c.put_right.ensures.budget ∙ c.put_left.ensures.budget
-
-pub parallel::gather_pair-advance-left-requires : goal.parallel::gather_pair-advance-left-requires
-parallel::gather_pair-advance-left-requires t c = (
-  omega arith,
-  (c.requires.ready.0),
-)
-
-pub parallel::gather_pair-advance-right-requires : goal.parallel::gather_pair-advance-right-requires
-parallel::gather_pair-advance-right-requires t c = (
-  omega arith,
-  (c.requires.ready.1),
-)
-
-pub parallel::advance_par-returns-in_default : goal.parallel::advance_par-returns-in_default
-parallel::advance_par-returns-in_default t c =
-    subst (λ y. Builds c.args.limit y c.dead.result) (sym (else_par c.args.env.now c.args.action.now c.args.tree.now c.node.result.now c.node.ensures (form_of c.args.y.now) (form_of c.args.z.now) c.in_default.not-Par)) c.dead.ensures
-
-pub parallel::advance_par-new-set-requires : goal.parallel::advance_par-new-set-requires
-parallel::advance_par-new-set-requires t c =
-    omega (arith, c.requires.ready.bounded)
-
-pub parallel::advance_par-par_node-requires-clause-budget : goal.parallel::advance_par-par_node-requires-clause-budget
-parallel::advance_par-par_node-requires-clause-budget t c = c.gather_pairs-gathered.ensures.budget ∙ c.new-set.ensures.budget
-
-pub parallel::advance_par-par_node-requires-clause-limit : goal.parallel::advance_par-par_node-requires-clause-limit
-parallel::advance_par-par_node-requires-clause-limit t c = c.requires.ready.bounded
+pub parallel::advance_par-returns-in_err-set : goal.parallel::advance_par-returns-in_err-set
+parallel::advance_par-returns-in_err-set t c =
+    let whole = made_set (pair_moves (form_of c.args.y.now) (form_of c.args.z.now) c.args.step.env.now c.args.step.action.now) (map plain_pair c.args.pairs.now) in
+    exit_over _ c.from_residual.result _ c.from_residual.ensures.1 c.in_err-set.ensures (λ lt. omega (arith, ap size_of whole))
 
 pub parallel::advance_par-returns : goal.parallel::advance_par-returns
 parallel::advance_par-returns t c =
-    let ps : List Plain = map plain_pair c.deref.result.now in
-    let is : c.args.tree.now ≡ par_of (listed ps) =
-    sym c.node.ensures ∙ ap plain_node c.in-Par.is ∙ ap (λ l. par_of (listed (map plain_pair l))) (sym c.deref.ensures.value) in
-    let moves : List Plain = flat_map (pair_moves (form_of c.args.y.now) (form_of c.args.z.now) c.args.env.now c.args.action.now) ps in
-    par_arm c.args.limit c.args.env.now c.args.action.now c.args.tree.now c.par_node.result (form_of c.args.y.now) (form_of c.args.z.now) ps is c.requires.may
-    (c.par_node.ensures moves
-    (subst (λ l. Gathers c.args.limit moves (map plain_pair l) (map plain_pair c.gather_pairs-gathered.new.set.items) c.gather_pairs-gathered.result) c.new-set.ensures.items c.gather_pairs-gathered.ensures.gathers))
+    subst (λ l. Makes c.args.step.limit (par_of l) c.within.result)
+    (ap (λ v. listed (map plain_pair v)) c.into_items.ensures.items ∙ ap listed c.in_ok-set.ensures.0 ∙ made_set (pair_moves (form_of c.args.y.now) (form_of c.args.z.now) c.args.step.env.now c.args.step.action.now) (map plain_pair c.args.pairs.now)) c.within.ensures
 
-pub parallel::advance_par-gather_pairs-gathered-requires : goal.parallel::advance_par-gather_pairs-gathered-requires
-parallel::advance_par-gather_pairs-gathered-requires t c = (
-  omega arith,
-  (
-    (let ps : List Plain = map plain_pair c.deref.result.now in
-        let is : c.args.tree.now ≡ par_of (listed ps) =
-        sym c.node.ensures ∙ ap plain_node c.in-Par.is ∙ ap (λ l. par_of (listed (map plain_pair l))) (sym c.deref.ensures.value) in
-        pairs_ready c.args.limit c.args.env.now (form_of c.args.y.now) (form_of c.args.z.now) ps
-        (subst (Ready c.args.limit (par (form_of c.args.y.now) (form_of c.args.z.now)) c.args.env.now) is c.requires.ready)),
-    (c.new-set.ensures.budget),
-  ),
-)
+pub parallel::advance_par_star-advance_again-requires : goal.parallel::advance_par_star-advance_again-requires
+parallel::advance_par_star-advance_again-requires t c =
+    (omega arith, run_begins c.requires.ready)
 
-pub parallel::advance_par_star-returns-in_default : goal.parallel::advance_par_star-returns-in_default
-parallel::advance_par_star-returns-in_default t c =
-    subst (λ y. Builds c.args.limit y c.dead.result) (sym (else_par_star c.args.env.now c.args.action.now c.args.tree.now c.node.result.now c.node.ensures (form_of c.args.y.now) c.in_default.not-ParStar)) c.dead.ensures
+pub parallel::advance_par_star-advance_bags-requires : goal.parallel::advance_par_star-advance_bags-requires
+parallel::advance_par_star-advance_bags-requires t c =
+    (omega arith, (bags_ready (map plain_bag c.args.bags.now) c.requires.ready, (c.in_ok-first.ensures.0, omega (arith, ap size_of c.in_ok-first.ensures.0, c.in_ok-first.ensures.1, c.args.step.bounded))))
 
-pub parallel::advance_par_star-new-set-requires : goal.parallel::advance_par_star-new-set-requires
-parallel::advance_par_star-new-set-requires t c =
-    omega (arith, c.requires.ready.bounded)
+pub parallel::advance_par_star-returns-in_err-first : goal.parallel::advance_par_star-returns-in_err-first
+parallel::advance_par_star-returns-in_err-first t c =
+    let some : 0 < length (items_of (listed (map plain_bag c.args.bags.now))) = omega (arith, ap length (items_of-listed (map plain_bag c.args.bags.now)), length-map c.args.bags.now plain_bag, c.requires.some) in
+    exit_over _ c.from_residual.result _ c.from_residual.ensures.1 c.in_err-first.ensures (λ lt.
+    let k = first_over c.args.step.limit (form_of c.args.y.now) c.args.step.env.now c.args.step.action.now (items_of (listed (map plain_bag c.args.bags.now))) some c.args.step.positive lt in omega arith)
 
-pub parallel::advance_par_star-par_star_node-requires-clause-budget : goal.parallel::advance_par_star-par_star_node-requires-clause-budget
-parallel::advance_par_star-par_star_node-requires-clause-budget t c = c.gather_bags-gathered.ensures.budget ∙ c.new-set.ensures.budget
-
-pub parallel::advance_par_star-par_star_node-requires-clause-limit : goal.parallel::advance_par_star-par_star_node-requires-clause-limit
-parallel::advance_par_star-par_star_node-requires-clause-limit t c = c.requires.ready.bounded
+pub parallel::advance_par_star-returns-in_err-set : goal.parallel::advance_par_star-returns-in_err-set
+parallel::advance_par_star-returns-in_err-set t c =
+    let whole = made_set (bag_moves (form_of c.args.y.now) c.args.step.env.now c.args.step.action.now) (map plain_bag c.args.bags.now) in
+    exit_over _ c.from_residual-in_err-set.result _ c.from_residual-in_err-set.ensures.1 c.in_err-set.ensures (λ lt. omega (arith, ap size_of whole))
 
 pub parallel::advance_par_star-returns : goal.parallel::advance_par_star-returns
 parallel::advance_par_star-returns t c =
-    let bs : List Plain = map plain_bag c.deref.result.now in
-    let is : c.args.tree.now ≡ par_star_of (listed bs) =
-    sym c.node.ensures ∙ ap plain_node c.in-ParStar.is ∙ ap (λ l. par_star_of (listed (map plain_bag l))) (sym c.deref.ensures.value) in
-    let moves : List Plain = flat_map (bag_moves (form_of c.args.y.now) c.args.env.now c.args.action.now) bs in
-    par_star_arm c.args.limit c.args.env.now c.args.action.now c.args.tree.now c.par_star_node.result (form_of c.args.y.now) bs is c.requires.may
-    (c.par_star_node.ensures moves
-    (subst (λ l. Gathers c.args.limit moves (map plain_bag l) (map plain_bag c.gather_bags-gathered.new.set.items) c.gather_bags-gathered.result) c.new-set.ensures.items c.gather_bags-gathered.ensures.gathers))
+    subst (λ l. Makes c.args.step.limit (par_star_of l) c.within.result)
+    (ap (λ v. listed (map plain_bag v)) c.into_items.ensures.items ∙ ap listed c.in_ok-set.ensures.0 ∙ made_set (bag_moves (form_of c.args.y.now) c.args.step.env.now c.args.step.action.now) (map plain_bag c.args.bags.now)) c.within.ensures
 
-pub parallel::advance_par_star-advance_again-first-requires : goal.parallel::advance_par_star-advance_again-first-requires
-parallel::advance_par_star-advance_again-first-requires t c = (
-  omega arith,
-  (first_ready c.args.limit (form_of c.args.y.now) c.args.env.now
-      (fits-operands (par_star (form_of c.args.y.now)) c.args.env.now c.requires.ready.fits) c.requires.ready.positive c.requires.ready.bounded),
-)
-
-pub parallel::advance_par_star-gather_bags-gathered-requires : goal.parallel::advance_par_star-gather_bags-gathered-requires
-parallel::advance_par_star-gather_bags-gathered-requires t c = (
-  omega arith,
-  (
-    (let bs : List Plain = map plain_bag c.deref.result.now in
-        let is : c.args.tree.now ≡ par_star_of (listed bs) =
-        sym c.node.ensures ∙ ap plain_node c.in-ParStar.is ∙ ap (λ l. par_star_of (listed (map plain_bag l))) (sym c.deref.ensures.value) in
-        bags_ready c.args.limit c.args.env.now (form_of c.args.y.now) bs
-        (subst (Ready c.args.limit (par_star (form_of c.args.y.now)) c.args.env.now) is c.requires.ready)),
-    (((c.requires.ready.positive, c.requires.ready.bounded)), ((c.advance_again-first.ensures), (c.new-set.ensures.budget))),
-  ),
-)
-
-pub parallel::gather_bags-loop-bag-init : goal.parallel::gather_bags-loop-bag-init
-parallel::gather_bags-loop-bag-init t c =
-    (refl, c.requires.budget)
-
-pub parallel::gather_bags-offset_bounds-bags-bag-index : goal.parallel::gather_bags-offset_bounds-bags-bag-index
-parallel::gather_bags-offset_bounds-bags-bag-index t c =
-    search rules
-
-pub parallel::gather_bags-returns-in-Err-clause-gathers : goal.parallel::gather_bags-returns-in-Err-clause-gathers
-parallel::gather_bags-returns-in-Err-clause-gathers t c =
-    let xs = c.args.bags.now in
-    let lt : c.loop-bag.bag-index < length (map plain_bag xs) = omega (arith, length-map xs plain_bag, c.loop-bag-test.true) in
-    let old : List Plain = map plain_bag c.loop-bag.set.items in
-    let new : List Plain = map plain_bag c.gather_bag.new.set.items in
-    lots_fail (bag_moves (form_of c.args.y.now) c.args.env.now c.args.action.now) c.args.limit (map plain_bag xs) c.loop-bag.bag-index (plain_bag c.bag-item.result) (map plain_bag c.args.set.now.items) old c.in-Err.fault lt
-    (image_at plain_bag xs c.loop-bag.bag-index c.bag-item.result c.bag-item.is) c.loop-bag.invariant.0
-    (subst (Gathers c.args.limit (bag_moves (form_of c.args.y.now) c.args.env.now c.args.action.now (plain_bag c.bag-item.result)) old new) c.in-Err.is c.gather_bag.ensures.gathers)
-
-pub parallel::gather_bags-returns-in-Err-clause-budget : goal.parallel::gather_bags-returns-in-Err-clause-budget
-parallel::gather_bags-returns-in-Err-clause-budget t c =
-    c.gather_bag.ensures.budget ∙ c.loop-bag.invariant.1 ∙ sym c.requires.budget
-
-pub parallel::gather_bags-loop-bag-preserved : goal.parallel::gather_bags-loop-bag-preserved
-parallel::gather_bags-loop-bag-preserved t c =
-    let xs = c.args.bags.now in
-    let lt : c.loop-bag.bag-index < length (map plain_bag xs) = omega (arith, length-map xs plain_bag, c.loop-bag-test.true) in
-    let old : List Plain = map plain_bag c.loop-bag.set.items in
-    let new : List Plain = map plain_bag c.gather_bag.new.set.items in (
-      lots_more (bag_moves (form_of c.args.y.now) c.args.env.now c.args.action.now) c.args.limit (map plain_bag xs) c.loop-bag.bag-index (plain_bag c.bag-item.result) (map plain_bag c.args.set.now.items) old new lt
-          (image_at plain_bag xs c.loop-bag.bag-index c.bag-item.result c.bag-item.is) c.loop-bag.invariant.0
-          (subst (Gathers c.args.limit (bag_moves (form_of c.args.y.now) c.args.env.now c.args.action.now (plain_bag c.bag-item.result)) old new) c.in_default.is c.gather_bag.ensures.gathers),
-      c.gather_bag.ensures.budget ∙ c.loop-bag.invariant.1,
-    )
-
-pub parallel::gather_bags-returns-clause-gathers : goal.parallel::gather_bags-returns-clause-gathers
-parallel::gather_bags-returns-clause-gathers t c =
-    let ks : List Plain = map plain_bag c.args.bags.now in
-    let all : c.loop-bag.bag-index ≡ length ks = omega (arith, length-map c.args.bags.now plain_bag, c.loop-bag-test.false, c.loop-bag.auto.bag-index-end) in
-    lots_end (bag_moves (form_of c.args.y.now) c.args.env.now c.args.action.now) ks (map plain_bag c.args.set.now.items) (map plain_bag c.loop-bag.set.items)
-    (subst (λ n. map plain_bag c.loop-bag.set.items ≡ put_all (flat_map (bag_moves (form_of c.args.y.now) c.args.env.now c.args.action.now) (take n ks)) (map plain_bag c.args.set.now.items)) all c.loop-bag.invariant.0)
-
-pub parallel::gather_bags-returns-clause-budget : goal.parallel::gather_bags-returns-clause-budget
-parallel::gather_bags-returns-clause-budget t c =
-    c.loop-bag.invariant.1 ∙ sym c.requires.budget
-
-pub parallel::gather_bags-gather_bag-requires : goal.parallel::gather_bags-gather_bag-requires
-parallel::gather_bags-gather_bag-requires t c = (
-  omega arith,
-  (
-    (let xs = c.args.bags.now in
-        let lt : c.loop-bag.bag-index < length (map plain_bag xs) = omega (arith, length-map xs plain_bag, c.loop-bag-test.true) in
-        each_at {G = IsReadyBag c.args.limit (form_of c.args.y.now) c.args.env.now} (map plain_bag xs) c.loop-bag.bag-index (plain_bag c.bag-item.result) lt
-        (image_at plain_bag xs c.loop-bag.bag-index c.bag-item.result c.bag-item.is) c.requires.ready),
-    ((c.requires.range), ((c.requires.first), (c.loop-bag.invariant.1))),
-  ),
-)
-
-pub parallel::gather_bag-returns-in-Err-clause-gathers : goal.parallel::gather_bag-returns-in-Err-clause-gathers
-parallel::gather_bag-returns-in-Err-clause-gathers t c =
-    let ts : List Plain = c.deref.result.now in
-    let same : plain_bag c.args.bag.now ≡ bag (listed ts) = ap (λ l. bag (listed l)) (sym c.deref.ensures.value) in
-    bag_fails c.args.limit c.args.limit (form_of c.args.y.now) c.args.env.now c.args.action.now (plain_bag c.args.bag.now) ts same
-    (map plain_bag c.args.set.now.items) (map plain_bag c.gather_picks.new.set.items) c.gather_picks.result c.in-Err.fault c.in-Err.is c.gather_picks.ensures.gathers
-
-pub parallel::gather_bag-returns-in-Err-clause-budget : goal.parallel::gather_bag-returns-in-Err-clause-budget
-parallel::gather_bag-returns-in-Err-clause-budget t c =
-    c.gather_picks.ensures.budget
-
-pub parallel::gather_bag-put_first-requires-clause-first : goal.parallel::gather_bag-put_first-requires-clause-first
-parallel::gather_bag-put_first-requires-clause-first t c =
-    small_built c.args.limit (begun (form_of c.args.y.now) c.args.env.now c.args.action.now) c.args.first.now c.requires.range.1 c.requires.first
-
-pub parallel::gather_bag-put_first-requires-clause-items : goal.parallel::gather_bag-put_first-requires-clause-items
-parallel::gather_bag-put_first-requires-clause-items t c =
-    omega (arith, ap (λ l. size_of (listed l)) c.deref-2.ensures.value, c.requires.ready.1)
-
-pub parallel::gather_bag-put_first-requires-clause-positive : goal.parallel::gather_bag-put_first-requires-clause-positive
-parallel::gather_bag-put_first-requires-clause-positive t c =
-    omega (arith, c.gather_picks.ensures.budget, c.requires.budget, c.requires.range.0)
-
-pub parallel::gather_bag-returns-clause-gathers : goal.parallel::gather_bag-returns-clause-gathers
-parallel::gather_bag-returns-clause-gathers t c =
-    let x = begun (form_of c.args.y.now) c.args.env.now c.args.action.now in
-    let ts : List Plain = c.deref.result.now in
-    let same : plain_bag c.args.bag.now ≡ bag (listed ts) = ap (λ l. bag (listed l)) (sym c.deref.ensures.value) in
-    let again : c.deref-2.result.now ≡ c.deref.result.now = c.deref-2.ensures.value ∙ sym c.deref.ensures.value in
-    let budget : c.gather_picks.new.set.budget ≡ c.args.limit = c.gather_picks.ensures.budget ∙ c.requires.budget in
-    let put : Gathers c.gather_picks.new.set.budget (bag_with x c.deref-2.result.now) (map plain_bag c.gather_picks.new.set.items) (map plain_bag c.put_first.new.set.items) c.put_first.result =
-    c.put_first.ensures.gathers x (subst (λ b. Builds b x c.args.first.now) (sym budget) c.requires.first) in
-    bag_gathers c.args.limit c.gather_picks.new.set.budget (form_of c.args.y.now) c.args.env.now c.args.action.now (plain_bag c.args.bag.now) ts same
-    (map plain_bag c.args.set.now.items) (map plain_bag c.gather_picks.new.set.items) c.gather_picks.result c.in_default.field-0 (map plain_bag c.put_first.new.set.items) c.put_first.result c.in_default.is budget
-    c.gather_picks.ensures.gathers
-    (subst (λ l. Gathers c.gather_picks.new.set.budget (bag_with x l) (map plain_bag c.gather_picks.new.set.items) (map plain_bag c.put_first.new.set.items) c.put_first.result) again put)
-
-pub parallel::gather_bag-returns-clause-budget : goal.parallel::gather_bag-returns-clause-budget
-parallel::gather_bag-returns-clause-budget t c =
-    c.put_first.ensures.budget ∙ c.gather_picks.ensures.budget
-
-pub parallel::gather_bag-gather_picks-requires : goal.parallel::gather_bag-gather_picks-requires
-parallel::gather_bag-gather_picks-requires t c = (
-  omega arith,
-  (
-    (let ts : List Plain = c.args.bag.now.items.items in
-        let items : items_of (first_part (plain_bag c.args.bag.now)) ≡ ts = items_of-listed ts in
-        subst (Each (Ready c.args.limit (form_of c.args.y.now) c.args.env.now)) (items ∙ (sym c.deref.ensures.value)) c.requires.ready.0),
-    ((c.requires.range), ((omega (arith, ap (λ l. size_of (listed l)) c.deref.ensures.value, c.requires.ready.1)), (c.requires.budget))),
-  ),
-)
-
-pub parallel::gather_picks-loop-place-init : goal.parallel::gather_picks-loop-place-init
-parallel::gather_picks-loop-place-init t c =
-    (refl, c.requires.budget)
-
-pub parallel::gather_picks-offset_bounds-items-place : goal.parallel::gather_picks-offset_bounds-items-place
-parallel::gather_picks-offset_bounds-items-place t c =
-    search rules
-
-pub parallel::gather_picks-bounds-items-place : goal.parallel::gather_picks-bounds-items-place
-parallel::gather_picks-bounds-items-place t c =
-    c.loop-place-test.true
-
-pub parallel::gather_picks-put_moved-requires-clause-moved : goal.parallel::gather_picks-put_moved-requires-clause-moved
-parallel::gather_picks-put_moved-requires-clause-moved t c =
-    small_built c.args.limit (moved (form_of c.args.y.now) c.args.env.now c.index-items-place.result c.args.action.now) c.advance-moved.result c.requires.range.1 c.advance-moved.ensures
-
-pub parallel::gather_picks-put_moved-requires-clause-items : goal.parallel::gather_picks-put_moved-requires-clause-items
-parallel::gather_picks-put_moved-requires-clause-items t c =
-    c.requires.size
-
-pub parallel::gather_picks-put_moved-requires-clause-place : goal.parallel::gather_picks-put_moved-requires-clause-place
-parallel::gather_picks-put_moved-requires-clause-place t c =
-    c.loop-place-test.true
-
-pub parallel::gather_picks-put_moved-requires-clause-positive : goal.parallel::gather_picks-put_moved-requires-clause-positive
-parallel::gather_picks-put_moved-requires-clause-positive t c =
-    omega (arith, c.requires.range.0, c.loop-place.invariant.1)
-
-pub parallel::gather_picks-returns-in-Err-clause-gathers : goal.parallel::gather_picks-returns-in-Err-clause-gathers
-parallel::gather_picks-returns-in-Err-clause-gathers t c =
-    let xs = c.args.items.now in
-    let t = c.index-items-place.result in
-    let i = c.loop-place.place in
-    let at : List Plain = xs in
-    let x = moved (form_of c.args.y.now) c.args.env.now t c.args.action.now in
-    let within : i < length at = omega (arith, c.loop-place-test.true) in
-    let lt : i < length (picks at) = omega (arith, length-picks at, within) in
-    let k : Plain × List Plain = (t, remove at i) in
-    let is : k ≡ get_or (picks at) i k = ap (λ u. (u, remove at i)) c.index-items-place.is ∙ sym (get-picks at i t k within) in
-    let old : List Plain = map plain_bag c.loop-place.set.items in
-    let new : List Plain = map plain_bag c.put_moved.new.set.items in
-    let lot : Plain × List Plain → List Plain = pick_move (form_of c.args.y.now) c.args.env.now c.args.action.now in
-    lots_fail lot c.args.limit (picks at) i k (map plain_bag c.args.set.now.items) old c.in-Err.fault lt is c.loop-place.invariant.0
-    (subst (λ r. Gathers c.args.limit (lot k) old new r) c.in-Err.is
-    (subst (λ b. Gathers b (lot k) old new c.put_moved.result) c.loop-place.invariant.1
-    (c.put_moved.ensures.gathers x (subst (λ b. Builds b x c.advance-moved.result) (sym c.loop-place.invariant.1) c.advance-moved.ensures))))
-
-pub parallel::gather_picks-returns-in-Err-clause-budget : goal.parallel::gather_picks-returns-in-Err-clause-budget
-parallel::gather_picks-returns-in-Err-clause-budget t c =
-    c.put_moved.ensures.budget ∙ c.loop-place.invariant.1 ∙ sym c.requires.budget
-
-pub parallel::gather_picks-loop-place-preserved : goal.parallel::gather_picks-loop-place-preserved
-parallel::gather_picks-loop-place-preserved t c =
-    let xs = c.args.items.now in
-    let t = c.index-items-place.result in
-    let i = c.loop-place.place in
-    let at : List Plain = xs in
-    let x = moved (form_of c.args.y.now) c.args.env.now t c.args.action.now in
-    let within : i < length at = omega (arith, c.loop-place-test.true) in
-    let lt : i < length (picks at) = omega (arith, length-picks at, within) in
-    let k : Plain × List Plain = (t, remove at i) in
-    let is : k ≡ get_or (picks at) i k = ap (λ u. (u, remove at i)) c.index-items-place.is ∙ sym (get-picks at i t k within) in
-    let old : List Plain = map plain_bag c.loop-place.set.items in
-    let new : List Plain = map plain_bag c.put_moved.new.set.items in
-    let lot : Plain × List Plain → List Plain = pick_move (form_of c.args.y.now) c.args.env.now c.args.action.now in (
-      lots_more lot c.args.limit (picks at) i k (map plain_bag c.args.set.now.items) old new lt is c.loop-place.invariant.0
-          (subst (λ r. Gathers c.args.limit (lot k) old new r) c.in_default.is
-          (subst (λ b. Gathers b (lot k) old new c.put_moved.result) c.loop-place.invariant.1
-          (c.put_moved.ensures.gathers x (subst (λ b. Builds b x c.advance-moved.result) (sym c.loop-place.invariant.1) c.advance-moved.ensures)))),
-      c.put_moved.ensures.budget ∙ c.loop-place.invariant.1,
-    )
-
-pub parallel::gather_picks-returns-clause-gathers : goal.parallel::gather_picks-returns-clause-gathers
-parallel::gather_picks-returns-clause-gathers t c =
-    let at : List Plain = c.args.items.now in
-    let lot : Plain × List Plain → List Plain = pick_move (form_of c.args.y.now) c.args.env.now c.args.action.now in
-    let all : c.loop-place.place ≡ length (picks at) = omega (arith, length-picks at, c.loop-place-test.false, c.loop-place.auto.place-end) in
-    lots_end lot (picks at) (map plain_bag c.args.set.now.items) (map plain_bag c.loop-place.set.items)
-    (subst (λ n. map plain_bag c.loop-place.set.items ≡ put_all (flat_map lot (take n (picks at))) (map plain_bag c.args.set.now.items)) all c.loop-place.invariant.0)
-
-pub parallel::gather_picks-returns-clause-budget : goal.parallel::gather_picks-returns-clause-budget
-parallel::gather_picks-returns-clause-budget t c =
-    c.loop-place.invariant.1 ∙ sym c.requires.budget
-
-pub parallel::gather_picks-advance-moved-requires : goal.parallel::gather_picks-advance-moved-requires
-parallel::gather_picks-advance-moved-requires t c = (
-  omega arith,
-  (let xs = c.args.items.now in
-      let x = c.index-items-place.result in
-      let lt : c.loop-place.place < length xs = omega (arith, c.loop-place-test.true) in
-      each_at {G = Ready c.args.limit (form_of c.args.y.now) c.args.env.now} xs c.loop-place.place x lt
-      (c.index-items-place.is) c.requires.ready),
-)
-
-pub advance::advance-advance_par-requires : goal.advance::advance-advance_par-requires
-advance::advance-advance_par-requires t c =
-    let is : form_of c.args.expr.now ≡ par (form_of c.deref-in-Par.result.now) (form_of c.deref-in-Par-2.result.now) = ap form_of c.in-Par.is ∙ ap (λ x. par (form_of x) (form_of c.in-Par.z.value)) (sym c.deref-in-Par.ensures) ∙ ap (λ x. par (form_of c.deref-in-Par.result.now) (form_of x)) (sym c.deref-in-Par-2.ensures) in
-    let size : form_size (form_of c.args.expr.now) ≡ form_size (par (form_of c.deref-in-Par.result.now) (form_of c.deref-in-Par-2.result.now)) = ap form_size is in (
-      omega (arith, size),
+pub parallel::advance_bags-advance_picks-requires : goal.parallel::advance_bags-advance_picks-requires
+parallel::advance_bags-advance_picks-requires t c =
+    let ready = each_at {G = IsReadyBag (form_of c.args.y.now) c.args.step.env.now} (map plain_bag c.args.bags.now) c.loop-bag.bag-index (plain_bag c.bag-item.result) (omega (arith, length-map c.args.bags.now plain_bag, c.loop-bag-test.true)) (image_at plain_bag c.args.bags.now c.loop-bag.bag-index c.bag-item.result c.bag-item.is) c.requires.ready in (
+      omega arith,
       (
-        subst (λ x. Ready c.args.limit x c.args.env.now c.args.tree.now) is c.requires,
-        subst (λ x. may x c.args.env.now c.args.tree.now c.args.action.now ≡ true) is (sym c.goes_on.ensures ∙ c.if-not-goes_on.false),
+        subst (Each (Ready (form_of c.args.y.now) c.args.step.env.now)) (items_of-listed c.bag-item.result.items.items ∙ sym c.deref.ensures.value) ready.0,
+        (omega (arith, ap (λ l. size_of (listed l)) c.deref.ensures.value, ready.1), (c.loop-bag.invariant.budget, c.loop-bag.invariant.within)),
       ),
     )
 
-pub advance::advance-returns-in-Par : goal.advance::advance-returns-in-Par
-advance::advance-returns-in-Par t c =
-    let is : form_of c.args.expr.now ≡ par (form_of c.deref-in-Par.result.now) (form_of c.deref-in-Par-2.result.now) = ap form_of c.in-Par.is ∙ ap (λ x. par (form_of x) (form_of c.in-Par.z.value)) (sym c.deref-in-Par.ensures) ∙ ap (λ x. par (form_of c.deref-in-Par.result.now) (form_of x)) (sym c.deref-in-Par-2.ensures) in
-    subst (λ x. Builds c.args.limit (moved x c.args.env.now c.args.tree.now c.args.action.now) c.advance_par.result) (sym is) c.advance_par.ensures
+pub parallel::advance_bags-returns-in_err-advance_picks : goal.parallel::advance_bags-returns-in_err-advance_picks
+parallel::advance_bags-returns-in_err-advance_picks t c =
+    let k = picks_size (form_of c.args.y.now) c.args.step.env.now c.args.step.action.now c.bag-item.result.items.items c.deref.result.now c.deref.ensures.value (map plain_bag c.loop-bag.set.items) in
+    exit_over _ c.from_residual.result _ c.from_residual.ensures.1 c.in_err-advance_picks.ensures.gathers (λ lt.
+    lot_over (bag_moves (form_of c.args.y.now) c.args.step.env.now c.args.step.action.now) c.args.step.limit (map plain_bag c.args.bags.now) c.loop-bag.bag-index (plain_bag c.bag-item.result) [] (map plain_bag c.loop-bag.set.items) (omega (arith, length-map c.args.bags.now plain_bag, c.loop-bag-test.true)) (image_at plain_bag c.args.bags.now c.loop-bag.bag-index c.bag-item.result c.bag-item.is) c.loop-bag.invariant.items (omega (arith, k, lt)))
 
-pub advance::advance-advance_par_star-requires : goal.advance::advance-advance_par_star-requires
-advance::advance-advance_par_star-requires t c =
-    let is : form_of c.args.expr.now ≡ par_star (form_of c.deref-in-ParStar.result.now) = ap form_of c.in-ParStar.is ∙ ap (λ x. par_star (form_of x)) (sym c.deref-in-ParStar.ensures) in
-    let size : form_size (form_of c.args.expr.now) ≡ form_size (par_star (form_of c.deref-in-ParStar.result.now)) = ap form_size is in (
-      omega (arith, size),
-      (
-        subst (λ x. Ready c.args.limit x c.args.env.now c.args.tree.now) is c.requires,
-        subst (λ x. may x c.args.env.now c.args.tree.now c.args.action.now ≡ true) is (sym c.goes_on.ensures ∙ c.if-not-goes_on.false),
-      ),
-    )
+pub parallel::advance_bags-put_more-requires-clause-items : goal.parallel::advance_bags-put_more-requires-clause-items
+parallel::advance_bags-put_more-requires-clause-items t c =
+    let ready = each_at {G = IsReadyBag (form_of c.args.y.now) c.args.step.env.now} (map plain_bag c.args.bags.now) c.loop-bag.bag-index (plain_bag c.bag-item.result) (omega (arith, length-map c.args.bags.now plain_bag, c.loop-bag-test.true)) (image_at plain_bag c.args.bags.now c.loop-bag.bag-index c.bag-item.result c.bag-item.is) c.requires.ready in
+    omega (arith, ap (λ l. size_of (listed l)) c.deref-in-loop-bag.ensures.value, ready.1)
 
-pub advance::advance-returns-in-ParStar : goal.advance::advance-returns-in-ParStar
-advance::advance-returns-in-ParStar t c =
-    let is : form_of c.args.expr.now ≡ par_star (form_of c.deref-in-ParStar.result.now) = ap form_of c.in-ParStar.is ∙ ap (λ x. par_star (form_of x)) (sym c.deref-in-ParStar.ensures) in
-    subst (λ x. Builds c.args.limit (moved x c.args.env.now c.args.tree.now c.args.action.now) c.advance_par_star.result) (sym is) c.advance_par_star.ensures
+pub parallel::advance_bags-returns-in_err-put_more : goal.parallel::advance_bags-returns-in_err-put_more
+parallel::advance_bags-returns-in_err-put_more t c =
+    let put = bag_put (form_of c.args.y.now) c.args.step.env.now c.args.step.action.now c.bag-item.result.items.items c.deref.result.now c.deref.ensures.value (map plain_bag c.loop-bag.set.items) c.deref-in-loop-bag.result.now (map plain_bag c.advance_picks.new.set.items) c.args.first.now
+    c.deref-in-loop-bag.ensures.value c.requires.first c.in_ok-advance_picks.ensures.gathers in
+    exit_over _ c.from_residual-in_err-put_more.result _ c.from_residual-in_err-put_more.ensures.1 c.in_err-put_more.ensures.gathers (λ lt.
+    lot_over (bag_moves (form_of c.args.y.now) c.args.step.env.now c.args.step.action.now) c.args.step.limit (map plain_bag c.args.bags.now) c.loop-bag.bag-index (plain_bag c.bag-item.result) [] (map plain_bag c.loop-bag.set.items) (omega (arith, length-map c.args.bags.now plain_bag, c.loop-bag-test.true)) (image_at plain_bag c.args.bags.now c.loop-bag.bag-index c.bag-item.result c.bag-item.is) c.loop-bag.invariant.items
+    (omega (arith, ap size_all put, lt, c.advance_picks.ensures.budget)))
 
-pub parallel::gather_bags-loop-bag-smaller : goal.parallel::gather_bags-loop-bag-smaller
-parallel::gather_bags-loop-bag-smaller t c = falls (length c.args.bags.now) c.loop-bag.bag-index c.loop-bag-test.true
+pub parallel::advance_bags-loop-bag-preserved : goal.parallel::advance_bags-loop-bag-preserved
+parallel::advance_bags-loop-bag-preserved t c =
+    record {
+      items = lots_more (bag_moves (form_of c.args.y.now) c.args.step.env.now c.args.step.action.now) (map plain_bag c.args.bags.now) c.loop-bag.bag-index (plain_bag c.bag-item.result) [] (map plain_bag c.loop-bag.set.items) (map plain_bag c.put_more.new.set.items) (omega (arith, length-map c.args.bags.now plain_bag, c.loop-bag-test.true)) (image_at plain_bag c.args.bags.now c.loop-bag.bag-index c.bag-item.result c.bag-item.is) c.loop-bag.invariant.items
+          (c.in_ok-put_more.ensures.gathers ∙ bag_put (form_of c.args.y.now) c.args.step.env.now c.args.step.action.now c.bag-item.result.items.items c.deref.result.now c.deref.ensures.value (map plain_bag c.loop-bag.set.items) c.deref-in-loop-bag.result.now (map plain_bag c.advance_picks.new.set.items) c.args.first.now
+          c.deref-in-loop-bag.ensures.value c.requires.first c.in_ok-advance_picks.ensures.gathers);
+      within = omega (arith, c.put_more.ensures.within, c.advance_picks.ensures.budget);
+      budget = c.put_more.ensures.budget ∙ c.advance_picks.ensures.budget;
+    }
 
-pub parallel::gather_pairs-loop-pair-smaller : goal.parallel::gather_pairs-loop-pair-smaller
-parallel::gather_pairs-loop-pair-smaller t c = falls (length c.args.pairs.now) c.loop-pair.pair-index c.loop-pair-test.true
+pub parallel::advance_picks-advance-requires : goal.parallel::advance_picks-advance-requires
+parallel::advance_picks-advance-requires t c =
+    (omega arith, each_at c.args.items.now c.loop-place.place c.index-items-place.result (omega arith) c.index-items-place.is c.requires.ready)
 
-pub parallel::gather_picks-loop-place-smaller : goal.parallel::gather_picks-loop-place-smaller
-parallel::gather_picks-loop-place-smaller t c = falls (length c.args.items.now) c.loop-place.place c.loop-place-test.true
+pub parallel::advance_picks-returns-in_err-tree-clause-gathers : goal.parallel::advance_picks-returns-in_err-tree-clause-gathers
+parallel::advance_picks-returns-in_err-tree-clause-gathers t c =
+    let lt : c.loop-place.place < length (picks c.args.items.now) = omega (arith, length-picks c.args.items.now, c.loop-place-test.true) in
+    let is : (c.index-items-place.result, remove c.args.items.now c.loop-place.place) ≡ get_or (picks c.args.items.now) c.loop-place.place (c.index-items-place.result, remove c.args.items.now c.loop-place.place) = ap (λ u. (u, remove c.args.items.now c.loop-place.place)) c.index-items-place.is ∙ sym (get-picks c.args.items.now c.loop-place.place c.index-items-place.result (c.index-items-place.result, remove c.args.items.now c.loop-place.place) c.loop-place-test.true) in
+    exit_over _ c.from_residual.result _ c.from_residual.ensures.1 c.in_err-tree.ensures (λ over.
+    lot_over (pick_move (form_of c.args.y.now) c.args.step.env.now c.args.step.action.now) c.args.step.limit (picks c.args.items.now) c.loop-place.place (c.index-items-place.result, remove c.args.items.now c.loop-place.place) (map plain_bag c.args.set.now.items) (map plain_bag c.loop-place.set.items) lt is c.loop-place.invariant.items
+    (live_over c.args.step.limit (moved (form_of c.args.y.now) c.args.step.env.now c.index-items-place.result c.args.step.action.now) (bag (listed (put_in (moved (form_of c.args.y.now) c.args.step.env.now c.index-items-place.result c.args.step.action.now) (remove c.args.items.now c.loop-place.place)))) (map plain_bag c.loop-place.set.items) c.args.step.positive
+    (omega (arith, size-put_in (moved (form_of c.args.y.now) c.args.step.env.now c.index-items-place.result c.args.step.action.now) (remove c.args.items.now c.loop-place.place))) over))
 
-pub quantifiers::advance_any-advance_parts-parts-requires : goal.quantifiers::advance_any-advance_parts-parts-requires
-quantifiers::advance_any-advance_parts-parts-requires t c = (
-  omega arith,
-  ((let shape : c.args.tree.now ≡ any_of c.in-Any.common (plain_entries c.deref.result.now) = sym c.node.ensures ∙ ap plain_node c.in-Any.is ∙ ap (λ es. any_of c.in-Any.common (plain_entries es)) (sym c.deref.ensures.value) in
-      any_ready c.args.limit c.args.parameter.now (form_of c.args.y.now) c.args.env.now c.in-Any.common c.deref.result.now (subst (λ q. Ready c.args.limit (any c.args.parameter.now (form_of c.args.y.now)) c.args.env.now q) shape c.requires.ready))),
-)
+pub parallel::advance_picks-returns-in_err-put_moved-clause-gathers : goal.parallel::advance_picks-returns-in_err-put_moved-clause-gathers
+parallel::advance_picks-returns-in_err-put_moved-clause-gathers t c =
+    let lt : c.loop-place.place < length (picks c.args.items.now) = omega (arith, length-picks c.args.items.now, c.loop-place-test.true) in
+    let is : (c.index-items-place.result, remove c.args.items.now c.loop-place.place) ≡ get_or (picks c.args.items.now) c.loop-place.place (c.index-items-place.result, remove c.args.items.now c.loop-place.place) = ap (λ u. (u, remove c.args.items.now c.loop-place.place)) c.index-items-place.is ∙ sym (get-picks c.args.items.now c.loop-place.place c.index-items-place.result (c.index-items-place.result, remove c.args.items.now c.loop-place.place) c.loop-place-test.true) in
+    let same = ap (λ x. size_all (put_all (bag_with x (remove c.args.items.now c.loop-place.place)) (map plain_bag c.loop-place.set.items))) c.in_ok-tree.ensures.0 in
+    exit_over _ c.from_residual-in_err-put_moved.result _ c.from_residual-in_err-put_moved.ensures.1 c.in_err-put_moved.ensures.gathers (λ over.
+    lot_over (pick_move (form_of c.args.y.now) c.args.step.env.now c.args.step.action.now) c.args.step.limit (picks c.args.items.now) c.loop-place.place (c.index-items-place.result, remove c.args.items.now c.loop-place.place) (map plain_bag c.args.set.now.items) (map plain_bag c.loop-place.set.items) lt is c.loop-place.invariant.items
+    (omega (arith, same, over, c.loop-place.invariant.budget)))
 
-pub quantifiers::advance_any-returns-in_default : goal.quantifiers::advance_any-returns-in_default
-quantifiers::advance_any-returns-in_default t c =
-    subst (λ y. Builds c.args.limit y c.dead.result) (sym (else_any c.args.env.now c.args.action.now c.args.tree.now c.node.result.now c.node.ensures c.args.parameter.now (form_of c.args.y.now) c.in_default.not-Any)) c.dead.ensures
+pub parallel::advance_picks-loop-place-preserved : goal.parallel::advance_picks-loop-place-preserved
+parallel::advance_picks-loop-place-preserved t c =
+    let lt : c.loop-place.place < length (picks c.args.items.now) = omega (arith, length-picks c.args.items.now, c.loop-place-test.true) in
+    let is : (c.index-items-place.result, remove c.args.items.now c.loop-place.place) ≡ get_or (picks c.args.items.now) c.loop-place.place (c.index-items-place.result, remove c.args.items.now c.loop-place.place) = ap (λ u. (u, remove c.args.items.now c.loop-place.place)) c.index-items-place.is ∙ sym (get-picks c.args.items.now c.loop-place.place c.index-items-place.result (c.index-items-place.result, remove c.args.items.now c.loop-place.place) c.loop-place-test.true) in
+    record {
+      items = lots_more (pick_move (form_of c.args.y.now) c.args.step.env.now c.args.step.action.now) (picks c.args.items.now) c.loop-place.place (c.index-items-place.result, remove c.args.items.now c.loop-place.place) (map plain_bag c.args.set.now.items) (map plain_bag c.loop-place.set.items) (map plain_bag c.put_moved.new.set.items) lt is c.loop-place.invariant.items
+          (c.in_ok-put_moved.ensures.gathers ∙ ap (λ x. put_all (bag_with x (remove c.args.items.now c.loop-place.place)) (map plain_bag c.loop-place.set.items)) c.in_ok-tree.ensures.0);
+      within = omega (arith, c.put_moved.ensures.within, c.loop-place.invariant.budget);
+      budget = c.put_moved.ensures.budget ∙ c.loop-place.invariant.budget;
+    }
 
-pub quantifiers::advance_any-any_node-requires : goal.quantifiers::advance_any-any_node-requires
-quantifiers::advance_any-any_node-requires t c =
-    parts_small c.args.limit (common_after false c.args.parameter.now (form_of c.args.y.now) c.args.env.now c.args.action.now c.in-Any.common) (tree_after false c.args.parameter.now (form_of c.args.y.now) c.args.env.now c.args.action.now c.in-Any.common (map plain_entry c.deref.result.now)) (touched c.deref.result.now c.args.action.now) c.advance_parts-parts.result c.requires.ready.bounded c.advance_parts-parts.ensures
+pub parallel::advance_picks-returns-clause-gathers : goal.parallel::advance_picks-returns-clause-gathers
+parallel::advance_picks-returns-clause-gathers t c =
+    let all : c.loop-place.place ≡ length (picks c.args.items.now) = omega (arith, length-picks c.args.items.now, c.loop-place-test.false, c.loop-place.auto.place-end) in
+    lots_end (pick_move (form_of c.args.y.now) c.args.step.env.now c.args.step.action.now) (picks c.args.items.now) (map plain_bag c.args.set.now.items) (map plain_bag c.loop-place.set.items)
+    (subst (λ n. (map plain_bag c.loop-place.set.items) ≡ put_all (flat_map (pick_move (form_of c.args.y.now) c.args.step.env.now c.args.step.action.now) (take n (picks c.args.items.now))) (map plain_bag c.args.set.now.items)) all c.loop-place.invariant.items)
 
-pub quantifiers::advance_any-returns : goal.quantifiers::advance_any-returns
-quantifiers::advance_any-returns t c =
-    let shape : c.args.tree.now ≡ any_of c.in-Any.common (plain_entries c.deref.result.now) = sym c.node.ensures ∙ ap plain_node c.in-Any.is ∙ ap (λ es. any_of c.in-Any.common (plain_entries es)) (sym c.deref.ensures.value) in
-    any_built c.args.limit c.args.parameter.now (form_of c.args.y.now) c.args.env.now c.args.action.now c.args.tree.now c.in-Any.common c.deref.result.now c.any_node.result
-    shape
-    (any_ready c.args.limit c.args.parameter.now (form_of c.args.y.now) c.args.env.now c.in-Any.common c.deref.result.now (subst (λ q. Ready c.args.limit (any c.args.parameter.now (form_of c.args.y.now)) c.args.env.now q) shape c.requires.ready))
-    c.requires.may
-    (c.any_node.ensures (common_after false c.args.parameter.now (form_of c.args.y.now) c.args.env.now c.args.action.now c.in-Any.common) (tree_after false c.args.parameter.now (form_of c.args.y.now) c.args.env.now c.args.action.now c.in-Any.common (map plain_entry c.deref.result.now)) (touched c.deref.result.now c.args.action.now) c.advance_parts-parts.ensures)
-
-pub quantifiers::advance_every-advance_parts-parts-requires : goal.quantifiers::advance_every-advance_parts-parts-requires
-quantifiers::advance_every-advance_parts-parts-requires t c = (
-  omega arith,
-  ((let shape : c.args.tree.now ≡ every_of c.in-Every.common (plain_entries c.deref.result.now) = sym c.node.ensures ∙ ap plain_node c.in-Every.is ∙ ap (λ es. every_of c.in-Every.common (plain_entries es)) (sym c.deref.ensures.value) in
-      every_ready c.args.limit c.args.parameter.now (form_of c.args.y.now) c.args.env.now c.in-Every.common c.deref.result.now (subst (λ q. Ready c.args.limit (every c.args.parameter.now (form_of c.args.y.now)) c.args.env.now q) shape c.requires.ready))),
-)
-
-pub quantifiers::advance_every-returns-in_default : goal.quantifiers::advance_every-returns-in_default
-quantifiers::advance_every-returns-in_default t c =
-    subst (λ y. Builds c.args.limit y c.dead.result) (sym (else_every c.args.env.now c.args.action.now c.args.tree.now c.node.result.now c.node.ensures c.args.parameter.now (form_of c.args.y.now) c.in_default.not-Every)) c.dead.ensures
-
-pub quantifiers::advance_every-every_node-requires : goal.quantifiers::advance_every-every_node-requires
-quantifiers::advance_every-every_node-requires t c =
-    parts_small c.args.limit (common_after false c.args.parameter.now (form_of c.args.y.now) c.args.env.now c.args.action.now c.in-Every.common) (tree_after false c.args.parameter.now (form_of c.args.y.now) c.args.env.now c.args.action.now c.in-Every.common (map plain_entry c.deref.result.now)) (touched c.deref.result.now c.args.action.now) c.advance_parts-parts.result c.requires.ready.bounded c.advance_parts-parts.ensures
-
-pub quantifiers::advance_every-returns : goal.quantifiers::advance_every-returns
-quantifiers::advance_every-returns t c =
-    let shape : c.args.tree.now ≡ every_of c.in-Every.common (plain_entries c.deref.result.now) = sym c.node.ensures ∙ ap plain_node c.in-Every.is ∙ ap (λ es. every_of c.in-Every.common (plain_entries es)) (sym c.deref.ensures.value) in
-    every_built c.args.limit c.args.parameter.now (form_of c.args.y.now) c.args.env.now c.args.action.now c.args.tree.now c.in-Every.common c.deref.result.now c.every_node.result
-    shape
-    (every_ready c.args.limit c.args.parameter.now (form_of c.args.y.now) c.args.env.now c.in-Every.common c.deref.result.now (subst (λ q. Ready c.args.limit (every c.args.parameter.now (form_of c.args.y.now)) c.args.env.now q) shape c.requires.ready))
-    c.requires.may
-    (c.every_node.ensures (common_after false c.args.parameter.now (form_of c.args.y.now) c.args.env.now c.args.action.now c.in-Every.common) (tree_after false c.args.parameter.now (form_of c.args.y.now) c.args.env.now c.args.action.now c.in-Every.common (map plain_entry c.deref.result.now)) (touched c.deref.result.now c.args.action.now) c.advance_parts-parts.ensures)
-
-pub quantifiers::advance_sync-advance_parts-parts-requires : goal.quantifiers::advance_sync-advance_parts-parts-requires
-quantifiers::advance_sync-advance_parts-parts-requires t c = (
-  omega arith,
-  ((let shape : c.args.tree.now ≡ sync_of c.in-Sync.common (plain_entries c.deref.result.now) = sym c.node.ensures ∙ ap plain_node c.in-Sync.is ∙ ap (λ es. sync_of c.in-Sync.common (plain_entries es)) (sym c.deref.ensures.value) in
-      sync_ready c.args.limit c.args.parameter.now (form_of c.args.y.now) c.args.env.now c.in-Sync.common c.deref.result.now (subst (λ q. Ready c.args.limit (sync c.args.parameter.now (form_of c.args.y.now)) c.args.env.now q) shape c.requires.ready))),
-)
-
-pub quantifiers::advance_sync-returns-in_default : goal.quantifiers::advance_sync-returns-in_default
-quantifiers::advance_sync-returns-in_default t c =
-    subst (λ y. Builds c.args.limit y c.dead.result) (sym (else_sync c.args.env.now c.args.action.now c.args.tree.now c.node.result.now c.node.ensures c.args.parameter.now (form_of c.args.y.now) c.in_default.not-Sync)) c.dead.ensures
-
-pub quantifiers::advance_sync-sync_node-requires : goal.quantifiers::advance_sync-sync_node-requires
-quantifiers::advance_sync-sync_node-requires t c =
-    parts_small c.args.limit (common_after true c.args.parameter.now (form_of c.args.y.now) c.args.env.now c.args.action.now c.in-Sync.common) (tree_after true c.args.parameter.now (form_of c.args.y.now) c.args.env.now c.args.action.now c.in-Sync.common (map plain_entry c.deref.result.now)) (touched c.deref.result.now c.args.action.now) c.advance_parts-parts.result c.requires.ready.bounded c.advance_parts-parts.ensures
-
-pub quantifiers::advance_sync-returns : goal.quantifiers::advance_sync-returns
-quantifiers::advance_sync-returns t c =
-    let shape : c.args.tree.now ≡ sync_of c.in-Sync.common (plain_entries c.deref.result.now) = sym c.node.ensures ∙ ap plain_node c.in-Sync.is ∙ ap (λ es. sync_of c.in-Sync.common (plain_entries es)) (sym c.deref.ensures.value) in
-    sync_built c.args.limit c.args.parameter.now (form_of c.args.y.now) c.args.env.now c.args.action.now c.args.tree.now c.in-Sync.common c.deref.result.now c.sync_node.result
-    shape
-    (sync_ready c.args.limit c.args.parameter.now (form_of c.args.y.now) c.args.env.now c.in-Sync.common c.deref.result.now (subst (λ q. Ready c.args.limit (sync c.args.parameter.now (form_of c.args.y.now)) c.args.env.now q) shape c.requires.ready))
-    c.requires.may
-    (c.sync_node.ensures (common_after true c.args.parameter.now (form_of c.args.y.now) c.args.env.now c.args.action.now c.in-Sync.common) (tree_after true c.args.parameter.now (form_of c.args.y.now) c.args.env.now c.args.action.now c.in-Sync.common (map plain_entry c.deref.result.now)) (touched c.deref.result.now c.args.action.now) c.advance_parts-parts.ensures)
-
-pub quantifiers::advance_parts-advance_part-requires : goal.quantifiers::advance_parts-advance_part-requires
-quantifiers::advance_parts-advance_part-requires t c = (
-  omega arith,
-  ((ready_same c.args.limit (form_of c.args.y.now) (bind c.args.parameter.now None c.args.env.now) c.with-outside.result c.args.common.now c.args.common.now
-      c.with-outside.ensures refl
-      (common_ready c.args.limit c.args.parameter.now (form_of c.args.y.now) c.args.env.now c.args.common.now (map plain_entry c.args.entries.now) c.requires))),
-)
-
-pub quantifiers::advance_parts-trees_after-moved-requires : goal.quantifiers::advance_parts-trees_after-moved-requires
-quantifiers::advance_parts-trees_after-moved-requires t c = (
-  omega arith,
-  ((c.requires)),
-)
-
-pub quantifiers::advance_parts-returns-in-Err : goal.quantifiers::advance_parts-returns-in-Err
-quantifiers::advance_parts-returns-in-Err t c =
-    let built : Builds c.args.limit (common_after c.args.only_inside c.args.parameter.now (form_of c.args.y.now) c.args.env.now c.args.action.now c.args.common.now) c.advance_part.result = builds_same c.args.limit c.args.only_inside (form_of c.args.y.now) (bind c.args.parameter.now None c.args.env.now) c.with-outside.result c.args.action.now c.args.common.now c.args.common.now c.advance_part.result c.with-outside.ensures refl c.advance_part.ensures in
-    fault_of_common c.args.limit (common_after c.args.only_inside c.args.parameter.now (form_of c.args.y.now) c.args.env.now c.args.action.now c.args.common.now) (listed (entries_put (common_after c.args.only_inside c.args.parameter.now (form_of c.args.y.now) c.args.env.now c.args.action.now c.args.common.now) (tree_after c.args.only_inside c.args.parameter.now (form_of c.args.y.now) c.args.env.now c.args.action.now c.args.common.now (map plain_entry c.args.entries.now)) (touched c.args.entries.now c.args.action.now))) c.in-Err.fault
-    (subst (Builds c.args.limit (common_after c.args.only_inside c.args.parameter.now (form_of c.args.y.now) c.args.env.now c.args.action.now c.args.common.now)) c.in-Err.is built)
-
-pub quantifiers::advance_parts-returns : goal.quantifiers::advance_parts-returns
-quantifiers::advance_parts-returns t c =
-    let built : Builds c.args.limit (common_after c.args.only_inside c.args.parameter.now (form_of c.args.y.now) c.args.env.now c.args.action.now c.args.common.now) c.advance_part.result = builds_same c.args.limit c.args.only_inside (form_of c.args.y.now) (bind c.args.parameter.now None c.args.env.now) c.with-outside.result c.args.action.now c.args.common.now c.args.common.now c.advance_part.result c.with-outside.ensures refl c.advance_part.ensures in
-    let next = subst (Builds c.args.limit (common_after c.args.only_inside c.args.parameter.now (form_of c.args.y.now) c.args.env.now c.args.action.now c.args.common.now)) c.in-Ok.is built in
-    let small : size_of c.in-Ok.next ≤ c.args.limit = omega (arith, ap size_of next.0, next.1) in
-    parts_same c.args.limit c.in-Ok.next (common_after c.args.only_inside c.args.parameter.now (form_of c.args.y.now) c.args.env.now c.args.action.now c.args.common.now) (tree_after c.args.only_inside c.args.parameter.now (form_of c.args.y.now) c.args.env.now c.args.action.now c.args.common.now (map plain_entry c.args.entries.now)) c.deref.result.now (touched c.args.entries.now c.args.action.now) c.beside.result
-    next.0 (c.deref.ensures.value ∙ c.in-Ok-touched_values.ensures)
-    (c.beside.ensures c.args.limit (tree_after c.args.only_inside c.args.parameter.now (form_of c.args.y.now) c.args.env.now c.args.action.now c.args.common.now (map plain_entry c.args.entries.now)) c.deref.result.now small c.trees_after-moved.ensures)
-
-pub quantifiers::trees_after-value_tree-tree-requires : goal.quantifiers::trees_after-value_tree-tree-requires
-quantifiers::trees_after-value_tree-tree-requires t c = (
-  omega arith,
-  ((c.requires)),
-)
-
-pub quantifiers::trees_after-loop-value-init : goal.quantifiers::trees_after-loop-value-init
-quantifiers::trees_after-loop-value-init t c =
+pub quantifiers::advance_entries-loop-value-init : goal.quantifiers::advance_entries-loop-value-init
+quantifiers::advance_entries-loop-value-init t c =
     record {
       proper = nothing_proper tree_ghosts.eq c.args.next.now c.new-built.result.items c.new-built.ensures.items;
-      held = nothing_held c.args.next.now (tree_after c.args.only_inside c.args.parameter.now (form_of c.args.y.now) c.args.env.now c.args.action.now c.args.common.now (map plain_entry c.args.entries.now)) c.new-built.result.items c.new-built.ensures.items;
+      held = nothing_held c.args.next.now (tree_after c.args.reach c.args.body.parameter.now (form_of c.args.body.expr.now) c.args.step.env.now c.args.step.action.now c.args.common.now (map plain_entry c.args.entries.now)) c.new-built.result.items c.new-built.ensures.items;
       within = omega arith;
     }
 
-pub quantifiers::trees_after-loop-value-preserved : goal.quantifiers::trees_after-loop-value-preserved
-quantifiers::trees_after-loop-value-preserved t c =
-    let h = after_put c.args.limit c.args.next.now (tree_after c.args.only_inside c.args.parameter.now (form_of c.args.y.now) c.args.env.now c.args.action.now c.args.common.now (map plain_entry c.args.entries.now)) c.args.values.now c.loop-value.value-index _ c.put_tree.new.entries.items c.put_tree.result c.in-Ok.sum
-    (omega arith) c.value-item.is
-    (c.put_tree.ensures.entered (tree_after c.args.only_inside c.args.parameter.now (form_of c.args.y.now) c.args.env.now c.args.action.now c.args.common.now (map plain_entry c.args.entries.now)) (take c.loop-value.value-index c.args.values.now) c.loop-value.invariant.held c.value_tree-tree.ensures)
-    c.in-Ok.is in
-    record { proper = c.put_tree.ensures.proper; held = h.0; within = h.1 }
+pub quantifiers::advance_entries-state_at-state-requires : goal.quantifiers::advance_entries-state_at-state-requires
+quantifiers::advance_entries-state_at-state-requires t c =
+    keys_ascend c.args.entries.now c.requires.ready.beside.ascending
 
-pub quantifiers::trees_after-returns-in-Err : goal.quantifiers::trees_after-returns-in-Err
-quantifiers::trees_after-returns-in-Err t c =
-    fault_at c.args.limit c.args.next.now (tree_after c.args.only_inside c.args.parameter.now (form_of c.args.y.now) c.args.env.now c.args.action.now c.args.common.now (map plain_entry c.args.entries.now)) c.args.values.now c.loop-value.value-index _ c.put_tree.new.entries.items c.put_tree.result c.in-Err.fault
-    (omega arith) c.value-item.is
-    (c.put_tree.ensures.entered (tree_after c.args.only_inside c.args.parameter.now (form_of c.args.y.now) c.args.env.now c.args.action.now c.args.common.now (map plain_entry c.args.entries.now)) (take c.loop-value.value-index c.args.values.now) c.loop-value.invariant.held c.value_tree-tree.ensures)
-    c.in-Err.is
+pub quantifiers::advance_entries-advance_at-requires : goal.quantifiers::advance_entries-advance_at-requires
+quantifiers::advance_entries-advance_at-requires t c =
+    let r = value_ready c.args.body.parameter.now (form_of c.args.body.expr.now) c.args.step.env.now c.args.common.now c.args.entries.now c.value-item.result c.requires.ready in (
+      omega arith,
+      (
+        c.requires.ready.fits,
+        (subst (IsProper (form_of c.args.body.expr.now)) (sym c.state_at-state.ensures) r.proper, omega (arith, ap size_of c.state_at-state.ensures, r.small)),
+      ),
+    )
 
-pub quantifiers::value_tree-advance_part-requires : goal.quantifiers::value_tree-advance_part-requires
-quantifiers::value_tree-advance_part-requires t c = (
-  omega arith,
-  ((ready_same c.args.limit (form_of c.args.y.now) (bind c.args.parameter.now (Some c.args.value.now) c.args.env.now) c.with-inside.result
-      (tree_at c.args.value.now c.args.common.now (map plain_entry c.args.entries.now)) c.at.result.now
-      c.with-inside.ensures
-      (c.at.ensures ∙ sym (tree_at_item c.args.value.now c.args.common.now c.args.entries.now))
-      (value_ready c.args.limit c.args.parameter.now (form_of c.args.y.now) c.args.env.now c.args.common.now c.args.entries.now c.args.value.now c.requires))),
-)
+pub quantifiers::advance_entries-returns-in_err-tree : goal.quantifiers::advance_entries-returns-in_err-tree
+quantifiers::advance_entries-returns-in_err-tree t c =
+    let vals = c.deref-value-items.ensures.value ∙ c.in_ok-values.ensures in
+    let whole = entries_are c.args.reach c.args.body.parameter.now (form_of c.args.body.expr.now) c.args.step.env.now c.args.step.action.now c.args.common.now c.args.entries.now c.args.next.now c.deref-value-items.result.now c.requires.ready c.requires.next vals in
+    let same = value_moves c.args.reach c.args.body.parameter.now (form_of c.args.body.expr.now) c.args.step.env.now c.args.step.action.now c.args.common.now c.args.entries.now c.value-item.result c.state_at-state.result.now c.state_at-state.ensures in
+    let lt : c.loop-value.value-index < length c.deref-value-items.result.now = omega arith in
+    let k = value_size c.args.next.now (tree_after c.args.reach c.args.body.parameter.now (form_of c.args.body.expr.now) c.args.step.env.now c.args.step.action.now c.args.common.now (map plain_entry c.args.entries.now)) (take c.loop-value.value-index c.deref-value-items.result.now ++ c.value-item.result ∷ []) c.value-item.result (Member-right (take c.loop-value.value-index c.deref-value-items.result.now) here) in
+    let n = upto_size c.args.next.now (tree_after c.args.reach c.args.body.parameter.now (form_of c.args.body.expr.now) c.args.step.env.now c.args.step.action.now c.args.common.now (map plain_entry c.args.entries.now)) c.deref-value-items.result.now c.loop-value.value-index c.value-item.result lt c.value-item.is in
+    exit_over _ c.from_residual-in_err-tree.result _ c.from_residual-in_err-tree.ensures.1 c.in_err-tree.ensures (λ over.
+    omega (arith, ap size_of whole, ap size_of same, k, n, over))
 
-pub quantifiers::value_tree-at-requires : goal.quantifiers::value_tree-at-requires
-quantifiers::value_tree-at-requires t c =
-    keys_ascend c.args.entries.now c.requires.beside.ascending
+pub quantifiers::advance_entries-put_tree-requires-clause-proper : goal.quantifiers::advance_entries-put_tree-requires-clause-proper
+quantifiers::advance_entries-put_tree-requires-clause-proper t c =
+    c.loop-value.invariant.proper
 
-pub quantifiers::value_tree-returns : goal.quantifiers::value_tree-returns
-quantifiers::value_tree-returns t c =
-    builds_same c.args.limit c.args.only_inside (form_of c.args.y.now) (bind c.args.parameter.now (Some c.args.value.now) c.args.env.now) c.with-inside.result c.args.action.now
-    (tree_at c.args.value.now c.args.common.now (map plain_entry c.args.entries.now)) c.at.result.now c.advance_part.result
-    c.with-inside.ensures
-    (c.at.ensures ∙ sym (tree_at_item c.args.value.now c.args.common.now c.args.entries.now))
-    c.advance_part.ensures
+pub quantifiers::advance_entries-put_tree-requires-clause-within : goal.quantifiers::advance_entries-put_tree-requires-clause-within
+quantifiers::advance_entries-put_tree-requires-clause-within t c =
+    c.loop-value.invariant.within
 
-pub quantifiers::advance_part-advance_inside-requires : goal.quantifiers::advance_part-advance_inside-requires
-quantifiers::advance_part-advance_inside-requires t c = (
-  omega arith,
-  ((c.requires)),
-)
+pub quantifiers::advance_entries-returns-in_err-total : goal.quantifiers::advance_entries-returns-in_err-total
+quantifiers::advance_entries-returns-in_err-total t c =
+    let vals = c.deref-value-items.ensures.value ∙ c.in_ok-values.ensures in
+    let whole = entries_are c.args.reach c.args.body.parameter.now (form_of c.args.body.expr.now) c.args.step.env.now c.args.step.action.now c.args.common.now c.args.entries.now c.args.next.now c.deref-value-items.result.now c.requires.ready c.requires.next vals in
+    let same = value_moves c.args.reach c.args.body.parameter.now (form_of c.args.body.expr.now) c.args.step.env.now c.args.step.action.now c.args.common.now c.args.entries.now c.value-item.result c.state_at-state.result.now c.state_at-state.ensures in
+    let lt : c.loop-value.value-index < length c.deref-value-items.result.now = omega arith in
+    let n = upto_size c.args.next.now (tree_after c.args.reach c.args.body.parameter.now (form_of c.args.body.expr.now) c.args.step.env.now c.args.step.action.now c.args.common.now (map plain_entry c.args.entries.now)) c.deref-value-items.result.now c.loop-value.value-index c.value-item.result lt c.value-item.is in
+    exit_over _ c.from_residual-in_err-total.result _ c.from_residual-in_err-total.ensures.1
+    (c.in_err-total.ensures.entered (tree_after c.args.reach c.args.body.parameter.now (form_of c.args.body.expr.now) c.args.step.env.now c.args.step.action.now c.args.common.now (map plain_entry c.args.entries.now)) (take c.loop-value.value-index c.deref-value-items.result.now) c.loop-value.invariant.held (c.in_ok-tree.ensures.0 ∙ same)) (λ over.
+    omega (arith, ap size_of whole, n, over))
 
-pub quantifiers::advance_part-advance-requires : goal.quantifiers::advance_part-advance-requires
-quantifiers::advance_part-advance-requires t c = (
-  omega arith,
-  ((c.requires)),
-)
+pub quantifiers::advance_entries-loop-value-preserved : goal.quantifiers::advance_entries-loop-value-preserved
+quantifiers::advance_entries-loop-value-preserved t c =
+    let same = value_moves c.args.reach c.args.body.parameter.now (form_of c.args.body.expr.now) c.args.step.env.now c.args.step.action.now c.args.common.now c.args.entries.now c.value-item.result c.state_at-state.result.now c.state_at-state.ensures in
+    let k = c.in_ok-total.ensures.entered (tree_after c.args.reach c.args.body.parameter.now (form_of c.args.body.expr.now) c.args.step.env.now c.args.step.action.now c.args.common.now (map plain_entry c.args.entries.now)) (take c.loop-value.value-index c.deref-value-items.result.now) c.loop-value.invariant.held (c.in_ok-tree.ensures.0 ∙ same) in
+    record {
+      proper = c.put_tree.ensures.proper;
+      held = after_put c.args.next.now (tree_after c.args.reach c.args.body.parameter.now (form_of c.args.body.expr.now) c.args.step.env.now c.args.step.action.now c.args.common.now (map plain_entry c.args.entries.now)) c.deref-value-items.result.now c.loop-value.value-index c.value-item.result c.put_tree.new.entries.items c.in_ok-total.total (omega arith) c.value-item.is k.0;
+      within = k.1;
+    }
 
-pub maps::advance_all-advance_maps-moved-requires : goal.maps::advance_all-advance_maps-moved-requires
-maps::advance_all-advance_maps-moved-requires t c = (
-  omega arith,
-  (
-    (let small : size_of c.in-Ok.first ≤ 1000000 = omega (arith, ap size_of c.in-Ok.ensures, initial_small (form_of c.args.y.now) (bind c.args.parameter.now None c.args.env.now) ((fits-operands (all c.args.parameter.now (form_of c.args.y.now)) c.args.env.now c.requires.ready.fits).body None)) in
-        begin_ready c.args.limit c.args.parameter.now (form_of c.args.y.now) c.args.env.now c.larger-room.result c.args.tree.now c.requires.ready c.in-Ok.first c.in-Ok.ensures
-        (omega (arith, c.larger-room.ensures.second, c.size.ensures.value)) c.larger-room.ensures.first
-        (c.larger-room.ensures.bound 1000000 c.requires.ready.bounded (omega (arith, small, c.size.ensures.value)))),
-    (
-      (let shape : c.args.tree.now ≡ all_of (listed (map plain_map c.deref.result.now)) = sym c.node.ensures ∙ ap plain_node c.in-All.is ∙ ap (λ l. all_of (listed (map plain_map l))) (sym c.deref.ensures.value) in
-          all_held c.args.parameter.now (form_of c.args.y.now) c.args.env.now c.args.action.now c.args.limit (listed (map plain_map c.deref.result.now)) c.in-Ok.first (map plain_map c.deref.result.now)
-          (subst (λ q. Ready c.args.limit (all c.args.parameter.now (form_of c.args.y.now)) c.args.env.now q) shape c.requires.ready) (items_of-listed (map plain_map c.deref.result.now)) refl c.in-Ok.ensures),
-      ((c.new-set.ensures.budget), ((c.larger-room.ensures.first))),
-    ),
-  ),
-)
+pub quantifiers::advance_entries-returns : goal.quantifiers::advance_entries-returns
+quantifiers::advance_entries-returns t c =
+    let vals = c.deref-value-items.ensures.value ∙ c.in_ok-values.ensures in
+    let whole = entries_are c.args.reach c.args.body.parameter.now (form_of c.args.body.expr.now) c.args.step.env.now c.args.step.action.now c.args.common.now c.args.entries.now c.args.next.now c.deref-value-items.result.now c.requires.ready c.requires.next vals in
+    let all : c.loop-value.value-index ≡ length c.deref-value-items.result.now = omega (arith, c.loop-value-test.false, c.loop-value.auto.value-index-end) in
+    let held = c.loop-value.invariant.held in
+    let items = held.items ∙ ap (λ n. entries_put c.args.next.now (tree_after c.args.reach c.args.body.parameter.now (form_of c.args.body.expr.now) c.args.step.env.now c.args.step.action.now c.args.common.now (map plain_entry c.args.entries.now)) (take n c.deref-value-items.result.now)) all ∙ ap (entries_put c.args.next.now (tree_after c.args.reach c.args.body.parameter.now (form_of c.args.body.expr.now) c.args.step.env.now c.args.step.action.now c.args.common.now (map plain_entry c.args.entries.now))) (take-length c.deref-value-items.result.now) in
+    let same = ap listed items ∙ sym whole in
+    (same, omega (arith, ap size_of same, held.counted, c.loop-value.invariant.within))
 
-pub maps::advance_all-returns-in_default : goal.maps::advance_all-returns-in_default
-maps::advance_all-returns-in_default t c =
-    subst (λ y. Builds c.args.limit y c.dead.result) (sym (else_all c.args.env.now c.args.action.now c.args.tree.now c.node.result.now c.node.ensures c.args.parameter.now (form_of c.args.y.now) c.in_default.not-All)) c.dead.ensures
+pub quantifiers::advance_values-advance_at-requires : goal.quantifiers::advance_values-advance_at-requires
+quantifiers::advance_values-advance_at-requires t c =
+    (omega arith, (c.requires.fits, (c.requires.proper, omega (arith, c.requires.small))))
 
 pub maps::advance_all-first_tree-requires : goal.maps::advance_all-first_tree-requires
 maps::advance_all-first_tree-requires t c =
-    omega (arith, initial_small (form_of c.args.y.now) (bind c.args.parameter.now None c.args.env.now) ((fits-operands (all c.args.parameter.now (form_of c.args.y.now)) c.args.env.now c.requires.ready.fits).body None))
+    begin_small c.args.body.parameter.now (form_of c.args.body.expr.now) c.args.step.env.now (all_of (listed (map plain_map c.args.maps.now))) c.requires
 
-pub advance::advance_again-first_tree-requires : goal.advance::advance_again-first_tree-requires
-advance::advance_again-first_tree-requires t c = c.requires.small
+pub maps::advance_all-advance_maps-requires : goal.maps::advance_all-advance_maps-requires
+maps::advance_all-advance_maps-requires t c =
+    (omega arith, (begin_ready c.args.body.parameter.now (form_of c.args.body.expr.now) c.args.step.env.now c.in_ok-first.first (all_of (listed (map plain_map c.args.maps.now))) c.requires c.in_ok-first.ensures, all_held c.args.body.parameter.now (form_of c.args.body.expr.now) c.args.step.env.now c.in_ok-first.first (map plain_map c.args.maps.now) c.requires c.in_ok-first.ensures))
 
-pub maps::advance_all-new-set-requires : goal.maps::advance_all-new-set-requires
-maps::advance_all-new-set-requires t c =
-    omega (arith, c.requires.ready.bounded)
-
-pub maps::advance_all-all_node-requires-clause-budget : goal.maps::advance_all-all_node-requires-clause-budget
-maps::advance_all-all_node-requires-clause-budget t c =
-    c.advance_maps-moved.ensures.budget
-
-pub maps::advance_all-all_node-requires-clause-limit : goal.maps::advance_all-all_node-requires-clause-limit
-maps::advance_all-all_node-requires-clause-limit t c =
-    c.requires.ready.bounded
+pub maps::advance_all-returns-in_err-set : goal.maps::advance_all-returns-in_err-set
+maps::advance_all-returns-in_err-set t c =
+    let whole = made_set (maps_after c.args.body.parameter.now (form_of c.args.body.expr.now) c.args.step.env.now c.args.step.action.now c.in_ok-first.first c.args.step.action.now.values) (map plain_map c.args.maps.now) ∙ ap (λ z. set_of (flat_map (maps_after c.args.body.parameter.now (form_of c.args.body.expr.now) c.args.step.env.now c.args.step.action.now z c.args.step.action.now.values) (items_of (listed (map plain_map c.args.maps.now))))) c.in_ok-first.ensures in
+    exit_over _ c.from_residual-in_err-set.result _ c.from_residual-in_err-set.ensures.1 c.in_err-set.ensures (λ lt. omega (arith, ap size_of whole))
 
 pub maps::advance_all-returns : goal.maps::advance_all-returns
 maps::advance_all-returns t c =
-    let shape : c.args.tree.now ≡ all_of (listed (map plain_map c.deref.result.now)) = sym c.node.ensures ∙ ap plain_node c.in-All.is ∙ ap (λ l. all_of (listed (map plain_map l))) (sym c.deref.ensures.value) in
-    all_built c.args.parameter.now (form_of c.args.y.now) c.args.env.now c.args.action.now c.args.limit c.args.tree.now (listed (map plain_map c.deref.result.now)) c.in-Ok.first (map plain_map c.deref.result.now) c.all_node.result
-    shape (items_of-listed (map plain_map c.deref.result.now)) c.in-Ok.ensures c.requires.may
-    (c.all_node.ensures (flat_map (maps_after c.args.parameter.now (form_of c.args.y.now) c.args.env.now c.args.action.now c.in-Ok.first c.args.action.now.values) (map plain_map c.deref.result.now))
-    (subst (λ l. Gathers c.args.limit (flat_map (maps_after c.args.parameter.now (form_of c.args.y.now) c.args.env.now c.args.action.now c.in-Ok.first c.args.action.now.values) (map plain_map c.deref.result.now)) l (map plain_map c.advance_maps-moved.new.set.items) c.advance_maps-moved.result) (ap (map plain_map) c.new-set.ensures.items) c.advance_maps-moved.ensures.gathers))
+    subst (λ l. Makes c.args.step.limit (all_of l) c.within.result)
+    (ap (λ v. listed (map plain_map v)) c.into_items.ensures.items ∙ ap listed c.in_ok-set.ensures.0 ∙ made_set (maps_after c.args.body.parameter.now (form_of c.args.body.expr.now) c.args.step.env.now c.args.step.action.now c.in_ok-first.first c.args.step.action.now.values) (map plain_map c.args.maps.now) ∙ ap (λ z. set_of (flat_map (maps_after c.args.body.parameter.now (form_of c.args.body.expr.now) c.args.step.env.now c.args.step.action.now z c.args.step.action.now.values) (items_of (listed (map plain_map c.args.maps.now))))) c.in_ok-first.ensures) c.within.ensures
 
-pub maps::advance_maps-advance_map-requires : goal.maps::advance_maps-advance_map-requires
-maps::advance_maps-advance_map-requires t c = (
-  omega arith,
-  ((c.requires.ready), ((subst (λ m. HoldsWell (form_of c.args.y.now) c.args.first.now (plain_map m)) (sym c.state-item.is) (each_at_mapped {G = HoldsWell (form_of c.args.y.now) c.args.first.now} plain_map c.args.maps.now c.loop-state.state-index c.state-item.result (omega arith) c.requires.held)), ((c.loop-state.invariant.1), ((c.requires.room))))),
-)
-
-pub maps::advance_maps-loop-state-preserved : goal.maps::advance_maps-loop-state-preserved
-maps::advance_maps-loop-state-preserved t c = (
-  gather_next plain_map (maps_after c.args.parameter.now (form_of c.args.y.now) c.args.env.now c.args.action.now c.args.first.now c.args.action.now.values) c.args.maps.now c.loop-state.state-index c.state-item.result (map plain_map c.loop-state.set.items) (map plain_map c.advance_map.new.set.items) (put_all (flat_map (maps_after c.args.parameter.now (form_of c.args.y.now) c.args.env.now c.args.action.now c.args.first.now c.args.action.now.values) (map plain_map c.args.maps.now)) (map plain_map c.args.set.now.items)) (omega arith) c.loop-state.invariant.0
-      (put_here (λ m. (maps_after c.args.parameter.now (form_of c.args.y.now) c.args.env.now c.args.action.now c.args.first.now c.args.action.now.values) (plain_map m)) c.args.maps.now c.loop-state.state-index c.state-item.result c.args.limit (map plain_map c.loop-state.set.items) (map plain_map c.advance_map.new.set.items) c.advance_map.result _ c.state-item.is c.advance_map.ensures.gathers c.in-Ok.is),
-  c.advance_map.ensures.budget,
-)
-
-pub maps::advance_maps-returns-in-Err-clause-gathers : goal.maps::advance_maps-returns-in-Err-clause-gathers
-maps::advance_maps-returns-in-Err-clause-gathers t c =
-    gather_fault plain_map (maps_after c.args.parameter.now (form_of c.args.y.now) c.args.env.now c.args.action.now c.args.first.now c.args.action.now.values) c.args.maps.now c.loop-state.state-index c.state-item.result c.args.limit (map plain_map c.loop-state.set.items) (put_all (flat_map (maps_after c.args.parameter.now (form_of c.args.y.now) c.args.env.now c.args.action.now c.args.first.now c.args.action.now.values) (map plain_map c.args.maps.now)) (map plain_map c.args.set.now.items)) c.in-Err.fault (omega arith) c.loop-state.invariant.0
-    (fault_here (λ m. (maps_after c.args.parameter.now (form_of c.args.y.now) c.args.env.now c.args.action.now c.args.first.now c.args.action.now.values) (plain_map m)) c.args.maps.now c.loop-state.state-index c.state-item.result c.args.limit (map plain_map c.loop-state.set.items) (map plain_map c.advance_map.new.set.items) c.advance_map.result c.in-Err.fault c.state-item.is c.advance_map.ensures.gathers c.in-Err.is)
-
-pub maps::advance_map-tree_begun-tree-requires : goal.maps::advance_map-tree_begun-tree-requires
-maps::advance_map-tree_begun-tree-requires t c = (
-  omega arith,
-  ((c.requires.ready), ((c.requires.held))),
-)
-
-pub maps::advance_map-put_moved-requires-clause-held : goal.maps::advance_map-put_moved-requires-clause-held
-maps::advance_map-put_moved-requires-clause-held t c =
-    (form_of c.args.y.now, c.requires.held)
-
-pub maps::advance_map-put_moved-requires-clause-small : goal.maps::advance_map-put_moved-requires-clause-small
-maps::advance_map-put_moved-requires-clause-small t c =
-    small_built c.args.room (begun_tree c.args.parameter.now (form_of c.args.y.now) c.args.env.now c.args.action.now c.args.first.now (plain_map c.args.state.now) c.value-item.result) c.tree_begun-tree.result c.requires.ready.bounded c.tree_begun-tree.ensures
-
-pub maps::advance_map-loop-value-preserved : goal.maps::advance_map-loop-value-preserved
-maps::advance_map-loop-value-preserved t c = (
-  step_on (map_after c.args.parameter.now (form_of c.args.y.now) c.args.env.now c.args.action.now c.args.first.now (plain_map c.args.state.now)) c.args.action.now.values c.loop-value.value-index c.value-item.result (map plain_map c.loop-value.set.items) (map plain_map c.put_moved.new.set.items) (put_all (flat_map (map_after c.args.parameter.now (form_of c.args.y.now) c.args.env.now c.args.action.now c.args.first.now (plain_map c.args.state.now)) c.args.action.now.values) (map plain_map c.args.set.now.items)) (omega (arith, ap length c.values-value-items.ensures.value)) c.loop-value.invariant.0
-      (put_here (map_after c.args.parameter.now (form_of c.args.y.now) c.args.env.now c.args.action.now c.args.first.now (plain_map c.args.state.now)) c.args.action.now.values c.loop-value.value-index c.value-item.result c.args.limit (map plain_map c.loop-value.set.items) (map plain_map c.put_moved.new.set.items) c.put_moved.result _ (c.value-item.is ∙ ap (λ l. get_or l c.loop-value.value-index c.value-item.result) c.values-value-items.ensures.value) (c.put_moved.ensures.gathers c.args.room (begun_tree c.args.parameter.now (form_of c.args.y.now) c.args.env.now c.args.action.now c.args.first.now (plain_map c.args.state.now) c.value-item.result) c.requires.ready.positive c.requires.room c.requires.ready.small c.tree_begun-tree.ensures) c.in-Ok.is),
-  c.put_moved.ensures.budget,
-)
-
-pub maps::advance_map-returns-in-Err-clause-gathers : goal.maps::advance_map-returns-in-Err-clause-gathers
-maps::advance_map-returns-in-Err-clause-gathers t c =
-    stop_at (map_after c.args.parameter.now (form_of c.args.y.now) c.args.env.now c.args.action.now c.args.first.now (plain_map c.args.state.now)) c.args.action.now.values c.loop-value.value-index c.value-item.result c.args.limit (map plain_map c.loop-value.set.items) (put_all (flat_map (map_after c.args.parameter.now (form_of c.args.y.now) c.args.env.now c.args.action.now c.args.first.now (plain_map c.args.state.now)) c.args.action.now.values) (map plain_map c.args.set.now.items)) c.in-Err.fault (omega (arith, ap length c.values-value-items.ensures.value)) c.loop-value.invariant.0
-    (fault_here (map_after c.args.parameter.now (form_of c.args.y.now) c.args.env.now c.args.action.now c.args.first.now (plain_map c.args.state.now)) c.args.action.now.values c.loop-value.value-index c.value-item.result c.args.limit (map plain_map c.loop-value.set.items) (map plain_map c.put_moved.new.set.items) c.put_moved.result c.in-Err.fault (c.value-item.is ∙ ap (λ l. get_or l c.loop-value.value-index c.value-item.result) c.values-value-items.ensures.value) (c.put_moved.ensures.gathers c.args.room (begun_tree c.args.parameter.now (form_of c.args.y.now) c.args.env.now c.args.action.now c.args.first.now (plain_map c.args.state.now) c.value-item.result) c.requires.ready.positive c.requires.room c.requires.ready.small c.tree_begun-tree.ensures) c.in-Err.is)
-
-pub maps::tree_begun-or_first-tree-requires : goal.maps::tree_begun-or_first-tree-requires
-maps::tree_begun-or_first-tree-requires t c =
+pub maps::advance_owner-or_first-requires : goal.maps::advance_owner-or_first-requires
+maps::advance_owner-or_first-requires t c =
     map_keys c.args.state.now c.deref.result.now c.deref.ensures.value c.requires.held.beside.ascending
 
-pub maps::tree_begun-advance-requires : goal.maps::tree_begun-advance-requires
-maps::tree_begun-advance-requires t c =
-    let found = c.or_first-tree.ensures ∙ ap (λ l. or_initial c.args.first.now (tree_at c.args.value.now dead (items_of (plain_entries l)))) c.deref.ensures.value in (
+pub maps::advance_owner-advance-requires : goal.maps::advance_owner-advance-requires
+maps::advance_owner-advance-requires t c =
+    let found = c.or_first.ensures ∙ ap (λ l. or_initial c.args.first.now (tree_at c.args.value.now dead (items_of (plain_entries l)))) c.deref.ensures.value in (
       omega arith,
-      subst (Ready c.args.room (form_of c.args.y.now) c.with-inside.result) (sym found)
-          (start_ready c.args.state.now c.deref.result.now c.deref.ensures.value c.args.room c.args.parameter.now (form_of c.args.y.now) c.args.env.now c.with-inside.result c.args.first.now c.args.value.now c.with-inside.ensures c.requires.ready c.requires.held),
+      subst (Ready (form_of c.args.body.expr.now) c.with-env.result) (sym found)
+          (start_ready c.args.state.now c.deref.result.now c.deref.ensures.value c.args.body.parameter.now (form_of c.args.body.expr.now) c.args.step.env.now c.with-env.result c.args.first.now c.args.value.now c.with-env.ensures c.requires.ready c.requires.held),
     )
 
-pub maps::tree_begun-returns : goal.maps::tree_begun-returns
-maps::tree_begun-returns t c =
-    let found = c.or_first-tree.ensures ∙ ap (λ l. or_initial c.args.first.now (tree_at c.args.value.now dead (items_of (plain_entries l)))) c.deref.ensures.value in
-    subst (λ g. Builds c.args.room (moved (form_of c.args.y.now) g (or_initial c.args.first.now (tree_at c.args.value.now dead (items_of (first_part (plain_map c.args.state.now))))) c.args.action.now) c.advance.result) c.with-inside.ensures
-    (subst (λ z. Builds c.args.room (moved (form_of c.args.y.now) c.with-inside.result z c.args.action.now) c.advance.result) found c.advance.ensures)
+pub maps::advance_owner-returns : goal.maps::advance_owner-returns
+maps::advance_owner-returns t c =
+    let found = c.or_first.ensures ∙ ap (λ l. or_initial c.args.first.now (tree_at c.args.value.now dead (items_of (plain_entries l)))) c.deref.ensures.value in
+    let same = ap (λ g. moved (form_of c.args.body.expr.now) g c.or_first.result.now c.args.step.action.now) c.with-env.ensures ∙ ap (λ z. moved (form_of c.args.body.expr.now) (bind c.args.body.parameter.now (Some c.args.value.now) c.args.step.env.now) z c.args.step.action.now) found in
+    owner_made c.args.step.limit c.larger.result c.args.first.now c.args.value.now (begun_tree c.args.body.parameter.now (form_of c.args.body.expr.now) c.args.step.env.now c.args.step.action.now c.args.first.now (plain_map c.args.state.now) c.args.value.now) (moved (form_of c.args.body.expr.now) c.with-env.result c.or_first.result.now c.args.step.action.now) (items_of (first_part (plain_map c.args.state.now))) c.advance.result same
+    (omega (arith, c.larger.ensures.first, c.args.step.positive)) c.larger.ensures.first (omega (arith, c.larger.ensures.second, c.size.ensures.value))
+    (c.larger.ensures.bound 1000000 c.args.step.bounded (omega (arith, c.size.ensures.value, c.requires.ready.small))) c.advance.ensures
 
-pub advance::advance-advance_any-requires : goal.advance::advance-advance_any-requires
-advance::advance-advance_any-requires t c =
-    let is : form_of c.args.expr.now ≡ any c.in-Any.parameter (form_of c.deref-in-Any.result.now) = ap form_of c.in-Any.is ∙ ap (λ x. any c.in-Any.parameter (form_of x)) (sym c.deref-in-Any.ensures) in
-    let size : form_size (form_of c.args.expr.now) ≡ form_size (any c.in-Any.parameter (form_of c.deref-in-Any.result.now)) = ap form_size is in (
-      omega (arith, size),
-      (
-        subst (λ x. Ready c.args.limit x c.args.env.now c.args.tree.now) is c.requires,
-        subst (λ x. may x c.args.env.now c.args.tree.now c.args.action.now ≡ true) is (sym c.goes_on.ensures ∙ c.if-not-goes_on.false),
-      ),
-    )
+pub maps::advance_maps-advance_owners-requires : goal.maps::advance_maps-advance_owners-requires
+maps::advance_maps-advance_owners-requires t c =
+    (omega arith, (c.requires.ready, (each_at {G = HoldsWell (form_of c.args.body.expr.now) c.args.first.now} (map plain_map c.args.maps.now) c.loop-state.state-index (plain_map c.state-item.result) (omega (arith, length-map c.args.maps.now plain_map, c.loop-state-test.true)) (image_at plain_map c.args.maps.now c.loop-state.state-index c.state-item.result c.state-item.is) c.requires.held, (c.loop-state.invariant.budget, c.loop-state.invariant.within))))
 
-pub advance::advance-returns-in-Any : goal.advance::advance-returns-in-Any
-advance::advance-returns-in-Any t c =
-    let is : form_of c.args.expr.now ≡ any c.in-Any.parameter (form_of c.deref-in-Any.result.now) = ap form_of c.in-Any.is ∙ ap (λ x. any c.in-Any.parameter (form_of x)) (sym c.deref-in-Any.ensures) in
-    subst (λ x. Builds c.args.limit (moved x c.args.env.now c.args.tree.now c.args.action.now) c.advance_any.result) (sym is) c.advance_any.ensures
+pub maps::advance_maps-returns-in_err-advance_owners : goal.maps::advance_maps-returns-in_err-advance_owners
+maps::advance_maps-returns-in_err-advance_owners t c =
+    exit_over _ c.from_residual.result _ c.from_residual.ensures.1 c.in_err-advance_owners.ensures.gathers (λ lt.
+    lot_over (maps_after c.args.body.parameter.now (form_of c.args.body.expr.now) c.args.step.env.now c.args.step.action.now c.args.first.now c.args.step.action.now.values) c.args.step.limit (map plain_map c.args.maps.now) c.loop-state.state-index (plain_map c.state-item.result) [] (map plain_map c.loop-state.set.items) (omega (arith, length-map c.args.maps.now plain_map, c.loop-state-test.true)) (image_at plain_map c.args.maps.now c.loop-state.state-index c.state-item.result c.state-item.is) c.loop-state.invariant.items lt)
 
-pub advance::advance-advance_every-requires : goal.advance::advance-advance_every-requires
-advance::advance-advance_every-requires t c =
-    let is : form_of c.args.expr.now ≡ every c.in-Every.parameter (form_of c.deref-in-Every.result.now) = ap form_of c.in-Every.is ∙ ap (λ x. every c.in-Every.parameter (form_of x)) (sym c.deref-in-Every.ensures) in
-    let size : form_size (form_of c.args.expr.now) ≡ form_size (every c.in-Every.parameter (form_of c.deref-in-Every.result.now)) = ap form_size is in (
-      omega (arith, size),
-      (
-        subst (λ x. Ready c.args.limit x c.args.env.now c.args.tree.now) is c.requires,
-        subst (λ x. may x c.args.env.now c.args.tree.now c.args.action.now ≡ true) is (sym c.goes_on.ensures ∙ c.if-not-goes_on.false),
-      ),
-    )
+pub maps::advance_maps-loop-state-preserved : goal.maps::advance_maps-loop-state-preserved
+maps::advance_maps-loop-state-preserved t c =
+    record {
+      items = lots_more (maps_after c.args.body.parameter.now (form_of c.args.body.expr.now) c.args.step.env.now c.args.step.action.now c.args.first.now c.args.step.action.now.values) (map plain_map c.args.maps.now) c.loop-state.state-index (plain_map c.state-item.result) [] (map plain_map c.loop-state.set.items) (map plain_map c.advance_owners.new.set.items) (omega (arith, length-map c.args.maps.now plain_map, c.loop-state-test.true)) (image_at plain_map c.args.maps.now c.loop-state.state-index c.state-item.result c.state-item.is) c.loop-state.invariant.items c.in_ok-advance_owners.ensures.gathers;
+      within = c.advance_owners.ensures.within;
+      budget = c.advance_owners.ensures.budget;
+    }
 
-pub advance::advance-returns-in-Every : goal.advance::advance-returns-in-Every
-advance::advance-returns-in-Every t c =
-    let is : form_of c.args.expr.now ≡ every c.in-Every.parameter (form_of c.deref-in-Every.result.now) = ap form_of c.in-Every.is ∙ ap (λ x. every c.in-Every.parameter (form_of x)) (sym c.deref-in-Every.ensures) in
-    subst (λ x. Builds c.args.limit (moved x c.args.env.now c.args.tree.now c.args.action.now) c.advance_every.result) (sym is) c.advance_every.ensures
+pub maps::advance_owners-returns-in_err-tree-clause-gathers : goal.maps::advance_owners-returns-in_err-tree-clause-gathers
+maps::advance_owners-returns-in_err-tree-clause-gathers t c =
+    exit_over _ c.from_residual.result _ c.from_residual.ensures.1 (c.in_err-tree.ensures (map plain_map c.loop-value.set.items)) (λ lt.
+    lot_over (map_after c.args.body.parameter.now (form_of c.args.body.expr.now) c.args.step.env.now c.args.step.action.now c.args.first.now (plain_map c.args.state.now)) c.args.step.limit c.args.step.action.now.values c.loop-value.value-index c.value-item.result (map plain_map c.args.set.now.items) (map plain_map c.loop-value.set.items) (omega (arith, ap length c.values-value-items.ensures.value)) (c.value-item.is ∙ ap (λ l. get_or l c.loop-value.value-index c.value-item.result) c.values-value-items.ensures.value) c.loop-value.invariant.items lt)
 
-pub advance::advance-advance_sync-requires : goal.advance::advance-advance_sync-requires
-advance::advance-advance_sync-requires t c =
-    let is : form_of c.args.expr.now ≡ sync c.in-Sync.parameter (form_of c.deref-in-Sync.result.now) = ap form_of c.in-Sync.is ∙ ap (λ x. sync c.in-Sync.parameter (form_of x)) (sym c.deref-in-Sync.ensures) in
-    let size : form_size (form_of c.args.expr.now) ≡ form_size (sync c.in-Sync.parameter (form_of c.deref-in-Sync.result.now)) = ap form_size is in (
-      omega (arith, size),
-      (
-        subst (λ x. Ready c.args.limit x c.args.env.now c.args.tree.now) is c.requires,
-        subst (λ x. may x c.args.env.now c.args.tree.now c.args.action.now ≡ true) is (sym c.goes_on.ensures ∙ c.if-not-goes_on.false),
-      ),
-    )
+pub maps::advance_owners-returns-in_err-put_owner-clause-gathers : goal.maps::advance_owners-returns-in_err-put_owner-clause-gathers
+maps::advance_owners-returns-in_err-put_owner-clause-gathers t c =
+    let same = ap (λ x. put_all (map_with c.args.first.now c.value-item.result x (items_of (first_part (plain_map c.args.state.now)))) (map plain_map c.loop-value.set.items)) c.in_ok-tree.ensures.0 in
+    exit_over _ c.from_residual-in_err-put_owner.result _ c.from_residual-in_err-put_owner.ensures.1 c.in_err-put_owner.ensures.gathers (λ lt.
+    lot_over (map_after c.args.body.parameter.now (form_of c.args.body.expr.now) c.args.step.env.now c.args.step.action.now c.args.first.now (plain_map c.args.state.now)) c.args.step.limit c.args.step.action.now.values c.loop-value.value-index c.value-item.result (map plain_map c.args.set.now.items) (map plain_map c.loop-value.set.items) (omega (arith, ap length c.values-value-items.ensures.value)) (c.value-item.is ∙ ap (λ l. get_or l c.loop-value.value-index c.value-item.result) c.values-value-items.ensures.value) c.loop-value.invariant.items
+    (omega (arith, ap size_all same, lt, c.loop-value.invariant.budget)))
 
-pub advance::advance-returns-in-Sync : goal.advance::advance-returns-in-Sync
-advance::advance-returns-in-Sync t c =
-    let is : form_of c.args.expr.now ≡ sync c.in-Sync.parameter (form_of c.deref-in-Sync.result.now) = ap form_of c.in-Sync.is ∙ ap (λ x. sync c.in-Sync.parameter (form_of x)) (sym c.deref-in-Sync.ensures) in
-    subst (λ x. Builds c.args.limit (moved x c.args.env.now c.args.tree.now c.args.action.now) c.advance_sync.result) (sym is) c.advance_sync.ensures
+pub maps::advance_owners-loop-value-preserved : goal.maps::advance_owners-loop-value-preserved
+maps::advance_owners-loop-value-preserved t c =
+    record {
+      items = lots_more (map_after c.args.body.parameter.now (form_of c.args.body.expr.now) c.args.step.env.now c.args.step.action.now c.args.first.now (plain_map c.args.state.now)) c.args.step.action.now.values c.loop-value.value-index c.value-item.result (map plain_map c.args.set.now.items) (map plain_map c.loop-value.set.items) (map plain_map c.put_owner.new.set.items) (omega (arith, ap length c.values-value-items.ensures.value)) (c.value-item.is ∙ ap (λ l. get_or l c.loop-value.value-index c.value-item.result) c.values-value-items.ensures.value) c.loop-value.invariant.items
+          (c.in_ok-put_owner.ensures.gathers ∙ ap (λ x. put_all (map_with c.args.first.now c.value-item.result x (items_of (first_part (plain_map c.args.state.now)))) (map plain_map c.loop-value.set.items)) c.in_ok-tree.ensures.0);
+      within = omega (arith, c.put_owner.ensures.within, c.loop-value.invariant.budget);
+      budget = c.put_owner.ensures.budget ∙ c.loop-value.invariant.budget;
+    }
 
-pub advance::advance-advance_all-requires : goal.advance::advance-advance_all-requires
-advance::advance-advance_all-requires t c =
-    let is : form_of c.args.expr.now ≡ all c.in-All.parameter (form_of c.deref-in-All.result.now) = ap form_of c.in-All.is ∙ ap (λ x. all c.in-All.parameter (form_of x)) (sym c.deref-in-All.ensures) in
-    let size : form_size (form_of c.args.expr.now) ≡ form_size (all c.in-All.parameter (form_of c.deref-in-All.result.now)) = ap form_size is in (
-      omega (arith, size),
-      (
-        subst (λ x. Ready c.args.limit x c.args.env.now c.args.tree.now) is c.requires,
-        subst (λ x. may x c.args.env.now c.args.tree.now c.args.action.now ≡ true) is (sym c.goes_on.ensures ∙ c.if-not-goes_on.false),
-      ),
-    )
+pub quantifiers::advance_at-advance-requires : goal.quantifiers::advance_at-advance-requires
+quantifiers::advance_at-advance-requires t c =
+    (omega arith, at_ready c.args.value c.with-env.result c.with-env.ensures c.requires.fits c.requires.proper c.requires.small)
 
-pub advance::advance-returns-in-All : goal.advance::advance-returns-in-All
-advance::advance-returns-in-All t c =
-    let is : form_of c.args.expr.now ≡ all c.in-All.parameter (form_of c.deref-in-All.result.now) = ap form_of c.in-All.is ∙ ap (λ x. all c.in-All.parameter (form_of x)) (sym c.deref-in-All.ensures) in
-    subst (λ x. Builds c.args.limit (moved x c.args.env.now c.args.tree.now c.args.action.now) c.advance_all.result) (sym is) c.advance_all.ensures
+pub quantifiers::advance_at-advance_inside-requires : goal.quantifiers::advance_at-advance_inside-requires
+quantifiers::advance_at-advance_inside-requires t c =
+    (omega arith, at_ready c.args.value c.with-env.result c.with-env.ensures c.requires.fits c.requires.proper c.requires.small)

@@ -1,12 +1,11 @@
 -- What it means that the trees of values are put among entries beside a common tree.
-use Rattle.std.specs.Prelude.{◌≡◌, ℕ, Bool, true, false, ◌+◌, ◌<◌, ◌≤◌, List, [], map, Result, Ok, Err}
+use Rattle.std.specs.Prelude.{◌≡◌, ℕ, ◌≤◌, List, [], map, Result, MatchResult}
 use Rattle.ix_tree.specs.Plain.{Plain, listed, pair}
 use Rattle.ix_tree.specs.PlainOf.{plain_entry, plain_entries}
 use Rattle.ix_tree.specs.Size.{size_of}
 use Rattle.ix_can.specs.TreeOf.{entries_of}
-use Rattle.ix_step.specs.inside.Builds.{IsAbove, put_all}
-use Rattle.ix_step.specs.declared.fault.BuildFault.{BuildFault}
-use Rattle.ix_step.specs.declared.fault.BuildFault.TheVariants.{Over, Memory}
+use Rattle.ix_step.specs.inside.Makes.{IsOver, put_all}
+use Rattle.ix_step.specs.declared.fault.Unbuilt.{Unbuilt}
 
 -- the entries of the values, put one after the other
 abbrev pub entries_put : Plain → (List ℕ → Plain) → List (List ℕ) → List Plain
@@ -18,14 +17,7 @@ pub record HoldTrees (common : Plain) (tree : List ℕ → Plain) (values : List
   pub counted : total ≡ size_of (plain_entries entries)
 
 -- the entries of the values are there and within the limit, or with the common tree they are above it, or memory ran out
-abbrev pub EnterTrees : ℕ → Plain → (List ℕ → Plain) → List (List ℕ) → List (List ℕ × Plain) → Result ℕ BuildFault → Type 0
-EnterTrees limit common tree values entries (Ok total) = HoldTrees common tree values entries total × (total ≤ limit)
-EnterTrees limit common tree values entries (Err fault) = IsAbove limit (pair common (listed (entries_put common tree values))) fault
-
--- the number grows by the other where there is more, if it is within the limit then
-abbrev pub Counts : ℕ → ℕ → ℕ → Bool → Result ℕ BuildFault → Type 0
-Counts limit total size false (Ok now) = now ≡ total
-Counts limit total size false (Err fault) = ⊥
-Counts limit total size true (Ok now) = (now ≡ total + size) × (total + size ≤ limit)
-Counts limit total size true (Err (Over told)) = (told ≡ limit) × (limit < total + size)
-Counts limit total size true (Err Memory) = ⊥
+abbrev pub EnterTrees : ℕ → Plain → (List ℕ → Plain) → List (List ℕ) → List (List ℕ × Plain) → Result ℕ Unbuilt → Type 0
+EnterTrees limit common tree values entries r =
+    MatchResult r (λ total. HoldTrees common tree values entries total × (total ≤ limit))
+    (IsOver limit (pair common (listed (entries_put common tree values))))

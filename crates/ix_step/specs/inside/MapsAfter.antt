@@ -1,5 +1,5 @@
 -- The maps of the quantifier `all` after an action, and what is asked of a map before one of its trees is moved.
-use Rattle.std.specs.Prelude.{◌≡◌, ℕ, ◌≤◌, not, List, ◌++◌, flat_map, filter, Some}
+use Rattle.std.specs.Prelude.{ℕ, ◌≤◌, not, List, ◌++◌, flat_map, filter, Some}
 use Rattle.ix_values.specs.PlainAction.{PlainAction}
 use Rattle.ix_expr.specs.Form.{Form}
 use Rattle.ix_expr.specs.Environment.{Environment, bind}
@@ -11,8 +11,6 @@ use Rattle.ix_values.specs.Order.{text_eq}
 use Rattle.ix_can.specs.Nodes.{set_of}
 use Rattle.ix_can.specs.Laws.{IsProper, ProperEntries}
 use Rattle.ix_can.specs.inside.May.{tree_at}
-use Rattle.ix_step.specs.declared.fault.BuildFault.{BuildFault}
-use Rattle.ix_step.specs.declared.fault.BuildFault.TheVariants.{Over, Memory}
 use Rattle.ix_can.specs.inside.Moved.{moved, map_with, entry_with, or_initial}
 
 -- the map is a proper one beside the initial tree, and not too large
@@ -20,13 +18,11 @@ pub record HoldsWell (y : Form) (initial : Plain) (m : Plain) : Type 0 where
   pub beside : ProperEntries (IsProper y) initial (items_of (first_part m))
   pub small : size_of m ≤ 1000000
 
--- the operand fits under every value, and the initial tree is a proper one within the limit, which is in its range
-pub record ReadyToBegin (limit : ℕ) (p : List ℕ) (y : Form) (e : Environment) (initial : Plain) : Type 0 where
+-- the operand fits under every value, and the initial tree is a proper one and not too large
+pub record ReadyToBegin (p : List ℕ) (y : Form) (e : Environment) (initial : Plain) : Type 0 where
   pub fits : FitsInside p y e
   pub proper : IsProper y initial
-  pub small : size_of initial ≤ limit
-  pub positive : 1 ≤ limit
-  pub bounded : limit ≤ 1000000
+  pub small : size_of initial ≤ 1000000
 
 -- the map in which the value has this tree and all others are as before
 abbrev pub with_tree : Plain → List ℕ → Plain → List Plain → Plain
@@ -43,8 +39,3 @@ map_after p y e a initial m v = map_with initial v (begun_tree p y e a initial m
 -- for each value the map in which its tree is moved
 abbrev pub maps_after : List ℕ → Form → Environment → PlainAction → Plain → List (List ℕ) → Plain → List Plain
 maps_after p y e a initial values m = flat_map (map_after p y e a initial m) values
-
--- the fault tells this limit in place of its own
-abbrev pub Retold : ℕ → BuildFault → BuildFault → Type 0
-Retold limit (Over told) now = now ≡ Over limit
-Retold limit Memory now = now ≡ Memory

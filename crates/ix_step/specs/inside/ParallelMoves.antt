@@ -1,5 +1,5 @@
 -- The alternatives of `+` and of `#` after an action, and what is asked before their parts are moved.
-use Rattle.std.specs.Prelude.{ℕ, ◌≤◌, List, [], ◌∷◌, ◌++◌, flat_map}
+use Rattle.std.specs.Prelude.{◌≤◌, List, [], ◌∷◌, ◌++◌, flat_map}
 use Rattle.ix_words.specs.Each.{Each}
 use Rattle.ix_words.specs.Canon.{when}
 use Rattle.ix_values.specs.PlainAction.{PlainAction}
@@ -13,17 +13,13 @@ use Rattle.ix_can.specs.inside.Moved.{moved, picks, bag_with}
 use Rattle.ix_step.specs.inside.Moves.{begun}
 use Rattle.ix_step.specs.inside.Ready.{Ready}
 
--- the pair of the two trees, if the left one is live
-abbrev pub left_live : Plain → Plain → List Plain
-left_live x right = when (is_live x) (pair x right ∷ [])
-
--- the pair of the two trees, if the right one is live
-abbrev pub right_live : Plain → Plain → List Plain
-right_live left x = when (is_live x) (pair left x ∷ [])
+-- the pairs of two trees with one of them moved, each where the moved tree is live
+abbrev pub pairs_of : Plain → Plain → Plain → Plain → List Plain
+pairs_of x u left right = when (is_live left) (pair left u ∷ []) ++ when (is_live right) (pair x right ∷ [])
 
 -- the pairs in which one of the two sides is moved
 abbrev pub pair_moves : Form → Form → Environment → PlainAction → Plain → List Plain
-pair_moves y z e a p = left_live (moved y e (first_part p) a) (second_part p) ++ right_live (first_part p) (moved z e (second_part p) a)
+pair_moves y z e a p = pairs_of (first_part p) (second_part p) (moved y e (first_part p) a) (moved z e (second_part p) a)
 
 -- the bag of a moved tree and the others
 abbrev pub pick_move : Form → Environment → PlainAction → Plain × List Plain → List Plain
@@ -38,13 +34,9 @@ abbrev pub bag_moves : Form → Environment → PlainAction → Plain → List P
 bag_moves y e a b = pick_moves y e a (items_of (first_part b)) ++ bag_with (begun y e a) (items_of (first_part b))
 
 -- both sides of the pair are ready
-abbrev pub IsReadyPair : ℕ → Form → Form → Environment → Plain → Type 0
-IsReadyPair limit y z e p = Ready limit y e (first_part p) × Ready limit z e (second_part p)
+abbrev pub IsReadyPair : Form → Form → Environment → Plain → Type 0
+IsReadyPair y z e p = Ready y e (first_part p) × Ready z e (second_part p)
 
 -- each tree of the bag is ready, and the bag isn't too large
-abbrev pub IsReadyBag : ℕ → Form → Environment → Plain → Type 0
-IsReadyBag limit y e b = Each (Ready limit y e) (items_of (first_part b)) × (size_of b ≤ 1000000)
-
--- the limit is in its range
-abbrev pub IsLimit : ℕ → Type 0
-IsLimit limit = (1 ≤ limit) × (limit ≤ 1000000)
+abbrev pub IsReadyBag : Form → Environment → Plain → Type 0
+IsReadyBag y e b = Each (Ready y e) (items_of (first_part b)) × (size_of b ≤ 1000000)

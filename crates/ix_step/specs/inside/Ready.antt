@@ -1,5 +1,5 @@
 -- What is asked of an expression, an environment and a tree before the tree is moved.
-use Rattle.std.specs.Prelude.{ℕ, ◌≤◌}
+use Rattle.std.specs.Prelude.{◌≤◌}
 use Rattle.ix_expr.specs.Form.{Form}
 use Rattle.ix_expr.specs.Environment.{Environment}
 use Rattle.ix_expr.specs.FormFaults.{Fits}
@@ -7,10 +7,8 @@ use Rattle.ix_tree.specs.Plain.{Plain}
 use Rattle.ix_tree.specs.Size.{size_of}
 use Rattle.ix_can.specs.Laws.{IsProper}
 
--- the expression fits the environment, the tree is a proper one of it and not too large, and the limit is in its range
-pub record Ready (limit : ℕ) (x : Form) (e : Environment) (t : Plain) : Type 0 where
+-- the expression fits the environment, and the tree is a proper one of it and not too large
+pub record Ready (x : Form) (e : Environment) (t : Plain) : Type 0 where
   pub fits : Fits x e
   pub proper : IsProper x t
   pub small : size_of t ≤ 1000000
-  pub positive : 1 ≤ limit
-  pub bounded : limit ≤ 1000000

@@ -1,6 +1,5 @@
-use Rattle.std.proofs.Common.{map, ap, ◌∙◌}
+use Rattle.std.proofs.Common.{ap, ◌∙◌}
 use Rattle.std.specs.List.{remove}
-use Rattle.ix_step.proofs.BagsPut.{map-remove}
 use Rattle.ix_step.proofs.bags.others_of.Goals as goal
 
 pub returns : goal.returns

@@ -1,6 +1,5 @@
-use Rattle.std.proofs.Common.{◌≡◌, ◌<◌, length, map, get_or, sym, ap, ◌∙◌, arith}
+use Rattle.std.proofs.Common.{◌≡◌, ◌<◌, length, get_or, sym, ap, ◌∙◌, arith}
 use Rattle.std.specs.Ordering.{is_gt}
-use Rattle.std.proofs.lemmas.List.{length-map}
 use Rattle.ix_tree.specs.Order.{tree_cmp}
 use Rattle.ix_step.proofs.BagsPut.{place_further, place_found}
 use Rattle.ix_step.proofs.bags.place_of.Goals as goal

@@ -1,4 +1,4 @@
-use Rattle.std.proofs.Common.{◌≡◌, map}
+use Rattle.std.proofs.Common.{◌≡◌}
 use Rattle.ix_can.specs.Nodes.{put_in}
 use Rattle.ix_step.proofs.BagsPut.{placed_after}
 use Rattle.ix_step.proofs.bags.place_of.Given as goal

@@ -1,32 +1,25 @@
-use Rattle.std.proofs.Common.{◌≡◌, [], ◌∷◌, length, map, refl, sym, ap, ◌∙◌, subst, arith, rules}
+use Rattle.std.proofs.Common.{◌≡◌, [], ◌∷◌, map, refl, sym, ap, ◌∙◌, subst, arith}
 use Rattle.std.specs.List.{insert}
 use Rattle.ix_tree.specs.Plain.{bag, listed}
 use Rattle.ix_tree.specs.PlainOf.{plain_bag}
 use Rattle.ix_tree.specs.Size.{size_of}
-use Rattle.ix_tree.specs.declared.node.Bag.{Bag}
-use Rattle.ix_can.specs.Nodes.{put_in}
-use Rattle.ix_step.specs.inside.Builds.{Gathers}
-use Rattle.ix_step.proofs.BagsPut.{map-insert, size-put_in}
-use Rattle.ix_step.proofs.Gathered.{gathers_put}
 use Rattle.ix_tree.specs.Order.{tree_cmp}
+use Rattle.ix_tree.specs.declared.node.Bag.{Bag}
+use Rattle.ix_tree.proofs.Alternatives.{weight_of-list}
+use Rattle.ix_can.specs.Nodes.{put_in}
+use Rattle.ix_step.specs.inside.Makes.{Gathers}
+use Rattle.ix_step.proofs.BagsPut.{size-put_in}
+use Rattle.ix_step.proofs.Gathered.{gathers_put}
 use Rattle.ix_step.proofs.bags.put_bag.Goals as goal
-
-pub insert-requires : goal.insert-requires
-insert-requires c =
-    let same : length c.as_slice.result.now ≡ length c.args.others.items = ap length c.as_slice.ensures.value in
-    search (rules, same)
 
 pub put-requires : goal.put-requires
 put-requires c =
-    let b : Bag = record { items = c.insert.new.self } in
     let items : c.insert.new.self.items ≡ put_in c.args.tree c.args.others.items =
     c.in-Ok.ensures.items
     ∙ ap (λ l. insert l c.place_of-place.result c.args.tree) (sym c.as_slice.ensures.value)
     ∙ sym c.place_of-place.ensures.place
     ∙ ap (λ l. put_in c.args.tree l) c.as_slice.ensures.value in
-    let size : size_of (plain_bag b) ≡ size_of (bag (listed (put_in c.args.tree c.args.others.items))) =
-    ap size_of (ap (λ l. bag (listed l)) items) in
-    omega (arith, size, size-put_in c.args.tree c.args.others.items, c.requires)
+    omega (arith, ap (λ l. size_of (listed l)) items, size-put_in c.args.tree c.args.others.items, c.requires.small)
 
 pub returns-in-Ok-clause-gathers : goal.returns-in-Ok-clause-gathers
 returns-in-Ok-clause-gathers c =
@@ -40,8 +33,5 @@ returns-in-Ok-clause-gathers c =
     (ap (λ l. bag (listed l)) items)
     (gathers_put plain_bag (λ b d. tree_cmp (plain_bag b) (plain_bag d)) (λ b d. refl) c.args.set.now c.put.new.set.items b c.put.result c.put.ensures.put)
 
-pub returns-in-Ok-clause-budget : goal.returns-in-Ok-clause-budget
-returns-in-Ok-clause-budget c = c.put.ensures.budget
-
-pub returns-in-Err-clause-budget : goal.returns-in-Err-clause-budget
-returns-in-Err-clause-budget c = refl
+pub returns-in-Ok-clause-within : goal.returns-in-Ok-clause-within
+returns-in-Ok-clause-within c = omega (arith, weight_of-list plain_bag c.put.new.set.items, c.put.ensures.within, c.put.ensures.budget)

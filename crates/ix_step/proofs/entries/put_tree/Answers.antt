@@ -1,29 +1,25 @@
-use Rattle.std.proofs.Common.{◌≡◌, ◌≤◌, ◌++◌, ◌∷◌, [], true, nat_lt, subst, arith}
-use Rattle.std.proofs.lemmas.Bool.Decides.{nat_tests}
-use Rattle.std.proofs.lemmas.Bool.{ltb-true}
-use Rattle.ix_words.specs.Each.{here}
-use Rattle.ix_words.proofs.Each.{Member-right}
+use Rattle.std.proofs.Common.{ap, arith}
 use Rattle.ix_tree.specs.contracts.order.KnotPartialEq.TheImpl.{ghosts as tree_ghosts}
-use Rattle.ix_step.specs.inside.Builds.{Builds}
-use Rattle.ix_step.proofs.EntriesPut.{fault_of_value, entered, entered_counts}
+use Rattle.ix_tree.specs.Plain.{listed}
+use Rattle.ix_tree.specs.Size.{size_of}
+use Rattle.ix_step.proofs.EntriesPut.{entered}
 use Rattle.ix_step.proofs.SameTrees.{same_trees}
 use Rattle.ix_step.proofs.entries.put_tree.Goals as goal
 
-pub returns-in-Err-clause-entered : goal.returns-in-Err-clause-entered
-returns-in-Err-clause-entered c trees values held built =
-    fault_of_value c.args.limit c.args.common.now trees (values ++ c.args.value ∷ []) c.args.value c.in-Err.fault
-    (Member-right values here)
-    (subst (Builds c.args.limit (trees c.args.value)) c.in-Err.is built)
+pub returns-then-len-count-clause-entered : goal.returns-then-len-count-clause-entered
+returns-then-len-count-clause-entered c trees values held same =
+    let d = entered tree_ghosts.eq same_trees c.args.common.now trees values c.args.entries.now.items c.args.total c.args.value c.args.tree c.put.new.entries.items held same c.in_ok-put.ensures.list in
+    (record { items = d.items; counted = d.kept (omega (arith, c.if-len-count.true, c.len.ensures, c.len-count.ensures)) }, c.requires.within)
 
-pub returns-in-Ok-put-clause-entered : goal.returns-in-Ok-put-clause-entered
-returns-in-Ok-put-clause-entered c trees values held built =
-    let b = subst (Builds c.args.limit (trees c.args.value)) c.in-Ok.is built in
-    entered_counts c.args.limit c.size-size.result
-    (entered tree_ghosts.eq same_trees (c.args.common.now) trees values c.args.entries.now.items c.args.total c.args.value c.in-Ok.tree c.put.new.entries.items held b.0 c.in-Ok-put.ensures.list)
-    c.size-size.ensures.value
-    c.requires.within
-    _
-    (λ (e : nat_lt c.len-count.result c.len.result ≡ true). omega (arith, ltb-true c.len-count.result c.len.result e, c.len.ensures, c.len-count.ensures))
-    (λ e. let le : c.len.result ≤ c.len-count.result = grind (arith, nat_tests) in omega (arith, le, c.len.ensures, c.len-count.ensures))
-    c.counted.result
-    c.counted.ensures
+pub returns-then-total-size-clause-entered : goal.returns-then-total-size-clause-entered
+returns-then-total-size-clause-entered c trees values held same =
+    let d = entered tree_ghosts.eq same_trees c.args.common.now trees values c.args.entries.now.items c.args.total c.args.value c.args.tree c.put.new.entries.items held same c.in_ok-put.ensures.list in
+    let grown = d.grown (omega (arith, c.if-len-count.false, c.len.ensures, c.len-count.ensures)) in
+    let size = ap (λ l. size_of (listed l)) d.items in
+    λ e. omega (arith, grown, size, c.if-total-size.true, c.size-size.ensures.value)
+
+pub returns-clause-entered : goal.returns-clause-entered
+returns-clause-entered c trees values held same =
+    let d = entered tree_ghosts.eq same_trees c.args.common.now trees values c.args.entries.now.items c.args.total c.args.value c.args.tree c.put.new.entries.items held same c.in_ok-put.ensures.list in
+    let grown = d.grown (omega (arith, c.if-len-count.false, c.len.ensures, c.len-count.ensures)) in
+    (record { items = d.items; counted = omega (arith, grown, c.size-size.ensures.value) }, c.if-total-size.false)
