@@ -57,7 +57,7 @@ module _ {A : Type 0} where
 alphabet_to : (y : Form) {e f : Environment} (a : PlainAction) → AgreeAt e f a → InAlphabet y e a → InAlphabet y f a
 alphabet_to y a k i = alphabet-leads y a (record { at = λ q u m. (k.agree q u m).0 }) i
 
-pub alphabet_alike : (y : Form) {e f : Environment} (a : PlainAction) → AgreeAt e f a → in_alphabet y e a ≡ in_alphabet y f a
+alphabet_alike : (y : Form) {e f : Environment} (a : PlainAction) → AgreeAt e f a → in_alphabet y e a ≡ in_alphabet y f a
 alphabet_alike y {e} {f} a k = one_test (in_alphabet y e a) (in_alphabet y f a) (
   λ h. (alphabet_says y f a).1 (alphabet_to y a k ((alphabet_says y e a).0 h)),
   λ h. (alphabet_says y e a).1 (alphabet_to y a (agree-sym k) ((alphabet_says y f a).0 h)),

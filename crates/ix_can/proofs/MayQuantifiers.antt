@@ -7,7 +7,7 @@ use Rattle.ix_values.specs.PlainAction.{PlainAction, Word, values_of}
 use Rattle.ix_expr.specs.Form.{Form, any, every, sync}
 use Rattle.ix_expr.specs.Environment.{Environment, bind}
 use Rattle.ix_expr.specs.Meaning.{InAlphabet, IsPartial}
-use Rattle.ix_expr.proofs.LawsOfMeaning.{empty-partial, prefix-partial, outside-agree, outside-same}
+use Rattle.ix_expr.proofs.LawsOfMeaning.{empty-partial, prefix-partial, agree-atoms, outside-agree, outside-same}
 use Rattle.ix_tree.specs.Plain.{Plain, any as any_tree, every as every_tree, sync as sync_tree}
 use Rattle.ix_can.specs.Tests.{in_alphabet, values_and_outside}
 use Rattle.ix_can.specs.Ways.{is_empty}
@@ -18,10 +18,10 @@ use Rattle.ix_can.proofs.Lists.{itself, iff_trans, iff_sym, both_iff, either_iff
 use Rattle.ix_can.proofs.Testing.{alphabet_says}
 use Rattle.ix_can.proofs.Nodes.{fresh, fresh-new, some_value, every_value}
 use Rattle.ix_can.proofs.QuantifiersTell.{TellAll, entries, own, Own, own_says, own_tree, own_entries, partial_outside, own_partial_outside, agree_outside, any_told, every_told, sync_told}
-use Rattle.ix_can.proofs.Agreeing.{same_tree_of, own_alike, filter-each, alphabet_alike}
+use Rattle.ix_can.proofs.Agreeing.{same_tree_of, own_alike, filter-each}
 use Rattle.ix_can.proofs.Ends.{filter_end}
 use Rattle.ix_can.proofs.MayTell.{Begins, MayTells, node_may, moved as moved_within_says, one_inside}
-use Rattle.ix_can.proofs.MovesAlike.{may_alike}
+use Rattle.ix_can.proofs.MovesAlike.{atoms_alphabet, may_alike}
 use Rattle.ix_can.proofs.Entries.{values_any, values_all}
 
 -- the values of a longer word are those of the word and those of the action
@@ -73,7 +73,7 @@ module _ (p : List ℕ) (y : Form) (e : Environment) where
 
     -- an action without the value may come next at it as outside
     test_unmoved : (c : Plain) (v : List ℕ) → ¬ Member v a.values → test_under (Some v) c ≡ test_under None c
-    test_unmoved c v n = may_alike a y c (outside-agree e p v a n)
+    test_unmoved c v n = may_alike a y c (bind p (Some v) e) (bind p None e) (agree-atoms y (bind p (Some v) e) (bind p None e) a (outside-agree e p v a n))
 
     pub any_may : TellAll p y e → MayAll → MayTells a (any p y) e
     any_may k m w =
@@ -141,8 +141,8 @@ module _ (p : List ℕ) (y : Form) (e : Environment) where
 
     own_test_unmoved : (c : Plain) (v : List ℕ) → ¬ Member v a.values → own_test (Some v) c ≡ own_test None c
     own_test_unmoved c v n =
-        let g = outside-agree e p v a n in
-        (λ i. moves_within (alphabet_alike y a g i) (may_alike a y c g i))
+        let g = agree-atoms y (bind p (Some v) e) (bind p None e) a (outside-agree e p v a n) in
+        (λ i. moves_within (atoms_alphabet a y (bind p (Some v) e) (bind p None e) g i) (may_alike a y c (bind p (Some v) e) (bind p None e) g i))
 
     pub sync_may : TellAll p y e → MayAll → MayTells a (sync p y) e
     sync_may k m w =

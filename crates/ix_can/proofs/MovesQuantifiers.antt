@@ -6,7 +6,7 @@ use Rattle.ix_values.specs.PlainAction.{PlainAction, Word, values_of}
 use Rattle.ix_expr.specs.Form.{Form, any, every, sync}
 use Rattle.ix_expr.specs.Environment.{Environment, bind}
 use Rattle.ix_expr.specs.Meaning.{IsPartial}
-use Rattle.ix_expr.proofs.LawsOfMeaning.{outside-agree}
+use Rattle.ix_expr.proofs.LawsOfMeaning.{agree-atoms, outside-agree}
 use Rattle.ix_tree.specs.Plain.{Plain, any as any_tree, every as every_tree, sync as sync_tree}
 use Rattle.ix_tree.specs.Order.{key, first_part}
 use Rattle.ix_can.specs.Tests.{in_alphabet, values_and_outside}
@@ -16,10 +16,9 @@ use Rattle.ix_can.specs.TreeOf.{tree_of, entries_of}
 use Rattle.ix_can.specs.inside.May.{tree_at}
 use Rattle.ix_can.specs.inside.Moved.{entry_with, moved_inside, moved, Moves}
 use Rattle.ix_can.proofs.QuantifiersTell.{TellAll, entries, own, own_tree, own_entries, any_told, every_told, sync_told}
-use Rattle.ix_can.proofs.Agreeing.{alphabet_alike}
 use Rattle.ix_can.proofs.Ends.{filter_end}
 use Rattle.ix_can.proofs.MovesShared.{node_moves}
-use Rattle.ix_can.proofs.MovesAlike.{moved_alike}
+use Rattle.ix_can.proofs.MovesAlike.{atoms_alphabet, moved_alike}
 use Rattle.ix_can.proofs.Entries.{entries_move}
 use Rattle.ix_can.proofs.MayQuantifiers.{MayAll, values_end, given_outside, own_outside, any_may, every_may, sync_may}
 
@@ -47,7 +46,7 @@ module _ (p : List ℕ) (y : Form) (e : Environment) (a : PlainAction) where
       ∙ ap (node next)
       (entries_move common (λ v. tree_of y (bind p (Some v) e) w) (values_of w) (given_outside p y e w) a.values next after (λ v t. moved y (bind p (Some v) e) t a)
       (λ v. g (Some v) w)
-      (λ v n. moved_alike a y common (outside-agree e p v a n) ∙ g None w))
+      (λ v n. moved_alike a y common (bind p (Some v) e) (bind p None e) (agree-atoms y (bind p (Some v) e) (bind p None e) a (outside-agree e p v a n)) ∙ g None w))
       ∙ ap (λ vs. node next (set_of (entries_of next after vs))) (sym (values_end w a))
 
   pub any_moves : TellAll p y e → MayAll p y e a → MoveAll → Moves (any p y) e a
@@ -99,8 +98,8 @@ module _ (p : List ℕ) (y : Form) (e : Environment) (a : PlainAction) where
 
   own_unmoved : (c : Plain) (v : List ℕ) → ¬ Member v a.values → own_moved (Some v) c ≡ own_moved None c
   own_unmoved c v n =
-      let g = outside-agree e p v a n in
-      (λ i. moved_inside (alphabet_alike y a g i) (moved_alike a y c g i) c)
+      let g = agree-atoms y (bind p (Some v) e) (bind p None e) a (outside-agree e p v a n) in
+      (λ i. moved_inside (atoms_alphabet a y (bind p (Some v) e) (bind p None e) g i) (moved_alike a y c (bind p (Some v) e) (bind p None e) g i) c)
 
   -- the entries of the projected words after the move
   abbrev own_after : Plain → List Plain → Plain → List Plain
