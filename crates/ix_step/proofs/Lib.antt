@@ -13,3 +13,4 @@ pub mod MapEntries
 pub mod Mapping
 pub mod MovedIs
 pub mod Exits
+pub mod Repeats

@@ -1,16 +1,17 @@
 //! The moving of `+` and `#`: each alternative gives one more for each of its parts that can move.
 
-ghost use Rattle.std.specs.Prelude.{◌≡◌, ◌<◌, ◌≤◌, length, map, flat_map};
+ghost use Rattle.std.specs.Prelude.{◌≡◌, ℕ, ◌+◌, ◌<◌, ◌≤◌, List, length, map, flat_map, take, remove, get_or, IsTrue};
 ghost use Rattle.ix_words.specs.Each.{Each};
 ghost use Rattle.ix_expr.specs.inside.FormOf.{form_of};
 ghost use Rattle.ix_expr.specs.Form.{par, par_star};
-ghost use Rattle.ix_tree.specs.Plain.{listed, par as par_of, par_star as par_star_of};
+ghost use Rattle.ix_tree.specs.Plain.{Plain, listed, par as par_of, par_star as par_star_of};
 ghost use Rattle.ix_tree.specs.PlainOf.{plain_pair, plain_bag};
 ghost use Rattle.ix_tree.specs.Size.{size_of};
-ghost use Rattle.ix_step.specs.inside.Makes.{Makes, Collects, Gathers};
+ghost use Rattle.ix_can.specs.inside.Moved.{picks};
+ghost use Rattle.ix_step.specs.inside.Makes.{Makes, Collects, Gathers, put_all};
 ghost use Rattle.ix_step.specs.inside.MovedNode.{moved_node};
 ghost use Rattle.ix_step.specs.inside.Moves.{begun};
-ghost use Rattle.ix_step.specs.inside.ParallelMoves.{pair_moves, pick_moves, bag_moves, IsReadyPair, IsReadyBag};
+ghost use Rattle.ix_step.specs.inside.ParallelMoves.{pair_moves, pick_move, pick_moves, bag_moves, IsReadyPair, IsReadyBag};
 ghost use Rattle.ix_step.specs.inside.Ready.{Ready};
 
 use crate::advance::{advance, advance_again};
@@ -87,8 +88,47 @@ fn advance_picks(step: Step, y: &Expr, items: &[Knot], set: &mut AltSet<Bag>) ->
     ensures budget { set.new.budget ≡ step.entry.limit }
 {
     for (place, item) in items.iter().enumerate() {
-        let tree = advance(step, y, item)?;
-        put_moved(set, tree, items, place, step.alloc)?;
+        advance_pick(step, y, items, place, item, set)?;
     }
     Ok(())
+}
+
+/// The bag with the tree at the place moved. A tree that equals the one before it would give the
+/// same bag, which is in the set already.
+#[cycle(advance)]
+fn advance_pick(
+    step: Step,
+    y: &Expr,
+    items: &[Knot],
+    place: usize,
+    item: &Knot,
+    set: &mut AltSet<Bag>,
+) -> Result<(), Unbuilt>
+    requires ready { Ready (form_of y.now) step.env.now item.now }
+    requires size { size_of (listed items.now) ≤ 1000000 }
+    requires place { place < length items.now }
+    requires item { item.now ≡ get_or items.now place item.now }
+    requires so_far { (start : List Plain) × (map plain_bag set.old.items ≡ put_all (flat_map (pick_move (form_of y.now) step.env.now step.action.now) (take place (picks items.now))) start) }
+    requires budget { set.old.budget ≡ step.limit }
+    requires within { size_of (listed (map plain_bag set.old.items)) ≤ step.limit }
+    ensures gathers { Gathers step.entry.limit (pick_move (form_of y.now) step.entry.env.now step.entry.action.now (item.now, remove items.now place)) (map plain_bag set.old.items) (map plain_bag set.new.items) result }
+    ensures within { size_of (listed (map plain_bag set.new.items)) ≤ step.entry.limit }
+    ensures budget { set.new.budget ≡ step.entry.limit }
+{
+    if is_repeat(items, place, item) {
+        return Ok(());
+    }
+    let tree = advance(step, y, item)?;
+    put_moved(set, tree, items, place, step.alloc)
+}
+
+/// Whether the tree equals the one before its place.
+fn is_repeat(items: &[Knot], place: usize, item: &Knot) -> bool
+    requires { place < length items.now }
+    ensures { IsTrue result → (before : ℕ) × (place ≡ before + 1) × (item.now ≡ get_or items.now before item.now) }
+{
+    if place == 0 {
+        return false;
+    }
+    items[place - 1] == *item
 }

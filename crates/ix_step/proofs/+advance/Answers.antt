@@ -1,5 +1,5 @@
 -- The parts of a step: what each asks of the next, and what it makes.
-use Rattle.std.proofs.Common.{◌<◌, ◌≡◌, ◌≤◌, refl, sym, ap, ◌∙◌, subst, arith, [], ◌∷◌, ◌++◌, map, length, flat_map, take, get_or, Some}
+use Rattle.std.proofs.Common.{◌<◌, ◌≡◌, ◌≤◌, ◌+◌, refl, sym, ap, ◌∙◌, subst, arith, [], ◌∷◌, ◌++◌, map, length, flat_map, take, get_or, Some}
 use Rattle.std.specs.List.{list_any, remove}
 use Rattle.std.proofs.lemmas.List.{length-map}
 use Rattle.ix_words.specs.Each.{Each, here}
@@ -23,7 +23,7 @@ use Rattle.ix_can.specs.TreeOf.{is_final}
 use Rattle.ix_can.specs.inside.Moved.{moved, moved_inside, picks, bag_with, map_with, or_initial}
 use Rattle.ix_step.specs.inside.EnterTrees.{entries_put}
 use Rattle.ix_step.specs.inside.Initial.{initial_tree}
-use Rattle.ix_step.specs.inside.Makes.{Makes, put_all}
+use Rattle.ix_step.specs.inside.Makes.{Makes, Gathers, put_all}
 use Rattle.ix_step.specs.inside.MapsAfter.{HoldsWell, begun_tree, map_after, maps_after}
 use Rattle.ix_step.specs.inside.Moves.{live_move, live_moves, begun_again, last_runs, second_parts}
 use Rattle.ix_step.specs.inside.ParallelMoves.{pairs_of, pair_moves, pick_move, bag_moves, IsReadyPair, IsReadyBag}
@@ -40,6 +40,7 @@ use Rattle.ix_step.proofs.Limits.{moved_is_dead, same_alphabet}
 use Rattle.ix_step.proofs.Measure.{form_size}
 use Rattle.ix_step.proofs.MovedIs.{moved_is}
 use Rattle.ix_step.proofs.ParallelArms.{pairs_ready, pairs_small, bags_ready, run_begins}
+use Rattle.ix_step.proofs.Repeats.{picked_again}
 use Rattle.ix_step.proofs.Quantifying.{any_ready, every_ready, sync_ready, value_ready, entries_are, value_moves, at_ready}
 use Rattle.ix_step.proofs.Mapping.{begin_small, begin_ready, all_held, map_keys, start_ready, owner_made}
 use Rattle.ix_step.proofs.+advance.Goals as goal
@@ -382,37 +383,30 @@ parallel::advance_bags-loop-bag-preserved t c =
       budget = c.put_more.ensures.budget ∙ c.advance_picks.ensures.budget;
     }
 
-pub parallel::advance_picks-advance-requires : goal.parallel::advance_picks-advance-requires
-parallel::advance_picks-advance-requires t c =
-    (omega arith, each_at c.args.items.now c.loop-place.place c.index-items-place.result (omega arith) c.index-items-place.is c.requires.ready)
+pub parallel::advance_picks-advance_pick-requires : goal.parallel::advance_picks-advance_pick-requires
+parallel::advance_picks-advance_pick-requires t c = (
+  omega arith,
+  (
+    each_at c.args.items.now c.loop-place.place c.index-items-place.result (omega arith) c.index-items-place.is c.requires.ready,
+    (c.requires.size, (c.loop-place-test.true, (c.index-items-place.is, (((map plain_bag c.args.set.now.items), c.loop-place.invariant.items), (c.loop-place.invariant.budget, c.loop-place.invariant.within))))),
+  ),
+)
 
-pub parallel::advance_picks-returns-in_err-tree-clause-gathers : goal.parallel::advance_picks-returns-in_err-tree-clause-gathers
-parallel::advance_picks-returns-in_err-tree-clause-gathers t c =
+pub parallel::advance_picks-returns-in_err-advance_pick-clause-gathers : goal.parallel::advance_picks-returns-in_err-advance_pick-clause-gathers
+parallel::advance_picks-returns-in_err-advance_pick-clause-gathers t c =
     let lt : c.loop-place.place < length (picks c.args.items.now) = omega (arith, length-picks c.args.items.now, c.loop-place-test.true) in
     let is : (c.index-items-place.result, remove c.args.items.now c.loop-place.place) ≡ get_or (picks c.args.items.now) c.loop-place.place (c.index-items-place.result, remove c.args.items.now c.loop-place.place) = ap (λ u. (u, remove c.args.items.now c.loop-place.place)) c.index-items-place.is ∙ sym (get-picks c.args.items.now c.loop-place.place c.index-items-place.result (c.index-items-place.result, remove c.args.items.now c.loop-place.place) c.loop-place-test.true) in
-    exit_over _ c.from_residual.result _ c.from_residual.ensures.1 c.in_err-tree.ensures (λ over.
-    lot_over (pick_move (form_of c.args.y.now) c.args.step.env.now c.args.step.action.now) c.args.step.limit (picks c.args.items.now) c.loop-place.place (c.index-items-place.result, remove c.args.items.now c.loop-place.place) (map plain_bag c.args.set.now.items) (map plain_bag c.loop-place.set.items) lt is c.loop-place.invariant.items
-    (live_over c.args.step.limit (moved (form_of c.args.y.now) c.args.step.env.now c.index-items-place.result c.args.step.action.now) (bag (listed (put_in (moved (form_of c.args.y.now) c.args.step.env.now c.index-items-place.result c.args.step.action.now) (remove c.args.items.now c.loop-place.place)))) (map plain_bag c.loop-place.set.items) c.args.step.positive
-    (omega (arith, size-put_in (moved (form_of c.args.y.now) c.args.step.env.now c.index-items-place.result c.args.step.action.now) (remove c.args.items.now c.loop-place.place))) over))
-
-pub parallel::advance_picks-returns-in_err-put_moved-clause-gathers : goal.parallel::advance_picks-returns-in_err-put_moved-clause-gathers
-parallel::advance_picks-returns-in_err-put_moved-clause-gathers t c =
-    let lt : c.loop-place.place < length (picks c.args.items.now) = omega (arith, length-picks c.args.items.now, c.loop-place-test.true) in
-    let is : (c.index-items-place.result, remove c.args.items.now c.loop-place.place) ≡ get_or (picks c.args.items.now) c.loop-place.place (c.index-items-place.result, remove c.args.items.now c.loop-place.place) = ap (λ u. (u, remove c.args.items.now c.loop-place.place)) c.index-items-place.is ∙ sym (get-picks c.args.items.now c.loop-place.place c.index-items-place.result (c.index-items-place.result, remove c.args.items.now c.loop-place.place) c.loop-place-test.true) in
-    let same = ap (λ x. size_all (put_all (bag_with x (remove c.args.items.now c.loop-place.place)) (map plain_bag c.loop-place.set.items))) c.in_ok-tree.ensures.0 in
-    exit_over _ c.from_residual-in_err-put_moved.result _ c.from_residual-in_err-put_moved.ensures.1 c.in_err-put_moved.ensures.gathers (λ over.
-    lot_over (pick_move (form_of c.args.y.now) c.args.step.env.now c.args.step.action.now) c.args.step.limit (picks c.args.items.now) c.loop-place.place (c.index-items-place.result, remove c.args.items.now c.loop-place.place) (map plain_bag c.args.set.now.items) (map plain_bag c.loop-place.set.items) lt is c.loop-place.invariant.items
-    (omega (arith, same, over, c.loop-place.invariant.budget)))
+    exit_over _ c.from_residual.result _ c.from_residual.ensures.1 c.in_err-advance_pick.ensures.gathers (λ over.
+    lot_over (pick_move (form_of c.args.y.now) c.args.step.env.now c.args.step.action.now) c.args.step.limit (picks c.args.items.now) c.loop-place.place (c.index-items-place.result, remove c.args.items.now c.loop-place.place) (map plain_bag c.args.set.now.items) (map plain_bag c.loop-place.set.items) lt is c.loop-place.invariant.items over)
 
 pub parallel::advance_picks-loop-place-preserved : goal.parallel::advance_picks-loop-place-preserved
 parallel::advance_picks-loop-place-preserved t c =
     let lt : c.loop-place.place < length (picks c.args.items.now) = omega (arith, length-picks c.args.items.now, c.loop-place-test.true) in
     let is : (c.index-items-place.result, remove c.args.items.now c.loop-place.place) ≡ get_or (picks c.args.items.now) c.loop-place.place (c.index-items-place.result, remove c.args.items.now c.loop-place.place) = ap (λ u. (u, remove c.args.items.now c.loop-place.place)) c.index-items-place.is ∙ sym (get-picks c.args.items.now c.loop-place.place c.index-items-place.result (c.index-items-place.result, remove c.args.items.now c.loop-place.place) c.loop-place-test.true) in
     record {
-      items = lots_more (pick_move (form_of c.args.y.now) c.args.step.env.now c.args.step.action.now) (picks c.args.items.now) c.loop-place.place (c.index-items-place.result, remove c.args.items.now c.loop-place.place) (map plain_bag c.args.set.now.items) (map plain_bag c.loop-place.set.items) (map plain_bag c.put_moved.new.set.items) lt is c.loop-place.invariant.items
-          (c.in_ok-put_moved.ensures.gathers ∙ ap (λ x. put_all (bag_with x (remove c.args.items.now c.loop-place.place)) (map plain_bag c.loop-place.set.items)) c.in_ok-tree.ensures.0);
-      within = omega (arith, c.put_moved.ensures.within, c.loop-place.invariant.budget);
-      budget = c.put_moved.ensures.budget ∙ c.loop-place.invariant.budget;
+      items = lots_more (pick_move (form_of c.args.y.now) c.args.step.env.now c.args.step.action.now) (picks c.args.items.now) c.loop-place.place (c.index-items-place.result, remove c.args.items.now c.loop-place.place) (map plain_bag c.args.set.now.items) (map plain_bag c.loop-place.set.items) (map plain_bag c.advance_pick.new.set.items) lt is c.loop-place.invariant.items c.in_ok-advance_pick.ensures.gathers;
+      within = c.advance_pick.ensures.within;
+      budget = c.advance_pick.ensures.budget;
     }
 
 pub parallel::advance_picks-returns-clause-gathers : goal.parallel::advance_picks-returns-clause-gathers
@@ -420,6 +414,29 @@ parallel::advance_picks-returns-clause-gathers t c =
     let all : c.loop-place.place ≡ length (picks c.args.items.now) = omega (arith, length-picks c.args.items.now, c.loop-place-test.false, c.loop-place.auto.place-end) in
     lots_end (pick_move (form_of c.args.y.now) c.args.step.env.now c.args.step.action.now) (picks c.args.items.now) (map plain_bag c.args.set.now.items) (map plain_bag c.loop-place.set.items)
     (subst (λ n. (map plain_bag c.loop-place.set.items) ≡ put_all (flat_map (pick_move (form_of c.args.y.now) c.args.step.env.now c.args.step.action.now) (take n (picks c.args.items.now))) (map plain_bag c.args.set.now.items)) all c.loop-place.invariant.items)
+
+pub parallel::advance_pick-returns-then-is_repeat-clause-gathers : goal.parallel::advance_pick-returns-then-is_repeat-clause-gathers
+parallel::advance_pick-returns-then-is_repeat-clause-gathers t c =
+    let repeat = c.is_repeat.ensures c.if-is_repeat.true in
+    let at = ap (λ n. get_or c.args.items.now n c.args.item.now) repeat.1 in
+    let lt : repeat.0 + 1 < length c.args.items.now = omega (arith, c.requires.place, repeat.1) in
+    let so_far = c.requires.so_far.1 ∙ ap (λ n. put_all (flat_map (pick_move (form_of c.args.y.now) c.args.step.env.now c.args.step.action.now) (take n (picks c.args.items.now))) c.requires.so_far.0) repeat.1 in
+    sym (ap (λ n. put_all ((pick_move (form_of c.args.y.now) c.args.step.env.now c.args.step.action.now) (c.args.item.now, remove c.args.items.now n)) (map plain_bag c.args.set.now.items)) repeat.1
+    ∙ picked_again (form_of c.args.y.now) c.args.step.env.now c.args.step.action.now c.args.items.now repeat.0 c.args.item.now c.requires.so_far.0 (map plain_bag c.args.set.now.items) lt repeat.2 (c.requires.item ∙ at) so_far)
+
+pub parallel::advance_pick-advance-requires : goal.parallel::advance_pick-advance-requires
+parallel::advance_pick-advance-requires t c =
+    (omega arith, c.requires.ready)
+
+pub parallel::advance_pick-returns-in_err-tree-clause-gathers : goal.parallel::advance_pick-returns-in_err-tree-clause-gathers
+parallel::advance_pick-returns-in_err-tree-clause-gathers t c =
+    exit_over _ c.from_residual.result _ c.from_residual.ensures.1 c.in_err-tree.ensures (λ over.
+    live_over c.args.step.limit (moved (form_of c.args.y.now) c.args.step.env.now c.args.item.now c.args.step.action.now) (bag (listed (put_in (moved (form_of c.args.y.now) c.args.step.env.now c.args.item.now c.args.step.action.now) (remove c.args.items.now c.args.place)))) (map plain_bag c.args.set.now.items) c.args.step.positive (omega (arith, size-put_in (moved (form_of c.args.y.now) c.args.step.env.now c.args.item.now c.args.step.action.now) (remove c.args.items.now c.args.place))) over)
+
+pub parallel::advance_pick-returns-clause-gathers : goal.parallel::advance_pick-returns-clause-gathers
+parallel::advance_pick-returns-clause-gathers t c =
+    subst (λ x. Gathers c.args.step.limit (bag_with x (remove c.args.items.now c.args.place)) (map plain_bag c.args.set.now.items) (map plain_bag c.put_moved.new.set.items) c.put_moved.result) c.in_ok-tree.ensures.0
+    (subst (λ n. Gathers n (bag_with c.in_ok-tree.tree (remove c.args.items.now c.args.place)) (map plain_bag c.args.set.now.items) (map plain_bag c.put_moved.new.set.items) c.put_moved.result) c.requires.budget c.put_moved.ensures.gathers)
 
 pub quantifiers::advance_entries-loop-value-init : goal.quantifiers::advance_entries-loop-value-init
 quantifiers::advance_entries-loop-value-init t c =

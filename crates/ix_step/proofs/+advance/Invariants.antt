@@ -61,10 +61,10 @@ invariant-parallel::advance_pairs-loop-pair l = record {
 }
 
 abbrev pub decreases-parallel::advance_par_star : goal.decreases-parallel::advance_par_star
-decreases-parallel::advance_par_star l = 8 * form_size (form_of l.y.now) + 4
+decreases-parallel::advance_par_star l = 8 * form_size (form_of l.y.now) + 5
 
 abbrev pub decreases-parallel::advance_bags : goal.decreases-parallel::advance_bags
-decreases-parallel::advance_bags l = 8 * form_size (form_of l.y.now) + 3
+decreases-parallel::advance_bags l = 8 * form_size (form_of l.y.now) + 4
 
 -- the set holds what the bags so far give, within the limit
 abbrev pub invariant-parallel::advance_bags-loop-bag : goal.invariant-parallel::advance_bags-loop-bag
@@ -75,7 +75,7 @@ invariant-parallel::advance_bags-loop-bag l = record {
 }
 
 abbrev pub decreases-parallel::advance_picks : goal.decreases-parallel::advance_picks
-decreases-parallel::advance_picks l = 8 * form_size (form_of l.y.now) + 2
+decreases-parallel::advance_picks l = 8 * form_size (form_of l.y.now) + 3
 
 -- the set holds the bags in which one of the trees so far is moved, within the limit
 abbrev pub invariant-parallel::advance_picks-loop-place : goal.invariant-parallel::advance_picks-loop-place
@@ -84,6 +84,9 @@ invariant-parallel::advance_picks-loop-place l = record {
   within : size_of (listed (map plain_bag l.set.items)) ≤ l.step.limit;
   budget : l.set.budget ≡ l.step.limit;
 }
+
+abbrev pub decreases-parallel::advance_pick : goal.decreases-parallel::advance_pick
+decreases-parallel::advance_pick l = 8 * form_size (form_of l.y.now) + 2
 
 abbrev pub decreases-quantifiers::advance_values : goal.decreases-quantifiers::advance_values
 decreases-quantifiers::advance_values l = 8 * form_size (form_of l.body.expr.now) + 5

@@ -1,0 +1,62 @@
+-- Of equal trees of a bag one is moved: the next gives the same bag.
+use Rattle.std.proofs.Common.{◌≡◌, ℕ, zero, suc, ◌<◌, ◌+◌, Bool, true, false, List, [], ◌∷◌, length, get_or, take, flat_map, refl, sym, ap, ◌∙◌, subst, arith, Ordering, Less, Equal, Greater}
+use Rattle.std.specs.Cmp.{tied_itself}
+use Rattle.std.specs.List.{remove}
+use Rattle.ix_words.specs.Canon.{by_order, put_once, when}
+use Rattle.ix_values.specs.PlainAction.{PlainAction}
+use Rattle.ix_expr.specs.Environment.{Environment}
+use Rattle.ix_expr.specs.Form.{Form}
+use Rattle.ix_tree.specs.Order.{tree_cmp}
+use Rattle.ix_tree.specs.Plain.{Plain, bag, listed}
+use Rattle.ix_tree.specs.lemmas.TreeOrder.{tree_order}
+use Rattle.ix_can.specs.Nodes.{is_live, put_in}
+use Rattle.ix_can.specs.inside.Moved.{moved, picks}
+use Rattle.ix_step.specs.inside.Makes.{put_all}
+use Rattle.ix_step.specs.inside.ParallelMoves.{pick_move}
+use Rattle.ix_step.proofs.BagsPut.{length-picks, get-picks}
+use Rattle.ix_step.proofs.Gathering.{lots_more}
+
+tied : (x : Plain) → tree_cmp x x ≡ Equal
+tied x = tied_itself tree_order.total x
+
+-- a tree that is put twice is put once
+put_twice : (y : Plain) (xs : List Plain) → put_once tree_cmp y (put_once tree_cmp y xs) ≡ put_once tree_cmp y xs
+put_twice y [] = ap (λ o. by_order o (y ∷ y ∷ []) (y ∷ []) (y ∷ put_once tree_cmp y [])) (tied y)
+put_twice y (x ∷ xs) = go (tree_cmp y x) refl (put_twice y xs)
+  where
+    go : (o : Ordering) → tree_cmp y x ≡ o → put_once tree_cmp y (put_once tree_cmp y xs) ≡ put_once tree_cmp y xs →
+        put_once tree_cmp y (by_order o (y ∷ x ∷ xs) (x ∷ xs) (x ∷ put_once tree_cmp y xs))
+        ≡ by_order o (y ∷ x ∷ xs) (x ∷ xs) (x ∷ put_once tree_cmp y xs)
+    go Less c rest = ap (λ o. by_order o (y ∷ y ∷ x ∷ xs) (y ∷ x ∷ xs) (y ∷ put_once tree_cmp y (x ∷ xs))) (tied y)
+    go Equal c rest = ap (λ o. by_order o (y ∷ x ∷ xs) (x ∷ xs) (x ∷ put_once tree_cmp y xs)) c
+    go Greater c rest =
+        ap (λ o. by_order o (y ∷ x ∷ put_once tree_cmp y xs) (x ∷ put_once tree_cmp y xs) (x ∷ put_once tree_cmp y (put_once tree_cmp y xs))) c
+        ∙ ap (λ l. x ∷ l) rest
+
+put_again : (b : Bool) (x : Plain) (xs : List Plain) → put_all (when b (x ∷ [])) (put_all (when b (x ∷ [])) xs) ≡ put_all (when b (x ∷ [])) xs
+put_again true x xs = put_twice x xs
+put_again false x xs = refl
+
+-- without one of two equal neighbours the list is the same
+remove_same : (xs : List Plain) (i : ℕ) (d : Plain) → suc i < length xs → get_or xs i d ≡ get_or xs (suc i) d → remove xs i ≡ remove xs (suc i)
+remove_same [] i d lt e = absurd (omega arith)
+remove_same (x ∷ []) i d lt e = absurd (omega arith)
+remove_same (x ∷ y ∷ ys) zero d lt e = ap (λ z. z ∷ ys) (sym e)
+remove_same (x ∷ y ∷ ys) (suc i) d lt e = ap (λ l. x ∷ l) (remove_same (y ∷ ys) i d (omega arith) e)
+
+-- the bag of a tree that equals the one before it is in the list already
+pub picked_again : (y : Form) (e : Environment) (a : PlainAction) (items : List Plain) (before : ℕ) (t : Plain) (start old : List Plain) → before + 1 < length items → t ≡ get_or items before t → t ≡ get_or items (before + 1) t → old ≡ put_all (flat_map (pick_move y e a) (take (before + 1) (picks items))) start → put_all (pick_move y e a (t, remove items (before + 1))) old ≡ old
+picked_again y e a items before t start old lt first second so_far =
+    let suc_is : suc before ≡ before + 1 = omega arith in
+    let same : remove items before ≡ remove items (before + 1) =
+    remove_same items before t (omega arith) (sym first ∙ second ∙ ap (λ n. get_or items n t) (sym suc_is)) ∙ ap (remove items) suc_is in
+    let is : (t, remove items before) ≡ get_or (picks items) before (t, remove items before) =
+    ap (λ u. (u, remove items before)) first ∙ sym (get-picks items before t (t, remove items before) (omega arith)) in
+    let put : put_all (pick_move y e a (t, remove items before)) (put_all (flat_map (pick_move y e a) (take before (picks items))) start) ≡ old =
+    lots_more (pick_move y e a) (picks items) before (t, remove items before) start (put_all (flat_map (pick_move y e a) (take before (picks items))) start)
+    (put_all (pick_move y e a (t, remove items before)) (put_all (flat_map (pick_move y e a) (take before (picks items))) start))
+    (omega (arith, length-picks items)) is refl refl ∙ sym so_far in
+    ap (λ r. put_all (pick_move y e a (t, r)) old) (sym same)
+    ∙ ap (put_all (pick_move y e a (t, remove items before))) (sym put)
+    ∙ put_again (is_live (moved y e t a)) (bag (listed (put_in (moved y e t a) (remove items before)))) (put_all (flat_map (pick_move y e a) (take before (picks items))) start)
+    ∙ put
