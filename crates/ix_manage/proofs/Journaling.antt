@@ -1,6 +1,7 @@
 -- What an event makes of the journal.
 use Rattle.std.proofs.Common.{◌≡◌, ◌⊎◌, inl, inr, ℕ, ◌≤◌, List, [], ◌∷◌, ◌++◌, length, append_assoc, append-nil}
 use Rattle.std.proofs.Common.{Option, None, IsSome, true≢false, Result, Ok, Err, OnOk, OnErr, refl, sym, ◌∙◌, ap, subst}
+use Rattle.std.proofs.lemmas.Option.{none-some}
 use Rattle.ix_values.specs.PlainAction.{Word}
 use Rattle.ix_expr.specs.Form.{Form}
 use Rattle.ix_lines.specs.Items.{Item}
@@ -23,6 +24,7 @@ use Rattle.ix_manager.specs.declared.faults.Go.TheVariants.{More, Stopped}
 use Rattle.ix_manager.specs.declared.faults.Stop.{Stop}
 use Rattle.ix_manager.specs.declared.faults.Stop.TheVariants.{Disk as DiskFault}
 use Rattle.ix_manager.specs.inside.OverSite.{EndsBy, FitsSite, FitsWith}
+use Rattle.ix_manager.specs.inside.Acknowledging.{SendsMore}
 use Rattle.ix_manager.specs.inside.Saving.{SavesRun, UnlessFailed, WhereFailed}
 use Rattle.ix_manager.proofs.SavingLemmas.{kept_told}
 use Rattle.ix_manage.specs.inside.ReplayProgress.{disk_alone}
@@ -86,11 +88,12 @@ pub event_saves : (old new : ManagerState) (event : Event) (bytes : List ℕ) (r
     → (IsSome after.disk → (image : List ℕ) → q.now image → EndsAs ending new.machine.history image)
     → OnErr result (Rose before.counts.disk after.counts.disk) → OnOk result (FitsSite new after q)
     → Passes before after p q → before.counts.disk ≤ after.counts.disk
-    → KeepsOpened before.disk after.disk ⊎ (after.disk ≡ None)
+    → KeepsOpened before.disk after.disk ⊎ (after.disk ≡ None) → SendsMore before after q
     → SavesRun ending old new before after p q
-event_saves old new event bytes result ending answers before after p q is takes keeps ends rose fits passes le opened =
+event_saves old new event bytes result ending answers before after p q is takes keeps ends rose fits passes le opened sends =
     let grows = with_failed_grows ending old.machine.history new.machine.history (steps_grow takes.steps) in record {
       passes = passes;
+      sends = sends;
       count = le;
       told = told_before before.disk after.disk opened;
       rest = grows.0;
@@ -134,4 +137,12 @@ passes_again one one' two two' p q first second passes = record {
       (subst (λ t. Elapses one.tick t p.left q.left) (sym second) passes.left);
   left_since = subst (λ t. Elapses t two'.tick p.left_since q.left_since) (sym first)
       (subst (λ t. Elapses one.tick t p.left_since q.left_since) (sym second) passes.left_since);
+}
+
+-- of a disk alone nothing is told that was sent
+pub alone_sends : (old new : SiteState) (is : Crashes) → SendsMore (disk_alone old) (disk_alone new) is
+alone_sends old new is = record {
+  told = λ some. some;
+  all = λ sends sends' none none'. absurd (none-some sends none);
+  by_then = λ sends sends' none none' left since. absurd (none-some sends none);
 }

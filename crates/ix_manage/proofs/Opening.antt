@@ -13,12 +13,13 @@ use Rattle.ix_outside.specs.Disk.{Disk, Opened, IsOpened, MakesFile, Stays}
 use Rattle.ix_outside.specs.SiteState.{SiteState}
 use Rattle.ix_outside.specs.inside.DiskCalls.{KeepsOpened}
 use Rattle.ix_manager.specs.Images as image
-use Rattle.ix_manager.specs.Images.{EndsAs, IsOwn, IsStartable, Keeps, with_failed}
-use Rattle.ix_manager.specs.Runs.{Opening}
+use Rattle.ix_manager.specs.Images.{EachPrefixIsWithin, EndsAs, IsOwn, IsStartable, Keeps, with_failed}
+use Rattle.ix_manager.specs.Runs.{Opening, Run}
 use Rattle.ix_manager.specs.Starts.{HasText}
 use Rattle.ix_manager.specs.inside.StartAnswers.{StartLeaves}
 use Rattle.ix_manager.specs.Runs.{opening_of}
 use Rattle.ix_manager.proofs.SavingLemmas.{keeps_longer}
+use Rattle.ix_manager.proofs.WithinLemmas.{kept_images_are_startable, runs_stay_within}
 use Rattle.ix_cli.specs.Words.{Job}
 use Rattle.ix_manage.specs.Command.{expression_of, journal_of, limit_of}
 use Rattle.ix_manage.specs.Journal.{GoesOnFrom, OfJournal, OfOpened, OnJournal, OpensJournal, UsesJournal, session_of}
@@ -34,6 +35,9 @@ opened_at name tick (Some old) None is d told = absurd is
 opened_at name tick (Some old) (Some new) is d told =
     let same : new ≡ d = cc in
     subst (λ (e : Disk). e.opened ≡ Some (record { name = name; tick = tick; file = e.file })) same is
+
+pub some_is : {A : Type 0} {a b : A} → Some a ≡ Some b → a ≡ b
+some_is e = cc
 
 -- the file may be left, and nothing else
 pub left_at : (at : Option Disk) (now : List ℕ → Type 0) → LeavesTheFile at now → (d : Disk) → at ≡ Some d
@@ -120,6 +124,9 @@ module _ (x : Form) (limit : ℕ) (at mid : SiteState) (p q : Crashes) (d : Disk
         holds = record {
           ends = λ image left. start_recovers h s image (left_since_start lawful le image left);
           keeps = λ image left. start_keeps h s image left;
+          reopens = λ image left.
+              let keeps = start_keeps h s image left in
+              (keeps.kept, kept_images_are_startable x limit (length h) h image s.within keeps);
         };
       };
       other = λ no. record {
@@ -142,7 +149,13 @@ module _ (x : Form) (limit : ℕ) (tick : ℕ) (d : Disk) (name : List ℕ) (mid
       abbrev played : Session
       played = session_of (opening_of x limit h) session
 
-      module _ (opening_is : played.opening ≡ opening_of x limit h) (along : KeepsAlong x h played mid end q r) where
+      module _ (opening_is : played.opening ≡ opening_of x limit h) (along : KeepsAlong x h played mid end q r)
+          (run : Run played.opening played.taken played.answers played.last played.ending)
+        where
+        within : EachPrefixIsWithin x limit (with_failed played.ending played.last.history)
+        within = runs_stay_within (opening_of x limit h) played.taken played.answers played.last played.ending starts.within
+            (subst (λ (o : Opening). Run o played.taken played.answers played.last played.ending) opening_is run)
+
         keeps : (image : List ℕ) → r.left tick image
             → Keeps x (length h) (with_failed played.ending played.last.history) image
         keeps image left = elim (along.passes.nothing_else tick image le left) [
@@ -159,6 +172,10 @@ module _ (x : Form) (limit : ℕ) (tick : ℕ) (d : Disk) (name : List ℕ) (mid
             keeps = λ image left.
                 subst (λ (o : Opening). Keeps o.form (length h) (with_failed played.ending played.last.history) image)
                 (sym opening_is) (keeps image left);
+            reopens = λ image left.
+                let kept = keeps image left in
+                subst (λ (o : Opening). (w : Word) × IsStartable (opening_of o.form o.limit w) image) (sym opening_is)
+                (kept.kept, kept_images_are_startable x limit (length h) (with_failed played.ending played.last.history) image within kept);
           };
         }
 
@@ -169,9 +186,6 @@ module _ (x : Form) (limit : ℕ) (tick : ℕ) (d : Disk) (name : List ℕ) (mid
               (one_history d.file h other starts.recovers others.recovers) goes_on;
           other = λ no. absurd (no h starts);
         }
-
-some_inj : {A : Type 0} (a b : A) → Some a ≡ Some b → a ≡ b
-some_inj a b same = cc
 
 -- what a job makes of the file that it attached
 pub on_journal : (files : Option Listing) (job : Job) (expression journal : List ℕ) (x : Form)
@@ -186,9 +200,9 @@ on_journal files job expression journal x of_expression has_journal reads sessio
     let kept = kept_opened at.disk end.disk keeps new told_new in
     let opened_is = kept.2 ∙ opened_at journal at.tick before.disk at.disk is kept.0 kept.1 in
     subst (λ (o : Option Opened). OpensJournal files (limit_of job) named kept_in session new r o) (sym opened_is)
-    (some_inj journal kept_in (sym has_journal ∙ same_journal), (
+    (some_is (sym has_journal ∙ same_journal), (
       x,
-      subst (λ n. ReadsForm files n x) (some_inj expression named (sym of_expression ∙ same_expression)) reads,
+      subst (λ n. ReadsForm files n x) (some_is (sym of_expression ∙ same_expression)) reads,
       uses kept.0 kept.1 new told_new,
     ))
 on_journal files job expression journal x of_expression has_journal reads session before at end r is (inr untold) uses =
@@ -200,7 +214,7 @@ pub none_opened : (files : Option Listing) (job : Job) (before end : SiteState) 
     → end.disk ≡ before.disk → OnJournal files job before end r None
 none_opened files job before end r same =
     λ expression journal of_expression has_journal old new told_old none told_new.
-    let disks : new ≡ old = some_inj new old (sym told_new ∙ same ∙ told_old) in
+    let disks : new ≡ old = some_is (sym told_new ∙ same ∙ told_old) in
     subst (λ (o : Option Opened). OpensJournal files (limit_of job) expression journal None new r o)
     (sym (ap (λ (disk : Disk). disk.opened) disks ∙ none)) refl
 

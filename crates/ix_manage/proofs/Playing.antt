@@ -19,7 +19,7 @@ use Rattle.ix_outside.proofs.Passing.{KeepsOpened-join}
 use Rattle.ix_store.specs.Keeping.{Keeping}
 use Rattle.ix_manager.specs.Handled.{ManagerState, started}
 use Rattle.ix_manager.specs.Machine.{MachineState}
-use Rattle.ix_manager.specs.Runs.{Opening, opening_of}
+use Rattle.ix_manager.specs.Runs.{Opening, Run, opening_of}
 use Rattle.ix_manager.specs.inside.Saving.{Saves}
 use Rattle.ix_manager.specs.inside.StartAnswers.{IsFault}
 use Rattle.ix_manager.specs.declared.faults.StartFault.{StartFault}
@@ -216,9 +216,11 @@ module _ (x : Form) (limit : ℕ) (name : List ℕ) (before mid end : SiteState)
     opening = opening_of x limit m.machine.history
 
     pub session_on_journal : (session_of opening session).opening ≡ opening
+        → Run (session_of opening session).opening (session_of opening session).taken (session_of opening session).answers
+        (session_of opening session).last (session_of opening session).ending
         → (IsSome end.disk → KeepsAlong x m.machine.history (session_of opening session) mid.tick end.tick q r)
         → OnJournal files job before end r session
-    session_on_journal opening_is along =
+    session_on_journal opening_is run along =
         on_journal files job it.expression name x it.of_expression it.has_journal it.reads session before start.at end r
         start.opened (opened_along later)
         (λ d is e after. subst (λ n. UsesJournal x n session e.file (record { name = name; tick = start.at.tick; file = d.file }) r)
@@ -226,7 +228,7 @@ module _ (x : Form) (limit : ℕ) (name : List ℕ) (before mid end : SiteState)
         (session_uses x limit start.at.tick d name mid.tick q m.machine.history (start.starts d is)
         (start.keeps (subst (λ (o : Option SiteDisk). IsSome o) (sym is) refl))
         session end.tick r start.later opening_is
-        (along (subst (λ (o : Option SiteDisk). IsSome o) (sym after) refl)) e.file))
+        (along (subst (λ (o : Option SiteDisk). IsSome o) (sym after) refl)) run e.file))
 
 -- the opening that a session played from is the expression's, under the limit
 module _ (x : Form) (limit : ℕ) (m : ManagerState) (fresh : m ≡ started (opening_of x limit m.machine.history) m.store)
@@ -317,7 +319,7 @@ module _ (x : Form) (names : ReplayWords) (script : List ℕ) (before : SiteStat
               (opening_from x names.limit m start.fresh it.played it.opening_is)
               (it.plays events.0 events.1) it.ends;
           journal = session_on_journal x names.limit names.journal.now before mid end q r m start files (replay_of names) job later
-              (Some it.played) opening_is
+              (Some it.played) opening_is (it.plays events.0 events.1).takes.run
               (λ some. along_alone x m.machine.history it.played it.store mid end q r some saves);
           wire = λ socket none. absurd (none-some socket none);
         })

@@ -1,32 +1,39 @@
 -- How a serve ends, by what its loop says.
-use Rattle.std.proofs.Common.{◌≡◌, ◌⊎◌, ℕ, ◌≤◌, List, [], ◌∷◌, ◌++◌, length, append-nil, arith, Bool, Option, None, Some, IsSome, Result, Ok, Err, refl, sym, ◌∙◌, ap, subst}
+use Rattle.std.proofs.Common.{◌≡◌, ◌⊎◌, inl, inr, ℕ, ◌≤◌, List, [], ◌∷◌, ◌++◌, length, append-nil, arith, Bool, Option, None, Some, IsSome}
+use Rattle.std.proofs.Common.{Result, Ok, Err, refl, sym, ◌∙◌, ap, subst}
 use Rattle.std.specs.Io.KnownBytes.{append_known}
 use Rattle.std.specs.Option.{option_map}
 use Rattle.std.proofs.lemmas.List.{length_push}
+use Rattle.std.proofs.lemmas.Option.{none-some}
 use Rattle.ix_values.specs.PlainAction.{Word}
 use Rattle.ix_expr.specs.Form.{Form}
 use Rattle.ix_cli.specs.Words.{Job}
 use Rattle.ix_outside.specs.Contents.{Contents, GivenEvent, Sends, with_name}
 use Rattle.ix_outside.specs.Counts.{Rose}
-use Rattle.ix_outside.specs.Crashes.{Crashes, AreLawful}
+use Rattle.ix_outside.specs.Crashes.{Crashes, AreLawful, IsSentByThen, LeavesTheSame, OneCall}
+use Rattle.ix_outside.specs.Disk.{Disk, Opened}
 use Rattle.ix_outside.specs.Files.{Listing}
 use Rattle.ix_outside.specs.Sink.{AppendsPart}
 use Rattle.ix_outside.specs.SinkState.{SinkState}
-use Rattle.ix_outside.specs.SiteState.{SiteState, OnlyDisk}
+use Rattle.ix_outside.specs.SiteState.{SiteState, OnlyDisk, OnlyWire}
 use Rattle.ix_outside.specs.inside.DiskCalls.{KeepsOpened}
+use Rattle.ix_outside.proofs.Passing.{KeepsOpened-join, sent-nothing}
 use Rattle.ix_proto.specs.declared.reply.Reply.{Reply}
 use Rattle.ix_store.specs.Keeping.{Keeping}
+use Rattle.ix_manager.specs.Acknowledged.{KeepsAcknowledged}
 use Rattle.ix_manager.specs.Handled.{ManagerState}
+use Rattle.ix_manager.specs.Images.{with_failed}
 use Rattle.ix_manager.specs.Machine.{MachineState}
 use Rattle.ix_manager.specs.Runs.{Opening, Run, begin as run_begins, going, opening_of}
-use Rattle.ix_manager.specs.Wire.{Wire, begin, unmarked}
-use Rattle.ix_manager.specs.inside.Saving.{Saves}
+use Rattle.ix_manager.specs.Wire.{SentReplies, Wire, begin, takes, unmarked}
+use Rattle.ix_manager.specs.inside.Saving.{OnlySends, Saves}
+use Rattle.ix_manager.specs.inside.Serving.{ServesSince}
+use Rattle.ix_manager.proofs.AcknowledgedLemmas.{none_sent}
 use Rattle.ix_manager.proofs.SavingLemmas.{saves_join}
-use Rattle.ix_manage.specs.Command.{socket_of}
 use Rattle.ix_manage.specs.Ends.{Ended, JobOver, no_wire, served as job_served}
 use Rattle.ix_manage.specs.Journal.{session_of}
 use Rattle.ix_manage.specs.Puts.{LastLine}
-use Rattle.ix_manage.specs.Serve.{ServesWire, UsesWire, ends, with_heard}
+use Rattle.ix_manage.specs.Serve.{ServesWire, ends, with_heard}
 use Rattle.ix_manage.specs.Session.{Session, Takes, history_line, lost_history, over}
 use Rattle.ix_manage.specs.Trace.{ReadsForm}
 use Rattle.ix_manage.specs.declared.job.ServeWords.{ServeWords}
@@ -36,15 +43,14 @@ use Rattle.ix_manage.specs.inside.Jobs.{serve_of}
 use Rattle.ix_manage.specs.inside.Leaves.{Leaves}
 use Rattle.ix_manage.specs.inside.Opening.{EndsUnstarted, IsJobOf, StartsOver}
 use Rattle.ix_manage.specs.inside.Playing.{ServesOver}
-use Rattle.ix_manage.specs.inside.ServeProgress.{SentFor, ServedSession, ServesOn, ServesTo, served, unheard}
+use Rattle.ix_manage.specs.inside.ServeProgress.{SentFor, ServedSession, ServesFrom, ServesOn, ServesTo, served, unheard}
 use Rattle.ix_manage.specs.inside.Turns.{IsStarted, SavesFrom, Stretch}
 use Rattle.ix_manage.specs.inside.Turns as stood
+use Rattle.ix_manage.proofs.Opening.{kept_opened, opened_at, some_is}
 use Rattle.ix_manage.proofs.Playing.{along_saves, opening_fresh, opening_from, session_on_journal}
+use Rattle.ix_manage.proofs.ServeLemmas.{wire_only}
 use Rattle.ix_manage.proofs.Stops.{puts_whole}
 use Rattle.ix_manage.proofs.Tracing.{append_nothing}
-
-some_is : {A : Type 0} {a b : A} → Some a ≡ Some b → a ≡ b
-some_is e = cc
 
 -- sends that are told with one more name heard were told before
 heard_before : (name : List ℕ) (known : Option Sends) (new : Sends) (old : Sends)
@@ -54,10 +60,22 @@ heard_before name None new old told before = cc
 heard_before name (Some sends) new old told before =
     sym (some_is told) ∙ ap (with_heard name) (some_is before)
 
--- a site that was listened to before the events came
-module _ (socket : List ℕ) (a b c : SiteState)
-    (heard : b.contents ≡ with_name socket a.contents) (sends : b.counts.send ≡ a.counts.send)
-    (session : Session) (marks : List Bool) (sent : SentFor session.taken session.answers marks b c)
+heard_told : (name : List ℕ) (known : Option Sends)
+    → IsSome (option_map (λ (sends : Sends). record sends { heard = sends.heard ++ name ∷ [] }) known) → IsSome known
+heard_told name None some = some
+heard_told name (Some sends) some = refl
+
+-- a wire without events carries no reply
+no_replies : {before : Sends} {events : List GivenEvent} {answers : List (List (List Reply))} {marks : List Bool} {sent : SentReplies}
+    → Wire before events answers marks sent → events ≡ [] → sent.replies ≡ []
+no_replies begin none = refl
+no_replies (takes {events = events} given last marked wire sends) none =
+    let long = ap length none in let more = length_push events given in absurd (omega (arith, long, more))
+
+-- a site that was listened to
+module _ (socket : List ℕ) (a b : SiteState) (p q : Crashes) (heard : b.contents ≡ with_name socket a.contents)
+    (lawful : AreLawful a p) (lawful' : AreLawful b q)
+    (only : OnlyWire a b) (same : LeavesTheSame p.now q.now) (call : OneCall a b p q)
   where
     abbrev known : Option Sends
     known = option_map (λ (sends : Sends). record sends { heard = sends.heard ++ socket ∷ [] }) a.contents.sends
@@ -65,23 +83,81 @@ module _ (socket : List ℕ) (a b c : SiteState)
     sends_heard : b.contents.sends ≡ known
     sends_heard = ap (λ (k : Contents). k.sends) heard
 
+    -- a `listen` sends nothing
+    pub listen_only : OnlySends a b p q
+    listen_only = wire_only a b p q only same call
+        (λ some. heard_told socket a.contents.sends (subst (λ (o : Option Sends). IsSome o) sends_heard some))
+        (λ s s' told told'. ap (λ (sends : Sends). sends.sent) (heard_before socket a.contents.sends s' s (sym sends_heard ∙ told') told))
+
+    module _ (x : Form) (h : Word) (store : Keeping) (saves : Saves going x h h store a b p q) where
+      -- what was kept since a tick before it still is
+      pub listen_since : (t : ℕ) (start : Sends) → a.contents.sends ≡ Some start
+          → ServesSince t x (length h) h start [] [] unmarked a p
+          → ServesSince t x (length h) h (with_heard socket start) [] [] unmarked b q
+      listen_since t start told serves = record {
+        began = let le = serves.began in let later = call.passes.left.later in omega arith;
+        long = serves.long;
+        wired = λ sends told'.
+            let sends_are : sends ≡ with_heard socket start = heard_before socket a.contents.sends sends start (sym sends_heard ∙ told') told in
+            let was = serves.wired start told in
+            let none : was.0 ≡ [] = no_replies was.1 refl in (
+              [],
+              subst (λ s. Wire (with_heard socket start) [] [] unmarked (record { sends = s; replies = [] })) (sym sends_are) begin,
+              λ disk left since. elim (call.passes.left_since.nothing_else t left serves.began since) [
+                | inl earlier ↦
+                    subst (λ replies. KeepsAcknowledged x (length h) h replies start.sent left) none
+                    (was.2 (subst (λ d. IsSome d) only.file disk) left earlier)
+                | inr since_call ↦ record {
+                  keeps = saves.keeps disk left.image (lawful'.since_left a.tick left since_call);
+                  sent = [];
+                  behind =
+                      sent-nothing start.sent left.sent
+                      (subst (λ (s : Sends). IsSentByThen start.sent s.sent left.sent) sends_are
+                      (call.sent start sends told told' left since_call))
+                      ∙ sym (append-nil start.sent);
+                  carried = omega arith;
+                  acknowledged = λ n acked. absurd (none_sent acked);
+                }
+              ],
+            );
+      }
+
+-- a session of a site that was listened to before its events came
+module _ (socket : List ℕ) (a b c : SiteState) (p q r : Crashes) (heard : b.contents ≡ with_name socket a.contents)
+    (sends : b.counts.send ≡ a.counts.send) (opening : Opening)
+    (listened : (t : ℕ) (start : Sends) → a.contents.sends ≡ Some start
+    → ServesSince t opening.form (length opening.history) opening.history start [] [] unmarked a p
+    → ServesSince t opening.form (length opening.history) opening.history (with_heard socket start) [] [] unmarked b q)
+    (session : Session) (opening_is : session.opening ≡ opening) (last : MachineState) (last_is : session.last ≡ last)
+    (marks : List Bool)
+    (sent : SentFor opening (with_failed session.ending last.history) session.taken session.answers marks
+    (record { before = b; after = c; was = q; is = r }))
+  where
     given_heard : b.contents.given ≡ a.contents.given
     given_heard = ap (λ (k : Contents). k.given) heard
 
-    pub serves_wire : ServesWire socket session a c
-    serves_wire = record {
+    abbrev Since : ℕ → Sends → Opening → MachineState → Type 0
+    Since t start from state =
+        ServesSince t from.form (length from.history) (with_failed session.ending state.history) (with_heard socket start)
+        session.taken session.answers marks c r
+
+    pub serves_from : ServesFrom socket session (record { before = a; after = c; was = p; is = r })
+    serves_from = record {
       given = λ old new told told'.
           let it = sent.given new told' in
           it.2 ∙ ap (λ (events : List GivenEvent). events ++ session.taken)
           (some_is (sym it.1 ∙ given_heard ∙ told));
-      wire = λ old new told told'.
-          let it = sent.wire new told' in
-          (marks, subst (λ (s : Sends). Wire s session.taken session.answers marks new)
-          (heard_before socket a.contents.sends it.0 old (sym sends_heard ∙ it.1) told) it.2);
+      marks = marks;
+      since = λ t start told serves.
+          subst (λ (o : Opening). Since t start o session.last) (sym opening_is)
+          (subst (λ (s : MachineState). Since t start opening s) (sym last_is)
+          (sent.since t (with_heard socket start)
+          (listened t start told
+          (subst (λ (o : Opening). ServesSince t o.form (length o.history) o.history start [] [] unmarked a p) opening_is serves))));
       whole = λ none old new told told'.
           let it = sent.whole (λ rose. none (subst (λ n. Rose n c.counts.send) sends rose)) in
           it.1 (with_heard socket old) new
-          (sends_heard ∙ ap (option_map (λ (sends : Sends). record sends { heard = sends.heard ++ socket ∷ [] })) told) told';
+          (ap (λ (k : Contents). k.sends) heard ∙ ap (option_map (λ (sends : Sends). record sends { heard = sends.heard ++ socket ∷ [] })) told) told';
     }
 
 -- a manager that was just started listened, put the line of the history, and took events
@@ -89,6 +165,9 @@ module _ (turns : ℕ) (socket : List ℕ) (old new : ManagerState) (a b c : Sit
     (lawful : AreLawful c r)
     (listened : Saves going old.form old.machine.history old.machine.history old.store a b p q)
     (heard : b.contents ≡ with_name socket a.contents) (sends : b.counts.send ≡ a.counts.send)
+    (since : (t : ℕ) (start : Sends) → a.contents.sends ≡ Some start
+    → ServesSince t old.form (length old.machine.history) old.machine.history start [] [] unmarked a p
+    → ServesSince t old.form (length old.machine.history) old.machine.history (with_heard socket start) [] [] unmarked b q)
     (start between : SinkState)
     (put : between.written ≡ append_known start.written (history_line old.machine.history))
   where
@@ -110,6 +189,14 @@ module _ (turns : ℕ) (socket : List ℕ) (old new : ManagerState) (a b c : Sit
           a b c p q r lawful listened it.saves;
     }
 
+    abbrev Mid : Stretch
+    Mid = record { before = b; after = c; was = q; is = r }
+
+    wire_of : {T : Type 0} (r' : Result T Stop) (it : ServesTo turns old new Mid r') → ServesFrom socket it.session over_all
+    wire_of r' it =
+        serves_from socket a b c p q r heard sends (stood.opening_of old) since it.session it.served.opening_is
+        new.machine it.served.last_is it.marks it.sent
+
     line_of : (session : Session) → session.opening ≡ stood.opening_of old
         → between.written ≡ append_known start.written (history_line session.opening.history)
     line_of session is = put ∙ ap (λ (o : Opening). append_known start.written (history_line o.history)) (sym is)
@@ -121,16 +208,14 @@ module _ (turns : ℕ) (socket : List ℕ) (old new : ManagerState) (a b c : Sit
       whole = history_line it.session.opening.history;
       part = [];
       session = Some it.session;
-      may = served (from_listening it.session it.served) (serves_wire socket a b c heard sends it.session it.marks it.sent)
-          (ends (over it.ends));
+      may = served (from_listening it.session it.served) (wire_of (Ok value) it) (ends (over it.ends));
       puts = puts_whole start between (history_line it.session.opening.history) (line_of it.session it.served.opening_is);
     }
     leaves_serving (Err (Refused refusal)) it = record {
       before = history_line it.session.opening.history;
       session = Some it.session;
       may = λ status whole part last.
-          served (from_listening it.session it.served) (serves_wire socket a b c heard sends it.session it.marks it.sent)
-          (it.ends status whole part last);
+          served (from_listening it.session it.served) (wire_of (Err (Refused refusal)) it) (it.ends status whole part last);
       put = line_of it.session it.served.opening_is;
     }
     leaves_serving (Err (Words text)) it = absurd it.ends
@@ -141,9 +226,12 @@ module _ (turns : ℕ) (socket : List ℕ) (old new : ManagerState) (a b c : Sit
 pub history_lost : (m : ManagerState) → IsStarted m → (turns : ℕ) (socket line : List ℕ) (a b : SiteState) (p q : Crashes)
     → Saves going m.form m.machine.history m.machine.history m.store a b p q
     → b.contents ≡ with_name socket a.contents → b.counts.send ≡ a.counts.send
+    → ((t : ℕ) (start : Sends) → a.contents.sends ≡ Some start
+    → ServesSince t m.form (length m.machine.history) m.machine.history start [] [] unmarked a p
+    → ServesSince t m.form (length m.machine.history) m.machine.history (with_heard socket start) [] [] unmarked b q)
     → (old new : SinkState) → line ≡ history_line m.machine.history → AppendsPart old.written line new.written
     → Ended (ServesOn (stood.opening_of m) turns socket m.machine (record { before = a; after = b; was = p; is = q })) 10 old new
-history_lost m fresh turns socket line a b p q saves heard sends old new same part =
+history_lost m fresh turns socket line a b p q saves heard sends since old new same part =
     let played : Session = record { opening = stood.opening_of m; taken = []; answers = []; last = m.machine; ending = going } in record {
       whole = [];
       part = history_line m.machine.history;
@@ -159,9 +247,10 @@ history_lost m fresh turns socket line a b p q saves heard sends old new same pa
         store = m.store;
         saves = saves;
       })
-      (serves_wire socket a b b heard sends played unmarked (record {
+      (serves_from socket a b b p q q heard sends (stood.opening_of m) since played refl m.machine refl unmarked (record {
         given = λ new told. (new, told, sym (append-nil new));
-        wire = λ new told. (new, told, begin);
+        told = λ some. some;
+        since = λ t start serves. serves;
         whole = λ none. (refl, λ one two told told'. ap (λ (s : Sends). s.gone) (sym (some_is (sym told ∙ told'))));
       }))
       (ends (lost_history refl));
@@ -202,10 +291,32 @@ module _ (x : Form) (names : ServeWords) (before : SiteState) where
       form : m.form ≡ x
       form = ap (λ (s : ManagerState). s.form) start.fresh
 
-      wire_from : (socket : List ℕ) (session : Session) → ServesWire socket session mid end → ServesWire socket session before end
-      wire_from socket session wire = record {
+      along : KeepsOpened mid.disk end.disk ⊎ (end.disk ≡ None) → (now : Disk) (opened : Opened)
+          → end.disk ≡ Some now → now.opened ≡ Some opened → opened.tick ≡ start.at.tick
+      along (inl more) now opened told is =
+          let kept = kept_opened start.at.disk end.disk (KeepsOpened-join start.at.disk mid.disk end.disk start.stays more) now told in
+          let first = opened_at names.journal.now start.at.tick before.disk start.at.disk start.opened kept.0 kept.1 in
+          ap (λ (o : Opened). o.tick) (some_is (sym is ∙ kept.2 ∙ first))
+      along (inr untold) now opened told is = absurd (none-some now (sym untold ∙ told))
+
+      wire_from : (socket : List ℕ) (session : Session) → session.opening ≡ opening_of x names.limit m.machine.history
+          → ServesFrom socket session (record { before = mid; after = end; was = q; is = r })
+          → ServesWire socket session before end r
+      wire_from socket session opening_is wire = record {
         given = λ old new told told'. wire.given old new (ap (λ (k : Contents). k.given) only.contents ∙ told) told';
-        wire = λ old new told told'. wire.wire old new (ap (λ (k : Contents). k.sends) only.contents ∙ told) told';
+        sends = λ old new told told'.
+            let mid_told = ap (λ (k : Contents). k.sends) only.contents ∙ told in
+            let since = wire.since start.at.tick old mid_told
+            (subst (λ (o : Opening). ServesSince start.at.tick o.form (length o.history) o.history old [] [] unmarked mid q)
+            (sym opening_is) (start.since old told)) in
+            let wired = since.wired new told' in record {
+              marks = wire.marks;
+              replies = wired.0;
+              wire = wired.1;
+              keeps = λ now opened told_disk is left left_since.
+                  wired.2 (subst (λ (o : Option Disk). IsSome o) (sym told_disk) refl) left
+                  (subst (λ t. r.left_since t left) (along later now opened told_disk is) left_since);
+            };
         whole = λ none old new told told'.
             wire.whole (λ rose. none (subst (λ n. Rose n end.counts.send) only.send rose)) old new
             (ap (λ (k : Contents). k.sends) only.contents ∙ told) told';
@@ -219,7 +330,7 @@ module _ (x : Form) (names : ServeWords) (before : SiteState) where
       session_serves status whole part session (unheard store contents saves last) = λ files reads. record {
         ends = no_wire (record { reads = reads; small = start.small }) last;
         journal = session_on_journal x names.limit names.journal.now before mid end q r m start files (serve_of names)
-            (job_served_by files reads) later None refl
+            (job_served_by files reads) later None refl run_begins
             (λ some. along_saves x m.machine.history (session_of (opening_of x names.limit m.machine.history) None) store mid end q r some
             (subst (λ y. Saves going y m.machine.history m.machine.history store mid end q r) form saves));
         wire = λ socket same. contents ∙ only.contents;
@@ -233,8 +344,8 @@ module _ (x : Form) (names : ServeWords) (before : SiteState) where
             ends = job_served (record { reads = reads; small = start.small })
                 (opening_from x names.limit m start.fresh played it.opening_is) it.takes how;
             journal = session_on_journal x names.limit names.journal.now before mid end q r m start files (serve_of names)
-                (job_served_by files reads) later (Some played) opening_is
+                (job_served_by files reads) later (Some played) opening_is it.takes.run
                 (λ some. along_saves x m.machine.history played it.store mid end q r some saves);
             wire = λ socket same.
-                subst (λ name. ServesWire name played before end) (some_is same) (wire_from names.socket.now played wire);
+                subst (λ name. ServesWire name played before end r) (some_is same) (wire_from names.socket.now played opening_is wire);
           }

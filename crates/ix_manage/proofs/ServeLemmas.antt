@@ -1,17 +1,18 @@
 -- What one more event makes of a serve.
 use Rattle.std.proofs.Common.{◌≡◌, ◌⊎◌, inl, inr, ℕ, ◌+◌, ◌<◌, ◌≤◌, Bool, true, false, true≢false, List, [], ◌∷◌, ◌++◌}
-use Rattle.std.proofs.Common.{length, get_or, replicate, Option, None, Some, Result, Ok, Err, append_assoc, append-nil, refl, sym, ◌∙◌, ap, subst, arith}
+use Rattle.std.proofs.Common.{length, get_or, replicate, Option, None, Some, IsSome, Result, Ok, Err, append_assoc, append-nil, refl, sym, ◌∙◌, ap, subst, arith}
 use Rattle.std.specs.Option.{option_map}
 use Rattle.std.proofs.lemmas.List.{length_push, length-replicate, get_or-replicate, same_from_push}
 use Rattle.ix_words.specs.Each.{Each, no_item, item}
 use Rattle.ix_words.proofs.Each.{Each-append, Each-left}
 use Rattle.ix_expr.specs.Form.{Form}
 use Rattle.ix_values.specs.PlainAction.{Word}
-use Rattle.ix_outside.specs.Contents.{Contents, GivenEvent, Sends, SendsPart, SendsWhole, with_event, with_pair}
+use Rattle.ix_outside.specs.Contents.{Contents, GivenEvent, Sends, SendsPart, SendsWhole, SentBytes, with_pair}
 use Rattle.ix_outside.specs.Counts.{Rose}
-use Rattle.ix_outside.specs.Crashes.{Crashes, AreLawful, LeavesTheSame, OneCall}
+use Rattle.ix_outside.specs.Crashes.{Crashes, AreLawful, IsSentByThen, LeavesTheSame, OneCall}
 use Rattle.ix_outside.specs.SiteState.{SiteState, OnlyWire}
 use Rattle.ix_outside.proofs.Counting.{Rose-earlier, Rose-later}
+use Rattle.ix_outside.proofs.Passing.{sent-nothing}
 use Rattle.ix_outside.specs.declared.event.EventKind.TheVariants.{Closed, End}
 use Rattle.ix_proto.specs.declared.reply.Reply.{Reply}
 use Rattle.ix_store.specs.Keeping.{Keeping}
@@ -19,14 +20,18 @@ use Rattle.ix_manager.specs.Handled.{ManagerState, SendsReplies, held_at}
 use Rattle.ix_manager.specs.Machine.{MachineState}
 use Rattle.ix_manager.specs.RunLaws.{FollowsRun, given_event}
 use Rattle.ix_manager.specs.Runs.{Ending, Opening, Run, begin as run_begins, going, stopped, failed}
-use Rattle.ix_manager.specs.Wire.{SendsInOrder, Wire, all_replies, begin, done, lost, marks_after, reply_line, sent, silent, unmarked}
+use Rattle.ix_manager.specs.Wire.{SendsInOrder, all_replies, done, lost, marks_after, reply_line, sent, silent, unmarked}
 use Rattle.ix_manager.specs.inside.OverSite.{FitsSite, FitsWith}
+use Rattle.ix_manager.specs.Images.{with_failed}
+use Rattle.ix_manager.specs.inside.Acknowledging.{IsSentBetween, SendsMore}
+use Rattle.ix_manager.specs.inside.Serving.{ServesSince}
+use Rattle.ix_manager.proofs.AcknowledgedLemmas.{between_none}
 use Rattle.ix_manager.specs.inside.Saving.{OnlySends, Saves, WhereFailed}
 use Rattle.ix_manager.proofs.RunLemmas.{started_follows, taken_follows, taken_goes_on}
 use Rattle.ix_manager.proofs.SavingLemmas.{saves_join, saves_none, saves_sends}
-use Rattle.ix_manager.proofs.SendLemmas.{untold_sends, wire_goes_on}
+use Rattle.ix_manager.proofs.SendLemmas.{untold_sends}
 use Rattle.ix_manage.specs.Puts.{LastLine}
-use Rattle.ix_manage.specs.Serve.{ServesWire, ends, wire_failed, with_heard}
+use Rattle.ix_manage.specs.Serve.{ends, wire_failed}
 use Rattle.ix_manage.specs.Session.{IsNoEnd, IsOver, Session, disk_failed, history_line, lost_history, out_of_turns, over}
 use Rattle.ix_manage.specs.declared.refusal.Refusal.TheVariants.{Disk, Turns, Wire as WireRefusal}
 use Rattle.ix_manage.specs.declared.run.Stop.{Stop}
@@ -35,18 +40,45 @@ use Rattle.ix_manage.specs.declared.turn.Turn.{Turn}
 use Rattle.ix_manage.specs.declared.turn.Turn.TheVariants.{More, Done, Cut, Failed}
 use Rattle.ix_manage.specs.inside.ServeProgress.{SentFor, ServedSession, Serves, ServesTo, ServesTurn, TakesOver, took, unheard}
 use Rattle.ix_manage.specs.inside.Turns.{IsStarted, IsTurn, SavesFrom, Stretch, opening_of}
+use Rattle.ix_manage.proofs.Opening.{some_is}
 use Rattle.ix_manage.proofs.Replaying.{few_bytes, given_told, marks_same, new_mark, no_answers, nothing_sent}
 
--- a call of the wire sends nothing, and leaves the disk alone
-pub wire_only : (old new : SiteState) (was is : Crashes) → OnlyWire old new → LeavesTheSame was.now is.now
-    → OneCall old new was is → OnlySends old new was is
-wire_only old new was is only same call = record {
-  count = only.disk;
-  disk = inl only.file;
-  now = same;
-  passes = call.passes;
-  images = λ image left. elim (call.images image left) [ inl now ↦ now | inr now ↦ (same image).0 now ];
-}
+-- sends that are told behind a call were told before it, and no more was sent
+module _ (old new : SiteState) (was is : Crashes) (only : OnlyWire old new) (same : LeavesTheSame was.now is.now)
+    (call : OneCall old new was is)
+    (told : IsSome new.contents.sends → IsSome old.contents.sends)
+    (sent_is : (s s' : Sends) → old.contents.sends ≡ Some s → new.contents.sends ≡ Some s' → s'.sent ≡ s.sent)
+  where
+    none_more : SendsMore old new is
+    none_more = record {
+      told = told;
+      all = λ s s' known known'. subst (λ (sent : List SentBytes). IsSentBetween s.sent sent sent) (sym (sent_is s s' known known'))
+          (between_none s.sent s.sent (omega arith));
+      by_then = λ s s' known known' left since.
+          let nothing = sent-nothing s.sent left.sent
+          (subst (λ (sent : List SentBytes). IsSentByThen s.sent sent left.sent) (sent_is s s' known known') (call.sent s s' known known' left since)) in
+          subst (λ (sent : List SentBytes). IsSentBetween s.sent s'.sent sent) (sym nothing)
+          (subst (λ (sent : List SentBytes). IsSentBetween s.sent sent s.sent) (sym (sent_is s s' known known'))
+          (between_none s.sent s.sent (omega arith)));
+    }
+
+    -- a call of the wire leaves the disk alone
+    pub wire_only : OnlySends old new was is
+    wire_only = record {
+      count = only.disk;
+      disk = inl only.file;
+      now = same;
+      passes = call.passes;
+      images = λ image left. elim (call.images image left) [ inl now ↦ now | inr now ↦ (same image).0 now ];
+      sends = none_more;
+    }
+
+-- `next`, and a `listen` that failed
+pub next_only : (old new : SiteState) (was is : Crashes) → OnlyWire old new → LeavesTheSame was.now is.now
+    → OneCall old new was is → new.contents.sends ≡ old.contents.sends → OnlySends old new was is
+next_only old new was is only same call sends = wire_only old new was is only same call
+    (λ some. subst (λ (o : Option Sends). IsSome o) sends some)
+    (λ s s' known known'. ap (λ (t : Sends). t.sent) (some_is (sym known' ∙ sends ∙ known)))
 
 -- so the history is kept over it
 pub wire_saves : (x : Form) (h : Word) (store : Keeping) (old new : SiteState) (was is : Crashes)
@@ -59,10 +91,7 @@ wire_saves x h store old new was is before lawful fits only =
 gone_same : {conn : ℕ} {replies : List Reply} {marked : Bool} {before after : Contents}
     → SendsInOrder (λ reply. SendsWhole conn (reply_line reply)) (λ reply. SendsPart conn (reply_line reply)) replies false before marked after
     → marked ≡ false → (old new : Sends) → before.sends ≡ Some old → after.sends ≡ Some new → new.gone ≡ old.gone
-gone_same done is old new told told' = let same : Some old ≡ Some new = sym told ∙ told' in ap (λ (s : Sends). s.gone) (sym (some_is same))
-  where
-    some_is : {a b : Sends} → Some a ≡ Some b → a ≡ b
-    some_is e = cc
+gone_same done is old new told told' = ap (λ (s : Sends). s.gone) (sym (some_is (sym told ∙ told')))
 gone_same {conn = conn} (sent {reply = reply} goes rest) is old new told told' =
     gone_same rest is (with_pair conn (reply_line reply) old) new
     (goes.sends ∙ ap (option_map (with_pair conn (reply_line reply))) told) told'
@@ -74,6 +103,12 @@ told_before : (known : Option (List GivenEvent)) (given : GivenEvent) (all : Lis
     → (old : List GivenEvent) × (known ≡ Some old) × (all ≡ old ++ given ∷ [])
 told_before None given all told = cc
 told_before (Some old) given all told = (old, refl, cc)
+
+-- what isn't told before isn't told afterwards
+told_from : {A : Type 0} (known now : Option A) → (known ≡ None → now ≡ None) → IsSome now → IsSome known
+told_from None now stays some =
+    let P : Option _ → Type 0 = λ o. IsSome o in let none : P None = subst P (stays refl) some in none
+told_from (Some old) now stays some = refl
 
 -- sends that are told were told before
 sends_before : (known now : Option Sends) (new : Sends) → (known ≡ None → now ≡ None) → now ≡ Some new
@@ -94,7 +129,9 @@ serves_first m site crashes fresh lawful fits =
       no_end = no_item;
       sent = record {
         given = λ new told. (new, told, sym (append-nil new));
-        wire = λ new told. (new, told, subst (λ marks. Wire new [] [] marks new) (sym marks) begin);
+        told = λ some. some;
+        since = λ t start serves. subst (λ marks. ServesSince t m.form (length m.machine.history) m.machine.history start [] [] marks site crashes)
+            (sym marks) serves;
         whole = λ none. (marks, λ old new told told'. gone_is old new (sym told ∙ told'));
       };
       saves = saves_none m.form m.machine.history m.store site crashes lawful fits;
@@ -132,7 +169,7 @@ module _ {opening : Opening} {taken : List GivenEvent} {m : ManagerState} {a b :
 -- a turn that wasn't cut short took an event
 pub taken_over : {old new : ManagerState} {stretch : Stretch} {turn : Turn} → ServesTurn old new stretch turn
     → (turn ≡ Cut → ⊥) → TakesOver old new stretch turn
-taken_over (unheard same contents rose saves) not = absurd (not refl)
+taken_over (unheard same contents rose saves since) not = absurd (not refl)
 taken_over (took it) not = it
 
 module _ {old new : ManagerState} {turn : Turn} {a b c : SiteState} {p q r : Crashes}
@@ -183,34 +220,40 @@ module _ {old new : ManagerState} {turn : Turn} {a b c : SiteState} {p q r : Cra
         by_cases true is = absurd (none (it.marked it.event.conn opened (mark_is ∙ is)))
         by_cases false is = is
 
-    pub sent_now : SentFor longer answers new.marks a c
+    stays_untold : b.contents.sends ≡ None → c.contents.sends ≡ None
+    stays_untold none = untold_sends it.event.conn it.handled.sends.sends (ap (λ (k : Contents). k.sends) it.told_is ∙ none)
+
+    opened_sends : old.marks ≡ unmarked
+        → SendsInOrder (λ reply. SendsWhole it.event.conn (reply_line reply)) (λ reply. SendsPart it.event.conn (reply_line reply))
+        (all_replies it.handled.answers) false it.told it.handled.sends.marked c.contents
+    opened_sends marks = subst (λ m. SendsInOrder (λ reply. SendsWhole it.event.conn (reply_line reply)) (λ reply. SendsPart it.event.conn (reply_line reply))
+        (all_replies it.handled.answers) m it.told it.handled.sends.marked c.contents)
+        (ap (λ marks. get_or marks it.event.conn false) marks ∙ get_or-replicate 64 it.event.conn false false it.fits.0)
+        it.handled.sends.sends
+
+    pub sent_now : SentFor opening (with_failed it.ending new.machine.history) longer answers new.marks stretch
     sent_now = record {
       given = λ all told.
-          let mine = told_before b.contents.given given all (given_told it.handled.sends.sends told) in
+          let mine = told_before b.contents.given given all
+          (sym (ap (λ (k : Contents). k.given) it.told_is) ∙ given_told it.handled.sends.sends told) in
           let earlier = serves.sent.given mine.0 mine.1 in
           (earlier.0, earlier.1, mine.2 ∙ ap (λ events. events ++ given ∷ []) earlier.2 ∙ append_assoc earlier.0 taken (given ∷ []));
-      wire = λ sends told.
-          let mine = sends_before b.contents.sends c.contents.sends sends (untold_sends it.event.conn it.handled.sends.sends) told in
-          let earlier = serves.sent.wire mine.0 mine.1 in
-          (earlier.0, earlier.1,
-          wire_goes_on earlier.0 taken serves.answers mine.0 sends old it.event it.piece it.handled.answers new
-          (with_event it.event it.piece b.contents) c.contents earlier.2 it.handled.sends mine.1 told);
+      told = λ some. serves.sent.told (told_from b.contents.sends c.contents.sends stays_untold some);
+      since = λ t start begins.
+          let least = length opening.history in
+          subst (λ x. ServesSince t x least (with_failed it.ending new.machine.history) start longer answers new.marks c r) serves.follows.form_is
+          (it.since t least start taken serves.answers
+          (subst (λ x. ServesSince t x least old.machine.history start taken serves.answers old.marks b q) (sym serves.follows.form_is)
+          (serves.sent.since t start begins)));
       whole = λ none.
           let earlier = serves.sent.whole (λ rose. none (Rose-later a.counts.send b.counts.send c.counts.send rose second)) in
           let marked = none_marked earlier.0 (λ rose. none (Rose-earlier a.counts.send b.counts.send c.counts.send first rose)) in
           (it.handled.sends.marks ∙ (λ i. marks_after it.event.kind it.event.conn (marked i) (earlier.0 i)) ∙ marks_same it.event.kind it.event.conn,
           λ start last told told'.
-          let mine = sends_before b.contents.sends c.contents.sends last (untold_sends it.event.conn it.handled.sends.sends) told' in
-          gone_same (opened_sends earlier.0) marked mine.0 last mine.1 told' ∙ earlier.1 start mine.0 told mine.1);
+          let mine = sends_before b.contents.sends c.contents.sends last stays_untold told' in
+          gone_same (opened_sends earlier.0) marked mine.0 last (ap (λ (k : Contents). k.sends) it.told_is ∙ mine.1) told'
+          ∙ earlier.1 start mine.0 told mine.1);
     }
-      where
-        opened_sends : old.marks ≡ unmarked
-            → SendsInOrder (λ reply. SendsWhole it.event.conn (reply_line reply)) (λ reply. SendsPart it.event.conn (reply_line reply))
-            (all_replies it.handled.answers) false (with_event it.event it.piece b.contents) it.handled.sends.marked c.contents
-        opened_sends marks = subst (λ m. SendsInOrder (λ reply. SendsWhole it.event.conn (reply_line reply)) (λ reply. SendsPart it.event.conn (reply_line reply))
-            (all_replies it.handled.answers) m (with_event it.event it.piece b.contents) it.handled.sends.marked c.contents)
-            (ap (λ marks. get_or marks it.event.conn false) marks ∙ get_or-replicate 64 it.event.conn false false it.fits.0)
-            it.handled.sends.sends
 
     -- it may go on
     pub serves_more : turn ≡ More → Serves opening longer new stretch
@@ -224,7 +267,7 @@ module _ {old new : ManagerState} {turn : Turn} {a b c : SiteState} {p q r : Cra
               let least = serves.tickets in
               let rises = it.tickets in omega (arith, few, long, least, rises);
           no_end = Each-append serves.no_end (item is.2 no_item);
-          sent = sent_now;
+          sent = subst (λ e. SentFor opening (with_failed e new.machine.history) longer answers new.marks stretch) is.1 sent_now;
           saves = subst (λ e. SavesFrom opening e new.machine.history new.store stretch) is.1 saved;
         }
 
@@ -250,7 +293,7 @@ module _ {old new : ManagerState} {turn : Turn} {a b c : SiteState} {p q r : Cra
           session = played;
           served = subst (λ o. ServedSession o turns new.machine stretch played) same_opening (served_played turns few);
           marks = new.marks;
-          sent = sent_now;
+          sent = subst (λ o. SentFor o (with_failed it.ending new.machine.history) longer answers new.marks stretch) same_opening sent_now;
           ends = is_over ((subst (IsTurn false it.ending it.event.kind) same it.turn_is).1);
         }
           where
@@ -264,7 +307,7 @@ module _ {old new : ManagerState} {turn : Turn} {a b c : SiteState} {p q r : Cra
           session = played;
           served = subst (λ o. ServedSession o turns new.machine stretch played) same_opening (served_played turns few);
           marks = new.marks;
-          sent = sent_now;
+          sent = subst (λ o. SentFor o (with_failed it.ending new.machine.history) longer answers new.marks stretch) same_opening sent_now;
           ends = λ status whole part last. ends (disk_failed (subst (IsTurn false it.ending it.event.kind) same it.turn_is).1.1 last);
         }
 
@@ -276,12 +319,19 @@ disk_rose {stretch = stretch} it same =
     let P : Ending → Type 0 = λ e. WhereFailed e (Rose stretch.before.counts.disk stretch.after.counts.disk) in
     subst P is.1.1 it.saves.faults
 
+-- nothing came since the wire failed
+abbrev IsCut : ManagerState → ManagerState → SiteState → SiteState → Crashes → Crashes → Type 0
+IsCut old new b c q r = (new ≡ old) × (c.contents ≡ b.contents) × Rose b.counts.wire c.counts.wire
+    × Saves going old.form old.machine.history new.machine.history new.store b c q r
+    × ((t : ℕ) (least : ℕ) (start : Sends) (taken : List GivenEvent) (answers : List (List (List Reply)))
+    → ServesSince t old.form least old.machine.history start taken answers old.marks b q
+    → ServesSince t old.form least old.machine.history start taken answers old.marks c r)
+
 -- a turn that was cut short took no event
 module _ {old new : ManagerState} {b c : SiteState} {q r : Crashes} where
   pub cut_unheard : {turn : Turn} → ServesTurn old new (record { before = b; after = c; was = q; is = r }) turn → turn ≡ Cut
-      → (new ≡ old) × (c.contents ≡ b.contents) × Rose b.counts.wire c.counts.wire
-      × Saves going old.form old.machine.history new.machine.history new.store b c q r
-  cut_unheard (unheard same contents rose saves) is = (same, contents, rose, saves)
+      → IsCut old new b c q r
+  cut_unheard (unheard same contents rose saves since) is = (same, contents, rose, saves, since)
   cut_unheard (took it) is =
       let no : false ≡ true = subst (IsTurn false it.ending it.event.kind) is it.turn_is in absurd (true≢false (sym no))
 
@@ -289,8 +339,7 @@ module _ {old new : ManagerState} {b c : SiteState} {q r : Crashes} where
 module _ {old new : ManagerState} {a b c : SiteState} {p q r : Crashes}
     {opening : Opening} {taken : List GivenEvent}
     (serves : Serves opening taken old (record { before = a; after = b; was = p; is = q }))
-    (cut : (new ≡ old) × (c.contents ≡ b.contents) × Rose b.counts.wire c.counts.wire
-    × Saves going old.form old.machine.history new.machine.history new.store b c q r)
+    (cut : IsCut old new b c q r)
     (lawful : AreLawful c r) (sends : b.counts.send ≤ c.counts.send)
   where
     abbrev over_all : Stretch
@@ -299,10 +348,16 @@ module _ {old new : ManagerState} {a b c : SiteState} {p q r : Crashes}
     contents_are : c.contents ≡ b.contents
     contents_are = cut.1
 
-    sent_still : SentFor taken serves.answers old.marks a c
+    sent_still : SentFor opening old.machine.history taken serves.answers old.marks over_all
     sent_still = record {
       given = λ new told. serves.sent.given new (sym (ap (λ (k : Contents). k.given) contents_are) ∙ told);
-      wire = λ new told. serves.sent.wire new (sym (ap (λ (k : Contents). k.sends) contents_are) ∙ told);
+      told = λ some. serves.sent.told (subst (λ (k : Contents). IsSome k.sends) contents_are some);
+      since = λ t start begins.
+          let least = length opening.history in
+          subst (λ x. ServesSince t x least old.machine.history start taken serves.answers old.marks c r) serves.follows.form_is
+          (cut.4 t least start taken serves.answers
+          (subst (λ x. ServesSince t x least old.machine.history start taken serves.answers old.marks b q) (sym serves.follows.form_is)
+          (serves.sent.since t start begins)));
       whole = λ none.
           let earlier = serves.sent.whole (λ rose. none (Rose-later a.counts.send b.counts.send c.counts.send rose sends)) in
           (earlier.0, λ start last told told'. earlier.1 start last told (sym (ap (λ (k : Contents). k.sends) contents_are) ∙ told'));
@@ -322,7 +377,8 @@ module _ {old new : ManagerState} {a b c : SiteState} {p q r : Crashes}
             (subst (λ x. Saves going x old.machine.history new.machine.history new.store b c q r) serves.follows.form_is cut.3);
       });
       marks = old.marks;
-      sent = sent_still;
+      sent = subst (λ o. SentFor o new.machine.history taken serves.answers old.marks over_all) same_opening
+          (subst (λ (s : ManagerState). SentFor opening s.machine.history taken serves.answers old.marks over_all) (sym cut.0) sent_still);
       ends = λ status whole part last. wire_failed few (serves.no_end, refl) last;
     }
 
@@ -331,11 +387,11 @@ pub turns_out : {T : Type 0} {opening : Opening} {taken : List GivenEvent} {m : 
     (serves : Serves opening taken m (record { before = a; after = b; was = p; is = q }))
     (turns : ℕ) → length taken ≡ turns → (start : ManagerState) → opening ≡ opening_of start
     → ServesTo {T = T} turns start m (record { before = a; after = b; was = p; is = q }) (Err (Refused Turns))
-turns_out {m = m} {a = a} {b = b} {p = p} {q = q} serves turns all start same_opening = record {
+turns_out {taken = taken} {m = m} {a = a} {b = b} {p = p} {q = q} serves turns all start same_opening = record {
   session = so_far serves;
   served = subst (λ o. ServedSession o turns m.machine (record { before = a; after = b; was = p; is = q }) (so_far serves)) same_opening
       (served_so_far serves turns (omega (arith, all)));
   marks = m.marks;
-  sent = serves.sent;
+  sent = subst (λ o. SentFor o m.machine.history taken serves.answers m.marks (record { before = a; after = b; was = p; is = q })) same_opening serves.sent;
   ends = λ status whole part last. ends (out_of_turns all (serves.no_end, refl) last);
 }

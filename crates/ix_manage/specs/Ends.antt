@@ -115,7 +115,7 @@ pub record JobOver (files : Option Listing) (job : Job) (before after : SiteStat
     (status : ℕ) (whole part : List ℕ) (session : Option Session) : Type 0 where
   pub ends : JobEnds files after.disk job status whole part session
   pub journal : OnJournal files job before after is session
-  pub wire : OnWire job before after session
+  pub wire : OnWire job before after is session
 
 -- How a run over a site may end: words that name no job are refused with a text; memory may run out
 -- for them; and others end as their job may.

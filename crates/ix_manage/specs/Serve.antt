@@ -2,7 +2,12 @@
 use Rattle.std.specs.Prelude.{◌≡◌, ℕ, ◌<◌, List, [], ◌∷◌, ◌++◌, length, Bool, Option, None, Some, codes}
 use Rattle.ix_outside.specs.Contents.{GivenEvent, Sends}
 use Rattle.ix_outside.specs.Counts.{Rose}
+use Rattle.ix_outside.specs.Crashes.{Crashes, Left}
+use Rattle.ix_outside.specs.Disk.{Disk, Opened}
 use Rattle.ix_outside.specs.SiteState.{SiteState}
+use Rattle.ix_proto.specs.declared.reply.Reply.{Reply}
+use Rattle.ix_manager.specs.Acknowledged.{KeepsAcknowledged}
+use Rattle.ix_manager.specs.Images.{with_failed}
 use Rattle.ix_manager.specs.Wire.{Wire}
 use Rattle.ix_cli.specs.Words.{Job}
 use Rattle.ix_manage.specs.ActionLines.{line}
@@ -25,23 +30,38 @@ pub data ServeEnds (turns : ℕ) (session : Session) : ℕ → List ℕ → List
 abbrev pub with_heard : List ℕ → Sends → Sends
 with_heard name sends = record sends { heard = sends.heard ++ name ∷ [] }
 
--- A session's events are those that the site gave since, its replies are what was sent since, and
--- only the socket was listened to, once: each where the site tells it. Where the count of sends
--- didn't rise, no send answered Gone.
-pub record ServesWire (socket : List ℕ) (session : Session) (before after : SiteState) : Type 0 where
+-- What a session sent since, on no other socket than this: its replies are the wire of its run, one
+-- send each, and which of them the sends carry. Each image that a crash since the journal was
+-- attached may have left, beside what had been sent by then, keeps the confirmed actions, the first
+-- ones and no others: all that it held at first, and each that was acknowledged by then.
+pub record SendsReplies (socket : List ℕ) (session : Session) (old new : Sends) (disk : Option Disk)
+    (is : Crashes) : Type 0 where
+  pub marks : List Bool
+  pub replies : List Reply
+  pub wire : Wire (with_heard socket old) session.taken session.answers marks
+      (record { sends = new; replies = replies })
+  pub keeps : (now : Disk) (opened : Opened) → disk ≡ Some now → now.opened ≡ Some opened
+      → (left : Left) → is.left_since opened.tick left
+      → KeepsAcknowledged session.opening.form (length session.opening.history)
+      (with_failed session.ending session.last.history) replies old.sent left
+
+-- A session's events are those that the site gave since, and its replies are what it sent since,
+-- each where the site tells it. Where the count of sends didn't rise, no send answered Gone.
+pub record ServesWire (socket : List ℕ) (session : Session) (before after : SiteState) (is : Crashes)
+    : Type 0 where
   pub given : (old new : List GivenEvent) → before.contents.given ≡ Some old
       → after.contents.given ≡ Some new → new ≡ old ++ session.taken
-  pub wire : (old new : Sends) → before.contents.sends ≡ Some old → after.contents.sends ≡ Some new
-      → (marks : List Bool) × Wire (with_heard socket old) session.taken session.answers marks new
+  pub sends : (old new : Sends) → before.contents.sends ≡ Some old → after.contents.sends ≡ Some new
+      → SendsReplies socket session old new after.disk is
   pub whole : ¬ Rose before.counts.send after.counts.send → (old new : Sends)
       → before.contents.sends ≡ Some old → after.contents.sends ≡ Some new → new.gone ≡ old.gone
 
 -- where no session came to be, no event was given, nothing was sent and nothing was listened to
-abbrev pub UsesWire : List ℕ → Option Session → SiteState → SiteState → Type 0
-UsesWire socket None before after = after.contents ≡ before.contents
-UsesWire socket (Some session) before after = ServesWire socket session before after
+abbrev pub UsesWire : List ℕ → Option Session → SiteState → SiteState → Crashes → Type 0
+UsesWire socket None before after is = after.contents ≡ before.contents
+UsesWire socket (Some session) before after is = ServesWire socket session before after is
 
 -- what a job makes of the connections of its socket, where it has one
-abbrev pub OnWire : Job → SiteState → SiteState → Option Session → Type 0
-OnWire job before after session = (socket : List ℕ) → socket_of job ≡ Some socket
-    → UsesWire socket session before after
+abbrev pub OnWire : Job → SiteState → SiteState → Crashes → Option Session → Type 0
+OnWire job before after is session = (socket : List ℕ) → socket_of job ≡ Some socket
+    → UsesWire socket session before after is

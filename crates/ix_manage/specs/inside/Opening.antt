@@ -4,6 +4,7 @@ use Rattle.std.specs.Option.{ForSome}
 use Rattle.ix_expr.specs.Form.{Form}
 use Rattle.ix_can.specs.TreeOf.{tree_size}
 use Rattle.ix_cli.specs.Words.{Job}
+use Rattle.ix_outside.specs.Contents.{Sends}
 use Rattle.ix_outside.specs.Crashes.{Crashes}
 use Rattle.ix_outside.specs.Disk.{IsOpened}
 use Rattle.ix_outside.specs.Files.{Listing}
@@ -13,7 +14,9 @@ use Rattle.ix_outside.specs.inside.DiskCalls.{KeepsOpened}
 use Rattle.ix_manager.specs.Handled.{ManagerState, started}
 use Rattle.ix_manager.specs.Images.{IsStartable, Keeps}
 use Rattle.ix_manager.specs.Runs.{opening_of}
+use Rattle.ix_manager.specs.Wire.{unmarked}
 use Rattle.ix_manager.specs.inside.OverSite.{FitsSite}
+use Rattle.ix_manager.specs.inside.Serving.{ServesSince}
 use Rattle.ix_manage.specs.Command.{expression_of, journal_of, limit_of}
 use Rattle.ix_manage.specs.Ends.{JobEnds, ReadsRest}
 use Rattle.ix_manage.specs.Journal.{OnJournal}
@@ -60,3 +63,5 @@ pub record StartsOver (x : Form) (limit : ℕ) (journal : List ℕ) (before afte
   pub keeps : IsSome at.disk → (image : List ℕ) → is.left at.tick image
       → Keeps x (length m.machine.history) m.machine.history image
   pub fits : FitsSite m after is
+  pub since : (sends : Sends) → before.contents.sends ≡ Some sends
+      → ServesSince at.tick x (length m.machine.history) m.machine.history sends [] [] unmarked after is

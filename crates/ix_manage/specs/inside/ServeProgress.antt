@@ -1,8 +1,9 @@
 -- A serve as far as it went.
 use Rattle.std.specs.Prelude.{◌≡◌, ◌⊎◌, ℕ, ◌+◌, ◌*◌, ◌≤◌, Bool, false, true, List, [], ◌∷◌, ◌++◌}
-use Rattle.std.specs.Prelude.{length, get_or, Option, None, Some, Result, Ok, Err, codes}
+use Rattle.std.specs.Prelude.{length, get_or, Option, None, Some, IsSome, Result, Ok, Err, codes}
 use Rattle.ix_words.specs.Each.{Each}
-use Rattle.ix_outside.specs.Contents.{GivenEvent, Sends, with_event}
+use Rattle.ix_values.specs.PlainAction.{Word}
+use Rattle.ix_outside.specs.Contents.{Contents, GivenEvent, Sends, with_event}
 use Rattle.ix_outside.specs.Counts.{Rose}
 use Rattle.ix_outside.specs.SiteState.{SiteState}
 use Rattle.ix_outside.specs.inside.DiskCalls.{KeepsOpened}
@@ -11,13 +12,15 @@ use Rattle.ix_proto.specs.declared.reply.Reply.{Reply}
 use Rattle.ix_store.specs.Keeping.{Keeping}
 use Rattle.ix_manager.specs.Handled.{ManagerState, FitsEvent, Handles}
 use Rattle.ix_manager.specs.Machine.{MachineState}
-use Rattle.ix_manager.specs.RunLaws.{FollowsRun}
+use Rattle.ix_manager.specs.RunLaws.{FollowsRun, given_event}
 use Rattle.ix_manager.specs.Runs.{Ending, Opening, going}
-use Rattle.ix_manager.specs.Wire.{Wire, unmarked}
+use Rattle.ix_manager.specs.Images.{with_failed}
+use Rattle.ix_manager.specs.Wire.{unmarked}
+use Rattle.ix_manager.specs.inside.Serving.{ServesSince}
 use Rattle.ix_manager.specs.inside.Saving.{SavesRun}
 use Rattle.ix_manage.specs.ActionLines.{line}
 use Rattle.ix_manage.specs.Puts.{LastLine}
-use Rattle.ix_manage.specs.Serve.{ServeEnds, ServesWire}
+use Rattle.ix_manage.specs.Serve.{ServeEnds, with_heard}
 use Rattle.ix_manage.specs.Session.{IsNoEnd, IsOver, Session, Takes, history_line}
 use Rattle.ix_manage.specs.Site.{OnlyCalls}
 use Rattle.ix_manage.specs.declared.run.Stop.{Stop}
@@ -33,16 +36,21 @@ pub record OnlyServed (old new : SiteState) : Type 0 where
   pub attached : new.attached ≡ old.attached
   pub opened : KeepsOpened old.disk new.disk ⊎ (new.disk ≡ None)
 
--- these events were given since, and the replies to them are what was sent since
-pub record SentFor (taken : List GivenEvent) (answers : List (List (List Reply))) (marks : List Bool)
-    (before after : SiteState) : Type 0 where
-  pub given : (new : List GivenEvent) → after.contents.given ≡ Some new
-      → (old : List GivenEvent) × (before.contents.given ≡ Some old) × (new ≡ old ++ taken)
-  pub wire : (new : Sends) → after.contents.sends ≡ Some new
-      → (old : Sends) × (before.contents.sends ≡ Some old) × Wire old taken answers marks new
-  pub whole : ¬ Rose before.counts.send after.counts.send → (marks ≡ unmarked)
-      × ((old new : Sends) → before.contents.sends ≡ Some old → after.contents.sends ≡ Some new
-      → new.gone ≡ old.gone)
+-- These events were given since, and the replies to them are what was sent since; and what was
+-- acknowledged since a tick in front of all of it is kept.
+pub record SentFor (opening : Opening) (history : Word) (taken : List GivenEvent)
+    (answers : List (List (List Reply))) (marks : List Bool) (stretch : Stretch) : Type 0 where
+  pub given : (new : List GivenEvent) → stretch.after.contents.given ≡ Some new
+      → (old : List GivenEvent) × (stretch.before.contents.given ≡ Some old) × (new ≡ old ++ taken)
+  pub told : IsSome stretch.after.contents.sends → IsSome stretch.before.contents.sends
+  pub since : (t : ℕ) (start : Sends)
+      → ServesSince t opening.form (length opening.history) opening.history start [] [] unmarked
+      stretch.before stretch.was
+      → ServesSince t opening.form (length opening.history) history start taken answers marks
+      stretch.after stretch.is
+  pub whole : ¬ Rose stretch.before.counts.send stretch.after.counts.send → (marks ≡ unmarked)
+      × ((old new : Sends) → stretch.before.contents.sends ≡ Some old
+      → stretch.after.contents.sends ≡ Some new → new.gone ≡ old.gone)
 
 -- a manager that took these events of a site, none of them the end, and sent its replies; it may go on
 pub record Serves (opening : Opening) (taken : List GivenEvent) (m : ManagerState)
@@ -51,7 +59,7 @@ pub record Serves (opening : Opening) (taken : List GivenEvent) (m : ManagerStat
   pub follows : FollowsRun opening taken answers m
   pub tickets : m.machine.ticket ≤ 1 + 4096 * length taken
   pub no_end : Each IsNoEnd taken
-  pub sent : SentFor taken answers m.marks stretch.before stretch.after
+  pub sent : SentFor opening m.machine.history taken answers m.marks stretch
   pub saves : SavesFrom opening going m.machine.history m.store stretch
 
 -- the manager took an event of the site, its replies were sent, and the journal kept its history
@@ -60,20 +68,34 @@ pub record TakesOver (old new : ManagerState) (stretch : Stretch) (turn : Turn) 
   pub piece : List ℕ
   pub ending : Ending
   pub fits : FitsEvent event piece
-  pub handled : Handles old event piece ending new
-      (with_event event piece stretch.before.contents) stretch.after.contents
+  pub told : Contents
+  pub told_is : told ≡ with_event event piece stretch.before.contents
+  pub handled : Handles old event piece ending new told stretch.after.contents
   pub marked : (conn : ℕ)
       → get_or old.marks conn false ≡ false → get_or new.marks conn false ≡ true
       → Rose stretch.before.counts.send stretch.after.counts.send
   pub tickets : new.machine.ticket ≤ old.machine.ticket + length piece
   pub turn_is : IsTurn false ending event.kind turn
   pub saves : SavesRun ending old new stretch.before stretch.after stretch.was stretch.is
+  pub since : (t : ℕ) (least : ℕ) (start : Sends) (taken : List GivenEvent)
+      (answers : List (List (List Reply)))
+      → ServesSince t old.form least old.machine.history start taken answers old.marks
+      stretch.before stretch.was
+      → ServesSince t old.form least (with_failed ending new.machine.history) start
+      (taken ++ given_event event piece ∷ []) (answers ++ handled.answers ∷ []) new.marks
+      stretch.after stretch.is
 
 -- an event was taken, or none came since the wire failed
 pub data ServesTurn (old new : ManagerState) (stretch : Stretch) : Turn → Type 0 where
   unheard : new ≡ old → stretch.after.contents ≡ stretch.before.contents
       → Rose stretch.before.counts.wire stretch.after.counts.wire
       → SavesRun going old new stretch.before stretch.after stretch.was stretch.is
+      → ((t : ℕ) (least : ℕ) (start : Sends) (taken : List GivenEvent)
+      (answers : List (List (List Reply)))
+      → ServesSince t old.form least old.machine.history start taken answers old.marks
+      stretch.before stretch.was
+      → ServesSince t old.form least old.machine.history start taken answers old.marks
+      stretch.after stretch.is)
       → ServesTurn old new stretch Cut
   took : {turn : Turn} → TakesOver old new stretch turn → ServesTurn old new stretch turn
 
@@ -103,8 +125,25 @@ pub record ServesTo {T : Type 0} (turns : ℕ) (old new : ManagerState) (stretch
   pub session : Session
   pub served : ServedSession (opening_of old) turns new.machine stretch session
   pub marks : List Bool
-  pub sent : SentFor session.taken session.answers marks stretch.before stretch.after
+  pub sent : SentFor (opening_of old) (with_failed session.ending new.machine.history)
+      session.taken session.answers marks stretch
   pub ends : EndsTo turns session result
+
+-- a session's events were given since, its replies are what was sent since, behind listening to the
+-- socket, and what was acknowledged since a tick in front of all of it is kept
+pub record ServesFrom (socket : List ℕ) (session : Session) (stretch : Stretch) : Type 0 where
+  pub given : (old new : List GivenEvent) → stretch.before.contents.given ≡ Some old
+      → stretch.after.contents.given ≡ Some new → new ≡ old ++ session.taken
+  pub marks : List Bool
+  pub since : (t : ℕ) (start : Sends) → stretch.before.contents.sends ≡ Some start
+      → ServesSince t session.opening.form (length session.opening.history) session.opening.history
+      start [] [] unmarked stretch.before stretch.was
+      → ServesSince t session.opening.form (length session.opening.history)
+      (with_failed session.ending session.last.history) (with_heard socket start)
+      session.taken session.answers marks stretch.after stretch.is
+  pub whole : ¬ Rose stretch.before.counts.send stretch.after.counts.send → (old new : Sends)
+      → stretch.before.contents.sends ≡ Some old → stretch.after.contents.sends ≡ Some new
+      → new.gone ≡ old.gone
 
 -- the socket couldn't be listened to; or a session came to be
 pub data ServesOn (opening : Opening) (turns : ℕ) (socket : List ℕ) (last : MachineState)
@@ -116,6 +155,6 @@ pub data ServesOn (opening : Opening) (turns : ℕ) (socket : List ℕ) (last : 
       → ServesOn opening turns socket last stretch status whole part None
   served : {session : Session} {status : ℕ} {whole part : List ℕ}
       → ServedSession opening turns last stretch session
-      → ServesWire socket session stretch.before stretch.after
+      → ServesFrom socket session stretch
       → ServeEnds turns session status whole part
       → ServesOn opening turns socket last stretch status whole part (Some session)

@@ -91,12 +91,12 @@ fn journals_are_kept(rt: HostRuntime) -> Result<(), Fail> {
             ..make_row(OF_A, b"", 8, b"refused journal large 1 2\n")
         },
         failing_row(
-            Some(13),
+            Some(12),
             None,
             5,
             b"history 0\n0 granted 1\n0 refused 91 disk\nrefused disk\n",
         ),
-        failing_row(Some(13), Some(2), 10, b"history 0\n0 granted 1\n"),
+        failing_row(Some(12), Some(2), 10, b"history 0\n0 granted 1\n"),
         Row {
             journal: b"",
             ..failing_row(Some(0), None, 5, b"refused disk\n")

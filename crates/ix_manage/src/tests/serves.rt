@@ -13,8 +13,9 @@ struct Piece {
     bytes: &'static [u8],
 }
 
-// A serve's expression, its journal, the pieces that come, the call that fails, and what is wanted:
-// the status, what is put, and of each send its connection, a space and its bytes.
+// A serve's expression, its journal, the pieces that come, the call that fails, the calls after which
+// all fail, and what is wanted: the status, what is put, of each send its connection, a space and
+// its bytes, and what is left of the journal.
 #[derive(Clone, Copy)]
 struct Row {
     expression: &'static [u8],
@@ -22,6 +23,7 @@ struct Row {
     first: Piece,
     second: Piece,
     call: Option<u64>,
+    fuse: Option<u64>,
     status: u8,
     put: &'static [u8],
     sent: &'static [u8],
@@ -57,7 +59,7 @@ fn site_with(alloc: Global, row: Row) -> Result<MemorySite, Fail>
     events.push(first).map_err(|_| AllocError)?;
     events.push(second).map_err(|_| AllocError)?;
     let image = row.journal.to_vec(alloc)?;
-    Ok(MemorySite::new(alloc, image, events, ROOM, fail, None)?)
+    Ok(MemorySite::new(alloc, image, events, ROOM, fail, row.fuse)?)
 }
 
 // Of each send its connection, a space and its bytes.
@@ -88,6 +90,7 @@ fn make_row(journal: &'static [u8], put: &'static [u8], sent: &'static [u8]) -> 
             bytes: b"confirm 1\n",
         },
         call: None,
+        fuse: None,
         status: 0,
         put,
         sent,
@@ -137,7 +140,7 @@ fn connections_are_served(rt: HostRuntime) -> Result<(), Fail> {
         ),
         make_row(BEFORE_A, b"history 0\n", b"0 granted 1\n0 confirmed 1\n"),
         Row {
-            call: Some(17),
+            call: Some(16),
             status: 5,
             ..make_row(
                 b"",
@@ -146,19 +149,19 @@ fn connections_are_served(rt: HostRuntime) -> Result<(), Fail> {
             )
         },
         Row {
-            call: Some(10),
+            call: Some(9),
             status: 6,
             left: b"\xA5IXJ1\x00\x05a - b\x00",
             ..make_row(b"", b"refused wire\n", b"")
         },
         Row {
-            call: Some(13),
+            call: Some(12),
             status: 6,
             left: b"\xA5IXJ1\x00\x05a - b\x00",
             ..make_row(b"", b"history 0\nrefused wire\n", b"0 granted 1\n")
         },
         Row {
-            call: Some(12),
+            call: Some(11),
             ..make_row(b"", b"history 0\n", b"0 grant")
         },
         Row {
@@ -178,6 +181,38 @@ fn connections_are_served(rt: HostRuntime) -> Result<(), Fail> {
         assert!(rt; sent.as_slice() == row.sent, "what is sent for {:?}", row.sent);
         let same = row.left.is_empty() || site.image() == row.left;
         assert!(rt; same, "what is left behind {:?}", row.sent);
+    }
+    Ok(())
+}
+
+#[test]
+fn what_was_acknowledged_is_kept(rt: HostRuntime) -> Result<(), Fail> {
+    let alloc = rt.alloc();
+    let words = words_of(alloc, &["serve", "expression", "journal", "socket"])?;
+    for fuse in 0..20 {
+        let row = Row {
+            fuse: Some(fuse),
+            ..make_row(b"", b"", b"")
+        };
+        let mut files = files_of(alloc, row.expression, b"")?;
+        let mut site = site_with(alloc, row)?;
+        let mut out = sink_of(alloc, None)?;
+        let ended = run_over(alloc, &words, &mut files, &mut site, &mut out)?;
+        let sent = sent_by(alloc, &site)?;
+        let acknowledged = sent.as_slice().starts_with(b"0 granted 1\n0 c");
+        let left = Before {
+            journal: site.image(),
+            call: None,
+            put: None,
+        };
+        let mut again = site_of(alloc, left)?;
+        let mut out = sink_of(alloc, None)?;
+        let opened = run_over(alloc, &words, &mut files, &mut again, &mut out)?;
+        let empty = opened.bytes.as_slice() == b"history 0\n".as_slice();
+        let whole = opened.bytes.as_slice() == b"history 1\n".as_slice();
+        assert_eq!(rt; opened.status, 0);
+        assert!(rt; whole || (empty && !acknowledged), "what is kept after {fuse} calls");
+        assert!(rt; fuse < 19 || ended.status == 0, "a run of nineteen calls ends well");
     }
     Ok(())
 }

@@ -1,11 +1,14 @@
-use Rattle.std.proofs.Common.{inl, None, Ok, Err, refl, sym, ap, subst}
+use Rattle.std.proofs.Common.{length, inl, None, Ok, Err, refl, sym, ap, subst, arith, ◌∙◌}
+use Rattle.ix_outside.specs.Contents.{Contents}
 use Rattle.ix_can.specs.TreeOf.{tree_size}
 use Rattle.ix_manager.specs.inside.StartAnswers.{IsFault}
-use Rattle.ix_manager.proofs.SavingLemmas.{told_disk}
+use Rattle.ix_manager.proofs.AcknowledgedLemmas.{the_value}
+use Rattle.ix_manager.proofs.SavingLemmas.{kept_told}
+use Rattle.ix_manager.proofs.ServingLemmas.{serves_begin}
 use Rattle.ix_manage.specs.Journal.{UsesJournal}
 use Rattle.ix_manage.specs.inside.Leaves.{StopsAfter}
 use Rattle.ix_manage.specs.inside.Opening.{EndsUnstarted}
-use Rattle.ix_manage.proofs.Opening.{left_at, none_opened, of_journal, on_journal, start_keeps, start_uses}
+use Rattle.ix_manage.proofs.Opening.{left_at, none_opened, of_journal, on_journal, some_is, start_keeps, start_uses}
 use Rattle.ix_manage.proofs.Playing.{disk_stops, fault_kind, start_stops, started_small}
 use Rattle.ix_manage.proofs.open.open.Goals as goal
 
@@ -65,9 +68,21 @@ returns-in-Ok-start-clause-starts g c =
       later = told.calls.passes.left.later;
       starts = λ d is. told.not_large small d is;
       keeps = λ some.
-          let disk = told_disk at.disk some in
+          let disk = the_value at.disk some in
           start_keeps x limit at mid p q disk.0 c.args.journal.now disk.1
           (left_at at.disk p.now c.in-Ok.ensures.now disk.0 disk.1) (told.leaves disk.0 disk.1)
           m.machine.history (told.not_large small disk.0 disk.1);
       fits = told.fits;
+      since = λ sends known.
+          let contents = told.calls.rest.contents ∙ c.in-Ok.ensures.rest.contents in
+          let at_known = ap (λ (k : Contents). k.sends) c.in-Ok.ensures.rest.contents ∙ known in
+          serves_begin at.tick x (length m.machine.history) m.machine.history sends mid q
+          (g.met.S.Site.lawful c.start.new.site) told.calls.passes.left.later (omega arith)
+          (λ now is. some_is (sym is ∙ ap (λ (k : Contents). k.sends) contents ∙ known))
+          (λ some.
+          let disk = the_value at.disk (kept_told at.disk mid.disk told.calls.opened some) in
+          start_keeps x limit at mid p q disk.0 c.args.journal.now disk.1
+          (left_at at.disk p.now c.in-Ok.ensures.now disk.0 disk.1) (told.leaves disk.0 disk.1)
+          m.machine.history (told.not_large small disk.0 disk.1))
+          (λ now is left since. told.calls.sent sends at_known left since);
     }

@@ -5,8 +5,9 @@ use Rattle.ix_manage.specs.Session.{history_line}
 use Rattle.ix_manage.specs.declared.refusal.Refusal.TheVariants.{Wire}
 use Rattle.ix_manage.specs.inside.ServeProgress.{unheard}
 use Rattle.ix_manage.proofs.Devices.{served_then, served_wire}
-use Rattle.ix_manage.proofs.ServeEnding.{history_lost, leaves_serving}
-use Rattle.ix_manage.proofs.ServeLemmas.{wire_only, wire_saves}
+use Rattle.ix_outside.specs.Contents.{Contents}
+use Rattle.ix_manage.proofs.ServeEnding.{history_lost, leaves_serving, listen_only, listen_since}
+use Rattle.ix_manage.proofs.ServeLemmas.{next_only, wire_saves}
 use Rattle.ix_manage.proofs.Stops.{failed_later, nothing_put}
 use Rattle.ix_manage.proofs.serve.take_connections.Goals as goal
 
@@ -18,8 +19,8 @@ returns-in-Err-clause-leaves g c =
     let new = c.listen.new.self in
     let saves = wire_saves m.form m.machine.history m.store (g.S.Site.state old) (g.S.Site.state new) (g.S.Site.crashes old) (g.S.Site.crashes new)
     (g.met.S.Site.lawful old) (g.met.S.Site.lawful new) c.requires.fits
-    (wire_only (g.S.Site.state old) (g.S.Site.state new) (g.S.Site.crashes old) (g.S.Site.crashes new)
-    c.in-Err.ensures.rest c.in-Err.ensures.now c.in-Err.ensures.call) in
+    (next_only (g.S.Site.state old) (g.S.Site.state new) (g.S.Site.crashes old) (g.S.Site.crashes new)
+    c.in-Err.ensures.rest c.in-Err.ensures.now c.in-Err.ensures.call (ap (λ (k : Contents). k.sends) c.in-Err.ensures.contents)) in
     nothing_put Wire (g.K.Sink.state c.args.out.now)
     (λ status whole part last. unheard m.store c.in-Err.ensures.contents saves last)
 
@@ -34,11 +35,15 @@ returns-in-Err-put-clause-leaves g c =
     let new = c.listen.new.self in
     let saves = wire_saves m.form m.machine.history m.store (g.S.Site.state old) (g.S.Site.state new) (g.S.Site.crashes old) (g.S.Site.crashes new)
     (g.met.S.Site.lawful old) (g.met.S.Site.lawful new) c.requires.fits
-    (wire_only (g.S.Site.state old) (g.S.Site.state new) (g.S.Site.crashes old) (g.S.Site.crashes new)
-    c.in-Ok.ensures.rest c.in-Ok.ensures.now c.in-Ok.ensures.call) in (
+    (listen_only c.args.names.socket.now (g.S.Site.state old) (g.S.Site.state new) (g.S.Site.crashes old) (g.S.Site.crashes new)
+    c.in-Ok.ensures.contents (g.met.S.Site.lawful old) (g.met.S.Site.lawful new)
+    c.in-Ok.ensures.rest c.in-Ok.ensures.now c.in-Ok.ensures.call) in
+    let since = listen_since c.args.names.socket.now (g.S.Site.state old) (g.S.Site.state new) (g.S.Site.crashes old) (g.S.Site.crashes new)
+    c.in-Ok.ensures.contents (g.met.S.Site.lawful old) (g.met.S.Site.lawful new)
+    c.in-Ok.ensures.rest c.in-Ok.ensures.now c.in-Ok.ensures.call m.form m.machine.history m.store saves in (
       history_lost m c.requires.manager c.args.names.turns c.args.names.socket.now c.deref.result.now
           (g.S.Site.state old) (g.S.Site.state new) (g.S.Site.crashes old) (g.S.Site.crashes new) saves
-          c.in-Ok.ensures.contents c.in-Ok.ensures.rest.send
+          c.in-Ok.ensures.contents c.in-Ok.ensures.rest.send since
           (g.K.Sink.state c.args.out.now) (g.K.Sink.state c.put.new.self)
           (c.deref.ensures.0 ∙ c.history_line.ensures ∙ ap history_line c.history.ensures)
           c.in-Err-put.ensures.part,
@@ -54,7 +59,8 @@ serve_events-requires-clause-fits g c =
     let old = c.args.site.now in
     let new = c.listen.new.self in
     fits_sends m.form m.machine.history m.store (g.S.Site.state old) (g.S.Site.state new) (g.S.Site.crashes old) (g.S.Site.crashes new)
-    (wire_only (g.S.Site.state old) (g.S.Site.state new) (g.S.Site.crashes old) (g.S.Site.crashes new)
+    (listen_only c.args.names.socket.now (g.S.Site.state old) (g.S.Site.state new) (g.S.Site.crashes old) (g.S.Site.crashes new)
+    c.in-Ok.ensures.contents (g.met.S.Site.lawful old) (g.met.S.Site.lawful new)
     c.in-Ok.ensures.rest c.in-Ok.ensures.now c.in-Ok.ensures.call)
     c.requires.fits
 
@@ -66,12 +72,16 @@ returns-clause-leaves g c =
     let end = c.serve_events.new.site in
     let saves = wire_saves m.form m.machine.history m.store (g.S.Site.state old) (g.S.Site.state new) (g.S.Site.crashes old) (g.S.Site.crashes new)
     (g.met.S.Site.lawful old) (g.met.S.Site.lawful new) c.requires.fits
-    (wire_only (g.S.Site.state old) (g.S.Site.state new) (g.S.Site.crashes old) (g.S.Site.crashes new)
+    (listen_only c.args.names.socket.now (g.S.Site.state old) (g.S.Site.state new) (g.S.Site.crashes old) (g.S.Site.crashes new)
+    c.in-Ok.ensures.contents (g.met.S.Site.lawful old) (g.met.S.Site.lawful new)
     c.in-Ok.ensures.rest c.in-Ok.ensures.now c.in-Ok.ensures.call) in
+    let since = listen_since c.args.names.socket.now (g.S.Site.state old) (g.S.Site.state new) (g.S.Site.crashes old) (g.S.Site.crashes new)
+    c.in-Ok.ensures.contents (g.met.S.Site.lawful old) (g.met.S.Site.lawful new)
+    c.in-Ok.ensures.rest c.in-Ok.ensures.now c.in-Ok.ensures.call m.form m.machine.history m.store saves in
     leaves_serving c.args.names.turns c.args.names.socket.now m c.serve_events.new.manager
     (g.S.Site.state old) (g.S.Site.state new) (g.S.Site.state end)
     (g.S.Site.crashes old) (g.S.Site.crashes new) (g.S.Site.crashes end)
-    (g.met.S.Site.lawful end) saves c.in-Ok.ensures.contents c.in-Ok.ensures.rest.send
+    (g.met.S.Site.lawful end) saves c.in-Ok.ensures.contents c.in-Ok.ensures.rest.send since
     (g.K.Sink.state c.args.out.now) (g.K.Sink.state c.put.new.self)
     (c.in-Ok-put.ensures.whole ∙ ap (λ line. append_known (g.K.Sink.state c.args.out.now).written line)
     (c.deref.ensures.0 ∙ c.history_line.ensures ∙ ap history_line c.history.ensures))

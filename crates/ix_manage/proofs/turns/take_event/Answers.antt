@@ -5,7 +5,7 @@ use Rattle.ix_script.specs.inside.WithoutSends.{without_sends}
 use Rattle.ix_manage.specs.inside.ReplayProgress.{FitsDisk, OnlyUsesDisk, between, disk_alone, player}
 use Rattle.ix_manage.specs.inside.Turns.{IsTurn}
 use Rattle.ix_manage.proofs.Devices.{holds_same, site_used}
-use Rattle.ix_manage.proofs.Journaling.{event_saves, fits_again, ok_fits, passes_again}
+use Rattle.ix_manage.proofs.Journaling.{alone_sends, event_saves, fits_again, ok_fits, passes_again}
 use Rattle.ix_manage.proofs.Replaying.{event_taken}
 use Rattle.ix_manage.proofs.turns.take_event.Goals as goal
 
@@ -28,7 +28,8 @@ returns-clause-turn g c =
     (without_sends (g.S.Site.crashes site)) (without_sends (g.S.Site.crashes last))
     over.answered over.handles.takes over.keeps over.ends go.ensures.failed
     (ok_fits go.result go.new.self _ _ _ _ refl refl go.ensures.fits)
-    (passes_again _ _ _ _ _ _ refl refl go.ensures.passes) go.ensures.site.disk go.ensures.site.opened in
+    (passes_again _ _ _ _ _ _ refl refl go.ensures.passes) go.ensures.site.disk go.ensures.site.opened
+    (alone_sends (g.S.Site.state site) (g.S.Site.state last) (without_sends (g.S.Site.crashes last))) in
     event_taken (length c.args.buffer.now) c.args.manager.now go.new.self
     (player g.S.Site.state g.K.Sink.state c.args.site.now)
     (player g.S.Site.state g.K.Sink.state next.new.self) now
