@@ -1,5 +1,7 @@
 -- What each image that a crash may leave keeps of what was acknowledged by then, call by call.
-use Rattle.std.proofs.Common.{◌≡◌, ◌⊎◌, ℕ, ◌≤◌, Bool, true, List, [], ◌∷◌, ◌++◌, length, append_assoc, append-nil, Option, Some, IsSome, Ok, inl, inr, refl, sym, ◌∙◌, ap, subst, arith}
+use Rattle.std.proofs.Common.{◌≡◌, ◌⊎◌, ℕ, ◌≤◌, Bool, true, List, [], ◌∷◌, ◌++◌, length}
+use Rattle.std.proofs.Common.{append_assoc, append-nil, Option, Some, IsSome, Ok, inl, inr, refl}
+use Rattle.std.proofs.Common.{sym, ◌∙◌, ap, subst, arith}
 use Rattle.std.proofs.lemmas.List.{length-append}
 use Rattle.ix_words.specs.Each.{Each}
 use Rattle.ix_values.specs.PlainAction.{Word}
@@ -19,16 +21,22 @@ use Rattle.ix_manager.specs.declared.journaled.Journaled.{Journaled}
 use Rattle.ix_manager.specs.inside.Acknowledging.{SendsMore, Acknowledges}
 use Rattle.ix_manager.specs.inside.Saving.{OnlySends, Saves, SavesJournal, ConfirmsOver}
 use Rattle.ix_manager.specs.inside.WireState.{WireState, wired, SendsAll}
-use Rattle.ix_manager.proofs.AcknowledgedLemmas.{the_value, is_there, none_sent, one_acknowledged, acknowledged_front, acknowledged_split, TellsNoConfirm, none_confirms, confirmed_number}
-use Rattle.ix_manager.proofs.SavingLemmas.{still_told, journal_keeps, keeps_longer, keeps_fewer, fits_images}
+use Rattle.ix_manager.proofs.AcknowledgedLemmas.{the_value, is_there, none_sent, one_acknowledged}
+use Rattle.ix_manager.proofs.AcknowledgedLemmas.{acknowledged_front, acknowledged_split}
+use Rattle.ix_manager.proofs.AcknowledgedLemmas.{TellsNoConfirm, none_confirms, confirmed_number}
+use Rattle.ix_manager.proofs.SavingLemmas.{still_told, journal_keeps, keeps_longer, keeps_fewer}
+use Rattle.ix_manager.proofs.SavingLemmas.{fits_images}
 use Rattle.ix_manager.proofs.SendLemmas.{silent_keeps, carries}
 
 -- replies of which none is a confirm's were sent over calls that saved the journal
-pub saves_acknowledges : (e : Ending) (x : Form) (h new : Word) (store : Keeping) (conn : ℕ) (replies : List Reply)
-    (before after : WireState) (p q : Crashes) → AreLawful after.site q → Saves e x h new store before.site after.site p q
+pub saves_acknowledges : (e : Ending) (x : Form) (h new : Word) (store : Keeping) (conn : ℕ)
+    (replies : List Reply)
+    (before after : WireState) (p q : Crashes) → AreLawful after.site q
+    → Saves e x h new store before.site after.site p q
     → SendsAll conn replies before after → Each TellsNoConfirm replies
     → Acknowledges x (length h) (with_failed e new) replies before.site after.site q
-saves_acknowledges e x h new store conn replies before after p q lawful saves sends none told s s' is is' left since =
+saves_acknowledges e x h new store conn replies before after p q lawful saves sends none told s s'
+    is is' left since =
     let by_then = saves.sends.by_then s s' is is' left since in
     let sent = carries conn s s' sends.order is is' in
     let total = ap length sent.all in
@@ -45,9 +53,11 @@ saves_acknowledges e x h new store conn replies before after p q lawful saves se
       acknowledged = λ n is. absurd (none_confirms none is);
     }
 
-module _ (conn ticket : ℕ) (one : Reply) (old new : Journaled) (was_gone gone : Bool) (a b c : SiteState) (p q r : Crashes)
+module _ (conn ticket : ℕ) (one : Reply) (old new : Journaled) (was_gone gone : Bool)
+    (a b c : SiteState) (p q r : Crashes)
     (between : AreLawful b q) (lawful : AreLawful c r) (only : OnlySends b c q r)
-    (over : ConfirmsOver ticket (Ok one) old new a b p q) (sends : SendsAll conn (one ∷ []) (wired was_gone b) (wired gone c)) where
+    (over : ConfirmsOver ticket (Ok one) old new a b p q)
+    (sends : SendsAll conn (one ∷ []) (wired was_gone b) (wired gone c)) where
   saves : SavesJournal going old new a b p q
   saves = subst (λ e. SavesJournal e old new a b p q) over.confirms.1 over.saves
 
@@ -55,48 +65,54 @@ module _ (conn ticket : ℕ) (one : Reply) (old new : Journaled) (was_gone gone 
   told_between told = still_told b.disk c.disk only.disk told
 
   -- the reply to a confirm was sent behind its append
-  pub confirm_acknowledges : Acknowledges old.machine.form (length old.machine.state.history) new.machine.state.history (one ∷ []) a c r
-  confirm_acknowledges told s s' is is' left since = elim (only.passes.left_since.nothing_else a.tick left over.calls.passes.left_since.later since) [
-    | inl earlier ↦
-        record {
-          keeps = saves.keeps (told_between told) left.image (between.since_left a.tick left earlier);
-          sent = [];
-          behind = over.calls.sent s is left earlier ∙ sym (append-nil s.sent);
-          carried = omega arith;
-          acknowledged = λ n is. absurd (none_sent is);
-        }
-    | inr since_then ↦
-        let x = old.machine.form in
-        let h = old.machine.state.history in
-        let w = new.machine.state.history in
-        let at = left.image in
-        let now = only.images at (lawful.since_left b.tick left since_then) in
-        let there = fits_images x w (kept new.store) b q saves.fits (told_between told) at now in
-        let then_told = ap (λ (t : Contents). t.sends) over.calls.rest.contents ∙ is in
-        let by_then = only.sends.by_then s s' then_told is' left since_then in
-        let sent = carries conn s s' sends.order then_told is' in
-        let total = ap length sent.all in
-        let parts = length-append sent.carried sent.silent in
-        let behind = ap length by_then.behind in
-        let both = length-append s.sent by_then.more in
-        let most = by_then.no_longer in
-        let count = sent.count in
-        let longer = ap length saves.grows in
-        let grown = length-append h saves.rest in
-        record {
-          keeps = journal_keeps x (length h) w [] w (kept new.store).gate at there (append-nil w) (omega (arith, longer, grown));
-          sent = by_then.more;
-          behind = by_then.behind;
-          carried = omega (arith, total, parts, behind, both, most, count);
-          acknowledged = λ n is. confirmed_number over.confirms.0.step (one_acknowledged is);
-        }
-  ]
+  pub confirm_acknowledges : Acknowledges old.machine.form (length old.machine.state.history)
+      new.machine.state.history (one ∷ []) a c r
+  confirm_acknowledges told s s' is is' left since =
+      elim (only.passes.left_since.nothing_else a.tick left over.calls.passes.left_since.later
+      since) [
+        | inl earlier ↦
+            record {
+              keeps = saves.keeps (told_between told) left.image
+                  (between.since_left a.tick left earlier);
+              sent = [];
+              behind = over.calls.sent s is left earlier ∙ sym (append-nil s.sent);
+              carried = omega arith;
+              acknowledged = λ n is. absurd (none_sent is);
+            }
+        | inr since_then ↦
+            let x = old.machine.form in
+            let h = old.machine.state.history in
+            let w = new.machine.state.history in
+            let at = left.image in
+            let now = only.images at (lawful.since_left b.tick left since_then) in
+            let there = fits_images x w (kept new.store) b q saves.fits (told_between told) at now in
+            let then_told = ap (λ (t : Contents). t.sends) over.calls.rest.contents ∙ is in
+            let by_then = only.sends.by_then s s' then_told is' left since_then in
+            let sent = carries conn s s' sends.order then_told is' in
+            let total = ap length sent.all in
+            let parts = length-append sent.carried sent.silent in
+            let behind = ap length by_then.behind in
+            let both = length-append s.sent by_then.more in
+            let most = by_then.no_longer in
+            let count = sent.count in
+            let longer = ap length saves.grows in
+            let grown = length-append h saves.rest in
+            record {
+              keeps = journal_keeps x (length h) w [] w (kept new.store).gate at there (append-nil w)
+                  (omega (arith, longer, grown));
+              sent = by_then.more;
+              behind = by_then.behind;
+              carried = omega (arith, total, parts, behind, both, most, count);
+              acknowledged = λ n is. confirmed_number over.confirms.0.step (one_acknowledged is);
+            }
+      ]
 
 none_left : {A : Type 0} (xs : List A) → length xs ≤ 0 → xs ≡ []
 none_left [] le = refl
 none_left (x ∷ xs) le = absurd (omega arith)
 
-module _ (x : Form) (h mid new rest : Word) (conn : ℕ) (one two : List Reply) (before here after : WireState) (q r : Crashes)
+module _ (x : Form) (h mid new rest : Word) (conn : ℕ) (one two : List Reply)
+    (before here after : WireState) (q r : Crashes)
     (lawful : AreLawful here.site q) (le : before.site.tick ≤ here.site.tick)
     (passes : Elapses here.site.tick after.site.tick q.left_since r.left_since)
     (sends : SendsAll conn one before here) (more : SendsAll conn two here after)
@@ -106,7 +122,8 @@ module _ (x : Form) (h mid new rest : Word) (conn : ℕ) (one two : List Reply) 
     (second : Acknowledges x (length mid) new two here.site after.site r)
     (longer : mid ++ rest ≡ new) (no_shorter : length h ≤ length mid) where
   -- by the end of the first calls all that they acknowledged is within the history that they left
-  at_the_join : IsSome here.site.disk → (s s' : Sends) → before.site.contents.sends ≡ Some s → here.site.contents.sends ≡ Some s'
+  at_the_join : IsSome here.site.disk → (s s' : Sends) → before.site.contents.sends ≡ Some s
+      → here.site.contents.sends ≡ Some s'
       → (pairs : List SentBytes) × (s'.sent ≡ s.sent ++ pairs) × (length pairs ≤ length one)
       × ((n : ℕ) → IsAcknowledged n one pairs → n ≤ length mid)
   at_the_join told s s' is is' =
@@ -115,7 +132,8 @@ module _ (x : Form) (h mid new rest : Word) (conn : ℕ) (one two : List Reply) 
       let now : q.now disk.0.file = subst P disk.1 lawful.file in
       let since_here = (lawful.since_now s' is' disk.0.file s'.sent).1 (now, refl) in
       let left : Left = record { image = disk.0.file; sent = s'.sent } in
-      let at = first told s s' is is' left (lawful.since_earlier before.site.tick here.site.tick left le since_here) in
+      let at = first told s s' is is' left
+      (lawful.since_earlier before.site.tick here.site.tick left le since_here) in
       let count = ap length at.keeps.prefix in
       let parts = length-append at.keeps.kept at.keeps.rest in (
         at.sent,
@@ -127,7 +145,8 @@ module _ (x : Form) (h mid new rest : Word) (conn : ℕ) (one two : List Reply) 
   -- two stretches, of which the second began where the first ended
   pub acknowledges_join : Acknowledges x (length h) new (one ++ two) before.site after.site r
   acknowledges_join told s s' is is' left since =
-      let middle = the_value here.site.contents.sends (grows.told (is_there after.site.contents.sends s' is')) in
+      let middle = the_value here.site.contents.sends
+      (grows.told (is_there after.site.contents.sends s' is')) in
       let m = middle.0 in
       let all = length-append one two in
       elim (passes.nothing_else before.site.tick left le since) [
@@ -139,7 +158,8 @@ module _ (x : Form) (h mid new rest : Word) (conn : ℕ) (one two : List Reply) 
               sent = was.sent;
               behind = was.behind;
               carried = omega (arith, few, all);
-              acknowledged = λ n acked. was.acknowledged n (acknowledged_front one two was.sent was.carried acked);
+              acknowledged = λ n acked. was.acknowledged n
+                  (acknowledged_front one two was.sent was.carried acked);
             }
         | inr since_here ↦
             let begun = at_the_join (told_before told) s m is middle.1 in
@@ -151,24 +171,32 @@ module _ (x : Form) (h mid new rest : Word) (conn : ℕ) (one two : List Reply) 
             record {
               keeps = keeps_fewer x (length mid) (length h) new left.image no_shorter later.keeps;
               sent = begun.0 ++ later.sent;
-              behind = later.behind ∙ ap (λ pairs. pairs ++ later.sent) begun.1 ∙ append_assoc s.sent begun.0 later.sent;
+              behind = later.behind ∙ ap (λ pairs. pairs ++ later.sent) begun.1
+                  ∙ append_assoc s.sent begun.0 later.sent;
               carried = omega (arith, both, few, few_later, all);
-              acknowledged = λ n acked. elim (whole_or_silent s m s' left is middle.1 is' begun.0 begun.1 later.sent later.behind since_here) [
-                | inl whole ↦ elim (acknowledged_split one two begun.0 later.sent whole acked) [
-                  | inl before_it ↦ let within = begun.3 n before_it in omega (arith, within, long)
-                  | inr behind_it ↦ later.acknowledged n behind_it
-                ]
-                | inr nothing ↦
-                    let P : List SentBytes → Type 0 = λ pairs. IsAcknowledged n (one ++ two) pairs in
-                    let first_alone = subst P (ap (λ pairs. begun.0 ++ pairs) nothing ∙ append-nil begun.0) acked in
-                    let within = begun.3 n (acknowledged_front one two begun.0 few first_alone) in omega (arith, within, long)
-              ];
+              acknowledged = λ n acked. elim
+                  (whole_or_silent s m s' left is middle.1 is' begun.0 begun.1 later.sent
+                  later.behind since_here) [
+                    | inl whole ↦ elim (acknowledged_split one two begun.0 later.sent whole acked) [
+                      | inl before_it ↦ let within = begun.3 n before_it in omega (arith, within, long)
+                      | inr behind_it ↦ later.acknowledged n behind_it
+                    ]
+                    | inr nothing ↦
+                        let P : List SentBytes → Type 0 =
+                        λ pairs. IsAcknowledged n (one ++ two) pairs in
+                        let first_alone = subst P (ap (λ pairs. begun.0 ++ pairs) nothing
+                        ∙ append-nil begun.0) acked in
+                        let within = begun.3 n (acknowledged_front one two begun.0 few first_alone) in
+                        omega (arith, within, long)
+                  ];
             }
       ]
     where
       -- all replies of the first calls were sent, or nothing was behind them
-      whole_or_silent : (s m s' : Sends) (left : Left) → before.site.contents.sends ≡ Some s → here.site.contents.sends ≡ Some m
-          → after.site.contents.sends ≡ Some s' → (pairs : List SentBytes) → m.sent ≡ s.sent ++ pairs → (behind : List SentBytes) → left.sent ≡ m.sent ++ behind
+      whole_or_silent : (s m s' : Sends) (left : Left) → before.site.contents.sends ≡ Some s
+          → here.site.contents.sends ≡ Some m
+          → after.site.contents.sends ≡ Some s' → (pairs : List SentBytes)
+          → m.sent ≡ s.sent ++ pairs → (behind : List SentBytes) → left.sent ≡ m.sent ++ behind
           → r.left_since here.site.tick left → (length pairs ≡ length one) ⊎ (behind ≡ [])
       whole_or_silent s m s' left is mid_is is' pairs begun behind is_behind since =
           let sent = carries conn s m sends.order is mid_is in
@@ -179,11 +207,14 @@ module _ (x : Form) (h mid new rest : Word) (conn : ℕ) (one two : List Reply) 
             | inl nothing_silent ↦
                 let all = ap length sent.all in
                 let silent_parts = length-append sent.carried sent.silent in
-                let none = ap length nothing_silent in inl (omega (arith, count, lengths, parts, all, silent_parts, none))
+                let none = ap length nothing_silent in
+                inl (omega (arith, count, lengths, parts, all, silent_parts, none))
             | inr marked ↦
                 let kept_sends = silent_contents marked in
-                let same : Some s' ≡ Some m = sym is' ∙ ap (λ (t : Contents). t.sends) kept_sends ∙ mid_is in
-                let no_more : length s'.sent ≡ length m.sent = ap (λ (t : Sends). length t.sent) (let e : s' ≡ m = cc in e) in
+                let same : Some s' ≡ Some m = sym is' ∙ ap (λ (t : Contents). t.sends) kept_sends
+                ∙ mid_is in
+                let no_more : length s'.sent ≡ length m.sent =
+                ap (λ (t : Sends). length t.sent) (let e : s' ≡ m = cc in e) in
                 let by_then = grows.by_then m s' mid_is is' left since in
                 let most = by_then.no_longer in
                 let left_count = ap length is_behind in
@@ -193,6 +224,9 @@ module _ (x : Form) (h mid new rest : Word) (conn : ℕ) (one two : List Reply) 
         where
           silent_contents : here.gone ≡ true → after.site.contents ≡ here.site.contents
           silent_contents marked =
-              let whole : Reply → Contents → Contents → Type 0 = λ reply. SendsWhole conn (reply_line reply) in
-              let front : Reply → Contents → Contents → Type 0 = λ reply. SendsPart conn (reply_line reply) in
-              (silent_keeps (subst (λ g. SendsInOrder whole front two g here.site.contents after.gone after.site.contents) marked more.order)).0
+              let whole : Reply → Contents → Contents → Type 0 =
+              λ reply. SendsWhole conn (reply_line reply) in
+              let front : Reply → Contents → Contents → Type 0 =
+              λ reply. SendsPart conn (reply_line reply) in
+              (silent_keeps (subst (λ g. SendsInOrder whole front two g here.site.contents
+              after.gone after.site.contents) marked more.order)).0

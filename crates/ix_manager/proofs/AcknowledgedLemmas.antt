@@ -1,5 +1,7 @@
 -- What is acknowledged, and what is sent, over calls one after the other.
-use Rattle.std.proofs.Common.{◌≡◌, ◌⊎◌, ℕ, ◌+◌, ◌≤◌, Bool, List, [], ◌∷◌, ◌++◌, length, append_assoc, append-nil, Option, None, Some, IsSome, Result, Ok, Err, true≢false, inl, inr, refl, sym, ◌∙◌, ap, subst, arith}
+use Rattle.std.proofs.Common.{◌≡◌, ◌⊎◌, ℕ, ◌+◌, ◌≤◌, Bool, List, [], ◌∷◌, ◌++◌, length}
+use Rattle.std.proofs.Common.{append_assoc, append-nil, Option, None, Some, IsSome, Result, Ok, Err}
+use Rattle.std.proofs.Common.{true≢false, inl, inr, refl, sym, ◌∙◌, ap, subst, arith}
 use Rattle.std.proofs.lemmas.List.{length-append}
 use Rattle.std.specs.Option.{option_map}
 use Rattle.std.specs.Prelude.{⊤}
@@ -33,11 +35,15 @@ is_there told value is = subst (λ t. IsSome t) (sym is) refl
 -- the first reply is this action's confirm, and the pair has a byte of it
 abbrev IsFirst : ℕ → Reply → SentBytes → Type 0
 IsFirst n reply pair = (reply ≡ Confirmed n)
-    × ((replies : List Reply) (pairs : List SentBytes) → IsAcknowledged n (reply ∷ replies) (pair ∷ pairs))
+    × ((replies : List Reply) (pairs : List SentBytes)
+    → IsAcknowledged n (reply ∷ replies) (pair ∷ pairs))
 
-first_or_later : {n : ℕ} {reply : Reply} {pair : SentBytes} {replies : List Reply} {pairs : List SentBytes}
-    → IsAcknowledged n (reply ∷ replies) (pair ∷ pairs) → IsFirst n reply pair ⊎ IsAcknowledged n replies pairs
-first_or_later (acked.first conn byte bytes) = inl (refl, λ replies pairs. acked.first conn byte bytes)
+first_or_later : {n : ℕ} {reply : Reply} {pair : SentBytes} {replies : List Reply}
+    {pairs : List SentBytes}
+    → IsAcknowledged n (reply ∷ replies) (pair ∷ pairs) → IsFirst n reply pair
+    ⊎ IsAcknowledged n replies pairs
+first_or_later (acked.first conn byte bytes) =
+    inl (refl, λ replies pairs. acked.first conn byte bytes)
 first_or_later (acked.later rest) = inr rest
 
 -- where nothing was sent nothing was acknowledged
@@ -45,7 +51,8 @@ pub none_sent : {n : ℕ} {replies : List Reply} → IsAcknowledged n replies []
 none_sent is = elim is [ ]
 
 -- the one reply whose confirm was acknowledged
-pub one_acknowledged : {n : ℕ} {reply : Reply} {pairs : List SentBytes} → IsAcknowledged n (reply ∷ []) pairs → reply ≡ Confirmed n
+pub one_acknowledged : {n : ℕ} {reply : Reply} {pairs : List SentBytes}
+    → IsAcknowledged n (reply ∷ []) pairs → reply ≡ Confirmed n
 one_acknowledged (acked.first conn byte bytes) = refl
 one_acknowledged (acked.later rest) = absurd (no_reply rest)
   where
@@ -53,7 +60,8 @@ one_acknowledged (acked.later rest) = absurd (no_reply rest)
     no_reply is = elim is [ ]
 
 -- where no more was sent than these replies, the others behind them acknowledge nothing
-pub acknowledged_front : {n : ℕ} (replies others : List Reply) (pairs : List SentBytes) → length pairs ≤ length replies
+pub acknowledged_front : {n : ℕ} (replies others : List Reply) (pairs : List SentBytes)
+    → length pairs ≤ length replies
     → IsAcknowledged n (replies ++ others) pairs → IsAcknowledged n replies pairs
 acknowledged_front replies others [] few is = absurd (none_sent is)
 acknowledged_front [] others (pair ∷ pairs) few is = absurd (omega arith)
@@ -63,14 +71,17 @@ acknowledged_front (reply ∷ replies) others (pair ∷ pairs) few is = elim (fi
 ]
 
 -- replies behind others acknowledge no less
-pub acknowledged_more : {n : ℕ} {replies : List Reply} {pairs : List SentBytes} (others : List Reply)
+pub acknowledged_more : {n : ℕ} {replies : List Reply} {pairs : List SentBytes}
+    (others : List Reply)
     → IsAcknowledged n replies pairs → IsAcknowledged n (replies ++ others) pairs
 acknowledged_more others (acked.first conn byte bytes) = acked.first conn byte bytes
 acknowledged_more others (acked.later rest) = acked.later (acknowledged_more others rest)
 
 -- of two lists of replies, the first of which was sent to its end, one acknowledges it
-pub acknowledged_split : {n : ℕ} (replies others : List Reply) (pairs more : List SentBytes) → length pairs ≡ length replies
-    → IsAcknowledged n (replies ++ others) (pairs ++ more) → IsAcknowledged n replies pairs ⊎ IsAcknowledged n others more
+pub acknowledged_split : {n : ℕ} (replies others : List Reply) (pairs more : List SentBytes)
+    → length pairs ≡ length replies
+    → IsAcknowledged n (replies ++ others) (pairs ++ more) → IsAcknowledged n replies pairs
+    ⊎ IsAcknowledged n others more
 acknowledged_split [] others [] more same is = inr is
 acknowledged_split [] others (pair ∷ pairs) more same is = absurd (omega arith)
 acknowledged_split (reply ∷ replies) others [] more same is = absurd (omega arith)
@@ -88,12 +99,14 @@ TellsNoConfirm (Confirmed number) = ⊥
 TellsNoConfirm _ = ⊤
 
 -- such replies acknowledge nothing
-pub none_confirms : {n : ℕ} {replies : List Reply} {pairs : List SentBytes} → Each TellsNoConfirm replies → IsAcknowledged n replies pairs → ⊥
+pub none_confirms : {n : ℕ} {replies : List Reply} {pairs : List SentBytes}
+    → Each TellsNoConfirm replies → IsAcknowledged n replies pairs → ⊥
 none_confirms no_item is = elim is [ ]
 none_confirms (item isnt others) (acked.first conn byte bytes) = isnt
 none_confirms (item isnt others) (acked.later rest) = none_confirms others rest
 
-polls_confirm_none : {allowed : PlainAction → Type 0} {name : List ℕ} {watches after : List MachineWatch} {changes : List Reply}
+polls_confirm_none : {allowed : PlainAction → Type 0} {name : List ℕ}
+    {watches after : List MachineWatch} {changes : List Reply}
     → Polls allowed name watches changes after → Each TellsNoConfirm changes
 polls_confirm_none machine.done = no_item
 polls_confirm_none (machine.other isnt polls) = polls_confirm_none polls
@@ -101,37 +114,48 @@ polls_confirm_none (machine.same is tells polls) = polls_confirm_none polls
 polls_confirm_none (machine.changed is tells polls) = item tt (polls_confirm_none polls)
 
 -- a step that leaves the history as long as it was answers no confirm
-pub no_confirm_answered : {x : Form} {limit : ℕ} {s after : MachineState} {asked : PlainRequest} {replies : List Reply}
-    → Step x limit s asked replies after → length after.history ≡ length s.history → Each TellsNoConfirm replies
+pub no_confirm_answered : {x : Form} {limit : ℕ} {s after : MachineState} {asked : PlainRequest}
+    {replies : List Reply}
+    → Step x limit s asked replies after → length after.history ≡ length s.history
+    → Each TellsNoConfirm replies
 no_confirm_answered {s = s} (machine.confirmed a deadline held open_still) same =
     let longer = length-append s.history (a ∷ []) in absurd (omega arith)
 no_confirm_answered (machine.polled polls) same = item tt (polls_confirm_none polls)
 no_confirm_answered _ same = item tt no_item
 
 -- the replies that tell changes
-pub changes_confirm_none : (changes : List (PlainAction × Bool)) → Each TellsNoConfirm (change_replies changes)
+pub changes_confirm_none : (changes : List (PlainAction × Bool))
+    → Each TellsNoConfirm (change_replies changes)
 changes_confirm_none [] = no_item
 changes_confirm_none (change ∷ changes) = item tt (changes_confirm_none changes)
 
 -- a confirm that was confirmed tells the length of the history then
 pub confirmed_number : {x : Form} {limit ticket n : ℕ} {s after : MachineState} {one : Reply}
-    → Step x limit s (request.confirm ticket) (one ∷ []) after → one ≡ Confirmed n → n ≤ length after.history
+    → Step x limit s (request.confirm ticket) (one ∷ []) after → one ≡ Confirmed n
+    → n ≤ length after.history
 confirmed_number {n = n} {s = s} (machine.confirmed a deadline held open_still) is =
     let number : length s.history + 1 ≡ n = cc in
     let longer = length-append s.history (a ∷ []) in omega arith
-confirmed_number (machine.confirm_expired has isnt) is = absurd (let no : Refused 31 0 ≡ Confirmed _ = is in cc)
-confirmed_number (machine.confirm_no_such isnt) is = absurd (let no : Refused 30 0 ≡ Confirmed _ = is in cc)
+confirmed_number (machine.confirm_expired has isnt) is =
+    absurd (let no : Refused 31 0 ≡ Confirmed _ = is in cc)
+confirmed_number (machine.confirm_no_such isnt) is =
+    absurd (let no : Refused 30 0 ≡ Confirmed _ = is in cc)
 
 -- all that was sent before, and nothing more
-pub between_none : (before after : List SentBytes) → length before ≤ length after → IsSentBetween before after before
-between_none before after le = record { more = []; behind = sym (append-nil before); no_longer = le }
+pub between_none : (before after : List SentBytes) → length before ≤ length after
+    → IsSentBetween before after before
+between_none before after le =
+    record { more = []; behind = sym (append-nil before); no_longer = le }
 
 -- what stands between also does behind further sends
-pub between_earlier : (before mid after sent : List SentBytes) → length mid ≤ length after → IsSentBetween before mid sent → IsSentBetween before after sent
-between_earlier before mid after sent le is = let short = is.no_longer in record { more = is.more; behind = is.behind; no_longer = omega arith }
+pub between_earlier : (before mid after sent : List SentBytes) → length mid ≤ length after
+    → IsSentBetween before mid sent → IsSentBetween before after sent
+between_earlier before mid after sent le is = let short = is.no_longer in
+    record { more = is.more; behind = is.behind; no_longer = omega arith }
 
 -- and from further before
-pub between_later : (before mid after sent : List SentBytes) (first : List SentBytes) → mid ≡ before ++ first
+pub between_later : (before mid after sent : List SentBytes) (first : List SentBytes)
+    → mid ≡ before ++ first
     → IsSentBetween mid after sent → IsSentBetween before after sent
 between_later before mid after sent first longer is = record {
   more = first ++ is.more;
@@ -139,27 +163,33 @@ between_later before mid after sent first longer is = record {
   no_longer = is.no_longer;
 }
 
-pub between_length : (before after sent : List SentBytes) → IsSentBetween before after sent → length before ≤ length sent
+pub between_length : (before after sent : List SentBytes) → IsSentBetween before after sent
+    → length before ≤ length sent
 between_length before after sent is =
     let count = ap length is.behind ∙ length-append before is.more in omega (arith, count)
 
 -- no call
-pub more_none : (site : SiteState) (crashes : Crashes) → AreLawful site crashes → SendsMore site site crashes
+pub more_none : (site : SiteState) (crashes : Crashes) → AreLawful site crashes
+    → SendsMore site site crashes
 more_none site crashes lawful = record {
   told = λ told. told;
   all = λ s s' told told'.
       let same : s'.sent ≡ s.sent = ap (λ (t : Sends). t.sent) (some_is (sym told' ∙ told)) in
-      subst (λ sent. IsSentBetween s.sent sent sent) (sym same) (between_none s.sent s.sent (omega arith));
+      subst (λ sent. IsSentBetween s.sent sent sent) (sym same)
+      (between_none s.sent s.sent (omega arith));
   by_then = λ s s' told told' left since.
       let same : s'.sent ≡ s.sent = ap (λ (t : Sends). t.sent) (some_is (sym told' ∙ told)) in
       let all : left.sent ≡ s.sent = ((lawful.since_now s told left.image left.sent).0 since).1 in
-      subst (λ sent. IsSentBetween s.sent s'.sent sent) (sym all) (subst (λ sent. IsSentBetween s.sent sent s.sent) (sym same) (between_none s.sent s.sent (omega arith)));
+      subst (λ sent. IsSentBetween s.sent s'.sent sent) (sym all)
+      (subst (λ sent. IsSentBetween s.sent sent s.sent) (sym same)
+      (between_none s.sent s.sent (omega arith)));
 }
 
 -- one call of which is known what it sent
 pub more_call : (old new : SiteState) (was is : Crashes) → OneCall old new was is
     → (IsSome new.contents.sends → IsSome old.contents.sends)
-    → ((s s' : Sends) → old.contents.sends ≡ Some s → new.contents.sends ≡ Some s' → IsSentBetween s.sent s'.sent s'.sent)
+    → ((s s' : Sends) → old.contents.sends ≡ Some s → new.contents.sends ≡ Some s'
+    → IsSentBetween s.sent s'.sent s'.sent)
     → SendsMore old new is
 more_call old new was is call told all = record {
   told = told;
@@ -167,11 +197,19 @@ more_call old new was is call told all = record {
   by_then = λ s s' told told' left since.
       let longer = between_length s.sent s'.sent s'.sent (all s s' told told') in
       elim (call.sent s s' told told' left since) [
-        | inl same ↦ subst (λ sent. IsSentBetween s.sent s'.sent sent) (sym same) (between_none s.sent s'.sent longer)
+        | inl same ↦ subst (λ sent. IsSentBetween s.sent s'.sent sent) (sym same)
+            (between_none s.sent s'.sent longer)
         | inr front ↦
-            let whole = ap length front.whole ∙ length-append s.sent (record { conn = front.conn; bytes = front.bytes } ∷ []) in
-            let part = ap length front.part ∙ length-append s.sent (record { conn = front.conn; bytes = front.front } ∷ []) in
-            record { more = record { conn = front.conn; bytes = front.front } ∷ []; behind = front.part; no_longer = omega (arith, whole, part) }
+            let whole = ap length front.whole
+            ∙ length-append s.sent (record { conn = front.conn; bytes = front.bytes } ∷ []) in
+            let part = ap length front.part
+            ∙ length-append s.sent (record { conn = front.conn; bytes = front.front } ∷ []) in
+            record {
+              more = record { conn = front.conn; bytes = front.front } ∷ [];
+              behind =
+                  front.part;
+              no_longer = omega (arith, whole, part);
+            }
       ];
 }
 
@@ -179,13 +217,16 @@ told_map : (f : Sends → Sends) (sends : Option Sends) → IsSome (option_map f
 told_map f None told = told
 told_map f (Some sends) told = refl
 
-mapped : (f : Sends → Sends) (old new : Option Sends) → new ≡ option_map f old → IsSome new → IsSome old
+mapped : (f : Sends → Sends) (old new : Option Sends) → new ≡ option_map f old → IsSome new
+    → IsSome old
 mapped f old new is told = told_map f old (subst (λ t. IsSome t) is told)
 
 -- a send is told only where the sends before it were
-pub sent_told : {T E : Type 0} (conn : ℕ) (bytes : List ℕ) (result : Result T E) (old new : Contents)
+pub sent_told : {T E : Type 0} (conn : ℕ) (bytes : List ℕ) (result : Result T E)
+    (old new : Contents)
     → SendsBytes conn bytes result old new → IsSome new.sends → IsSome old.sends
-sent_told conn bytes (Ok value) old new goes told = mapped (with_pair conn bytes) old.sends new.sends goes.sends told
+sent_told conn bytes (Ok value) old new goes told =
+    mapped (with_pair conn bytes) old.sends new.sends goes.sends told
 sent_told conn bytes (Err fault) old new part told = elim part.sends [
   | inl front ↦ mapped (with_gone conn front.front) old.sends new.sends front.sends told
   | inr isnt ↦
@@ -194,43 +235,56 @@ sent_told conn bytes (Err fault) old new part told = elim part.sends [
 ]
 
 -- a send adds one to the sends
-one_more : (s s' : Sends) (pair : SentBytes) → s'.sent ≡ s.sent ++ pair ∷ [] → IsSentBetween s.sent s'.sent s'.sent
+one_more : (s s' : Sends) (pair : SentBytes) → s'.sent ≡ s.sent ++ pair ∷ []
+    → IsSentBetween s.sent s'.sent s'.sent
 one_more s s' pair is = record { more = pair ∷ []; behind = is; no_longer = omega arith }
 
-pub sent_more : {T E : Type 0} (conn : ℕ) (bytes : List ℕ) (result : Result T E) (old new : Contents) (s s' : Sends)
-    → SendsBytes conn bytes result old new → old.sends ≡ Some s → new.sends ≡ Some s' → IsSentBetween s.sent s'.sent s'.sent
+pub sent_more : {T E : Type 0} (conn : ℕ) (bytes : List ℕ) (result : Result T E)
+    (old new : Contents) (s s' : Sends)
+    → SendsBytes conn bytes result old new → old.sends ≡ Some s → new.sends ≡ Some s'
+    → IsSentBetween s.sent s'.sent s'.sent
 sent_more conn bytes (Ok value) old new s s' goes told told' =
     let now = goes.sends ∙ ap (option_map (with_pair conn bytes)) told in
-    one_more s s' (record { conn = conn; bytes = bytes }) (ap (λ (t : Sends). t.sent) (some_is (sym told' ∙ now)))
+    one_more s s' (record { conn = conn; bytes = bytes })
+    (ap (λ (t : Sends). t.sent) (some_is (sym told' ∙ now)))
 sent_more conn bytes (Err fault) old new s s' part told told' = elim part.sends [
   | inl front ↦
       let now = front.sends ∙ ap (option_map (with_gone conn front.front)) told in
-      one_more s s' (record { conn = conn; bytes = front.front }) (ap (λ (t : Sends). t.sent) (some_is (sym told' ∙ now)))
+      one_more s s' (record { conn = conn; bytes = front.front })
+      (ap (λ (t : Sends). t.sent) (some_is (sym told' ∙ now)))
   | inr isnt ↦ absurd (not_told isnt told')
 ]
 
 -- calls of the disk send nothing
-pub more_disk : (old new : SiteState) (was is : Crashes) → DiskCalls old new was is → SendsMore old new is
+pub more_disk : (old new : SiteState) (was is : Crashes) → DiskCalls old new was is
+    → SendsMore old new is
 more_disk old new was is calls = record {
   told = λ told. subst (λ (c : Contents). IsSome c.sends) calls.rest.contents told;
   all = λ s s' told told'.
-      let same : s'.sent ≡ s.sent = ap (λ (t : Sends). t.sent) (some_is (sym told' ∙ ap (λ (c : Contents). c.sends) calls.rest.contents ∙ told)) in
-      subst (λ sent. IsSentBetween s.sent sent sent) (sym same) (between_none s.sent s.sent (omega arith));
+      let same : s'.sent ≡ s.sent = ap (λ (t : Sends). t.sent)
+      (some_is (sym told' ∙ ap (λ (c : Contents). c.sends) calls.rest.contents ∙ told)) in
+      subst (λ sent. IsSentBetween s.sent sent sent) (sym same)
+      (between_none s.sent s.sent (omega arith));
   by_then = λ s s' told told' left since.
-      let same : s'.sent ≡ s.sent = ap (λ (t : Sends). t.sent) (some_is (sym told' ∙ ap (λ (c : Contents). c.sends) calls.rest.contents ∙ told)) in
-      let longer : length s.sent ≤ length s'.sent = let count = ap length same in omega (arith, count) in
-      subst (λ sent. IsSentBetween s.sent s'.sent sent) (sym (calls.sent s told left since)) (between_none s.sent s'.sent longer);
+      let same : s'.sent ≡ s.sent = ap (λ (t : Sends). t.sent)
+      (some_is (sym told' ∙ ap (λ (c : Contents). c.sends) calls.rest.contents ∙ told)) in
+      let longer : length s.sent ≤ length s'.sent = let count = ap length same in
+      omega (arith, count) in
+      subst (λ sent. IsSentBetween s.sent s'.sent sent) (sym (calls.sent s told left since))
+      (between_none s.sent s'.sent longer);
 }
 
 -- two stretches
-pub more_join : (a b c : SiteState) (q r : Crashes) → a.tick ≤ b.tick → Elapses b.tick c.tick q.left_since r.left_since
+pub more_join : (a b c : SiteState) (q r : Crashes) → a.tick ≤ b.tick
+    → Elapses b.tick c.tick q.left_since r.left_since
     → SendsMore a b q → SendsMore b c r → SendsMore a c r
 more_join a b c q r le passes first second = record {
   told = λ told. first.told (second.told told);
   all = λ s s' told told'.
       let mid = the_value b.contents.sends (second.told (is_there c.contents.sends s' told')) in
       let one = first.all s mid.0 told mid.1 in
-      between_later s.sent mid.0.sent s'.sent s'.sent one.more one.behind (second.all mid.0 s' mid.1 told');
+      between_later s.sent mid.0.sent s'.sent s'.sent one.more one.behind
+      (second.all mid.0 s' mid.1 told');
   by_then = λ s s' told told' left since.
       let mid = the_value b.contents.sends (second.told (is_there c.contents.sends s' told')) in
       let one = first.all s mid.0 told mid.1 in
@@ -240,6 +294,7 @@ more_join a b c q r le passes first second = record {
             (between_length mid.0.sent s'.sent s'.sent (second.all mid.0 s' mid.1 told'))
             (first.by_then s mid.0 told mid.1 left earlier)
         | inr since_mid ↦
-            between_later s.sent mid.0.sent s'.sent left.sent one.more one.behind (second.by_then mid.0 s' mid.1 told' left since_mid)
+            between_later s.sent mid.0.sent s'.sent left.sent one.more one.behind
+            (second.by_then mid.0 s' mid.1 told' left since_mid)
       ];
 }

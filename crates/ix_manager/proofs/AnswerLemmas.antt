@@ -76,7 +76,8 @@ line_steps old new request go replies steps ends plain valid lends bytes same =
     (requested plain valid same (steps plain valid lends))
 
 -- a request is answered by one reply
-abbrev pub one_answered : (conn : ℕ) (request : Request) (go : Go) (reply : Reply) (old new : Core) (before after : WireState)
+abbrev pub one_answered : (conn : ℕ) (request : Request) (go : Go) (reply : Reply) (old new : Core)
+    (before after : WireState)
     → MachineAnswers old request (answer.One reply) new → ending_after go ≡ request_ending request
     → SendsAll conn (reply ∷ []) before after → new.form ≡ old.form → new.limit ≡ old.limit → new.state.ticket ≤ old.state.ticket + 1
     → AnswersRequest conn request (ending_after go) old new before after
@@ -90,7 +91,8 @@ one_answered conn request go reply old new before after answers ends sends form 
 }
 
 -- a poll is answered
-abbrev pub poll_answered : (conn : ℕ) (request : Request) (go : Go) (name : List ℕ) (old between new : Core) (before after : WireState)
+abbrev pub poll_answered : (conn : ℕ) (request : Request) (go : Go) (name : List ℕ)
+    (old between new : Core) (before after : WireState)
     → Lends request (poll name) → ending_after go ≡ request_ending request
     → between.state ≡ old.state → between.form ≡ old.form → between.limit ≡ old.limit
     → TellsPoll between name new → SendsAll conn (poll_replies (changes_of name between.noted)) before after
@@ -108,12 +110,14 @@ poll_answered conn request go name old between new before after lends ends state
 }
 
 -- a confirm lends a confirm of its ticket
-pub lends_confirm : (ticket : ℕ) (P : PlainRequest → Type 0) → P (confirm ticket) → (plain : PlainRequest) → Lends (Confirm ticket) plain → P plain
+pub lends_confirm : (ticket : ℕ) (P : PlainRequest → Type 0) → P (confirm ticket)
+    → (plain : PlainRequest) → Lends (Confirm ticket) plain → P plain
 lends_confirm ticket P p (confirm other) lends = subst (λ (n : ℕ). P (confirm n)) lends p
 lends_confirm ticket P p _ lends = absurd lends
 
 -- a confirm is answered
-abbrev pub confirm_answered : (conn ticket : ℕ) (reply : Reply) (old new : Core) (before after : WireState)
+abbrev pub confirm_answered : (conn ticket : ℕ) (reply : Reply) (old new : Core)
+    (before after : WireState)
     → Does old (confirm ticket) reply new → SendsAll conn (reply ∷ []) before after
     → AnswersRequest conn (Confirm ticket) going old new before after
 confirm_answered conn ticket reply old new before after does sends = record {
@@ -129,7 +133,8 @@ confirm_answered conn ticket reply old new before after does sends = record {
 }
 
 -- a confirm failed
-abbrev pub confirm_failed : (conn ticket : ℕ) (a : PlainAction) (deadline : ℕ) (reply : Reply) (old new : Core) (before after : WireState)
+abbrev pub confirm_failed : (conn ticket : ℕ) (a : PlainAction) (deadline : ℕ) (reply : Reply)
+    (old new : Core) (before after : WireState)
     → old.state.slot ≡ Held ticket a deadline → old.state.moment < deadline → new ≡ old → reply ≡ disk
     → SendsAll conn (reply ∷ []) before after
     → AnswersRequest conn (Confirm ticket) (failed a) old new before after
@@ -147,7 +152,8 @@ confirm_failed conn ticket a deadline reply old new before after held open_still
 }
 
 -- a line that is a request is answered
-abbrev pub line_answered : (conn : ℕ) (bytes : List ℕ) (request : Request) (ending : Ending) (old new : Core) (before after : WireState)
+abbrev pub line_answered : (conn : ℕ) (bytes : List ℕ) (request : Request) (ending : Ending)
+    (old new : Core) (before after : WireState)
     → Reads (words_of bytes) request → AnswersRequest conn request ending old new before after
     → AnswersItem conn (line bytes) ending old new before after
 line_answered conn bytes request ending old new before after reads answers = record {
@@ -160,7 +166,8 @@ line_answered conn bytes request ending old new before after reads answers = rec
 }
 
 -- a line that is no request is refused
-abbrev pub line_refused : (conn : ℕ) (bytes : List ℕ) (code : ℕ) (told : Reply) (core : Core) (before after : WireState)
+abbrev pub line_refused : (conn : ℕ) (bytes : List ℕ) (code : ℕ) (told : Reply) (core : Core)
+    (before after : WireState)
     → IsRequestFault (words_of bytes) code → told ≡ reply.Refused code 0 → SendsAll conn (told ∷ []) before after
     → AnswersItem conn (line bytes) going core core before after
 line_refused conn bytes code told core before after fault is sends = record {

@@ -1,5 +1,6 @@
 -- Events, handled.
-use Rattle.std.proofs.Common.{◌≡◌, ℕ, false, List, [], length, get_or, set, Result, Ok, Err, OnOk, OnErr, refl, sym, ◌∙◌, ap, subst}
+use Rattle.std.proofs.Common.{◌≡◌, ℕ, false, List, [], length, get_or, set, Result, Ok, Err, OnOk}
+use Rattle.std.proofs.Common.{OnErr, refl, sym, ◌∙◌, ap, subst}
 use Rattle.std.proofs.lemmas.List.{set-get_or}
 use Rattle.ix_words.specs.Each.{no_item}
 use Rattle.ix_lines.specs.Feeding.{unfinished}
@@ -30,7 +31,8 @@ abbrev pub at_moment : ℕ → ManagerState → ManagerState
 at_moment moment old = record old { machine = raised moment old.machine }
 
 -- bytes came
-abbrev pub bytes_handled : (old new : ManagerState) (event : Event) (n : ℕ) (bytes : List ℕ) (ending : Ending) (before after : WireState)
+abbrev pub bytes_handled : (old new : ManagerState) (event : Event) (n : ℕ) (bytes : List ℕ)
+    (ending : Ending) (before after : WireState)
     → event.kind ≡ Bytes n → before.gone ≡ get_or old.marks event.conn false
     → TakesBytes event.conn bytes ending (at_moment event.moment old) new before after
     → Handles old event bytes ending new before.site.contents after.site.contents
@@ -57,7 +59,8 @@ abbrev pub without_line : ℕ → ManagerState → ManagerState
 without_line conn old = record old { lines = set old.lines conn (unfinished []); marks = set old.marks conn false }
 
 -- the connection was closed
-abbrev pub closed_handled : (old between new : ManagerState) (event : Event) (bytes : List ℕ) (contents : Contents)
+abbrev pub closed_handled : (old between new : ManagerState) (event : Event) (bytes : List ℕ)
+    (contents : Contents)
     → event.kind ≡ Closed → old.ended ≡ false → between ≡ at_moment event.moment old → new ≡ without_line event.conn between
     → Handles old event bytes going new contents contents
 closed_handled old between new event bytes contents is open_before begun closes =
@@ -82,7 +85,8 @@ closed_handled old between new event bytes contents is open_before begun closes 
     }
 
 -- the end came
-abbrev pub end_handled : (old new : ManagerState) (event : Event) (bytes : List ℕ) (contents : Contents)
+abbrev pub end_handled : (old new : ManagerState) (event : Event) (bytes : List ℕ)
+    (contents : Contents)
     → event.kind ≡ End → old.ended ≡ false → new ≡ at_moment event.moment old
     → Handles old event bytes going new contents contents
 end_handled old new event bytes contents is open_before same =
@@ -126,7 +130,8 @@ module _ (old between new : ManagerState) (event : Event) (n : ℕ) (bytes : Lis
     (before after : WireState) (p q : Crashes) (is : event.kind ≡ Bytes n) (same : between ≡ at_moment event.moment old)
     (taken : BytesOver event.conn bytes result between new before after p q) where
   over : BytesOver event.conn bytes result (at_moment event.moment old) new before after p q
-  over = subst (λ (m : ManagerState). BytesOver event.conn bytes result m new before after p q) same taken
+  over = subst (λ (m : ManagerState). BytesOver event.conn bytes result m new before after p q) same
+      taken
 
   -- bytes came, over a site
   pub bytes_over : before.gone ≡ get_or between.marks event.conn false → HandlesOver old event bytes result new before.site after.site q
@@ -155,8 +160,10 @@ module _ (old between new : ManagerState) (event : Event) (n : ℕ) (bytes : Lis
 
 -- no call was made, over a site
 pub rest_over : (old new : ManagerState) (event : Event) (bytes : List ℕ) (site : SiteState) (crashes : Crashes) → AreLawful site crashes
-    → FitsSite old site crashes → (handles : Handles old event bytes going new site.contents site.contents) → handles.answers ≡ []
-    → new.machine.history ≡ old.machine.history → HandlesOver old event bytes (Ok More) new site site crashes
+    → FitsSite old site crashes → (handles :
+    Handles old event bytes going new site.contents site.contents) → handles.answers ≡ []
+    → new.machine.history ≡ old.machine.history
+    → HandlesOver old event bytes (Ok More) new site site crashes
 rest_over old new event bytes site crashes lawful fits handles nothing same =
     let none = saves_same going old.form old.machine.history old.machine.history new.machine.history old.store site site crashes crashes same
     (saves_none old.form old.machine.history old.store site crashes lawful fits) in
@@ -166,8 +173,10 @@ rest_over old new event bytes site crashes lawful fits handles nothing same =
       handles = handles;
       keeps = none.keeps;
       ends = none.ends;
-      acknowledges = subst (λ answers. Acknowledges old.form (length old.machine.history) new.machine.history (all_replies answers) site site crashes) (sym nothing)
-          (saves_acknowledges going old.form old.machine.history new.machine.history old.store 0 [] (wired false site) (wired false site) crashes crashes
+      acknowledges = subst (λ answers. Acknowledges old.form (length old.machine.history)
+          new.machine.history (all_replies answers) site site crashes) (sym nothing)
+          (saves_acknowledges going old.form old.machine.history new.machine.history old.store 0 []
+          (wired false site) (wired false site) crashes crashes
           lawful none (nothing_sent 0 (wired false site)) no_item);
       sends = none.sends;
     }

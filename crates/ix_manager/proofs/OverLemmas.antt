@@ -126,7 +126,8 @@ module _ (conn ticket : ℕ) (old new : Journaled) (was_gone gone : Bool) (a b c
         (sends-append conn [] (one ∷ []) (wired was_gone a) (wired was_gone b) (wired gone c) (disk_sent conn was_gone a b p q over.calls) sends);
     saves = saves_sends going old.machine.form old.machine.state.history new.machine.state.history (kept new.store) a b c p q r between lawful
         (subst (λ e. SavesJournal e old new a b p q) over.confirms.1 over.saves) only;
-    acknowledges = confirm_acknowledges conn ticket one old new was_gone gone a b c p q r between lawful only over sends;
+    acknowledges = confirm_acknowledges conn ticket one old new was_gone gone a b c p q r between
+        lawful only over sends;
   }
 
   -- that the disk failed is sent
@@ -140,37 +141,46 @@ module _ (conn ticket : ℕ) (old new : Journaled) (was_gone gone : Bool) (a b c
       let x = old.machine.form in
       let h = old.machine.state.history in
       let w = new.machine.state.history in
-      let answers = confirm_failed conn ticket facts.0 facts.1 one old.machine new.machine before after facts.2 facts.3 facts.4 is
-      (sends-append conn [] (one ∷ []) before (wired was_gone b) after (disk_sent conn was_gone a b p q over.calls) sends) in
+      let answers = confirm_failed conn ticket facts.0 facts.1 one old.machine new.machine before
+      after facts.2 facts.3 facts.4 is
+      (sends-append conn [] (one ∷ []) before (wired was_gone b) after
+      (disk_sent conn was_gone a b p q over.calls) sends) in
       let saves : SavesJournal (failed facts.0) old new a c p r =
-      saves_sends (failed facts.0) x h w (kept new.store) a b c p q r between lawful (subst (λ e. SavesJournal e old new a b p q) facts.5 over.saves) only in
+      saves_sends (failed facts.0) x h w (kept new.store) a b c p q r between lawful
+      (subst (λ e. SavesJournal e old new a b p q) facts.5 over.saves) only in
       record {
         ending = failed facts.0;
         answered = (facts.0, refl);
         answers = answers;
         saves = saves;
-        acknowledges = saves_acknowledges (failed facts.0) x h w (kept new.store) conn (disk ∷ []) before after p r lawful saves answers.sends (item tt no_item);
+        acknowledges = saves_acknowledges (failed facts.0) x h w (kept new.store) conn (disk ∷ [])
+            before after p r lawful saves answers.sends (item tt no_item);
       }
 
 -- a request is answered that leaves the journal alone
 pub request_over : (conn : ℕ) (request : Request) (go : Go) (old new : Journaled) (before after : WireState) (p q : Crashes)
     → AreLawful before.site p → AreLawful after.site q → FitsJournal old before.site p
     → new.machine.state.history ≡ old.machine.state.history → kept new.store ≡ kept old.store
-    → (answers : AnswersRequest conn request (ending_after go) old.machine new.machine before after) → OnlySends before.site after.site p q
-    → Each TellsNoConfirm answers.replies → RequestOver conn request (Ok go) old new before after p q
-request_over conn request go old new before after p q lawful lawful' fits same store answers only none =
+    → (answers : AnswersRequest conn request (ending_after go) old.machine new.machine before after)
+    → OnlySends before.site after.site p q
+    → Each TellsNoConfirm answers.replies
+    → RequestOver conn request (Ok go) old new before after p q
+request_over conn request go old new before after p q lawful lawful' fits same store answers only
+    none =
     let x = old.machine.form in
     let h = old.machine.state.history in
     let w = new.machine.state.history in
     let saves : SavesJournal (ending_after go) old new before.site after.site p q =
     subst (λ s. Saves (ending_after go) x h w s before.site after.site p q) (sym store)
-    (answered_saves go x h w (kept old.store) before.site after.site p q lawful lawful' fits same only) in
+    (answered_saves go x h w (kept old.store) before.site after.site p q lawful lawful' fits same
+    only) in
     record {
       ending = ending_after go;
       answered = refl;
       answers = answers;
       saves = saves;
-      acknowledges = saves_acknowledges (ending_after go) x h w (kept new.store) conn answers.replies before after p q lawful' saves answers.sends none;
+      acknowledges = saves_acknowledges (ending_after go) x h w (kept new.store) conn
+          answers.replies before after p q lawful' saves answers.sends none;
     }
 
 -- a line that is a request
@@ -195,13 +205,15 @@ fault_over conn bytes code told j before after p q lawful lawful' fits only faul
     let h = j.machine.state.history in
     let answers = line_refused conn bytes code told j.machine before after fault is sends in
     let saves : SavesJournal going j j before.site after.site p q =
-    answered_saves More x h h (kept j.store) before.site after.site p q lawful lawful' fits refl only in
+    answered_saves More x h h (kept j.store) before.site after.site p q lawful lawful' fits refl
+    only in
     record {
       ending = going;
       answered = refl;
       answers = answers;
       saves = saves;
-      acknowledges = saves_acknowledges going x h h (kept j.store) conn answers.replies before after p q lawful' saves answers.sends (item tt no_item);
+      acknowledges = saves_acknowledges going x h h (kept j.store) conn answers.replies before after
+          p q lawful' saves answers.sends (item tt no_item);
     }
 
 -- a line that is too long
@@ -214,13 +226,15 @@ long_over conn told j before after p q lawful lawful' fits only is sends =
     let h = j.machine.state.history in
     let answers = long_line_refused conn told j.machine before after is sends in
     let saves : SavesJournal going j j before.site after.site p q =
-    answered_saves More x h h (kept j.store) before.site after.site p q lawful lawful' fits refl only in
+    answered_saves More x h h (kept j.store) before.site after.site p q lawful lawful' fits refl
+    only in
     record {
       ending = going;
       answered = refl;
       answers = answers;
       saves = saves;
-      acknowledges = saves_acknowledges going x h h (kept j.store) conn answers.replies before after p q lawful' saves answers.sends (item tt no_item);
+      acknowledges = saves_acknowledges going x h h (kept j.store) conn answers.replies before after
+          p q lawful' saves answers.sends (item tt no_item);
     }
 
 -- a request that lends a confirm's ticket is that confirm

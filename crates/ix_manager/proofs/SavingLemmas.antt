@@ -1,5 +1,7 @@
 -- What calls on a site make of what a crash may leave, one after the other.
-use Rattle.std.proofs.Common.{◌≡◌, ◌⊎◌, ℕ, ◌≤◌, List, [], ◌∷◌, ◌++◌, length, append_assoc, append-nil, Option, None, Some, IsSome, Result, true≢false, inl, inr, refl, sym, ◌∙◌, ap, subst, arith}
+use Rattle.std.proofs.Common.{◌≡◌, ◌⊎◌, ℕ, ◌≤◌, List, [], ◌∷◌, ◌++◌, length, append_assoc}
+use Rattle.std.proofs.Common.{append-nil, Option, None, Some, IsSome, Result, true≢false, inl, inr}
+use Rattle.std.proofs.Common.{refl, sym, ◌∙◌, ap, subst, arith}
 use Rattle.std.proofs.lemmas.List.{length-append}
 use Rattle.ix_values.specs.PlainAction.{PlainAction, Word}
 use Rattle.ix_expr.specs.CanonicalText.{canonical_text}
@@ -22,7 +24,8 @@ use Rattle.ix_manager.specs.Runs.{Ending, going, stopped, failed}
 use Rattle.ix_manager.specs.Images as image
 use Rattle.ix_manager.specs.Images.{IsOwn, Keeps, with_failed, EndsAs}
 use Rattle.ix_manager.specs.inside.OverSite.{FitsWith, ending_after}
-use Rattle.ix_manager.proofs.AcknowledgedLemmas.{the_value, more_none, more_call, sent_told, sent_more, more_disk, more_join}
+use Rattle.ix_manager.proofs.AcknowledgedLemmas.{the_value, more_none, more_call, sent_told}
+use Rattle.ix_manager.proofs.AcknowledgedLemmas.{sent_more, more_disk, more_join}
 use Rattle.ix_manager.specs.inside.Saving.{UnlessFailed, WhereFailed, OnlySends, Saves}
 
 -- a disk that is told as before, or no more, was told
@@ -62,7 +65,8 @@ keeps_longer x least h more history at longer keeps = record {
 }
 
 -- and of fewer actions
-abbrev pub keeps_fewer : (x : Form) (least fewer : ℕ) (h : Word) (at : List ℕ) → fewer ≤ least → Keeps x least h at → Keeps x fewer h at
+abbrev pub keeps_fewer : (x : Form) (least fewer : ℕ) (h : Word) (at : List ℕ) → fewer ≤ least
+    → Keeps x least h at → Keeps x fewer h at
 keeps_fewer x least fewer h at le keeps = record {
   own = keeps.own;
   kept = keeps.kept;
@@ -75,7 +79,8 @@ keeps_fewer x least fewer h at le keeps = record {
 -- where a store fits, each image that a crash may leave now is a journal of the history
 pub fits_images : (x : Form) (h : Word) (store : Keeping) (site : SiteState) (crashes : Crashes) → FitsWith x h store site crashes
     → IsSome site.disk → (at : List ℕ) → crashes.now at → IsJournal at (canonical_text x) h store.gate
-fits_images x h store site crashes fits told = let disk = the_value site.disk told in fits.fits.images disk.0 disk.1
+fits_images x h store site crashes fits told = let disk = the_value site.disk told in
+    fits.fits.images disk.0 disk.1
 
 pub unless_failed : (e : Ending) {P Q : Type 0} → (P → Q) → UnlessFailed e P → UnlessFailed e Q
 unless_failed going to p = to p
@@ -109,7 +114,8 @@ pub saves_join : (e : Ending) (x : Form) (h mid new : Word) (one two : Keeping) 
     → Saves going x h mid one a b p q → Saves e x mid new two b c q r → Saves e x h new two a c p r
 saves_join e x h mid new one two a b c p q r lawful first second = record {
   passes = Passes-join a b c p q r lawful first.passes second.passes;
-  sends = more_join a b c q r first.passes.left.later second.passes.left_since first.sends second.sends;
+  sends = more_join a b c q r first.passes.left.later second.passes.left_since first.sends
+      second.sends;
   count = let le = first.count in let le2 = second.count in omega arith;
   told = λ told. first.told (second.told told);
   rest = first.rest ++ second.rest;
@@ -160,8 +166,10 @@ only_none site crashes lawful = record {
 }
 
 -- one send
-pub only_one : {T E : Type 0} (conn : ℕ) (bytes : List ℕ) (result : Result T E) (old new : SiteState) (was is : Crashes)
-    → OnlySend old new → SendsBytes conn bytes result old.contents new.contents → LeavesTheSame was.now is.now → OneCall old new was is
+pub only_one : {T E : Type 0} (conn : ℕ) (bytes : List ℕ) (result : Result T E)
+    (old new : SiteState) (was is : Crashes)
+    → OnlySend old new → SendsBytes conn bytes result old.contents new.contents
+    → LeavesTheSame was.now is.now → OneCall old new was is
     → OnlySends old new was is
 only_one conn bytes result old new was is only contents same call = record {
   count = only.disk;
@@ -169,8 +177,10 @@ only_one conn bytes result old new was is only contents same call = record {
   now = same;
   passes = call.passes;
   images = λ at left. elim (call.images at left) [ inl now ↦ now | inr now ↦ (same at).0 now ];
-  sends = more_call old new was is call (sent_told conn bytes result old.contents new.contents contents)
-      (λ s s' told told'. sent_more conn bytes result old.contents new.contents s s' contents told told');
+  sends = more_call old new was is call
+      (sent_told conn bytes result old.contents new.contents contents)
+      (λ s s' told told'. sent_more conn bytes result old.contents new.contents s s' contents told
+      told');
 }
 
 -- sends and further ones
@@ -185,7 +195,8 @@ only_join a b c p q r lawful first second = record {
   passes = Passes-join a b c p q r lawful first.passes second.passes;
   images = LeavesOnly-join p.now a b c q r first.images second.passes.left first.passes.left.later
       (λ at left. (first.now at).0 (second.images at left));
-  sends = more_join a b c q r first.passes.left.later second.passes.left_since first.sends second.sends;
+  sends = more_join a b c q r first.passes.left.later second.passes.left_since first.sends
+      second.sends;
 }
 
 -- where a store fits, it does after sends

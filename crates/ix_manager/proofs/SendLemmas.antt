@@ -1,11 +1,14 @@
 -- What sending an event's replies makes of the text and of the list of sends.
-use Rattle.std.proofs.Common.{◌≡◌, inl, inr, ℕ, ◌+◌, ◌<◌, Bool, true, false, List, [], ◌∷◌, ◌++◌, length, get_or, refl, sym, ◌∙◌, ap, subst, append_assoc, append-nil, arith, Option, Some, None, true≢false}
+use Rattle.std.proofs.Common.{◌≡◌, inl, inr, ℕ, ◌+◌, ◌<◌, Bool, true, false, List, [], ◌∷◌, ◌++◌}
+use Rattle.std.proofs.Common.{length, get_or, refl, sym, ◌∙◌, ap, subst, append_assoc, append-nil}
+use Rattle.std.proofs.Common.{arith, Option, Some, None, true≢false}
 use Rattle.std.proofs.lemmas.List.{length-append, length-set, get_or-set_same, get_or-set_other}
 use Rattle.std.specs.Option.{option_map}
 use Rattle.std.specs.Io.KnownBytes.{append_known}
 use Rattle.ix_expr.specs.Form.{Form}
 use Rattle.ix_lines.specs.Feeding.{UnfinishedLine}
-use Rattle.ix_outside.specs.Contents.{GivenEvent, SentBytes, Contents, Sends, SendsWhole, SendsPart, send_text, with_pair, with_gone}
+use Rattle.ix_outside.specs.Contents.{GivenEvent, SentBytes, Contents, Sends, SendsWhole, SendsPart}
+use Rattle.ix_outside.specs.Contents.{send_text, with_pair, with_gone}
 use Rattle.ix_outside.specs.Sink.{AppendsPart}
 use Rattle.ix_outside.specs.declared.event.Event.{Event}
 use Rattle.ix_outside.specs.declared.event.EventKind.{EventKind}
@@ -14,8 +17,11 @@ use Rattle.ix_proto.specs.declared.reply.Reply.{Reply}
 use Rattle.ix_manager.specs.Machine.{MachineState}
 use Rattle.ix_manager.specs.Runs.{Ending, Steps, none}
 use Rattle.ix_manager.specs.Handled.{ManagerState, SendsReplies, Handles, completed_by, held_at}
-use Rattle.ix_manager.specs.Wire.{SendsInOrder, done, silent, sent, lost, reply_line, all_replies, replies_text, run_text, marks_after, SentReplies, PairsWhole, PairsFront, Wire, begin, takes}
-use Rattle.ix_manager.specs.RunLaws.{given_event, Carries, WireGoesOn, SentRepliesAreTheWire, TellsReplies, UnmarkedRepliesAreTheText}
+use Rattle.ix_manager.specs.Wire.{SendsInOrder, done, silent, sent, lost, reply_line, all_replies}
+use Rattle.ix_manager.specs.Wire.{replies_text, run_text, marks_after, SentReplies, PairsWhole}
+use Rattle.ix_manager.specs.Wire.{PairsFront, Wire, begin, takes}
+use Rattle.ix_manager.specs.RunLaws.{given_event, Carries, WireGoesOn, SentRepliesAreTheWire}
+use Rattle.ix_manager.specs.RunLaws.{TellsReplies, UnmarkedRepliesAreTheText}
 
 -- a reply's line is sent whole, or a front of it
 abbrev Whole : ℕ → Reply → Contents → Contents → Type 0
@@ -185,8 +191,10 @@ pub some_is : {A : Type 0} {a b : A} → Some a ≡ Some b → a ≡ b
 some_is e = cc
 
 -- replies that are sent on a marked connection are so over anything
-silent_over : {S T : Type 0} {whole front : Reply → S → S → Type 0} {whole' front' : Reply → T → T → Type 0} {replies : List Reply} {marked : Bool} {s after : S}
-    (t : T) → SendsInOrder whole front replies true s marked after → SendsInOrder whole' front' replies true t marked t
+silent_over : {S T : Type 0} {whole front : Reply → S → S → Type 0}
+    {whole' front' : Reply → T → T → Type 0} {replies : List Reply} {marked : Bool} {s after : S}
+    (t : T) → SendsInOrder whole front replies true s marked after
+    → SendsInOrder whole' front' replies true t marked t
 silent_over t done = done
 silent_over t (silent rest) = silent (silent_over t rest)
 
@@ -195,27 +203,54 @@ abbrev with_replies : List Reply → Sends → SentReplies
 with_replies replies sends = record { sends = sends; replies = replies }
 
 -- sends that are told, by the sends alone
-pub wire_sends : (conn : ℕ) {replies : List Reply} {was marked : Bool} {before after : Contents} (s s' : Sends) (so_far : List Reply)
-    → SendsInOrder (Whole conn) (Part conn) replies was before marked after → before.sends ≡ Some s → after.sends ≡ Some s'
+pub wire_sends : (conn : ℕ) {replies : List Reply} {was marked : Bool} {before after : Contents}
+    (s s' : Sends) (so_far : List Reply)
+    → SendsInOrder (Whole conn) (Part conn) replies was before marked after → before.sends ≡ Some s
+    → after.sends ≡ Some s'
     → (part : Carries replies s.sent s'.sent marked)
-    × SendsInOrder (PairsWhole conn) (PairsFront conn) replies was (with_replies so_far s) marked (with_replies (so_far ++ part.carried) s')
+    × SendsInOrder (PairsWhole conn) (PairsFront conn) replies was (with_replies so_far s) marked
+    (with_replies (so_far ++ part.carried) s')
 wire_sends conn {was = was} s s' so_far done told told' =
     let same : s ≡ s' = some_is (sym told ∙ told') in
     let count : length s'.sent ≡ length s.sent = ap (λ (t : Sends). length t.sent) (sym same) in
-    let goes : Sends → List Reply → Type 0 = λ t rs. SendsInOrder (PairsWhole conn) (PairsFront conn) [] was (with_replies so_far s) was (with_replies rs t) in (
-      record { carried = []; silent = []; all = refl; count = omega (arith, count); whole = inl refl },
-      subst (λ t. goes t (so_far ++ [])) same (subst (λ rs. goes s rs) (sym (append-nil so_far)) done),
+    let goes : Sends → List Reply → Type 0 =
+    λ t rs. SendsInOrder (PairsWhole conn) (PairsFront conn) [] was (with_replies so_far s) was
+    (with_replies rs t) in (
+      record {
+        carried = [];
+        silent = [];
+        all = refl;
+        count = omega (arith, count);
+        whole =
+            inl refl;
+      },
+      subst (λ t. goes t (so_far ++ [])) same
+          (subst (λ rs. goes s rs) (sym (append-nil so_far)) done),
     )
 wire_sends conn s s' so_far (silent {reply = reply} {replies = replies} rest) told told' =
-    let same : s ≡ s' = some_is (sym told ∙ sym (ap (λ (c : Contents). c.sends) (silent_keeps rest).0) ∙ told') in
+    let same : s ≡ s' = some_is (sym told
+    ∙ sym (ap (λ (c : Contents). c.sends) (silent_keeps rest).0) ∙ told') in
     let count : length s'.sent ≡ length s.sent = ap (λ (t : Sends). length t.sent) (sym same) in
-    let goes : Sends → List Reply → Type 0 = λ t rs. SendsInOrder (PairsWhole conn) (PairsFront conn) (reply ∷ replies) true (with_replies so_far s) true (with_replies rs t) in (
-      record { carried = []; silent = reply ∷ replies; all = refl; count = omega (arith, count); whole = inr refl },
-      subst (λ t. goes t (so_far ++ [])) same (subst (λ rs. goes s rs) (sym (append-nil so_far)) (silent (silent_over (with_replies so_far s) rest))),
+    let goes : Sends → List Reply → Type 0 =
+    λ t rs. SendsInOrder (PairsWhole conn) (PairsFront conn) (reply ∷ replies) true
+    (with_replies so_far s) true (with_replies rs t) in (
+      record {
+        carried = [];
+        silent = reply ∷ replies;
+        all = refl;
+        count =
+            omega (arith, count);
+        whole = inr refl;
+      },
+      subst (λ t. goes t (so_far ++ [])) same
+          (subst (λ rs. goes s rs) (sym (append-nil so_far))
+          (silent (silent_over (with_replies so_far s) rest))),
     )
-wire_sends conn s s' so_far (sent {reply = reply} {replies = replies} {marked = marked} goes rest) told told' =
+wire_sends conn s s' so_far (sent {reply = reply} {replies = replies} {marked = marked} goes rest)
+    told told' =
     let line = reply_line reply in
-    let others = wire_sends conn (with_pair conn line s) s' (so_far ++ reply ∷ []) rest (goes.sends ∙ ap (option_map (with_pair conn line)) told) told' in
+    let others = wire_sends conn (with_pair conn line s) s' (so_far ++ reply ∷ []) rest
+    (goes.sends ∙ ap (option_map (with_pair conn line)) told) told' in
     let one = length-append s.sent (record { conn = conn; bytes = line } ∷ []) in
     let count = others.0.count in (
       record {
@@ -225,25 +260,40 @@ wire_sends conn s s' so_far (sent {reply = reply} {replies = replies} {marked = 
         count = omega (arith, one, count);
         whole = others.0.whole;
       },
-      subst (λ rs. SendsInOrder (PairsWhole conn) (PairsFront conn) (reply ∷ replies) false (with_replies so_far s) marked (with_replies rs s'))
+      subst (λ rs. SendsInOrder (PairsWhole conn) (PairsFront conn) (reply ∷ replies) false
+          (with_replies so_far s) marked (with_replies rs s'))
           (append_assoc so_far (reply ∷ []) others.0.carried) (sent refl others.1),
     )
-wire_sends conn s s' so_far (lost {reply = reply} {replies = replies} part rest) told told' = elim part.sends [
-  | inl front ↦
-      let now = sym (front.sends ∙ ap (option_map (with_gone conn front.front)) told) ∙ sym (ap (λ (c : Contents). c.sends) (silent_keeps rest).0) ∙ told' in
-      let same : with_gone conn front.front s ≡ s' = some_is now in
-      let count = ap (λ (t : Sends). length t.sent) (sym same) ∙ length-append s.sent (record { conn = conn; bytes = front.front } ∷ []) in
-      let one : List Reply = so_far ++ reply ∷ [] in (
-        record { carried = reply ∷ []; silent = replies; all = refl; count = omega (arith, count); whole = inr refl },
-        subst (λ t. SendsInOrder (PairsWhole conn) (PairsFront conn) (reply ∷ replies) false (with_replies so_far s) true (with_replies one t)) same
-            (lost (front.front, front.is_front, refl) (silent_over (with_replies one (with_gone conn front.front s)) rest)),
-      )
-  | inr isnt ↦ absurd (not_told (ap (λ (c : Contents). c.sends) (silent_keeps rest).0 ∙ isnt) told')
-]
+wire_sends conn s s' so_far (lost {reply = reply} {replies = replies} part rest) told told' =
+    elim part.sends [
+      | inl front ↦
+          let now = sym (front.sends ∙ ap (option_map (with_gone conn front.front)) told)
+          ∙ sym (ap (λ (c : Contents). c.sends) (silent_keeps rest).0) ∙ told' in
+          let same : with_gone conn front.front s ≡ s' = some_is now in
+          let count = ap (λ (t : Sends). length t.sent) (sym same)
+          ∙ length-append s.sent (record { conn = conn; bytes = front.front } ∷ []) in
+          let one : List Reply = so_far ++ reply ∷ [] in (
+            record {
+              carried = reply ∷ [];
+              silent = replies;
+              all = refl;
+              count =
+                  omega (arith, count);
+              whole = inr refl;
+            },
+            subst (λ t. SendsInOrder (PairsWhole conn) (PairsFront conn) (reply ∷ replies) false
+                (with_replies so_far s) true (with_replies one t)) same
+                (lost (front.front, front.is_front, refl)
+                (silent_over (with_replies one (with_gone conn front.front s)) rest)),
+          )
+      | inr isnt ↦ absurd (not_told (ap (λ (c : Contents). c.sends) (silent_keeps rest).0 ∙ isnt) told')
+    ]
 
 -- the replies that sends carry, of those that were sent in order
-pub carries : (conn : ℕ) {replies : List Reply} {was marked : Bool} {before after : Contents} (s s' : Sends)
-    → SendsInOrder (Whole conn) (Part conn) replies was before marked after → before.sends ≡ Some s → after.sends ≡ Some s'
+pub carries : (conn : ℕ) {replies : List Reply} {was marked : Bool} {before after : Contents}
+    (s s' : Sends)
+    → SendsInOrder (Whole conn) (Part conn) replies was before marked after → before.sends ≡ Some s
+    → after.sends ≡ Some s'
     → Carries replies s.sent s'.sent marked
 carries conn s s' sends told told' = (wire_sends conn s s' [] sends told told').0
 
@@ -264,46 +314,62 @@ wire_goes_on start events answers so_far s' old event bytes last new before afte
     let sends = wire_sends event.conn so_far.sends s' so_far.replies told.sends is is' in
     let behind = with_replies (so_far.replies ++ sends.0.carried) s' in (
       sends.0,
-      subst (λ marks. Wire start (events ++ given_event event bytes ∷ []) (answers ++ last ∷ []) marks behind) (sym told.marks)
+      subst (λ marks. Wire start (events ++ given_event event bytes ∷ []) (answers ++ last ∷ [])
+          marks behind) (sym told.marks)
           (takes (given_event event bytes) last told.marked wire sends.1),
     )
 
 -- pairs behind those of before, as many as the replies that they carry
-pub record PairsBehind (before : List SentBytes) (so_far : List Reply) (after : SentReplies) : Type 0 where
+pub record PairsBehind (before : List SentBytes) (so_far : List Reply) (after : SentReplies) :
+    Type 0 where
   pub pairs : List SentBytes
   pub behind : after.sends.sent ≡ before ++ pairs
   pub count : length after.replies ≡ length so_far + length pairs
 
 next_pair : (before : SentReplies) (reply : Reply) (pair : SentBytes) (between after : SentReplies)
-    → between.sends.sent ≡ before.sends.sent ++ pair ∷ [] → between.replies ≡ before.replies ++ reply ∷ []
-    → PairsBehind between.sends.sent between.replies after → PairsBehind before.sends.sent before.replies after
+    → between.sends.sent ≡ before.sends.sent ++ pair ∷ []
+    → between.replies ≡ before.replies ++ reply ∷ []
+    → PairsBehind between.sends.sent between.replies after
+    → PairsBehind before.sends.sent before.replies after
 next_pair before reply pair between after sends replies others =
     let one = ap length replies ∙ length-append before.replies (reply ∷ []) in
     let count = others.count in
     record {
       pairs = pair ∷ others.pairs;
-      behind = others.behind ∙ ap (λ s. s ++ others.pairs) sends ∙ append_assoc before.sends.sent (pair ∷ []) others.pairs;
+      behind = others.behind ∙ ap (λ s. s ++ others.pairs) sends
+          ∙ append_assoc before.sends.sent (pair ∷ []) others.pairs;
       count = omega (arith, one, count);
     }
 
-no_pair : (before after : SentReplies) → after ≡ before → PairsBehind before.sends.sent before.replies after
+no_pair : (before after : SentReplies) → after ≡ before
+    → PairsBehind before.sends.sent before.replies after
 no_pair before after same =
     let count = ap (λ (t : SentReplies). length t.replies) same in
-    record { pairs = []; behind = ap (λ (t : SentReplies). t.sends.sent) same ∙ sym (append-nil before.sends.sent); count = omega (arith, count) }
+    record {
+      pairs = [];
+      behind = ap (λ (t : SentReplies). t.sends.sent) same
+          ∙ sym (append-nil before.sends.sent);
+      count = omega (arith, count);
+    }
 
 order_pairs : (conn : ℕ) {replies : List Reply} {was marked : Bool} {before after : SentReplies}
-    → SendsInOrder (PairsWhole conn) (PairsFront conn) replies was before marked after → PairsBehind before.sends.sent before.replies after
+    → SendsInOrder (PairsWhole conn) (PairsFront conn) replies was before marked after
+    → PairsBehind before.sends.sent before.replies after
 order_pairs conn (done {s = s}) = no_pair s s refl
 order_pairs conn (silent {s = s} {after = after} rest) = no_pair s after (silent_keeps rest).0
 order_pairs conn (sent {reply = reply} {s = s} {between = between} {after = after} goes rest) =
     next_pair s reply (record { conn = conn; bytes = reply_line reply }) between after
-    (ap (λ (t : SentReplies). t.sends.sent) goes) (ap (λ (t : SentReplies). t.replies) goes) (order_pairs conn rest)
+    (ap (λ (t : SentReplies). t.sends.sent) goes) (ap (λ (t : SentReplies). t.replies) goes)
+    (order_pairs conn rest)
 order_pairs conn (lost {reply = reply} {s = s} {between = between} {after = after} part rest) =
     next_pair s reply (record { conn = conn; bytes = part.0 }) between after
-    (ap (λ (t : SentReplies). t.sends.sent) part.2) (ap (λ (t : SentReplies). t.replies) part.2) (no_pair between after (silent_keeps rest).0)
+    (ap (λ (t : SentReplies). t.sends.sent) part.2) (ap (λ (t : SentReplies). t.replies) part.2)
+    (no_pair between after (silent_keeps rest).0)
 
--- what is sent in a run stands behind what was sent before, one pair for each of the replies that are carried
-pub wire_pairs : {start : Sends} {events : List GivenEvent} {answers : List (List (List Reply))} {marks : List Bool} {so_far : SentReplies}
+-- what is sent in a run stands behind what was sent before, one pair for each of the replies that
+-- are carried
+pub wire_pairs : {start : Sends} {events : List GivenEvent} {answers : List (List (List Reply))}
+    {marks : List Bool} {so_far : SentReplies}
     → Wire start events answers marks so_far → PairsBehind start.sent [] so_far
 wire_pairs begin = record { pairs = []; behind = sym (append-nil _); count = refl }
 wire_pairs (takes {s = s} {after = after} given last marked wire sends) =
@@ -314,7 +380,8 @@ wire_pairs (takes {s = s} {after = after} given last marked wire sends) =
     let both = length-append first.pairs more.pairs in
     record {
       pairs = first.pairs ++ more.pairs;
-      behind = more.behind ∙ ap (λ pairs. pairs ++ more.pairs) first.behind ∙ append_assoc _ first.pairs more.pairs;
+      behind = more.behind ∙ ap (λ pairs. pairs ++ more.pairs) first.behind
+          ∙ append_assoc _ first.pairs more.pairs;
       count = omega (arith, one, two, both);
     }
 

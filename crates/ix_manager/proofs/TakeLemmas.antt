@@ -1,8 +1,12 @@
 -- A piece, item by item.
-use Rattle.std.proofs.Common.{◌≡◌, ◌≢◌, ℕ, Bool, true, false, get_or, Result, Ok, Err, zero, suc, ◌+◌, ◌-◌, ◌≤◌, ◌<◌, List, [], ◌∷◌, ◌++◌, Some, length, take, drop, refl, sym, ◌∙◌, ap, subst, arith, set, replicate}
+use Rattle.std.proofs.Common.{◌≡◌, ◌≢◌, ℕ, Bool, true, false, get_or, Result, Ok, Err, zero, suc}
+use Rattle.std.proofs.Common.{◌+◌, ◌-◌, ◌≤◌, ◌<◌, List, [], ◌∷◌, ◌++◌, Some, length, take, drop}
+use Rattle.std.proofs.Common.{refl, sym, ◌∙◌, ap, subst, arith, set, replicate}
 use Rattle.std.proofs.Math.ListN.{length-set}
 use Rattle.std.proofs.lemmas.Grind.{flat_map-append}
-use Rattle.std.proofs.lemmas.List.{take_rest, length-append, append_assoc, length-drop, length-replicate, take-append-drop, append-nil, append_cancel_left}
+use Rattle.std.proofs.lemmas.List.{take_rest, length-append, append_assoc, length-drop}
+use Rattle.std.proofs.lemmas.List.{length-replicate, take-append-drop, append-nil}
+use Rattle.std.proofs.lemmas.List.{append_cancel_left}
 use Rattle.ix_words.specs.Each.{no_item}
 use Rattle.ix_lines.specs.Items.{Item}
 use Rattle.ix_lines.specs.Feeding.{UnfinishedLine, unfinished, Feeds, completes, holds_after}
@@ -27,7 +31,8 @@ use Rattle.ix_manager.specs.inside.Saving.{FitsJournal, Saves, SavesJournal}
 use Rattle.ix_manager.specs.inside.TakenItems.{TakesOne, TakesNone, BytesOver}
 use Rattle.ix_manager.specs.inside.Core.{Core}
 use Rattle.ix_manager.specs.inside.Clean.{IsClean, AreClean}
-use Rattle.ix_manager.specs.inside.WireState.{WireState, wired, SendsAll, AnswersItem, AnswersItems, ItemsOver}
+use Rattle.ix_manager.specs.inside.WireState.{WireState, wired, SendsAll, AnswersItem, AnswersItems}
+use Rattle.ix_manager.specs.inside.WireState.{ItemsOver}
 use Rattle.ix_manager.proofs.SavingLemmas.{saves_none, saves_join}
 use Rattle.ix_manager.proofs.AcknowledgeSteps.{saves_acknowledges, acknowledges_join}
 use Rattle.ix_manager.proofs.SendSteps.{nothing_sent, sends-append}
@@ -68,7 +73,8 @@ pub record Progress (conn : ℕ) (all : List Item) (first : Core) (before : Wire
   pub form : now.form ≡ first.form
   pub limit : now.limit ≡ first.limit
 
-abbrev pub progress_begins : (conn : ℕ) (items : List Item) (core : Core) (w : WireState) → Progress conn items core w items core w
+abbrev pub progress_begins : (conn : ℕ) (items : List Item) (core : Core) (w : WireState)
+    → Progress conn items core w items core w
 progress_begins conn items core w = record {
   answers = [];
   steps = λ later after ending steps. steps;
@@ -78,39 +84,51 @@ progress_begins conn items core w = record {
 }
 
 -- a step for the expression and the limit of the start
-pub step_of_first : (x y : _) (l m : ℕ) → x ≡ y → l ≡ m → (s : MachineState) (item : Item) (replies : List Reply) (after : MachineState) (ending : Ending)
+pub step_of_first : (x y : _) (l m : ℕ) → x ≡ y → l ≡ m
+    → (s : MachineState) (item : Item) (replies : List Reply) (after : MachineState)
+    (ending : Ending)
     → ItemStep x l s item replies after ending → ItemStep y m s item replies after ending
 step_of_first x y l m e f s item replies after ending step =
     subst (λ z. ItemStep z m s item replies after ending) e (subst (λ k. ItemStep x k s item replies after ending) f step)
 
 -- the replies to one item more
-pub one_item_more : (answers : List (List Reply)) (replies : List Reply) → all_replies (answers ++ replies ∷ []) ≡ all_replies answers ++ replies
+pub one_item_more : (answers : List (List Reply)) (replies : List Reply)
+    → all_replies (answers ++ replies ∷ []) ≡ all_replies answers ++ replies
 one_item_more answers replies =
-    flat_map-append (λ (rs : List Reply). rs) answers (replies ∷ []) ∙ ap (λ rs. all_replies answers ++ rs) (append-nil replies)
+    flat_map-append (λ (rs : List Reply). rs) answers (replies ∷ [])
+    ∙ ap (λ rs. all_replies answers ++ rs) (append-nil replies)
 
 -- are sent behind those so far
-pub progress_sends : (conn : ℕ) (answers : List (List Reply)) (replies : List Reply) (before here there : WireState)
+pub progress_sends : (conn : ℕ) (answers : List (List Reply)) (replies : List Reply)
+    (before here there : WireState)
     → SendsAll conn (all_replies answers) before here → SendsAll conn replies here there
     → SendsAll conn (all_replies (answers ++ replies ∷ [])) before there
 progress_sends conn answers replies before here there first then_sent =
     subst (λ rs. SendsAll conn rs before there) (sym (one_item_more answers replies))
     (sends-append conn (all_replies answers) replies before here there first then_sent)
 
-abbrev pub progress_goes_on : (conn : ℕ) (all : List Item) (first : Core) (before : WireState) (item : Item) (items : List Item) (now : Core) (here : WireState) (next : Core) (there : WireState)
+abbrev pub progress_goes_on : (conn : ℕ) (all : List Item) (first : Core) (before : WireState)
+    (item : Item) (items : List Item) (now : Core) (here : WireState) (next : Core)
+    (there : WireState)
     → Progress conn all first before (item ∷ items) now here → AnswersItem conn item going now next here there
     → Progress conn all first before items next there
 progress_goes_on conn all first before item items now here next there progress answers = record {
   answers = progress.answers ++ answers.replies ∷ [];
   steps = λ later after ending steps.
-      subst (λ replies. Steps first.form first.limit first.state all replies after ending) (sym (append_assoc progress.answers (answers.replies ∷ []) later))
+      subst (λ replies. Steps first.form first.limit first.state all replies after ending)
+      (sym (append_assoc progress.answers (answers.replies ∷ []) later))
       (progress.steps (answers.replies ∷ later) after ending
-      (more (step_of_first now.form first.form now.limit first.limit progress.form progress.limit now.state item answers.replies next.state going answers.step) steps));
-  sends = progress_sends conn progress.answers answers.replies before here there progress.sends answers.sends;
+      (more (step_of_first now.form first.form now.limit first.limit progress.form progress.limit
+      now.state item answers.replies next.state going answers.step) steps));
+  sends = progress_sends conn progress.answers answers.replies before here there progress.sends
+      answers.sends;
   form = answers.form ∙ progress.form;
   limit = answers.limit ∙ progress.limit;
 }
 
-abbrev pub progress_stops : (conn : ℕ) (all : List Item) (first : Core) (before : WireState) (item : Item) (items : List Item) (now : Core) (here : WireState) (next : Core) (there : WireState)
+abbrev pub progress_stops : (conn : ℕ) (all : List Item) (first : Core) (before : WireState)
+    (item : Item) (items : List Item) (now : Core) (here : WireState) (next : Core)
+    (there : WireState)
     (ending : Ending) → ending ≢ going
     → Progress conn all first before (item ∷ items) now here → AnswersItem conn item ending now next here there
     → AnswersItems conn all ending first next before there
@@ -118,20 +136,27 @@ progress_stops conn all first before item items now here next there ending ends 
   answers = progress.answers ++ answers.replies ∷ [];
   steps = progress.steps (answers.replies ∷ []) next.state ending
       (last (step_of_first now.form first.form now.limit first.limit progress.form progress.limit now.state item answers.replies next.state ending answers.step) ends);
-  sends = progress_sends conn progress.answers answers.replies before here there progress.sends answers.sends;
+  sends = progress_sends conn progress.answers answers.replies before here there progress.sends
+      answers.sends;
   form = answers.form ∙ progress.form;
   limit = answers.limit ∙ progress.limit;
 }
 
-abbrev pub progress_ends : (conn : ℕ) (all : List Item) (first : Core) (before : WireState) (now : Core) (here : WireState) (next : Core) (there : WireState)
-    → Progress conn all first before [] now here → next ≡ now → SendsAll conn [] here there → AnswersItems conn all going first next before there
+abbrev pub progress_ends : (conn : ℕ) (all : List Item) (first : Core) (before : WireState)
+    (now : Core) (here : WireState) (next : Core) (there : WireState)
+    → Progress conn all first before [] now here → next ≡ now → SendsAll conn [] here there
+    → AnswersItems conn all going first next before there
 progress_ends conn all first before now here next there progress same nothing = record {
   answers = progress.answers;
-  steps = subst (λ (core : Core). Steps first.form first.limit first.state all progress.answers core.state going) (sym same)
-      (subst (λ replies. Steps first.form first.limit first.state all replies now.state going) (append-nil progress.answers)
+  steps = subst (λ (core : Core). Steps first.form first.limit first.state all progress.answers
+      core.state going) (sym same)
+      (subst (λ replies. Steps first.form first.limit first.state all replies now.state going)
+      (append-nil progress.answers)
       (progress.steps [] now.state going none));
-  sends = subst (λ replies. SendsAll conn replies before there) (append-nil (all_replies progress.answers))
-      (sends-append conn (all_replies progress.answers) [] before here there progress.sends nothing);
+  sends = subst (λ replies. SendsAll conn replies before there)
+      (append-nil (all_replies progress.answers))
+      (sends-append conn (all_replies progress.answers) [] before here there progress.sends
+      nothing);
   form = ap (λ (core : Core). core.form) same ∙ progress.form;
   limit = ap (λ (core : Core). core.limit) same ∙ progress.limit;
 }
@@ -154,7 +179,8 @@ pub record Reaches (conn : ℕ) (all : List Item) (first : Journaled) (before : 
     (items : List Item) (now : Journaled) (here : WireState) (q : Crashes) : Type 0 where
   pub progress : Progress conn all first.machine before items now.machine here
   pub saves : SavesJournal going first now before.site here.site p q
-  pub acknowledges : Acknowledges first.machine.form (length first.machine.state.history) now.machine.state.history
+  pub acknowledges : Acknowledges first.machine.form (length first.machine.state.history)
+      now.machine.state.history
       (all_replies progress.answers) before.site here.site q
 
 pub reach_begins : (conn : ℕ) (items : List Item) (j : Journaled) (w : WireState) (p : Crashes) → AreLawful w.site p
@@ -166,7 +192,8 @@ reach_begins conn items j w p lawful fits =
     record {
       progress = progress_begins conn items j.machine w;
       saves = saves;
-      acknowledges = saves_acknowledges going x h h (kept j.store) conn [] w w p p lawful saves (nothing_sent conn w) no_item;
+      acknowledges = saves_acknowledges going x h h (kept j.store) conn [] w w p p lawful saves
+          (nothing_sent conn w) no_item;
     }
 
 -- the run goes on only after `More`
@@ -185,53 +212,77 @@ saves_of_first ending conn all items first now next before here there p q r lawf
     (subst (λ x. Saves ending x now.machine.state.history next.machine.state.history (kept next.store) here.site there.site q r) reach.progress.form saves)
 
 -- what was acknowledged so far, and with an item
-reach_acknowledges : (ending : Ending) (conn : ℕ) (all items : List Item) (first now next : Journaled) (before here there : WireState) (p q r : Crashes)
-    → AreLawful here.site q → (reach : Reaches conn all first before p items now here q) → (replies : List Reply)
+reach_acknowledges : (ending : Ending) (conn : ℕ) (all items : List Item)
+    (first now next : Journaled) (before here there : WireState) (p q r : Crashes)
+    → AreLawful here.site q → (reach : Reaches conn all first before p items now here q)
+    → (replies : List Reply)
     → SavesJournal ending now next here.site there.site q r → SendsAll conn replies here there
-    → Acknowledges now.machine.form (length now.machine.state.history) (with_failed ending next.machine.state.history) replies here.site there.site r
-    → Acknowledges first.machine.form (length first.machine.state.history) (with_failed ending next.machine.state.history)
+    → Acknowledges now.machine.form (length now.machine.state.history)
+    (with_failed ending next.machine.state.history) replies here.site there.site r
+    → Acknowledges first.machine.form (length first.machine.state.history)
+    (with_failed ending next.machine.state.history)
     (all_replies reach.progress.answers ++ replies) before.site there.site r
-reach_acknowledges ending conn all items first now next before here there p q r lawful reach replies saves sends acknowledges =
+reach_acknowledges ending conn all items first now next before here there p q r lawful reach replies
+    saves sends acknowledges =
     let x = first.machine.form in
     let h = first.machine.state.history in
     let mid = now.machine.state.history in
     let new = with_failed ending next.machine.state.history in
     let longer = sym (ap length reach.saves.grows) ∙ length-append h reach.saves.rest in
-    acknowledges_join x h mid new saves.rest conn (all_replies reach.progress.answers) replies before here there q r lawful reach.saves.passes.left.later
-    saves.passes.left_since reach.progress.sends sends reach.saves.sends saves.sends saves.told reach.acknowledges
-    (subst (λ y. Acknowledges y (length mid) new replies here.site there.site r) reach.progress.form acknowledges)
+    acknowledges_join x h mid new saves.rest conn (all_replies reach.progress.answers) replies
+    before here there q r lawful reach.saves.passes.left.later
+    saves.passes.left_since reach.progress.sends sends reach.saves.sends saves.sends saves.told
+    reach.acknowledges
+    (subst (λ y. Acknowledges y (length mid) new replies here.site there.site r) reach.progress.form
+    acknowledges)
     saves.grows (omega (arith, longer))
 
 -- of the replies to an item behind those so far
-reach_item_acknowledges : (ending : Ending) (conn : ℕ) (all items : List Item) (first now next : Journaled) (before here there : WireState) (p q r : Crashes)
-    → AreLawful here.site q → (reach : Reaches conn all first before p items now here q) → (replies : List Reply)
+reach_item_acknowledges : (ending : Ending) (conn : ℕ) (all items : List Item)
+    (first now next : Journaled) (before here there : WireState) (p q r : Crashes)
+    → AreLawful here.site q → (reach : Reaches conn all first before p items now here q)
+    → (replies : List Reply)
     → SavesJournal ending now next here.site there.site q r → SendsAll conn replies here there
-    → Acknowledges now.machine.form (length now.machine.state.history) (with_failed ending next.machine.state.history) replies here.site there.site r
-    → Acknowledges first.machine.form (length first.machine.state.history) (with_failed ending next.machine.state.history)
+    → Acknowledges now.machine.form (length now.machine.state.history)
+    (with_failed ending next.machine.state.history) replies here.site there.site r
+    → Acknowledges first.machine.form (length first.machine.state.history)
+    (with_failed ending next.machine.state.history)
     (all_replies (reach.progress.answers ++ replies ∷ [])) before.site there.site r
-reach_item_acknowledges ending conn all items first now next before here there p q r lawful reach replies saves sends acknowledges =
-    subst (λ rs. Acknowledges first.machine.form (length first.machine.state.history) (with_failed ending next.machine.state.history) rs before.site there.site r)
+reach_item_acknowledges ending conn all items first now next before here there p q r lawful reach
+    replies saves sends acknowledges =
+    subst (λ rs. Acknowledges first.machine.form (length first.machine.state.history)
+    (with_failed ending next.machine.state.history) rs before.site there.site r)
     (sym (one_item_more reach.progress.answers replies))
-    (reach_acknowledges ending conn all items first now next before here there p q r lawful reach replies saves sends acknowledges)
+    (reach_acknowledges ending conn all items first now next before here there p q r lawful reach
+    replies saves sends acknowledges)
 
 -- an item is answered that ends so
-record ItemGoes (conn : ℕ) (item : Item) (ending : Ending) (now next : Journaled) (here there : WireState) (q r : Crashes) : Type 0 where
+record ItemGoes (conn : ℕ) (item : Item) (ending : Ending) (now next : Journaled)
+    (here there : WireState) (q r : Crashes) : Type 0 where
   pub answers : AnswersItem conn item ending now.machine next.machine here there
   pub saves : SavesJournal ending now next here.site there.site q r
-  pub acknowledges : Acknowledges now.machine.form (length now.machine.state.history) (with_failed ending next.machine.state.history)
+  pub acknowledges : Acknowledges now.machine.form (length now.machine.state.history)
+      (with_failed ending next.machine.state.history)
       answers.replies here.site there.site r
 
 -- one item more was answered
-reach_goes_on : (conn : ℕ) (all : List Item) (first : Journaled) (before : WireState) (p : Crashes) (item : Item) (others : List Item)
-    (now : Journaled) (here : WireState) (next : Journaled) (there : WireState) (q r : Crashes) → AreLawful here.site q → AreLawful there.site r
-    → Reaches conn all first before p (item ∷ others) now here q → ItemGoes conn item going now next here there q r
+reach_goes_on : (conn : ℕ) (all : List Item) (first : Journaled) (before : WireState) (p : Crashes)
+    (item : Item) (others : List Item)
+    (now : Journaled) (here : WireState) (next : Journaled) (there : WireState) (q r : Crashes)
+    → AreLawful here.site q → AreLawful there.site r
+    → Reaches conn all first before p (item ∷ others) now here q
+    → ItemGoes conn item going now next here there q r
     → Reaches conn all first before p others next there r
-reach_goes_on conn all first before p item others now here next there q r lawful_here lawful reach goes = record {
-  progress = progress_goes_on conn all first.machine before item others now.machine here next.machine there reach.progress goes.answers;
-  saves = saves_of_first going conn all (item ∷ others) first now next before here there p q r lawful reach goes.saves;
-  acknowledges = reach_item_acknowledges going conn all (item ∷ others) first now next before here there p q r lawful_here reach goes.answers.replies
-      goes.saves goes.answers.sends goes.acknowledges;
-}
+reach_goes_on conn all first before p item others now here next there q r lawful_here lawful reach
+    goes = record {
+      progress = progress_goes_on conn all first.machine before item others now.machine here
+          next.machine there reach.progress goes.answers;
+      saves = saves_of_first going conn all (item ∷ others) first now next before here there p q r
+          lawful reach goes.saves;
+      acknowledges = reach_item_acknowledges going conn all (item ∷ others) first now next before here
+          there p q r lawful_here reach goes.answers.replies
+          goes.saves goes.answers.sends goes.acknowledges;
+    }
 
 -- the journal fits where the items so far were answered
 pub reach_fits : (conn : ℕ) (all items : List Item) (first now : Journaled) (before here : WireState) (p q : Crashes)
@@ -262,14 +313,17 @@ module _ (conn : ℕ) (all : List Item) (first : Journaled) (before : WireState)
       (record { answers = over.answers; saves = over.saves; acknowledges = over.acknowledges }) in
       let others = completes (holds_after held (take used piece)) rest in
       let begun : Reaches conn all first before p (one.item ∷ others) now here q =
-      subst (λ its. Reaches conn all first before p its now here q) (items_behind held piece one.item used one.feeds) reach in
+      subst (λ its. Reaches conn all first before p its now here q)
+      (items_behind held piece one.item used one.feeds) reach in
       let same : others ≡ completes after_it (take (length piece - used) rest) =
       ap (λ h. completes h rest) (sym one.held_is) ∙ ap (completes after_it) (sym (take_rest piece used)) in
       subst (λ its. Reaches conn all first before p its next there r) same
-      (reach_goes_on conn all first before p one.item others now here next there q r lawful_here lawful begun goes_on)
+      (reach_goes_on conn all first before p one.item others now here next there q r lawful_here
+      lawful begun goes_on)
 
   -- an item was taken that ended the run
-  pub taken_stops : (used : ℕ) (result : Result Go Stop) → (result ≡ Ok More → ⊥) → AreLawful here.site q → AreLawful there.site r
+  pub taken_stops : (used : ℕ) (result : Result Go Stop) → (result ≡ Ok More → ⊥)
+      → AreLawful here.site q → AreLawful there.site r
       → Reaches conn all first before p (completes held piece) now here q
       → TakesOne conn held piece used result after_it now next here there q r
       → ItemsOver conn all result first next before there p r
@@ -278,26 +332,34 @@ module _ (conn : ℕ) (all : List Item) (first : Journaled) (before : WireState)
       let over = one.answers in
       let others = completes (holds_after held (take used piece)) rest in
       let begun : Reaches conn all first before p (one.item ∷ others) now here q =
-      subst (λ its. Reaches conn all first before p its now here q) (items_behind held piece one.item used one.feeds) reach in
+      subst (λ its. Reaches conn all first before p its now here q)
+      (items_behind held piece one.item used one.feeds) reach in
       record {
         ending = over.ending;
         answered = over.answered;
-        answers = progress_stops conn all first.machine before one.item others now.machine here next.machine there
-            over.ending (ends_run result over.ending ends over.answered) begun.progress over.answers;
-        saves = saves_of_first over.ending conn all (one.item ∷ others) first now next before here there p q r lawful begun over.saves;
-        acknowledges = reach_item_acknowledges over.ending conn all (one.item ∷ others) first now next before here there p q r lawful_here begun over.answers.replies
+        answers = progress_stops conn all first.machine before one.item others now.machine here
+            next.machine there
+            over.ending (ends_run result over.ending ends over.answered) begun.progress
+            over.answers;
+        saves = saves_of_first over.ending conn all (one.item ∷ others) first now next before here
+            there p q r lawful begun over.saves;
+        acknowledges = reach_item_acknowledges over.ending conn all (one.item ∷ others) first now
+            next before here there p q r lawful_here begun over.answers.replies
             over.saves over.answers.sends over.acknowledges;
       }
 
   -- the piece was taken to its end
-  pub taken_ends : AreLawful here.site q → AreLawful there.site r → Reaches conn all first before p (completes held piece) now here q
+  pub taken_ends : AreLawful here.site q → AreLawful there.site r
+      → Reaches conn all first before p (completes held piece) now here q
       → TakesNone held piece after_it now next here there q r
       → ItemsOver conn all (Ok More) first next before there p r
   taken_ends lawful_here lawful reach none_taken =
       let rests = none_taken.rests in
       let left : Reaches conn all first before p [] now here q =
-      subst (λ its. Reaches conn all first before p its now here q) none_taken.completes_none reach in
-      let nothing : SendsAll conn [] here there = subst (λ w. SendsAll conn [] here w) (sym rests.wire) (nothing_sent conn here) in
+      subst (λ its. Reaches conn all first before p its now here q) none_taken.completes_none
+      reach in
+      let nothing : SendsAll conn [] here there =
+      subst (λ w. SendsAll conn [] here w) (sym rests.wire) (nothing_sent conn here) in
       let x = now.machine.form in
       let h = now.machine.state.history in
       let so_far = all_replies left.progress.answers in
@@ -305,12 +367,17 @@ module _ (conn : ℕ) (all : List Item) (first : Journaled) (before : WireState)
       record {
         ending = going;
         answered = refl;
-        answers = progress_ends conn all first.machine before now.machine here next.machine there left.progress rests.machine nothing;
-        saves = saves_of_first going conn all [] first now next before here there p q r lawful left rests.saves;
-        acknowledges = subst (λ replies. Acknowledges first.machine.form (length first.machine.state.history) w replies before.site there.site r)
+        answers = progress_ends conn all first.machine before now.machine here next.machine there
+            left.progress rests.machine nothing;
+        saves = saves_of_first going conn all [] first now next before here there p q r lawful left
+            rests.saves;
+        acknowledges = subst (λ replies. Acknowledges first.machine.form
+            (length first.machine.state.history) w replies before.site there.site r)
             (append-nil so_far)
-            (reach_acknowledges going conn all [] first now next before here there p q r lawful_here left [] rests.saves nothing
-            (saves_acknowledges going x h w (kept next.store) conn [] here there q r lawful rests.saves nothing no_item));
+            (reach_acknowledges going conn all [] first now next before here there p q r lawful_here
+            left [] rests.saves nothing
+            (saves_acknowledges going x h w (kept next.store) conn [] here there q r lawful
+            rests.saves nothing no_item));
       }
 
   -- what is held behind the rest is what is held behind the piece
@@ -368,43 +435,53 @@ abbrev pub ended_by : Result Go Stop → Bool
 ended_by (Ok More) = false
 ended_by _ = true
 
-ended_as : (result : Result Go Stop) (ending : Ending) → EndsBy result ending → ended_by result ≡ has_ended ending
+ended_as : (result : Result Go Stop) (ending : Ending) → EndsBy result ending
+    → ended_by result ≡ has_ended ending
 ended_as (Ok More) ending answered = ap has_ended (sym answered)
 ended_as (Ok Stopped) ending answered = ap has_ended (sym answered)
 ended_as (Err Disk) ending answered = ap has_ended (sym answered.1)
 
-goes_on_after : (result : Result Go Stop) (ending : Ending) → EndsBy result ending → ending ≡ going → result ≡ Ok More
+goes_on_after : (result : Result Go Stop) (ending : Ending) → EndsBy result ending → ending ≡ going
+    → result ≡ Ok More
 goes_on_after (Ok More) ending answered goes = refl
-goes_on_after (Ok Stopped) ending answered goes = let e : stopped ≡ going = sym answered ∙ goes in cc
-goes_on_after (Err Disk) ending answered goes = let e : failed answered.0 ≡ going = sym answered.1 ∙ goes in cc
+goes_on_after (Ok Stopped) ending answered goes = let e : stopped ≡ going = sym answered ∙ goes in
+    cc
+goes_on_after (Err Disk) ending answered goes = let e : failed answered.0 ≡ going = sym answered.1
+    ∙ goes in cc
 
 -- the bytes of a connection were taken
-pub bytes_taken : (conn : ℕ) (bytes : List ℕ) (result : Result Go Stop) (j next : Journaled) (lines : List UnfinishedLine) (marks : List Bool)
+pub bytes_taken : (conn : ℕ) (bytes : List ℕ) (result : Result Go Stop) (j next : Journaled)
+    (lines : List UnfinishedLine) (marks : List Bool)
     (was ended : Bool) (behind : UnfinishedLine) (gone : Bool) (a b : SiteState) (p q : Crashes)
     → ended ≡ ended_by result → (result ≡ Ok More → behind ≡ holds_after (held_at conn lines) bytes)
-    → ItemsOver conn (completes (held_at conn lines) bytes) result j next (wired (get_or marks conn false) a) (wired gone b) p q
-    → BytesOver conn bytes result (managed j lines marks was) (managed next (set lines conn behind) (set marks conn gone) ended)
+    → ItemsOver conn (completes (held_at conn lines) bytes) result j next
+    (wired (get_or marks conn false) a) (wired gone b) p q
+    → BytesOver conn bytes result (managed j lines marks was)
+    (managed next (set lines conn behind) (set marks conn gone) ended)
     (wired (get_or marks conn false) a) (wired false b) p q
-bytes_taken conn bytes result j next lines marks was ended behind gone a b p q ends holds over = record {
-  ending = over.ending;
-  answered = over.answered;
-  takes = record {
-    answers = over.answers.answers;
-    marked = gone;
-    steps = over.answers.steps;
-    sends = over.answers.sends;
-    lines = λ goes. ap (set lines conn) (holds (goes_on_after result over.ending over.answered goes));
-    marks = refl;
-    ended = ends ∙ ended_as result over.ending over.answered;
-    form = over.answers.form;
-    limit = over.answers.limit;
-  };
-  saves = over.saves;
-  acknowledges = over.acknowledges;
-}
+bytes_taken conn bytes result j next lines marks was ended behind gone a b p q ends holds over =
+    record {
+      ending = over.ending;
+      answered = over.answered;
+      takes = record {
+        answers = over.answers.answers;
+        marked = gone;
+        steps = over.answers.steps;
+        sends = over.answers.sends;
+        lines = λ goes. ap (set lines conn)
+            (holds (goes_on_after result over.ending over.answered goes));
+        marks = refl;
+        ended = ends ∙ ended_as result over.ending over.answered;
+        form = over.answers.form;
+        limit = over.answers.limit;
+      };
+      saves = over.saves;
+      acknowledges = over.acknowledges;
+    }
 
 -- within a list what stands for the items behind it doesn't matter
-pub get_or_any : (lines : List UnfinishedLine) (index : ℕ) (one two : UnfinishedLine) → index < length lines → get_or lines index one ≡ get_or lines index two
+pub get_or_any : (lines : List UnfinishedLine) (index : ℕ) (one two : UnfinishedLine)
+    → index < length lines → get_or lines index one ≡ get_or lines index two
 get_or_any [] index one two within = absurd (omega arith)
 get_or_any (line ∷ lines) zero one two within = refl
 get_or_any (line ∷ lines) (suc index) one two within = get_or_any lines index one two (omega arith)

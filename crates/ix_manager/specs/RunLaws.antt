@@ -1,5 +1,6 @@
 -- Laws of runs: what the events that a manager takes make of a run, any cutting of a piece, and what is sent.
-use Rattle.std.specs.Prelude.{◌≡◌, ◌≢◌, ◌⊎◌, ◌↔◌, ℕ, ◌+◌, ◌<◌, Bool, true, false, List, [], ◌∷◌, ◌++◌}
+use Rattle.std.specs.Prelude.{◌≡◌, ◌≢◌, ◌⊎◌, ◌↔◌, ℕ, ◌+◌, ◌<◌, Bool, true, false, List, [], ◌∷◌}
+use Rattle.std.specs.Prelude.{◌++◌}
 use Rattle.std.specs.Prelude.{length, get_or, None, Some}
 use Rattle.std.specs.Io.KnownBytes.{append_known}
 use Rattle.ix_lines.specs.Feeding.{held}
@@ -79,22 +80,27 @@ AnyCuttingGivesTheSameRun =
     ↔ RunsOverBoth opening events answers (piece conn moment front) (piece conn moment back)
     replies later more s ending
 
--- Of replies that were sent in order: those that the sends since carry, one each, and those left over, on a connection
+-- Of replies that were sent in order: those that the sends since carry, one each, and those left
+-- over, on a connection
 -- that was found gone.
-pub record Carries (replies : List Reply) (before after : List SentBytes) (marked : Bool) : Type 0 where
+pub record Carries (replies : List Reply) (before after : List SentBytes) (marked : Bool) :
+    Type 0 where
   pub carried : List Reply
   pub silent : List Reply
   pub all : carried ++ silent ≡ replies
   pub count : length after ≡ length before + length carried
   pub whole : (silent ≡ []) ⊎ (marked ≡ true)
 
--- over a site that tells its sends, sending the replies to one more event makes of them the wire of the run with that
+-- over a site that tells its sends, sending the replies to one more event makes of them the wire of
+-- the run with that
 -- event, in which the new sends carry the first ones of these replies
 abbrev pub WireGoesOn : Type 0
 WireGoesOn =
-    (start : Sends) (events : List GivenEvent) (answers : List (List (List Reply))) (sent : SentReplies) (s' : Sends)
+    (start : Sends) (events : List GivenEvent) (answers : List (List (List Reply)))
+    (sent : SentReplies) (s' : Sends)
     (old : ManagerState) (event : Event) (bytes : List ℕ) (last : List (List Reply)) (new : ManagerState) (before after : Contents)
-    → Wire start events answers old.marks sent → (goes : SendsReplies old event last new before after)
+    → Wire start events answers old.marks sent
+    → (goes : SendsReplies old event last new before after)
     → before.sends ≡ Some sent.sends → after.sends ≡ Some s'
     → (part : Carries (all_replies last) sent.sends.sent s'.sent goes.marked)
     × Wire start (events ++ given_event event bytes ∷ []) (answers ++ last ∷ []) new.marks

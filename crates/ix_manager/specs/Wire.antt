@@ -38,9 +38,14 @@ pub record SentReplies : Type 0 where
 -- the reply's line is the next pair, which carries the reply
 abbrev pub PairsWhole : ℕ → Reply → SentReplies → SentReplies → Type 0
 PairsWhole conn reply old new =
-    new ≡ record { sends = with_pair conn (reply_line reply) old.sends; replies = old.replies ++ reply ∷ [] }
+    new ≡ record {
+      sends = with_pair conn (reply_line reply) old.sends;
+      replies =
+          old.replies ++ reply ∷ [];
+    }
 
--- a front of the reply's line is the next pair, which carries the reply, and its place is one of those that answered Gone
+-- a front of the reply's line is the next pair, which carries the reply, and its place is one of
+-- those that answered Gone
 abbrev pub PairsFront : ℕ → Reply → SentReplies → SentReplies → Type 0
 PairsFront conn reply old new = (front : List ℕ) × IsFront front (reply_line reply)
     × (new ≡ record { sends = with_gone conn front old.sends; replies = old.replies ++ reply ∷ [] })
@@ -57,9 +62,11 @@ marks_after End conn marked marks = set marks conn marked
 
 -- What the replies of a run make of the sends, from those that were there before: each reply one pair, in order, but none
 -- on a marked connection; and which replies the pairs carry.
-pub data Wire (before : Sends) : List GivenEvent → List (List (List Reply)) → List Bool → SentReplies → Type 0 where
+pub data Wire (before : Sends) : List GivenEvent → List (List (List Reply)) → List Bool
+    → SentReplies → Type 0 where
   begin : Wire before [] [] unmarked (record { sends = before; replies = [] })
-  takes : {events : List GivenEvent} {answers : List (List (List Reply))} {marks : List Bool} {s after : SentReplies}
+  takes : {events : List GivenEvent} {answers : List (List (List Reply))} {marks : List Bool}
+      {s after : SentReplies}
       (given : GivenEvent) (last : List (List Reply)) (marked : Bool)
       → Wire before events answers marks s
       → SendsInOrder (PairsWhole given.event.conn) (PairsFront given.event.conn) (all_replies last)

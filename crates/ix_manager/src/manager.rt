@@ -138,7 +138,8 @@ impl Manager {
     /// reply whose `send` answers Gone marks its connection; further lines of it are handled, and
     /// their replies aren't sent, until it is closed. A reservation outlives its connection.
     ///
-    /// An action is in the journal before its confirm is answered. Where the disk fails then, the
+    /// An action is in the journal before its confirm is answered: what a crash leaves, at whatever
+    /// moment, keeps each action of whose confirm's reply a byte was sent. Where the disk fails, the
     /// history stays, `refused 91 disk` is the reply, no further line is handled, and `Stop::Disk`
     /// is the answer.
     pub fn handle<S: Site>(
@@ -154,7 +155,8 @@ impl Manager {
         requires attached { (S.state site.old).attached ≡ true }
         requires fits { FitsSite self.old (S.state site.old) (S.crashes site.old) }
 
-        // The machine takes the event, its replies are sent, and the journal keeps its history.
+        // The machine takes the event, its replies are sent, the journal keeps its history, and
+        // whatever a crash leaves keeps what was acknowledged by then.
         ensures handles { HandlesOver self.old event bytes.now result self.new
             (S.state site.old) (S.state site.new) (S.crashes site.new) }
         ensures failed { OnErr result

@@ -55,7 +55,8 @@ pub record OnlySends (old new : SiteState) (was is : Crashes) : Type 0 where
 
 -- Over calls for a machine of the expression, which ended so: the history went on, and each image
 -- keeps the actions of the one before, and no others than those of the new one and the one whose
--- confirm failed; what had been sent by each moment stands between. Unless one did, the store as it is then fits.
+-- confirm failed; what had been sent by each moment stands between. Unless one did, the store as it
+-- is then fits.
 pub record Saves (ending : Ending) (x : Form) (old new : Word) (store : Keeping)
     (before after : SiteState) (was is : Crashes) : Type 0 where
   pub passes : Passes before after was is

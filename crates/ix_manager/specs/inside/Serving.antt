@@ -2,12 +2,17 @@
 use Rattle.std.specs.Prelude.{◌≡◌, ℕ, ◌≤◌, Bool, List, length, Some, IsSome}
 use Rattle.ix_values.specs.PlainAction.{Word}
 use Rattle.ix_expr.specs.Form.{Form}
-use Rattle.ix_outside.specs.Contents.{GivenEvent, Sends}
+use Rattle.ix_outside.specs.Contents.{GivenEvent, SentBytes, Sends}
 use Rattle.ix_outside.specs.Crashes.{Crashes, Left}
 use Rattle.ix_outside.specs.SiteState.{SiteState}
 use Rattle.ix_proto.specs.declared.reply.Reply.{Reply}
 use Rattle.ix_manager.specs.Acknowledged.{KeepsAcknowledged}
 use Rattle.ix_manager.specs.Wire.{Wire}
+
+-- since the tick nothing was sent behind these sends, where they are told
+abbrev pub SentNothingSince : ℕ → List SentBytes → SiteState → Crashes → Type 0
+SentNothingSince t before site is = (sends : Sends) → site.contents.sends ≡ Some sends
+    → (sends.sent ≡ before) × ((left : Left) → is.left_since t left → left.sent ≡ before)
 
 -- each image that a crash since the tick may have left, where the site tells its disk, keeps what
 -- was acknowledged by then of these replies

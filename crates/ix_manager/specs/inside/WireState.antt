@@ -122,7 +122,8 @@ pub record ItemsOver (conn : ℕ) (items : List Item) (result : Result Go Stop) 
   pub answers : AnswersItems conn items ending old.machine new.machine before after
   pub saves : SavesJournal ending old new before.site after.site was is
   pub acknowledges : Acknowledges old.machine.form (length old.machine.state.history)
-      (with_failed ending new.machine.state.history) (all_replies answers.answers) before.site after.site is
+      (with_failed ending new.machine.state.history) (all_replies answers.answers) before.site
+      after.site is
 
 -- `stop` ends the run
 abbrev pub request_ending : Request → Ending

@@ -23,7 +23,8 @@ returns-in-One g c =
     c.in-One.ensures.answers c.go_behind.ensures c.send_reply.ensures.sends c.answer.ensures.form c.answer.ensures.limit c.answer.ensures.tickets)
     c.send_reply.ensures.only
     (let asked = c.requires.plain in
-    no_confirm_answered (c.in-One.ensures.answers.0 asked.0 asked.1 asked.2) (ap length c.answer.ensures.history))
+    no_confirm_answered (c.in-One.ensures.answers.0 asked.0 asked.1 asked.2)
+    (ap length c.answer.ensures.history))
 
 -- a poll is told
 pub returns-in-Poll : goal.returns-in-Poll
@@ -39,7 +40,8 @@ returns-in-Poll g c =
     (ap (λ (s : MachineState). s.history) c.tell.ensures.rest ∙ c.answer.ensures.history) refl
     (poll_answered c.args.conn c.args.request.now c.go_behind-in-Poll.result c.in-Poll.name old c.answer.new.self c.tell.new.self before after
     polls.0 c.go_behind-in-Poll.ensures polls.1 c.answer.ensures.form c.answer.ensures.limit c.tell.ensures c.send_changes.ensures.sends)
-    c.send_changes.ensures.only (item tt (changes_confirm_none (changes_of c.in-Poll.name c.answer.new.self.noted)))
+    c.send_changes.ensures.only (item tt
+    (changes_confirm_none (changes_of c.in-Poll.name c.answer.new.self.noted)))
 
 -- a confirm
 pub returns-in-Confirm : goal.returns-in-Confirm

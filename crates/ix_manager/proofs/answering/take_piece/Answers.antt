@@ -50,7 +50,8 @@ returns-in-Stopped-clause-answers g c =
     c.items.journaled c.take_item.new.journaled here there q r) c.in-Stopped.is taken in
     taken_stops c.args.piece.conn (completes c.args.lines.now c.args.piece.bytes.now) c.args.journaled.now start p c.items.lines c.items.rest.now
     c.take_item.new.lines c.items.journaled c.take_item.new.journaled here there q r c.in-Ok-Some.taken.used (Ok Stopped) (λ e. cc)
-    (g.met.S.Site.lawful c.items.site) (g.met.S.Site.lawful c.take_item.new.site) c.items.invariant.0 one
+    (g.met.S.Site.lawful c.items.site) (g.met.S.Site.lawful c.take_item.new.site)
+    c.items.invariant.0 one
 
 pub returns-in-Stopped-clause-clean : goal.returns-in-Stopped-clause-clean
 returns-in-Stopped-clause-clean g c =
@@ -87,7 +88,8 @@ items-preserved g c =
     let taken = subst item c.in-Ok-Some.field-0-is c.in-Ok-Some.ensures in
     let one = taken in
     let left = taken_tickets conn all first start p lines rest after_it now next here there q r used (Ok go) one c.items.invariant.2 in (
-      taken_goes_on conn all first start p lines rest after_it now next here there q r used go (g.met.S.Site.lawful c.items.site) (g.met.S.Site.lawful c.take_item.new.site)
+      taken_goes_on conn all first start p lines rest after_it now next here there q r used go
+          (g.met.S.Site.lawful c.items.site) (g.met.S.Site.lawful c.take_item.new.site)
           c.items.invariant.0 one c.in_default.is,
       c.items.invariant.1 ∙ taken_holds conn all first start p lines rest after_it now next here there q r used (Ok go) one,
       taken_clean conn all first start p lines rest after_it now next here there q r used (Ok go) one,
@@ -107,7 +109,8 @@ returns-in-Ok-None-clause-answers g c =
     c.items.journaled c.take_item.new.journaled here there q r in
     let none_taken = subst item c.in-Ok-None.field-0-is c.in-Ok-None.ensures in
     taken_ends c.args.piece.conn (completes c.args.lines.now c.args.piece.bytes.now) c.args.journaled.now start p c.items.lines c.items.rest.now
-    c.take_item.new.lines c.items.journaled c.take_item.new.journaled here there q r (g.met.S.Site.lawful c.items.site) (g.met.S.Site.lawful c.take_item.new.site)
+    c.take_item.new.lines c.items.journaled c.take_item.new.journaled here there q r
+    (g.met.S.Site.lawful c.items.site) (g.met.S.Site.lawful c.take_item.new.site)
     c.items.invariant.0 none_taken
 
 pub returns-in-Ok-None-clause-clean : goal.returns-in-Ok-None-clause-clean
@@ -132,7 +135,8 @@ returns-in-Err-clause-answers g c =
     let r = g.S.Site.crashes c.take_item.new.site in
     taken_stops c.args.piece.conn (completes c.args.lines.now c.args.piece.bytes.now) c.args.journaled.now start p c.items.lines c.items.rest.now
     c.take_item.new.lines c.items.journaled c.take_item.new.journaled here there q r c.in-Err.ensures.0 (Err c.in-Err.stop) (λ e. cc)
-    (g.met.S.Site.lawful c.items.site) (g.met.S.Site.lawful c.take_item.new.site) c.items.invariant.0 c.in-Err.ensures.1
+    (g.met.S.Site.lawful c.items.site) (g.met.S.Site.lawful c.take_item.new.site)
+    c.items.invariant.0 c.in-Err.ensures.1
 
 pub returns-in-Err-clause-clean : goal.returns-in-Err-clause-clean
 returns-in-Err-clause-clean g c =

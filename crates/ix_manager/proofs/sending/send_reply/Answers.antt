@@ -21,7 +21,8 @@ returns-then-is_err-clause-sends g c =
 pub returns-then-is_err-clause-only : goal.returns-then-is_err-clause-only
 returns-then-is_err-clause-only g c =
     only_one c.args.conn c.as_slice.result.now c.send.result
-    (g.S.Site.state c.args.site.now) (g.S.Site.state c.send.new.self) (g.S.Site.crashes c.args.site.now) (g.S.Site.crashes c.send.new.self)
+    (g.S.Site.state c.args.site.now) (g.S.Site.state c.send.new.self)
+    (g.S.Site.crashes c.args.site.now) (g.S.Site.crashes c.send.new.self)
     c.send.ensures.rest c.send.ensures.contents c.send.ensures.now c.send.ensures.call
 
 -- the reply is sent
@@ -34,5 +35,6 @@ returns-else-is_err-clause-sends g c =
 pub returns-else-is_err-clause-only : goal.returns-else-is_err-clause-only
 returns-else-is_err-clause-only g c =
     only_one c.args.conn c.as_slice.result.now c.send.result
-    (g.S.Site.state c.args.site.now) (g.S.Site.state c.send.new.self) (g.S.Site.crashes c.args.site.now) (g.S.Site.crashes c.send.new.self)
+    (g.S.Site.state c.args.site.now) (g.S.Site.state c.send.new.self)
+    (g.S.Site.crashes c.args.site.now) (g.S.Site.crashes c.send.new.self)
     c.send.ensures.rest c.send.ensures.contents c.send.ensures.now c.send.ensures.call

@@ -86,7 +86,8 @@ returns-in-Closed-clause-handles g c =
     let history = ap (λ (m : ManagerState). m.machine.history) (c.close.ensures ∙ ap (without_line c.args.event.conn) same) in
     rest_over c.args.self.now c.close.new.self c.args.event c.args.bytes.now (g.S.Site.state site) (g.S.Site.crashes site) (g.met.S.Site.lawful site) c.requires.fits
     (closed_handled c.args.self.now between c.close.new.self c.args.event c.args.bytes.now
-    (g.S.Site.state site).contents c.in-Closed.is c.requires.going same c.close.ensures) refl history
+    (g.S.Site.state site).contents c.in-Closed.is c.requires.going same c.close.ensures) refl
+    history
 
 -- the end came
 pub returns-in-End-clause-handles : goal.returns-in-End-clause-handles
@@ -106,4 +107,5 @@ returns-in-End-clause-handles g c =
     let same : between ≡ at_moment c.args.event.moment c.args.self.now = ap with_core c.raise.ensures ∙ ap (at_moment c.args.event.moment) c.self.view_is in
     rest_over c.args.self.now between c.args.event c.args.bytes.now (g.S.Site.state site) (g.S.Site.crashes site) (g.met.S.Site.lawful site) c.requires.fits
     (end_handled c.args.self.now between c.args.event c.args.bytes.now
-    (g.S.Site.state site).contents c.in-End.is c.requires.going same) refl (ap (λ (m : ManagerState). m.machine.history) same)
+    (g.S.Site.state site).contents c.in-End.is c.requires.going same) refl
+    (ap (λ (m : ManagerState). m.machine.history) same)

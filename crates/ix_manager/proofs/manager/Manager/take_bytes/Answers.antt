@@ -1,4 +1,5 @@
-use Rattle.std.proofs.Common.{rules, arith, ◌≡◌, ◌∙◌, ◌<◌, [], ℕ, false, length, get_or, set, Ok, ap, sym, subst}
+use Rattle.std.proofs.Common.{rules, arith, ◌≡◌, ◌∙◌, ◌<◌, [], ℕ, false, length, get_or, set, Ok}
+use Rattle.std.proofs.Common.{ap, sym, subst}
 use Rattle.ix_lines.specs.Feeding.{UnfinishedLine, unfinished, completes, holds_after}
 use Rattle.ix_manager.specs.Handled.{ManagerState, held_at}
 use Rattle.ix_manager.specs.declared.faults.Go.TheVariants.{More}
@@ -6,7 +7,8 @@ use Rattle.ix_manager.specs.inside.TakenItems.{BytesOver}
 use Rattle.ix_manager.specs.inside.WireState.{wired, ItemsOver}
 use Rattle.ix_manager.proofs.TakeLemmas.{managed, ended_by, bytes_taken, get_or_any}
 use Rattle.ix_manager.proofs.manager.Manager.take_bytes.Goals as goal
-use Rattle.ix_manager.proofs.manager.Manager.take_bytes.Goals.{in-Ok-More, in-Ok-Stopped, in-Ok-Stopped-2}
+use Rattle.ix_manager.proofs.manager.Manager.take_bytes.Goals.{in-Ok-More, in-Ok-Stopped}
+use Rattle.ix_manager.proofs.manager.Manager.take_bytes.Goals.{in-Ok-Stopped-2}
 
 pub returns-clause-takes : goal.returns-clause-takes
 returns-clause-takes g c =
@@ -22,22 +24,31 @@ returns-clause-takes g c =
     let b = g.S.Site.state next.site in
     let p = g.S.Site.crashes c.args.site.now in
     let q = g.S.Site.crashes next.site in
-    let within : conn < length lines = let count = c.self.invariant.count in let low = c.requires.connection in omega arith in
+    let within : conn < length lines = let count = c.self.invariant.count in let low =
+    c.requires.connection in omega arith in
     let is : held ≡ held_at conn lines =
-    c.index_mut-lines.ensures.value ∙ ap (λ (n : ℕ). get_or lines n held) c.from-index.ensures ∙ get_or_any lines conn held (unfinished []) within in
-    let over : ItemsOver conn (completes (held_at conn lines) bytes) result i.journaled next.journaled (wired (get_or i.marks conn false) a) (wired next.gone b) p q =
-    subst (λ (h : UnfinishedLine). ItemsOver conn (completes h bytes) result i.journaled next.journaled (wired (get_or i.marks conn false) a) (wired next.gone b) p q) is
-    (subst (λ (n : ℕ). ItemsOver conn (completes held bytes) result i.journaled next.journaled (wired (get_or i.marks n false) a) (wired next.gone b) p q)
+    c.index_mut-lines.ensures.value ∙ ap (λ (n : ℕ). get_or lines n held) c.from-index.ensures
+    ∙ get_or_any lines conn held (unfinished []) within in
+    let over : ItemsOver conn (completes (held_at conn lines) bytes) result i.journaled
+    next.journaled (wired (get_or i.marks conn false) a) (wired next.gone b) p q =
+    subst (λ (h : UnfinishedLine). ItemsOver conn (completes h bytes) result i.journaled
+    next.journaled (wired (get_or i.marks conn false) a) (wired next.gone b) p q) is
+    (subst (λ (n : ℕ). ItemsOver conn (completes held bytes) result i.journaled next.journaled
+    (wired (get_or i.marks n false) a) (wired next.gone b) p q)
     c.from-index.ensures c.take_piece-outcome.ensures.answers) in
     let holds : result ≡ Ok More → next.lines ≡ holds_after (held_at conn lines) bytes =
-    λ more. c.take_piece-outcome.ensures.lines more ∙ ap (λ (h : UnfinishedLine). holds_after h bytes) is in
+    λ more. c.take_piece-outcome.ensures.lines more
+    ∙ ap (λ (h : UnfinishedLine). holds_after h bytes) is in
     let ends : c.match-outcome.self ≡ ended_by result = elim c.match-outcome.branch [
       | in-Ok-More w ↦ search rules
       | in-Ok-Stopped w ↦ search rules
       | in-Ok-Stopped-2 w ↦ search rules
     ] in
-    let taken = bytes_taken conn bytes result i.journaled next.journaled lines i.marks i.ended c.match-outcome.self next.lines next.gone a b p q ends holds over in
+    let taken = bytes_taken conn bytes result i.journaled next.journaled lines i.marks i.ended
+    c.match-outcome.self next.lines next.gone a b p q ends holds over in
     let at : ManagerState → ℕ → Type 0 = λ m n. BytesOver conn bytes result m
     (managed next.journaled (set lines n next.lines) (set i.marks n next.gone) c.match-outcome.self)
     (wired (get_or m.marks conn false) a) (wired false b) p q in
-    subst (λ (m : ManagerState). at m index) c.self.view_is (subst (λ (n : ℕ). at (managed i.journaled lines i.marks i.ended) n) (sym c.from-index.ensures) taken)
+    subst (λ (m : ManagerState). at m index) c.self.view_is
+    (subst (λ (n : ℕ). at (managed i.journaled lines i.marks i.ended) n)
+    (sym c.from-index.ensures) taken)
