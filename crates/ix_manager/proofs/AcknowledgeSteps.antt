@@ -85,7 +85,8 @@ module _ (conn ticket : ℕ) (one : Reply) (old new : Journaled) (was_gone gone 
             let w = new.machine.state.history in
             let at = left.image in
             let now = only.images at (lawful.since_left b.tick left since_then) in
-            let there = fits_images x w (kept new.store) b q saves.fits (told_between told) at now in
+            let store = kept new.store in
+            let there = fits_images x w store b q saves.fits (told_between told) at now in
             let then_told = ap (λ (t : Contents). t.sends) over.calls.rest.contents ∙ is in
             let by_then = only.sends.by_then s s' then_told is' left since_then in
             let sent = carries conn s s' sends.order then_told is' in
@@ -98,7 +99,7 @@ module _ (conn ticket : ℕ) (one : Reply) (old new : Journaled) (was_gone gone 
             let longer = ap length saves.grows in
             let grown = length-append h saves.rest in
             record {
-              keeps = journal_keeps x (length h) w [] w (kept new.store).gate at there (append-nil w)
+              keeps = journal_keeps x (length h) w [] w store.gate at there (append-nil w)
                   (omega (arith, longer, grown));
               sent = by_then.more;
               behind = by_then.behind;
@@ -178,7 +179,8 @@ module _ (x : Form) (h mid new rest : Word) (conn : ℕ) (one two : List Reply)
                   (whole_or_silent s m s' left is middle.1 is' begun.0 begun.1 later.sent
                   later.behind since_here) [
                     | inl whole ↦ elim (acknowledged_split one two begun.0 later.sent whole acked) [
-                      | inl before_it ↦ let within = begun.3 n before_it in omega (arith, within, long)
+                      | inl before_it ↦
+                          let within = begun.3 n before_it in omega (arith, within, long)
                       | inr behind_it ↦ later.acknowledged n behind_it
                     ]
                     | inr nothing ↦
@@ -186,7 +188,8 @@ module _ (x : Form) (h mid new rest : Word) (conn : ℕ) (one two : List Reply)
                         λ pairs. IsAcknowledged n (one ++ two) pairs in
                         let first_alone = subst P (ap (λ pairs. begun.0 ++ pairs) nothing
                         ∙ append-nil begun.0) acked in
-                        let within = begun.3 n (acknowledged_front one two begun.0 few first_alone) in
+                        let front = acknowledged_front one two begun.0 few first_alone in
+                        let within = begun.3 n front in
                         omega (arith, within, long)
                   ];
             }

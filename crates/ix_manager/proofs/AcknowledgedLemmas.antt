@@ -185,6 +185,17 @@ more_none site crashes lawful = record {
       (between_none s.sent s.sent (omega arith)));
 }
 
+-- over a site that tells no sends
+pub more_untold : (old new : SiteState) (is : Crashes) → new.contents.sends ≡ None
+    → SendsMore old new is
+more_untold old new is untold = record {
+  told = λ told.
+      let P : Option Sends → Type 0 = λ t. IsSome t in
+      let nothing : P None = subst P untold told in absurd (true≢false (sym nothing));
+  all = λ s s' told told'. absurd (not_told untold told');
+  by_then = λ s s' told told' left since. absurd (not_told untold told');
+}
+
 -- one call of which is known what it sent
 pub more_call : (old new : SiteState) (was is : Crashes) → OneCall old new was is
     → (IsSome new.contents.sends → IsSome old.contents.sends)

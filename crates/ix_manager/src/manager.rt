@@ -139,9 +139,9 @@ impl Manager {
     /// their replies aren't sent, until it is closed. A reservation outlives its connection.
     ///
     /// An action is in the journal before its confirm is answered: what a crash leaves, at whatever
-    /// moment, keeps each action of whose confirm's reply a byte was sent. Where the disk fails, the
-    /// history stays, `refused 91 disk` is the reply, no further line is handled, and `Stop::Disk`
-    /// is the answer.
+    /// moment, keeps each action of whose confirm's reply a byte was sent. Where the disk fails,
+    /// the history stays, `refused 91 disk` is the reply, no further line is handled, and
+    /// `Stop::Disk` is the answer.
     pub fn handle<S: Site>(
         &mut self,
         alloc: Global,
