@@ -24,7 +24,6 @@ pub serve_initial : initial serve_command ≡ 115
 unfolding serve_command
 serve_initial = refl
 
-
 module _ (words : List Text) where
   -- two commands that take the words have one name
   same_initial : {a b : App} → IsTaken a words → IsTaken b words → initial a ≡ initial b

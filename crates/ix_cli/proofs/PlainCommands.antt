@@ -46,7 +46,6 @@ serve_plain = record {
   distinct = refl;
 }
 
-
 pub trace_expr : HasArgument trace_command (word (codes "EXPR"))
 unfolding trace_command
 trace_expr = (0, lit< tt, refl)
@@ -98,9 +97,6 @@ serve_nodes = (3, lit< tt, refl)
 pub serve_turns : HasArgument serve_command turns_option
 unfolding serve_command
 serve_turns = (4, lit< tt, refl)
-
-
-
 
 pub trace_name : trace_command.top.name ≡ codes "trace"
 unfolding trace_command

@@ -35,7 +35,6 @@ pub enum Job {
         nodes: usize,
         turns: u64,
     },
-
 }
 
 /// The job of words that begin with `trace`.

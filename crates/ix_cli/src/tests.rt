@@ -148,7 +148,15 @@ For more information on a command, put '--help' behind its name.
 #[test]
 fn words_of_no_command(rt: HostRuntime) -> Result<(), Fail> {
     assert_eq!(rt; answer(rt.alloc(), &[])?.as_str(), TOLD);
-    for words in ["fly", "work 1 7", "", "Trace x a", "--help", "help", "x trace"] {
+    for words in [
+        "fly",
+        "work 1 7",
+        "",
+        "Trace x a",
+        "--help",
+        "help",
+        "x trace",
+    ] {
         let words = words_of(rt.alloc(), words)?;
         assert_eq!(rt; answer(rt.alloc(), words.as_slice())?.as_str(), TOLD);
     }

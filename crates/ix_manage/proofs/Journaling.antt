@@ -1,24 +1,18 @@
 -- What an event makes of the journal.
-use Rattle.std.proofs.Common.{◌≡◌, ◌⊎◌, inl, inr, ℕ, ◌≤◌, List, [], ◌∷◌, ◌++◌, length, append_assoc, append-nil}
-use Rattle.std.proofs.Common.{Option, None, IsSome, true≢false, Result, Ok, Err, OnOk, OnErr, refl, sym, ◌∙◌, ap, subst}
-use Rattle.std.proofs.lemmas.Option.{none-some}
-use Rattle.ix_values.specs.PlainAction.{Word}
-use Rattle.ix_expr.specs.Form.{Form}
-use Rattle.ix_lines.specs.Items.{Item}
+use Rattle.std.proofs.Common.{◌≡◌, ◌⊎◌, inl, inr, ℕ, ◌≤◌, List, length}
+use Rattle.std.proofs.Common.{Option, None, IsSome, true≢false, Result, Ok, Err, OnOk, OnErr, refl, sym, ◌∙◌, subst}
 use Rattle.ix_outside.specs.Counts.{Rose}
 use Rattle.ix_outside.specs.Crashes.{Crashes, AreLawful, Elapses, Passes}
 use Rattle.ix_outside.specs.Disk.{Disk}
 use Rattle.ix_outside.specs.SiteState.{SiteState}
 use Rattle.ix_outside.specs.declared.event.Event.{Event}
 use Rattle.ix_outside.specs.inside.DiskCalls.{KeepsOpened}
-use Rattle.ix_proto.specs.Requests.{PlainRequest}
 use Rattle.ix_proto.specs.declared.reply.Reply.{Reply}
 use Rattle.ix_script.specs.lemmas.OtherDisk.{lawful_without_sends}
 use Rattle.ix_script.specs.inside.WithoutSends.{without_sends}
 use Rattle.ix_manager.specs.Handled.{ManagerState, TakesEvent}
 use Rattle.ix_manager.specs.Images.{EndsAs, Keeps, with_failed}
-use Rattle.ix_manager.specs.Machine.{MachineState, Step, confirmed}
-use Rattle.ix_manager.specs.Runs.{Ending, going, stopped, failed, ItemStep, requested, Steps, none, last, more}
+use Rattle.ix_manager.specs.Runs.{Ending}
 use Rattle.ix_manager.specs.declared.faults.Go.{Go}
 use Rattle.ix_manager.specs.declared.faults.Go.TheVariants.{More, Stopped}
 use Rattle.ix_manager.specs.declared.faults.Stop.{Stop}
@@ -26,37 +20,9 @@ use Rattle.ix_manager.specs.declared.faults.Stop.TheVariants.{Disk as DiskFault}
 use Rattle.ix_manager.specs.inside.OverSite.{EndsBy, FitsSite, FitsWith}
 use Rattle.ix_manager.specs.inside.Acknowledging.{SendsMore}
 use Rattle.ix_manager.specs.inside.Saving.{SavesRun, UnlessFailed, WhereFailed}
+use Rattle.ix_manager.proofs.GrowingLemmas.{steps_grow}
 use Rattle.ix_manager.proofs.SavingLemmas.{kept_told}
 use Rattle.ix_manage.specs.inside.ReplayProgress.{disk_alone}
-
--- a longer history
-abbrev Grows : Word → Word → Type 0
-Grows old new = (rest : Word) × (old ++ rest ≡ new)
-
-step_grows : {x : Form} {limit : ℕ} {s after : MachineState} {asked : PlainRequest} {replies : List Reply}
-    → Step x limit s asked replies after → Grows s.history after.history
-step_grows (confirmed a deadline held within) = (a ∷ [], refl)
-step_grows _ = ([], append-nil _)
-
-item_grows : {x : Form} {limit : ℕ} {s after : MachineState} {item : Item} {replies : List Reply} {ending : Ending}
-    → ItemStep x limit s item replies after ending → Grows s.history after.history
-item_grows (requested request is words step) = step_grows step
-item_grows _ = ([], append-nil _)
-
-steps_grow : {x : Form} {limit : ℕ} {s after : MachineState} {items : List Item} {answers : List (List Reply)} {ending : Ending}
-    → Steps x limit s items answers after ending → Grows s.history after.history
-steps_grow none = ([], append-nil _)
-steps_grow (last step ends) = item_grows step
-steps_grow {s = s} (more step rest) =
-    let one = item_grows step in
-    let two = steps_grow rest in
-    (one.0 ++ two.0, sym (append_assoc s.history one.0 two.0) ∙ ap (λ (w : Word). w ++ two.0) one.1 ∙ two.1)
-
-with_failed_grows : (ending : Ending) (old new : Word) → Grows old new → Grows old (with_failed ending new)
-with_failed_grows going old new grows = grows
-with_failed_grows stopped old new grows = grows
-with_failed_grows (failed a) old new grows =
-    (grows.0 ++ a ∷ [], sym (append_assoc old grows.0 (a ∷ [])) ∙ ap (λ (w : Word). w ++ a ∷ []) grows.1)
 
 unless : (result : Result Go Stop) (ending : Ending) (P : Type 0) → EndsBy result ending → OnOk result P → UnlessFailed ending P
 unless (Ok More) ending P is p = let Q : Ending → Type 0 = λ e. UnlessFailed e P in subst Q (sym is) p
@@ -91,7 +57,7 @@ pub event_saves : (old new : ManagerState) (event : Event) (bytes : List ℕ) (r
     → KeepsOpened before.disk after.disk ⊎ (after.disk ≡ None) → SendsMore before after q
     → SavesRun ending old new before after p q
 event_saves old new event bytes result ending answers before after p q is takes keeps ends rose fits passes le opened sends =
-    let grows = with_failed_grows ending old.machine.history new.machine.history (steps_grow takes.steps) in record {
+    let grows = steps_grow takes.steps in record {
       passes = passes;
       sends = sends;
       count = le;
@@ -137,12 +103,4 @@ passes_again one one' two two' p q first second passes = record {
       (subst (λ t. Elapses one.tick t p.left q.left) (sym second) passes.left);
   left_since = subst (λ t. Elapses t two'.tick p.left_since q.left_since) (sym first)
       (subst (λ t. Elapses one.tick t p.left_since q.left_since) (sym second) passes.left_since);
-}
-
--- of a disk alone nothing is told that was sent
-pub alone_sends : (old new : SiteState) (is : Crashes) → SendsMore (disk_alone old) (disk_alone new) is
-alone_sends old new is = record {
-  told = λ some. some;
-  all = λ sends sends' none none'. absurd (none-some sends none);
-  by_then = λ sends sends' none none' left since. absurd (none-some sends none);
 }

@@ -152,40 +152,40 @@ module _ (x : Form) (limit : ℕ) (tick : ℕ) (d : Disk) (name : List ℕ) (mid
       module _ (opening_is : played.opening ≡ opening_of x limit h) (along : KeepsAlong x h played mid end q r)
           (run : Run played.opening played.taken played.answers played.last played.ending)
         where
-        within : EachPrefixIsWithin x limit (with_failed played.ending played.last.history)
-        within = runs_stay_within (opening_of x limit h) played.taken played.answers played.last played.ending starts.within
-            (subst (λ (o : Opening). Run o played.taken played.answers played.last played.ending) opening_is run)
+          within : EachPrefixIsWithin x limit (with_failed played.ending played.last.history)
+          within = runs_stay_within (opening_of x limit h) played.taken played.answers played.last played.ending starts.within
+              (subst (λ (o : Opening). Run o played.taken played.answers played.last played.ending) opening_is run)
 
-        keeps : (image : List ℕ) → r.left tick image
-            → Keeps x (length h) (with_failed played.ending played.last.history) image
-        keeps image left = elim (along.passes.nothing_else tick image le left) [
-          | inl earlier ↦ keeps_longer x (length h) h along.rest (with_failed played.ending played.last.history) image along.grows
-              (kept image earlier)
-          | inr since ↦ along.keeps image since
-        ]
+          keeps : (image : List ℕ) → r.left tick image
+              → Keeps x (length h) (with_failed played.ending played.last.history) image
+          keeps image left = elim (along.passes.nothing_else tick image le left) [
+            | inl earlier ↦ keeps_longer x (length h) h along.rest (with_failed played.ending played.last.history) image along.grows
+                (kept image earlier)
+            | inr since ↦ along.keeps image since
+          ]
 
-        goes_on : GoesOnFrom (opening_of x limit h) session attached r
-        goes_on = record {
-          from = opening_is;
-          holds = record {
-            ends = along.ends;
-            keeps = λ image left.
-                subst (λ (o : Opening). Keeps o.form (length h) (with_failed played.ending played.last.history) image)
-                (sym opening_is) (keeps image left);
-            reopens = λ image left.
-                let kept = keeps image left in
-                subst (λ (o : Opening). (w : Word) × IsStartable (opening_of o.form o.limit w) image) (sym opening_is)
-                (kept.kept, kept_images_are_startable x limit (length h) (with_failed played.ending played.last.history) image within kept);
-          };
-        }
+          goes_on : GoesOnFrom (opening_of x limit h) session attached r
+          goes_on = record {
+            from = opening_is;
+            holds = record {
+              ends = along.ends;
+              keeps = λ image left.
+                  subst (λ (o : Opening). Keeps o.form (length h) (with_failed played.ending played.last.history) image)
+                  (sym opening_is) (keeps image left);
+              reopens = λ image left.
+                  let kept = keeps image left in
+                  subst (λ (o : Opening). (w : Word) × IsStartable (opening_of o.form o.limit w) image) (sym opening_is)
+                  (kept.kept, kept_images_are_startable x limit (length h) (with_failed played.ending played.last.history) image within kept);
+            };
+          }
 
-        pub session_uses : (file : List ℕ) → UsesJournal x limit session file attached r
-        session_uses file = record {
-          startable = λ other others.
-              subst (λ (w : Word). GoesOnFrom (opening_of x limit w) session attached r)
-              (one_history d.file h other starts.recovers others.recovers) goes_on;
-          other = λ no. absurd (no h starts);
-        }
+          pub session_uses : (file : List ℕ) → UsesJournal x limit session file attached r
+          session_uses file = record {
+            startable = λ other others.
+                subst (λ (w : Word). GoesOnFrom (opening_of x limit w) session attached r)
+                (one_history d.file h other starts.recovers others.recovers) goes_on;
+            other = λ no. absurd (no h starts);
+          }
 
 -- what a job makes of the file that it attached
 pub on_journal : (files : Option Listing) (job : Job) (expression journal : List ℕ) (x : Form)
@@ -199,12 +199,14 @@ on_journal files job expression journal x of_expression has_journal reads sessio
     λ named kept_in same_expression same_journal old new told_old none told_new.
     let kept = kept_opened at.disk end.disk keeps new told_new in
     let opened_is = kept.2 ∙ opened_at journal at.tick before.disk at.disk is kept.0 kept.1 in
-    subst (λ (o : Option Opened). OpensJournal files (limit_of job) named kept_in session new r o) (sym opened_is)
-    (some_is (sym has_journal ∙ same_journal), (
-      x,
-      subst (λ n. ReadsForm files n x) (some_is (sym of_expression ∙ same_expression)) reads,
-      uses kept.0 kept.1 new told_new,
-    ))
+    subst (λ (o : Option Opened). OpensJournal files (limit_of job) named kept_in session new r o) (sym opened_is) (
+      some_is (sym has_journal ∙ same_journal),
+      (
+        x,
+        subst (λ n. ReadsForm files n x) (some_is (sym of_expression ∙ same_expression)) reads,
+        uses kept.0 kept.1 new told_new,
+      ),
+    )
 on_journal files job expression journal x of_expression has_journal reads session before at end r is (inr untold) uses =
     λ named kept_in same_expression same_journal old new told_old none told_new.
     absurd (none-some new (sym untold ∙ told_new))

@@ -1,5 +1,5 @@
 -- How a serve ends, by what its loop says.
-use Rattle.std.proofs.Common.{◌≡◌, ◌⊎◌, inl, inr, ℕ, ◌≤◌, List, [], ◌∷◌, ◌++◌, length, append-nil, arith, Bool, Option, None, Some, IsSome}
+use Rattle.std.proofs.Common.{◌≡◌, ◌⊎◌, inl, inr, ℕ, List, [], ◌∷◌, ◌++◌, length, append-nil, arith, Bool, Option, None, Some, IsSome}
 use Rattle.std.proofs.Common.{Result, Ok, Err, refl, sym, ◌∙◌, ap, subst}
 use Rattle.std.specs.Io.KnownBytes.{append_known}
 use Rattle.std.specs.Option.{option_map}
@@ -7,7 +7,6 @@ use Rattle.std.proofs.lemmas.List.{length_push}
 use Rattle.std.proofs.lemmas.Option.{none-some}
 use Rattle.ix_values.specs.PlainAction.{Word}
 use Rattle.ix_expr.specs.Form.{Form}
-use Rattle.ix_cli.specs.Words.{Job}
 use Rattle.ix_outside.specs.Contents.{Contents, GivenEvent, Sends, with_name}
 use Rattle.ix_outside.specs.Counts.{Rose}
 use Rattle.ix_outside.specs.Crashes.{Crashes, AreLawful, IsSentByThen, LeavesTheSame, OneCall}
@@ -32,9 +31,8 @@ use Rattle.ix_manager.proofs.AcknowledgedLemmas.{none_sent}
 use Rattle.ix_manager.proofs.SavingLemmas.{saves_join}
 use Rattle.ix_manage.specs.Ends.{Ended, JobOver, no_wire, served as job_served}
 use Rattle.ix_manage.specs.Journal.{session_of}
-use Rattle.ix_manage.specs.Puts.{LastLine}
 use Rattle.ix_manage.specs.Serve.{ServesWire, ends, with_heard}
-use Rattle.ix_manage.specs.Session.{Session, Takes, history_line, lost_history, over}
+use Rattle.ix_manage.specs.Session.{Session, history_line, lost_history, over}
 use Rattle.ix_manage.specs.Trace.{ReadsForm}
 use Rattle.ix_manage.specs.declared.job.ServeWords.{ServeWords}
 use Rattle.ix_manage.specs.declared.run.Stop.{Stop}
@@ -247,13 +245,13 @@ history_lost m fresh turns socket line a b p q saves heard sends since old new s
         store = m.store;
         saves = saves;
       })
-      (serves_from socket a b b p q q heard sends (stood.opening_of m) since played refl m.machine refl unmarked (record {
-        given = λ new told. (new, told, sym (append-nil new));
-        told = λ some. some;
-        since = λ t start serves. serves;
-        whole = λ none. (refl, λ one two told told'. ap (λ (s : Sends). s.gone) (sym (some_is (sym told ∙ told'))));
-      }))
-      (ends (lost_history refl));
+          (serves_from socket a b b p q q heard sends (stood.opening_of m) since played refl m.machine refl unmarked (record {
+            given = λ new told. (new, told, sym (append-nil new));
+            told = λ some. some;
+            since = λ t start serves. serves;
+            whole = λ none. (refl, λ one two told told'. ap (λ (s : Sends). s.gone) (sym (some_is (sym told ∙ told'))));
+          }))
+          (ends (lost_history refl));
       puts = subst (λ known. AppendsPart known (history_line m.machine.history) new.written) (append_nothing old.written)
           (subst (λ t. AppendsPart old.written t new.written) same part);
     }

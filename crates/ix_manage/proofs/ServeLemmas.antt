@@ -1,6 +1,6 @@
 -- What one more event makes of a serve.
-use Rattle.std.proofs.Common.{◌≡◌, ◌⊎◌, inl, inr, ℕ, ◌+◌, ◌<◌, ◌≤◌, Bool, true, false, true≢false, List, [], ◌∷◌, ◌++◌}
-use Rattle.std.proofs.Common.{length, get_or, replicate, Option, None, Some, IsSome, Result, Ok, Err, append_assoc, append-nil, refl, sym, ◌∙◌, ap, subst, arith}
+use Rattle.std.proofs.Common.{◌≡◌, ◌⊎◌, inl, inr, ℕ, ◌<◌, ◌≤◌, Bool, true, false, true≢false, List, [], ◌∷◌, ◌++◌}
+use Rattle.std.proofs.Common.{length, get_or, Option, None, Some, IsSome, Ok, Err, append_assoc, append-nil, refl, sym, ◌∙◌, ap, subst, arith}
 use Rattle.std.specs.Option.{option_map}
 use Rattle.std.proofs.lemmas.List.{length_push, length-replicate, get_or-replicate, same_from_push}
 use Rattle.ix_words.specs.Each.{Each, no_item, item}
@@ -13,14 +13,13 @@ use Rattle.ix_outside.specs.Crashes.{Crashes, AreLawful, IsSentByThen, LeavesThe
 use Rattle.ix_outside.specs.SiteState.{SiteState, OnlyWire}
 use Rattle.ix_outside.proofs.Counting.{Rose-earlier, Rose-later}
 use Rattle.ix_outside.proofs.Passing.{sent-nothing}
-use Rattle.ix_outside.specs.declared.event.EventKind.TheVariants.{Closed, End}
+use Rattle.ix_outside.specs.declared.event.EventKind.TheVariants.{End}
 use Rattle.ix_proto.specs.declared.reply.Reply.{Reply}
 use Rattle.ix_store.specs.Keeping.{Keeping}
-use Rattle.ix_manager.specs.Handled.{ManagerState, SendsReplies, held_at}
-use Rattle.ix_manager.specs.Machine.{MachineState}
+use Rattle.ix_manager.specs.Handled.{ManagerState, held_at}
 use Rattle.ix_manager.specs.RunLaws.{FollowsRun, given_event}
-use Rattle.ix_manager.specs.Runs.{Ending, Opening, Run, begin as run_begins, going, stopped, failed}
-use Rattle.ix_manager.specs.Wire.{SendsInOrder, all_replies, done, lost, marks_after, reply_line, sent, silent, unmarked}
+use Rattle.ix_manager.specs.Runs.{Ending, Opening, going, stopped}
+use Rattle.ix_manager.specs.Wire.{SendsInOrder, all_replies, done, lost, marks_after, reply_line, sent, unmarked}
 use Rattle.ix_manager.specs.inside.OverSite.{FitsSite, FitsWith}
 use Rattle.ix_manager.specs.Images.{with_failed}
 use Rattle.ix_manager.specs.inside.Acknowledging.{IsSentBetween, SendsMore}
@@ -30,12 +29,10 @@ use Rattle.ix_manager.specs.inside.Saving.{OnlySends, Saves, WhereFailed}
 use Rattle.ix_manager.proofs.RunLemmas.{started_follows, taken_follows, taken_goes_on}
 use Rattle.ix_manager.proofs.SavingLemmas.{saves_join, saves_none, saves_sends}
 use Rattle.ix_manager.proofs.SendLemmas.{untold_sends}
-use Rattle.ix_manage.specs.Puts.{LastLine}
 use Rattle.ix_manage.specs.Serve.{ends, wire_failed}
-use Rattle.ix_manage.specs.Session.{IsNoEnd, IsOver, Session, disk_failed, history_line, lost_history, out_of_turns, over}
+use Rattle.ix_manage.specs.Session.{IsNoEnd, IsOver, Session, disk_failed, out_of_turns}
 use Rattle.ix_manage.specs.declared.refusal.Refusal.TheVariants.{Disk, Turns, Wire as WireRefusal}
-use Rattle.ix_manage.specs.declared.run.Stop.{Stop}
-use Rattle.ix_manage.specs.declared.run.Stop.TheVariants.{OtherExpression, Output, Refused, Words}
+use Rattle.ix_manage.specs.declared.run.Stop.TheVariants.{Refused}
 use Rattle.ix_manage.specs.declared.turn.Turn.{Turn}
 use Rattle.ix_manage.specs.declared.turn.Turn.TheVariants.{More, Done, Cut, Failed}
 use Rattle.ix_manage.specs.inside.ServeProgress.{SentFor, ServedSession, Serves, ServesTo, ServesTurn, TakesOver, took, unheard}
@@ -247,12 +244,13 @@ module _ {old new : ManagerState} {turn : Turn} {a b c : SiteState} {p q r : Cra
           (serves.sent.since t start begins)));
       whole = λ none.
           let earlier = serves.sent.whole (λ rose. none (Rose-later a.counts.send b.counts.send c.counts.send rose second)) in
-          let marked = none_marked earlier.0 (λ rose. none (Rose-earlier a.counts.send b.counts.send c.counts.send first rose)) in
-          (it.handled.sends.marks ∙ (λ i. marks_after it.event.kind it.event.conn (marked i) (earlier.0 i)) ∙ marks_same it.event.kind it.event.conn,
-          λ start last told told'.
-          let mine = sends_before b.contents.sends c.contents.sends last stays_untold told' in
-          gone_same (opened_sends earlier.0) marked mine.0 last (ap (λ (k : Contents). k.sends) it.told_is ∙ mine.1) told'
-          ∙ earlier.1 start mine.0 told mine.1);
+          let marked = none_marked earlier.0 (λ rose. none (Rose-earlier a.counts.send b.counts.send c.counts.send first rose)) in (
+            it.handled.sends.marks ∙ (λ i. marks_after it.event.kind it.event.conn (marked i) (earlier.0 i)) ∙ marks_same it.event.kind it.event.conn,
+            λ start last told told'.
+                let mine = sends_before b.contents.sends c.contents.sends last stays_untold told' in
+                gone_same (opened_sends earlier.0) marked mine.0 last (ap (λ (k : Contents). k.sends) it.told_is ∙ mine.1) told'
+                ∙ earlier.1 start mine.0 told mine.1,
+          );
     }
 
     -- it may go on

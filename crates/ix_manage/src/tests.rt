@@ -1,5 +1,5 @@
 //! The top call over devices in memory.
-ghost use Rattle.std.specs.Prelude.{◌≡◌, ◌<◌, false, IfOk};
+ghost use Rattle.std.specs.Prelude.{◌≡◌, false, IfOk};
 
 use super::*;
 use ix_memory::{MemoryFiles, MemorySink, MemorySite};

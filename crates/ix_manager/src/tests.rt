@@ -155,7 +155,7 @@ fn events_of_several_connections(rt: HostRuntime) -> Result<(), Fail> {
             Go::More,
         ),
         (
-            &[5],
+            &[6],
             &[
                 (0, 1, b"may a\nmay a\nmay a\n"),
                 (1, 1, b"may b\n"),
@@ -185,8 +185,8 @@ fn events_of_several_connections(rt: HostRuntime) -> Result<(), Fail> {
 
 #[test]
 fn confirms_are_in_the_journal(rt: HostRuntime) -> Result<(), Fail> {
-    // The file, the calls that fail, what comes, what is sent, and the file then. Calls 0 to 3
-    // attach and read a journal, 4 sends `granted`, and 5 to 8 append: 8 is the second sync.
+    // The file, the calls that fail, what comes, what is sent, and the file then. Calls 0 to 4
+    // attach and read a journal, 5 sends `granted`, and 6 to 9 append: 9 is the second sync.
     let confirm: &[Coming<'_>] = &[(0, 1, b"ask a 50\nconfirm 1\nstatus\n")];
     let cases: [(&[u8], &[u64], &[Coming<'_>], &[u8], &[u8]); 3] = [
         (
@@ -205,7 +205,7 @@ fn confirms_are_in_the_journal(rt: HostRuntime) -> Result<(), Fail> {
         ),
         (
             EMPTY,
-            &[8],
+            &[9],
             confirm,
             b"0 granted 1\n0 refused 91 disk\n",
             JOURNAL,

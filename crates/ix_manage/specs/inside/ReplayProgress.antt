@@ -1,9 +1,9 @@
 -- A replay as far as it went.
-use Rattle.std.specs.Prelude.{◌≡◌, ◌≢◌, ◌⊎◌, Bool, true, false, ℕ, ◌+◌, ◌*◌, ◌^◌, ◌<◌, ◌≤◌, List, [], ◌∷◌, ◌++◌}
+use Rattle.std.specs.Prelude.{◌≡◌, ◌⊎◌, Bool, true, false, ℕ, ◌+◌, ◌*◌, ◌^◌, ◌<◌, ◌≤◌, List, [], ◌∷◌, ◌++◌}
 use Rattle.std.specs.Prelude.{length, Option, None, Some, Result}
 use Rattle.std.specs.Io.KnownBytes.{append_known}
 use Rattle.ix_words.specs.Each.{Each}
-use Rattle.ix_values.specs.PlainAction.{PlainAction, Word}
+use Rattle.ix_values.specs.PlainAction.{Word}
 use Rattle.ix_outside.specs.Contents.{Contents, GivenEvent}
 use Rattle.ix_outside.specs.Counts.{Rose}
 use Rattle.ix_outside.specs.Crashes.{Crashes}
@@ -13,16 +13,14 @@ use Rattle.ix_outside.specs.inside.DiskCalls.{KeepsOpened}
 use Rattle.ix_outside.specs.inside.NothingTold.{nothing_told}
 use Rattle.ix_store.specs.Keeping.{Keeping}
 use Rattle.ix_outside.specs.declared.event.Event.{Event}
-use Rattle.ix_outside.specs.declared.event.EventKind.{EventKind}
-use Rattle.ix_outside.specs.declared.event.EventKind.TheVariants.{End}
 use Rattle.ix_proto.specs.declared.reply.Reply.{Reply}
-use Rattle.ix_manager.specs.Handled.{ManagerState, FitsEvent, Handles, started}
+use Rattle.ix_manager.specs.Handled.{ManagerState, FitsEvent, Handles}
 use Rattle.ix_manager.specs.Machine.{MachineState}
 use Rattle.ix_manager.specs.RunLaws.{FollowsRun, given_event}
-use Rattle.ix_manager.specs.Runs.{Ending, Opening, going, stopped, failed}
+use Rattle.ix_manager.specs.Runs.{Ending, Opening, going}
 use Rattle.ix_manager.specs.Wire.{run_text, unmarked}
 use Rattle.ix_manager.specs.inside.OverSite.{FitsSite}
-use Rattle.ix_manager.specs.inside.Saving.{Saves, SavesRun}
+use Rattle.ix_manager.specs.inside.Saving.{SavesRun}
 use Rattle.ix_script.specs.Events.{HasEvents}
 use Rattle.ix_script.specs.inside.NextPiece.{IsNextPiece}
 use Rattle.ix_script.specs.inside.Site.{given_of}

@@ -9,15 +9,27 @@ fn other_words_are_refused(rt: HostRuntime) -> Result<(), Fail> {
         (&["fly"], b"Usage: ixm COMMAND WORDS"),
         (&["--help"], b"Usage: ixm COMMAND WORDS"),
         (&["trace", "x"], b"error: "),
-        (&["trace", "--nodes", "0", "expression", "actions"], b"error: "),
-        (&["replay", "expression", "-", "actions", "more"], b"error: "),
-        (&["replay", "--turns", "0", "expression", "-", "actions"], b"error: "),
+        (
+            &["trace", "--nodes", "0", "expression", "actions"],
+            b"error: ",
+        ),
+        (
+            &["replay", "expression", "-", "actions", "more"],
+            b"error: ",
+        ),
+        (
+            &["replay", "--turns", "0", "expression", "-", "actions"],
+            b"error: ",
+        ),
         (&["serve", "expression", "-"], b"error: "),
     ];
     for (words, front) in cases {
         let got = run_on(alloc, words, b"a", b"a", None)?;
         assert_eq!(rt; got.status, 2);
-        assert!(rt; got.bytes.as_slice().starts_with(front), "what {words:?} puts");
+        assert!(rt;
+            got.bytes.as_slice().starts_with(front),
+            "what {words:?} puts"
+        );
     }
     Ok(())
 }

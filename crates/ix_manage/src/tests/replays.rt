@@ -1,4 +1,6 @@
 //! What a replay puts.
+ghost use Rattle.std.specs.Prelude.{◌<◌};
+
 use super::*;
 
 #[test]

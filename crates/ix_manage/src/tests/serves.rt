@@ -177,8 +177,16 @@ fn connections_are_served(rt: HostRuntime) -> Result<(), Fail> {
         let ended = run_over(alloc, &words, &mut files, &mut site, &mut out)?;
         let sent = sent_by(alloc, &site)?;
         assert_eq!(rt; ended.status, row.status);
-        assert!(rt; ended.bytes.as_slice() == row.put, "what {:?} puts", row.sent);
-        assert!(rt; sent.as_slice() == row.sent, "what is sent for {:?}", row.sent);
+        assert!(rt;
+            ended.bytes.as_slice() == row.put,
+            "what {:?} puts",
+            row.sent
+        );
+        assert!(rt;
+            sent.as_slice() == row.sent,
+            "what is sent for {:?}",
+            row.sent
+        );
         let same = row.left.is_empty() || site.image() == row.left;
         assert!(rt; same, "what is left behind {:?}", row.sent);
     }
@@ -211,8 +219,14 @@ fn what_was_acknowledged_is_kept(rt: HostRuntime) -> Result<(), Fail> {
         let empty = opened.bytes.as_slice() == b"history 0\n".as_slice();
         let whole = opened.bytes.as_slice() == b"history 1\n".as_slice();
         assert_eq!(rt; opened.status, 0);
-        assert!(rt; whole || (empty && !acknowledged), "what is kept after {fuse} calls");
-        assert!(rt; fuse < 19 || ended.status == 0, "a run of nineteen calls ends well");
+        assert!(rt;
+            whole || (empty && !acknowledged),
+            "what is kept after {fuse} calls"
+        );
+        assert!(rt;
+            fuse < 19 || ended.status == 0,
+            "a run of nineteen calls ends well"
+        );
     }
     Ok(())
 }

@@ -1,5 +1,5 @@
 use Rattle.std.proofs.Common.{length, inl, None, Ok, Err, refl, sym, ap, subst, arith, ◌∙◌}
-use Rattle.ix_outside.specs.Contents.{Contents}
+use Rattle.ix_outside.specs.Contents.{Contents, Sends}
 use Rattle.ix_can.specs.TreeOf.{tree_size}
 use Rattle.ix_manager.specs.inside.StartAnswers.{IsFault}
 use Rattle.ix_manager.proofs.AcknowledgedLemmas.{the_value}
@@ -84,5 +84,8 @@ returns-in-Ok-start-clause-starts g c =
           start_keeps x limit at mid p q disk.0 c.args.journal.now disk.1
           (left_at at.disk p.now c.in-Ok.ensures.now disk.0 disk.1) (told.leaves disk.0 disk.1)
           m.machine.history (told.not_large small disk.0 disk.1))
-          (λ now is left since. told.calls.sent sends at_known left since);
+          (λ now is. (
+            ap (λ (s : Sends). s.sent) (some_is (sym is ∙ ap (λ (k : Contents). k.sends) contents ∙ known)),
+            λ left since. told.calls.sent sends at_known left since,
+          ));
     }

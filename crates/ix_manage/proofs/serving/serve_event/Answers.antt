@@ -1,4 +1,4 @@
-use Rattle.std.proofs.Common.{◌≡◌, ℕ, List, IsSome, refl, sym, ap, subst, ◌∙◌}
+use Rattle.std.proofs.Common.{ℕ, List, refl, sym, ap, subst, ◌∙◌}
 use Rattle.ix_outside.specs.Contents.{Contents, with_event}
 use Rattle.ix_outside.specs.Counts.{Rose}
 use Rattle.ix_outside.specs.Event.{KindFits}
@@ -69,10 +69,12 @@ returns-clause-turn g c =
       event = event;
       piece = c.piece.result.now;
       ending = over.ending;
-      fits = (told.event.0,
-          subst (λ (bytes : List ℕ). KindHas event.kind bytes) (sym c.piece.ensures)
-          (piece_has event.kind event.conn c.next.new.buf (c.next.auto.buf ∙ c.requires.buffer)
-          (subst (λ n. KindFits n event.conn event.kind) (sym c.next.auto.buf) told.event.1)));
+      fits = (
+        told.event.0,
+        subst (λ (bytes : List ℕ). KindHas event.kind bytes) (sym c.piece.ensures)
+            (piece_has event.kind event.conn c.next.new.buf (c.next.auto.buf ∙ c.requires.buffer)
+            (subst (λ n. KindFits n event.conn event.kind) (sym c.next.auto.buf) told.event.1)),
+      );
       told = b.contents;
       told_is = told.contents ∙ ap (λ bytes. with_event event bytes a.contents) (sym c.piece.ensures);
       handled = over.handles;

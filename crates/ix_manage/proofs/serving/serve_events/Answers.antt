@@ -11,9 +11,12 @@ use Rattle.ix_manage.proofs.serving.serve_events.Goals as goal
 pub loop-turn-init : goal.loop-turn-init
 loop-turn-init g c =
     let site = c.args.site.now in (
-      ([], refl,
-      serves_first c.args.manager.now (g.S.Site.state site) (g.S.Site.crashes site) c.requires.manager
-      (g.met.S.Site.lawful site) c.requires.fits),
+      (
+        [],
+        refl,
+        serves_first c.args.manager.now (g.S.Site.state site) (g.S.Site.crashes site) c.requires.manager
+            (g.met.S.Site.lawful site) c.requires.fits,
+      ),
       served_still (g.S.Site.state site),
     )
 
@@ -43,8 +46,11 @@ loop-turn-preserved g c =
     let it = taken_over c.serve_event.ensures.turn (not_cut _ More c.in-More.is (λ is. cc)) in
     let count = length_push at.0.0 (given_event it.event it.piece) in
     let all = at.0.1 in (
-      (_, omega (arith, count, all),
-      serves_more it at.0.2 (g.met.S.Site.lawful site) at.1.calls.send c.serve_event.ensures.site.calls.send c.in-More.is),
+      (
+        _,
+        omega (arith, count, all),
+        serves_more it at.0.2 (g.met.S.Site.lawful site) at.1.calls.send c.serve_event.ensures.site.calls.send c.in-More.is,
+      ),
       served_then _ _ _ at.1 c.serve_event.ensures.site,
     )
 

@@ -1,11 +1,12 @@
 use Rattle.std.proofs.Common.{◌≡◌, length, refl, ap, sym, ◌∙◌, subst, arith, MutBor}
 use Rattle.ix_outside.specs.SinkState.{SinkState}
 use Rattle.ix_manager.specs.inside.Saving.{SavesRun}
+use Rattle.ix_manager.proofs.AcknowledgedLemmas.{more_untold}
 use Rattle.ix_script.specs.inside.WithoutSends.{without_sends}
 use Rattle.ix_manage.specs.inside.ReplayProgress.{FitsDisk, OnlyUsesDisk, between, disk_alone, player}
 use Rattle.ix_manage.specs.inside.Turns.{IsTurn}
 use Rattle.ix_manage.proofs.Devices.{holds_same, site_used}
-use Rattle.ix_manage.proofs.Journaling.{alone_sends, event_saves, fits_again, ok_fits, passes_again}
+use Rattle.ix_manage.proofs.Journaling.{event_saves, fits_again, ok_fits, passes_again}
 use Rattle.ix_manage.proofs.Replaying.{event_taken}
 use Rattle.ix_manage.proofs.turns.take_event.Goals as goal
 
@@ -29,7 +30,7 @@ returns-clause-turn g c =
     over.answered over.handles.takes over.keeps over.ends go.ensures.failed
     (ok_fits go.result go.new.self _ _ _ _ refl refl go.ensures.fits)
     (passes_again _ _ _ _ _ _ refl refl go.ensures.passes) go.ensures.site.disk go.ensures.site.opened
-    (alone_sends (g.S.Site.state site) (g.S.Site.state last) (without_sends (g.S.Site.crashes last))) in
+    (more_untold (disk_alone (g.S.Site.state site)) (disk_alone (g.S.Site.state last)) (without_sends (g.S.Site.crashes last)) refl) in
     event_taken (length c.args.buffer.now) c.args.manager.now go.new.self
     (player g.S.Site.state g.K.Sink.state c.args.site.now)
     (player g.S.Site.state g.K.Sink.state next.new.self) now
