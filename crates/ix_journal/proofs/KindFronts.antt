@@ -1,14 +1,17 @@
 -- What a file is by a front of it, it is, where the front has all of the header.
-use Rattle.std.proofs.Common.{◌≡◌, ℕ, zero, suc, ◌+◌, ◌-◌, ◌<◌, ◌≤◌, List, [], ◌∷◌, ◌++◌, length, take, drop}
+use Rattle.std.proofs.Common.{◌≡◌, ℕ, zero, suc, ◌+◌, ◌-◌, ◌<◌, ◌≤◌, List, [], ◌∷◌, ◌++◌, length}
+use Rattle.std.proofs.Common.{take, drop}
 use Rattle.std.proofs.Common.{refl, sym, ◌∙◌, ap, subst, arith, inl, inr}
-use Rattle.std.proofs.lemmas.List.{append_assoc, length-append, length-drop, length-take, take-append-drop}
+use Rattle.std.proofs.lemmas.List.{append_assoc, length-append, length-drop, length-take}
+use Rattle.std.proofs.lemmas.List.{take-append-drop}
 use Rattle.std.proofs.lemmas.List.{take-take, take_all}
 use Rattle.std.proofs.Math.Seq.{take-append-add}
 use Rattle.std.specs.Prelude.{slice_get}
 use Rattle.byteorder.specs.Endian.{big_number}
 use Rattle.byteorder.specs.Numbers.{big_number-reads_back}
 use Rattle.ix_journal.specs.Format.{header}
-use Rattle.ix_journal.specs.Kinds.{HasHeader, IsUnfinished, IsUnopened, IsReady, IsForeign, Kind, unfinished}
+use Rattle.ix_journal.specs.Kinds.{HasHeader, IsUnfinished, IsUnopened, IsReady, IsForeign, Kind}
+use Rattle.ix_journal.specs.Kinds.{unfinished}
 use Rattle.ix_journal.specs.Kinds.{unopened, foreign, ready, HasKind}
 use Rattle.ix_journal.proofs.HoldsLemmas.{holds_none}
 use Rattle.ix_journal.proofs.SameFronts.{kept_ready}
@@ -39,7 +42,8 @@ module _ (bytes : List ℕ) (read : ℕ) where
   front_read = omega (arith, length-take read bytes)
 
   -- up to a gate that was read the file is what was read
-  pub same : (gate : ℕ) → gate < length (take read bytes) → take gate bytes ≡ take gate (take read bytes)
+  pub same : (gate : ℕ) → gate < length (take read bytes)
+      → take gate bytes ≡ take gate (take read bytes)
   same gate within = sym (take-take gate read bytes (omega (arith, front_read)))
 
   -- a file that isn't longer than what was read is what was read

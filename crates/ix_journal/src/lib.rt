@@ -33,8 +33,8 @@ pub const OPEN: u8 = 0xA5;
 /// The byte that is written for a closed gate.
 pub const CLOSED: u8 = 0;
 
-/// How many bytes stand in front of the text of a header: the head gate, the magic and the length of
-/// the text.
+/// How many bytes stand in front of the text of a header: the head gate, the magic and the
+/// length of the text.
 pub const FRONT_LENGTH: usize = 7;
 
 /// The most records of a journal that are open.

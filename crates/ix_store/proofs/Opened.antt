@@ -70,7 +70,8 @@ pub found_before : (text : List ℕ) (result : Result Found OpenFault) (old new 
     (λ fault. OfFile (λ file. Refuses file text fault) new)
     → MatchResult result (λ found. OfFile (IsFound text found) old)
     (λ fault. OfFile (λ file. Refuses file text fault) old)
-found_before text (Ok found) old new stays holds = stayed_of (IsFound text found) old new stays holds
+found_before text (Ok found) old new stays holds =
+    stayed_of (IsFound text found) old new stays holds
 found_before text (Err fault) old new stays holds =
     stayed_of (λ file. Refuses file text fault) old new stays holds
 

@@ -32,7 +32,8 @@ pub reads_one : (old new : SiteState) (was is : Crashes) → AreLawful old was
     → old.attached ≡ true → new.attached ≡ true → OneCall old new was is → OnlyDisk old new
     → MakesFile Stays old.disk new.disk → LeavesTheSame was.now is.now → OnlyReads old new was is
 reads_one old new was is lawful before after call rest stays same = record {
-  calls = one old new was is before after call rest (KeepsOpened-makes Stays old.disk new.disk stays);
+  calls = one old new was is before after call rest
+      (KeepsOpened-makes Stays old.disk new.disk stays);
   stays = stays;
   now = same;
   images = first_call was.now old new was is lawful call (λ image here. here)

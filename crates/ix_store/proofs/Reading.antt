@@ -1,9 +1,11 @@
 -- The records of a file that a Slide takes in pieces.
-use Rattle.std.proofs.Common.{◌≡◌, ◌≢◌, ℕ, ◌+◌, ◌-◌, ◌*◌, ◌<◌, ◌≤◌, List, [], ◌∷◌, ◌++◌, length, drop, Bool, true}
+use Rattle.std.proofs.Common.{◌≡◌, ◌≢◌, ℕ, ◌+◌, ◌-◌, ◌*◌, ◌<◌, ◌≤◌, List, [], ◌∷◌, ◌++◌}
+use Rattle.std.proofs.Common.{length, drop, Bool, true}
 use Rattle.std.proofs.Common.{false, take, min, Some, None, Bor, if◌then◌else◌, Option}
 use Rattle.std.proofs.Common.{sym, ◌∙◌, ap, subst, arith, inl, inr}
 use Rattle.std.proofs.lemmas.List.{append_assoc, length-append, length-drop, length_push}
-use Rattle.std.proofs.lemmas.List.{drop-append-le, take-append-le, take-append-drop, drop-drop, drop_all}
+use Rattle.std.proofs.lemmas.List.{drop-append-le, take-append-le, take-append-drop}
+use Rattle.std.proofs.lemmas.List.{drop-drop, drop_all}
 use Rattle.std.proofs.lemmas.List.{take-take, length-take, take_min}
 use Rattle.std.proofs.Math.Seq.{take-add}
 use Rattle.std.proofs.lemmas.List.Elements.{All-append, All-cons, All-nil}
@@ -317,7 +319,8 @@ pub more_read : (file front old buf rest new : List ℕ) (so_far at count size :
     → take count buf ≡ take count (drop at file)
     → new ≡ front ++ take count (take size (buf ++ rest))
     → new ≡ take (so_far + size) file
-more_read file front old buf rest new so_far at count size is place room same_room counted same made =
+more_read file front old buf rest new so_far at count size is place room same_room counted same
+    made =
     let here : at ≡ min so_far (length file) =
     place ∙ ap length is ∙ omega (arith, length-take so_far file) in
     let left = length-drop at file in

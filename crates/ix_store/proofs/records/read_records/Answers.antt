@@ -98,7 +98,8 @@ records-preserved g c =
       reached = to_told
           (Reached c.args.first now.at c.push.new.self.items c.next.follows.lender-at-none)
           (g.S.Site.state c.args.site.now).disk (λ told is.
-          subst (λ (w : Word). Reached c.args.first now.at w c.next.follows.lender-at-none told.file)
+          subst (λ (w : Word).
+          Reached c.args.first now.at w c.next.follows.lender-at-none told.file)
           (sym pushed)
           (subst (λ (k : Kept). Reached c.args.first now.at (now.history.items ++ action ∷ []) k
           told.file) (sym same)
