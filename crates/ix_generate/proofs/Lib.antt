@@ -1,0 +1,4 @@
+pub mod OpenCalls
+pub mod Texts
+pub mod Noted
+pub mod Apart

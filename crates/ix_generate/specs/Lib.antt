@@ -1,0 +1,4 @@
+pub mod Workload
+pub mod History
+pub mod Laws
+pub mod inside
