@@ -9,9 +9,9 @@ use Rattle.std.specs.Option.{unwrap_or}
 use Rattle.std.specs.declared.cmp.Ordering.TheVariants.{Less, Equal}
 use Rattle.std.specs.Cmp.{nat_cmp_total}
 use Rattle.std.specs.Cmp.Lexicographic.{lists_total}
-use Rattle.ix_words.specs.Canon.{Ascending, below}
-use Rattle.ix_words.specs.Each.{Each}
-use Rattle.ix_words.proofs.Each.{Each-head, Each-tail}
+use Rattle.ix_words.specs.Canon.{Ascending, ascending_end, below}
+use Rattle.ix_words.specs.Each.{Each, no_item, item}
+use Rattle.ix_words.proofs.Each.{Each-head, Each-tail, Each-weaker, Each-both}
 use Rattle.ix_values.specs.Order.{text_eq, text_cmp}
 use Rattle.ix_values.specs.lemmas.Order.{text_cmp-same, text_eq-decides}
 use Rattle.ix_entries.specs.inside.Entries.{KeysAscend, item_at}
@@ -31,6 +31,16 @@ keys_ascend (e ∷ es) (below first rest) = (later es first, keys_ascend es rest
     later : (fs : List (List ℕ × Plain)) → Each (λ x. text_cmp e.0 (key x) ≡ Less) (map plain_entry fs) → AllByRecursion (λ k. text_cmp e.0 k ≡ Less) (keys_of fs)
     later [] h = tt
     later (f ∷ fs) h = (Each-head h, later fs (Each-tail h))
+
+-- where entries in memory ascend by their values, so do the plain ones
+pub entries_ascend : (es : List (List ℕ × Plain)) → KeysAscend text_cmp es → Ascending (λ x y. text_cmp (key x) (key y)) (map plain_entry es)
+unfolding IsStrictlySortedBy
+entries_ascend [] h = ascending_end
+entries_ascend (e ∷ es) h = below (later es h.0) (entries_ascend es h.1)
+  where
+    later : (fs : List (List ℕ × Plain)) → AllByRecursion (λ k. text_cmp e.0 k ≡ Less) (keys_of fs) → Each (λ x. text_cmp e.0 (key x) ≡ Less) (map plain_entry fs)
+    later [] h = no_item
+    later (f ∷ fs) h = item h.0 (later fs h.1)
 
 text_itself : (v : List ℕ) → text_cmp v v ≡ Equal
 text_itself v = tied_itself (lists_total nat_cmp_total) v
@@ -64,3 +74,20 @@ tree_at_has G common v (x ∷ xs) h each = one (text_eq (key x) v) (Each-head ea
     one : (b : Bool) → G (first_part x) → G (tree_at v common xs) → G (if b then first_part x else tree_at v common xs)
     one true here later = here
     one false here later = later
+
+-- where the values ascend strictly, the tree of an entry's value is the entry's
+pub tree_at_own : (common : Plain) (xs : List Plain) → Ascending (λ x y. text_cmp (key x) (key y)) xs → Each (λ x. tree_at (key x) common xs ≡ first_part x) xs
+tree_at_own common [] h = no_item
+tree_at_own common (x ∷ xs) (below g h) =
+    item
+    (ap (λ (b : Bool). if b then first_part x else tree_at (key x) common xs) ((text_eq-decides (key x) (key x)).1 refl))
+    (Each-weaker (λ z k. ap (λ (b : Bool). if b then first_part x else tree_at (key z) common xs) (differs z (text_eq (key x) (key z)) refl k.0) ∙ k.1) (Each-both g (tree_at_own common xs h)))
+  where
+    less_not_equal : ¬ (Less ≡ Equal)
+    less_not_equal h = absurd (cc)
+
+    differs : (z : Plain) (b : Bool) → text_eq (key x) (key z) ≡ b → text_cmp (key x) (key z) ≡ Less → text_eq (key x) (key z) ≡ false
+    differs z false e l = e
+    differs z true e l =
+        let same : key x ≡ key z = (text_eq-decides (key x) (key z)).0 e in
+        absurd (less_not_equal (sym (ap (text_cmp (key x)) same ∙ l) ∙ text_itself (key x)))

@@ -26,5 +26,6 @@ pub mod MovesTell
 pub mod Measures
 pub mod Children
 pub mod Keys
+pub mod UnseenValues
 pub mod Asking
 mod Examples

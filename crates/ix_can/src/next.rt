@@ -1,6 +1,6 @@
 //! Whether an action may come next, from the tree of the word before it.
 
-ghost use Rattle.std.specs.Prelude.{◌≡◌, ◌↔◌, ◌∷◌, ◌++◌, ◌&&◌, ◌||◌, [], None, Some, map, IsTrue};
+ghost use Rattle.std.specs.Prelude.{◌≡◌, ◌↔◌, true, false, ◌∷◌, ◌++◌, ◌&&◌, ◌||◌, [], None, Some, map, IsTrue};
 ghost use Rattle.std.specs.List.{list_all, list_any};
 ghost use Rattle.ix_words.specs.Each.{Each};
 ghost use Rattle.ix_values.specs.PlainAction.{Word};
@@ -12,7 +12,8 @@ ghost use Rattle.ix_expr.specs.Meaning.{IsPartial};
 ghost use Rattle.ix_tree.specs.Order.{key, first_part, second_part};
 ghost use Rattle.ix_tree.specs.Plain.{listed, items_of};
 ghost use Rattle.ix_tree.specs.PlainOf.{plain_pair, plain_bag, plain_map, plain_entries};
-ghost use Rattle.ix_can.specs.inside.CanAsk.{stays, may_or_stays, may_own, CanAsk, AreProper};
+ghost use Rattle.ix_can.specs.declared.next.Outside.TheVariants.{Refused};
+ghost use Rattle.ix_can.specs.inside.CanAsk.{stays, may_or_stays, each_may_or_stays, may_own, CanAsk, AreProper, UnseenAnswer};
 ghost use Rattle.ix_can.specs.Laws.{IsProper, IsRising, ProperEntries};
 ghost use Rattle.ix_can.specs.inside.May.{may, may_first, tree_at};
 ghost use Rattle.ix_can.specs.TreeOf.{tree_of};
@@ -20,7 +21,7 @@ ghost use Rattle.ix_can.specs.TreeOf.{tree_of};
 use crate::first::begins;
 use crate::plain_tests::{in_alphabet, is_match};
 use crate::values::{state_at, state_of};
-use ix_expr::{Env, Expr};
+use ix_expr::{Env, Expr, sees};
 use ix_tree::{Bag, Knot, Map, Node, Pair, Tree};
 use ix_values::{Action, Name, Value};
 
@@ -88,7 +89,7 @@ pub fn goes_on(expr: &Expr, env: &Env, state: &Knot, action: &Action) -> bool
         (Expr::Sync(parameter, y), Node::Sync(common, entries)) => {
             let body = Body { parameter, expr: y };
             in_alphabet(expr, env, action)
-                && each_goes_on_for(body, Outside::Stays, env, common, entries, action)
+                && each_goes_on_or_stays(body, env, common, entries, action)
         }
         (Expr::All(parameter, expr), Node::All(maps)) => {
             some_map_goes_on(Body { parameter, expr }, env, maps, action)
@@ -228,7 +229,8 @@ fn each_entry_goes_on(
     true
 }
 
-/// A value that has no entry is at the common tree.
+/// A value that has no entry is at the common tree. One that the body doesn't see does as others
+/// do, which don't go on.
 #[cycle(goes_on)]
 fn some_own_goes_on(
     body: Body,
@@ -240,18 +242,23 @@ fn some_own_goes_on(
     requires fits { FitsInside body.parameter.now (form_of body.expr.now) env.now }
     requires common { IsProper (form_of body.expr.now) common.now }
     requires entries { AreProper (form_of body.expr.now) entries.now }
+    requires unseen { UnseenAnswer false (stays Refused) (form_of body.expr.now) body.parameter.now
+        env.now action.now common.now (items_of (plain_entries entries.now)) }
     ensures { result ≡ list_any (λ v. may (form_of body.entry.expr.now) (bind body.entry.parameter.now (Some v) env.now) (tree_at v common.now (items_of (plain_entries entries.now))) action.now) action.now.values }
 {
     for value in action.values() {
         let state = state_at(entries, common, value);
-        if goes_on_at(body, Outside::Refused, Some(*value), env, state, action) {
+        if sees(body.expr, body.parameter, value, action)
+            && goes_on_at(body, Outside::Refused, Some(*value), env, state, action)
+        {
             return true;
         }
     }
     false
 }
 
-/// A value that has no entry is at the common tree.
+/// A value that has no entry is at the common tree. One that the body doesn't see does as others
+/// do, which go on.
 #[cycle(goes_on)]
 fn each_own_goes_on(
     body: Body,
@@ -264,11 +271,15 @@ fn each_own_goes_on(
     requires fits { FitsInside body.parameter.now (form_of body.expr.now) env.now }
     requires common { IsProper (form_of body.expr.now) common.now }
     requires entries { AreProper (form_of body.expr.now) entries.now }
+    requires unseen { UnseenAnswer true (stays outside) (form_of body.expr.now) body.parameter.now
+        env.now action.now common.now (items_of (plain_entries entries.now)) }
     ensures { result ≡ list_all (λ v. may_or_stays (stays outside) (form_of body.entry.expr.now) (bind body.entry.parameter.now (Some v) env.now) (tree_at v common.now (items_of (plain_entries entries.now))) action.now) action.now.values }
 {
     for value in action.values() {
         let state = state_at(entries, common, value);
-        if !goes_on_at(body, outside, Some(*value), env, state, action) {
+        if sees(body.expr, body.parameter, value, action)
+            && !goes_on_at(body, outside, Some(*value), env, state, action)
+        {
             return false;
         }
     }
@@ -309,13 +320,34 @@ fn each_goes_on_for(
     requires fits { FitsInside body.parameter.now (form_of body.expr.now) env.now }
     requires common { IsProper (form_of body.expr.now) common.now }
     requires entries { AreProper (form_of body.expr.now) entries.now }
-    ensures { result ≡ (may_or_stays (stays outside) (form_of body.entry.expr.now) (bind body.entry.parameter.now None env.now) common.now action.now
-        && (list_all (λ x. may_or_stays (stays outside) (form_of body.entry.expr.now) (bind body.entry.parameter.now (Some (key x)) env.now) (first_part x) action.now) (items_of (plain_entries entries.now))
-        && list_all (λ v. may_or_stays (stays outside) (form_of body.entry.expr.now) (bind body.entry.parameter.now (Some v) env.now) (tree_at v common.now (items_of (plain_entries entries.now))) action.now) action.now.values)) }
+    ensures { result ≡ each_may_or_stays (stays outside) (form_of body.entry.expr.now)
+        body.entry.parameter.now env.now action.now common.now (items_of (plain_entries entries.now)) }
 {
     goes_on_at(body, outside, None, env, common, action)
         && (each_entry_goes_on(body, outside, env, entries, action)
             && each_own_goes_on(body, outside, env, common, entries, action))
+}
+
+/// Where outside isn't in the alphabet, no value is but those of the action that the body sees:
+/// each other one stays, whether it has an entry or not.
+#[cycle(goes_on)]
+fn each_goes_on_or_stays(
+    body: Body,
+    env: &Env,
+    common: &Knot,
+    entries: &[(Value, Knot)],
+    action: &Action,
+) -> bool
+    requires fits { FitsInside body.parameter.now (form_of body.expr.now) env.now }
+    requires common { IsProper (form_of body.expr.now) common.now }
+    requires entries { AreProper (form_of body.expr.now) entries.now }
+    ensures { result ≡ each_may_or_stays true (form_of body.entry.expr.now)
+        body.entry.parameter.now env.now action.now common.now (items_of (plain_entries entries.now)) }
+{
+    if in_alphabet(body.expr, &env.with(*body.parameter, None), action) {
+        return each_goes_on_for(body, Outside::Stays, env, common, entries, action);
+    }
+    each_own_goes_on(body, Outside::Stays, env, common, entries, action)
 }
 
 /// In some map one of the action's own values goes on: no other value takes part.

@@ -1,5 +1,6 @@
 -- What the code asks on its way to an answer, and when it may ask: the operand fits, and the trees in it are proper.
-use Rattle.std.specs.Prelude.{ℕ, Bool, true, false, not, ◌||◌, List, Some, if◌then◌else◌}
+use Rattle.std.specs.Prelude.{◌≡◌, ℕ, Bool, true, false, not, ◌&&◌, ◌||◌, List, Some, None, if◌then◌else◌}
+use Rattle.std.specs.List.{list_all}
 use Rattle.ix_words.specs.Each.{Each}
 use Rattle.ix_entries.specs.inside.Entries.{KeysAscend}
 use Rattle.ix_values.specs.Order.{text_cmp}
@@ -8,8 +9,9 @@ use Rattle.ix_expr.specs.Form.{Form}
 use Rattle.ix_expr.specs.Environment.{Environment, bind}
 use Rattle.ix_expr.specs.Fitting.{FitsInside}
 use Rattle.ix_expr.specs.FormFaults.{Fits}
+use Rattle.ix_expr.specs.Sees.{Sees}
 use Rattle.ix_tree.specs.Plain.{Plain, dead}
-use Rattle.ix_tree.specs.Order.{first_part}
+use Rattle.ix_tree.specs.Order.{key, first_part}
 use Rattle.ix_tree.specs.PlainOf.{plain_entries}
 use Rattle.ix_can.specs.declared.next.Outside.{Outside}
 use Rattle.ix_can.specs.declared.next.Outside.TheVariants.{Refused, Stays}
@@ -45,3 +47,15 @@ pub record AreProper (y : Form) (es : List (List ℕ × Plain)) : Type 0 where
 abbrev pub stays : Outside → Bool
 stays Refused = false
 stays Stays = true
+
+-- whether the common tree, each entry's and that of each of the action's values go on, or stay
+abbrev pub each_may_or_stays : Bool → Form → List ℕ → Environment → PlainAction → Plain → List Plain → Bool
+each_may_or_stays stays y p e a common entries =
+    may_or_stays stays y (bind p None e) common a
+    && (list_all (λ x. may_or_stays stays y (bind p (Some (key x)) e) (first_part x) a) entries
+    && list_all (λ v. may_or_stays stays y (bind p (Some v) e) (tree_at v common entries) a) a.values)
+
+-- of each value that no atom sees the answer is b
+abbrev pub UnseenAnswer : Bool → Bool → Form → List ℕ → Environment → PlainAction → Plain → List Plain → Type 0
+UnseenAnswer b stays y p e a common entries =
+    (v : List ℕ) → ¬ Sees y p v a → may_or_stays stays y (bind p (Some v) e) (tree_at v common entries) a ≡ b

@@ -1,18 +1,24 @@
 -- What each call behind `can` asks holds.
-use Rattle.std.proofs.Common.{◌≡◌, Bool, true, ◌&&◌, map, Some, arith, rules, sym, ap, ◌∙◌, subst}
+use Rattle.std.proofs.Common.{◌≡◌, Bool, true, ◌&&◌, map, Some, None, arith, rules, sym, ap, ◌∙◌, subst}
 use Rattle.ix_expr.specs.declared.expr.Expr.TheViews.{the_lemmas}
 use Rattle.ix_expr.specs.Environment.{Environment}
 use Rattle.ix_expr.specs.Form.{Form, opt, seq, star, par, par_star, or, and, couple, any, every, sync, all}
 use Rattle.ix_expr.specs.FormFaults.{Fits}
 use Rattle.ix_expr.specs.inside.FormOf.{form_of}
-use Rattle.ix_tree.specs.Plain.{Plain, listed, seq as seq_of, star as star_of, par as par_of, par_star as par_star_of, any as any_of, every as every_of, sync as sync_of, all as all_of}
+use Rattle.ix_words.specs.Canon.{Ascending}
+use Rattle.ix_values.specs.Order.{text_cmp}
+use Rattle.ix_tree.specs.Order.{key}
+use Rattle.ix_tree.specs.Plain.{Plain, listed, items_of, seq as seq_of, star as star_of, par as par_of, par_star as par_star_of, any as any_of, every as every_of, sync as sync_of, all as all_of}
 use Rattle.ix_tree.specs.PlainOf.{plain_pair, plain_bag, plain_map, plain_entry, plain_entries}
 use Rattle.ix_tree.specs.inside.PlainNode.{plain_node}
-use Rattle.ix_can.specs.inside.CanAsk.{CanAsk, AreProper}
+use Rattle.ix_tree.proofs.PlainLists.{items_of-listed}
+use Rattle.ix_can.specs.inside.CanAsk.{CanAsk, AreProper, stays}
 use Rattle.ix_can.specs.Laws.{IsProper}
 use Rattle.ix_can.specs.inside.May.{may}
 use Rattle.ix_can.specs.Tests.{in_alphabet}
 use Rattle.ix_can.proofs.Asking.{opt_asked, seq_first, seq_rest, star_rest, par_pairs, par_star_bags, or_first, or_second, and_first, and_second, couple_first, couple_second, any_values, every_values, sync_values, all_maps, tree_has, part_has, entries_proper, state_proper, own_proper}
+use Rattle.ix_can.proofs.Keys.{entries_ascend}
+use Rattle.ix_can.proofs.UnseenValues.{unseen_none, unseen_all, unseen_stay, own_tell}
 use Rattle.ix_can.proofs.next.+goes_on.Goals as goal
 
 -- a test that is asked where the other one holds
@@ -83,8 +89,8 @@ pub goes_on-each_goes_on_for-requires : goal.goes_on-each_goes_on_for-requires
 goes_on-each_goes_on_for-requires t c =
     (search (rules, the_lemmas), every_values (asked (ap form_of c.in-Every-Every.is-0 ∙ ap (λ v. every c.in-Every-Every.parameter (form_of v)) (sym c.deref-in-Every-Every.ensures)) (sym c.node.ensures ∙ ap plain_node c.in-Every-Every.is-1 ∙ ap (λ v. every_of c.in-Every-Every.common (plain_entries v)) (sym c.deref-in-Every-Every-2.ensures.value)) c.requires))
 
-pub goes_on-each_goes_on_for-requires-then-in_alphabet-2 : goal.goes_on-each_goes_on_for-requires-then-in_alphabet-2
-goes_on-each_goes_on_for-requires-then-in_alphabet-2 t c =
+pub goes_on-each_goes_on_or_stays-requires : goal.goes_on-each_goes_on_or_stays-requires
+goes_on-each_goes_on_or_stays-requires t c =
     (search (rules, the_lemmas), sync_values (asked (ap form_of c.in-Sync-Sync.is-0 ∙ ap (λ v. sync c.in-Sync-Sync.parameter (form_of v)) (sym c.deref-in-Sync-Sync.ensures)) (sym c.node.ensures ∙ ap plain_node c.in-Sync-Sync.is-1 ∙ ap (λ v. sync_of c.in-Sync-Sync.common (plain_entries v)) (sym c.deref-then-in_alphabet-2.ensures.value)) c.requires))
 
 pub goes_on-some_map_goes_on-requires : goal.goes_on-some_map_goes_on-requires
@@ -117,7 +123,7 @@ goes_on-returns-then-in_alphabet-2 t c =
     let a = c.args.action.now in
     let shape = ap form_of c.in-Sync-Sync.is-0 ∙ ap (λ v. sync c.in-Sync-Sync.parameter (form_of v)) (sym c.deref-in-Sync-Sync.ensures) in
     let tree = sym c.node.ensures ∙ ap plain_node c.in-Sync-Sync.is-1 ∙ ap (λ v. sync_of c.in-Sync-Sync.common (plain_entries v)) (sym c.deref-then-in_alphabet-2.ensures.value) in
-    inside_too (in_alphabet (sync c.in-Sync-Sync.parameter (form_of c.deref-in-Sync-Sync.result.now)) e a) _ c.each_goes_on_for-then-in_alphabet-2.result (ap (λ x. in_alphabet x e a) (sym shape) ∙ sym c.in_alphabet-in-Sync-Sync.ensures ∙ c.if-in_alphabet-2.true) c.each_goes_on_for-then-in_alphabet-2.ensures
+    inside_too (in_alphabet (sync c.in-Sync-Sync.parameter (form_of c.deref-in-Sync-Sync.result.now)) e a) _ c.each_goes_on_or_stays.result (ap (λ x. in_alphabet x e a) (sym shape) ∙ sym c.in_alphabet-in-Sync-Sync.ensures ∙ c.if-in_alphabet-2.true) c.each_goes_on_or_stays.ensures
     ∙ ap (λ s. may (sync c.in-Sync-Sync.parameter (form_of c.deref-in-Sync-Sync.result.now)) e s a) (sym tree)
     ∙ ap (λ x. may x e c.args.state.now a) (sym shape)
 
@@ -166,3 +172,34 @@ some_own_goes_on-goes_on_at-requires t c =
 pub each_own_goes_on-goes_on_at-requires : goal.each_own_goes_on-goes_on_at-requires
 each_own_goes_on-goes_on_at-requires t c =
     (search (rules, the_lemmas), (c.requires.fits, subst (IsProper (form_of c.args.body.expr.now)) (sym c.state_at-state.ensures) (state_proper c.args.common.now c.value-item.result c.requires.common c.requires.entries)))
+
+pub some_goes_on_for-some_own_goes_on-requires : goal.some_goes_on_for-some_own_goes_on-requires
+some_goes_on_for-some_own_goes_on-requires t c =
+    let none = unseen_none (form_of c.args.body.expr.now) c.args.body.parameter.now c.args.env.now c.args.action.now c.args.common.now (items_of (plain_entries c.args.entries.now))
+    (sym c.goes_on_at.ensures ∙ c.if-goes_on_at.false) (sym c.some_entry_goes_on.ensures ∙ c.if-some_entry_goes_on.false) in
+    (search (rules, the_lemmas), (c.requires.fits, (c.requires.common, (c.requires.entries, none))))
+
+pub each_goes_on_for-each_own_goes_on-requires : goal.each_goes_on_for-each_own_goes_on-requires
+each_goes_on_for-each_own_goes_on-requires t c =
+    let all = unseen_all (form_of c.args.body.expr.now) c.args.body.parameter.now c.args.env.now c.args.action.now c.args.common.now (items_of (plain_entries c.args.entries.now)) (stays c.args.outside)
+    (sym c.goes_on_at.ensures ∙ c.if-goes_on_at.true) (sym c.each_entry_goes_on.ensures ∙ c.if-each_entry_goes_on.true) in
+    (search (rules, the_lemmas), (c.requires.fits, (c.requires.common, (c.requires.entries, all))))
+
+pub each_goes_on_or_stays-in_alphabet-requires : goal.each_goes_on_or_stays-in_alphabet-requires
+each_goes_on_or_stays-in_alphabet-requires t c =
+    subst (Fits (form_of c.args.body.expr.now)) (sym c.with.ensures) (c.requires.fits.body None)
+
+pub each_goes_on_or_stays-each_own_goes_on-requires : goal.each_goes_on_or_stays-each_own_goes_on-requires
+each_goes_on_or_stays-each_own_goes_on-requires t c =
+    let y = form_of c.args.body.expr.now in
+    let outside = ap (λ f. in_alphabet y f c.args.action.now) (sym c.with.ensures) ∙ sym c.in_alphabet.ensures ∙ c.if-in_alphabet.false in
+    let stay = unseen_stay y c.args.body.parameter.now c.args.env.now c.args.action.now c.args.common.now (items_of (plain_entries c.args.entries.now)) outside in
+    (search (rules, the_lemmas), (c.requires.fits, (c.requires.common, (c.requires.entries, stay))))
+
+pub each_goes_on_or_stays-returns : goal.each_goes_on_or_stays-returns
+each_goes_on_or_stays-returns t c =
+    let y = form_of c.args.body.expr.now in
+    let es = c.args.entries.now in
+    let outside = ap (λ f. in_alphabet y f c.args.action.now) (sym c.with.ensures) ∙ sym c.in_alphabet.ensures ∙ c.if-in_alphabet.false in
+    let ascending = subst (Ascending (λ x z. text_cmp (key x) (key z))) (sym (items_of-listed (map plain_entry es))) (entries_ascend es c.requires.entries.ascending) in
+    own_tell y c.args.body.parameter.now c.args.env.now c.args.action.now c.args.common.now (items_of (plain_entries es)) ascending outside c.each_own_goes_on.result c.each_own_goes_on.ensures

@@ -82,6 +82,9 @@ decreases-some_goes_on_for l = 8 * count (form_of l.body.expr.now) + 4
 abbrev pub decreases-each_goes_on_for : goal.decreases-each_goes_on_for
 decreases-each_goes_on_for l = 8 * count (form_of l.body.expr.now) + 4
 
+abbrev pub decreases-each_goes_on_or_stays : goal.decreases-each_goes_on_or_stays
+decreases-each_goes_on_or_stays l = 8 * count (form_of l.body.expr.now) + 5
+
 abbrev pub decreases-some_map_goes_on : goal.decreases-some_map_goes_on
 decreases-some_map_goes_on l = 8 * count (form_of l.body.expr.now) + 5
 
