@@ -16,7 +16,7 @@ use Rattle.ix_words.proofs.Canon.{by_order-has, canon-members, flat_map-append, 
 use Rattle.ix_values.specs.Order.{text_eq, text_cmp}
 use Rattle.ix_values.specs.lemmas.Order.{text_cmp-same, text_eq-decides}
 use Rattle.ix_entries.specs.inside.Entries.{KeysAscend, IsProper, item_at, with_entry}
-use Rattle.ix_tree.specs.Plain.{Plain, entry, listed, pair}
+use Rattle.ix_tree.specs.Plain.{Plain, entry, listed, more}
 use Rattle.ix_tree.specs.PlainOf.{plain_entry, plain_entries}
 use Rattle.ix_tree.specs.Order.{key, first_part, tree_cmp}
 use Rattle.ix_tree.specs.Size.{size_of}
@@ -182,10 +182,10 @@ module _ (eq : Plain → Plain → Bool) (agree : (x y : Plain) → eq x y ≡ s
 -- The limit
 
 -- a value's tree is no larger than the entries of all values with the common tree
-pub value_size : (common : Plain) (tree : List ℕ → Plain) (values : List (List ℕ)) (v : List ℕ) → Member v values → size_of (tree v) ≤ size_of (pair common (listed (entries_put common tree values)))
+pub value_size : (common : Plain) (tree : List ℕ → Plain) (values : List (List ℕ)) (v : List ℕ) → Member v values → size_of (tree v) ≤ size_of (more common (listed (entries_put common tree values)))
 value_size common tree values v m = by_test (same_tree (tree v) common) refl
   where
-    by_test : (b : Bool) → same_tree (tree v) common ≡ b → size_of (tree v) ≤ size_of (pair common (listed (entries_put common tree values)))
+    by_test : (b : Bool) → same_tree (tree v) common ≡ b → size_of (tree v) ≤ size_of (more common (listed (entries_put common tree values)))
     by_test true e = let s : size_of (tree v) ≡ size_of common = ap size_of (same_is (tree v) common e) in omega arith
     by_test false e =
         let k : size_of (entry v (tree v)) ≤ size_all (put_all (entries_of common tree values) []) = put_all_holds (entry v (tree v)) (entries_of common tree values) [] (flat_map-Member (λ u. when (not (same_tree (tree u) common)) (entry u (tree u) ∷ [])) m (when-Member ((when_not (same_tree (tree v) common) itself).1 e) here)) in

@@ -12,5 +12,6 @@ pub mod Quantifying
 pub mod MapEntries
 pub mod Mapping
 pub mod MovedIs
+pub mod Pruning
 pub mod Exits
 pub mod Repeats

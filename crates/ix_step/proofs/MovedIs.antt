@@ -1,19 +1,101 @@
--- Where the action may come next, the moved tree is the node of what its parts become.
-use Rattle.std.proofs.Common.{◌≡◌, Bool, true, false, not, [], ◌∷◌, ◌++◌, flat_map, refl, sym, ap, ◌∙◌, true≢false, if◌then◌else◌}
+-- The moved tree is the node of what its parts become, dead where none of them is live.
+use Rattle.std.proofs.Common.{◌≡◌, ℕ, Bool, true, false, not, ◌&&◌, ◌||◌, List, [], ◌∷◌, ◌++◌, flat_map, Some, None, refl, sym, ap, ◌∙◌, true≢false, if◌then◌else◌}
 use Rattle.std.specs.List.{list_any}
-use Rattle.ix_words.specs.Canon.{when}
+use Rattle.ix_words.specs.Canon.{canon, when}
 use Rattle.ix_values.specs.PlainAction.{PlainAction}
 use Rattle.ix_expr.specs.Form.{Form, atom, opt, seq, star, par, par_star, or, and, couple, any, every, sync, all}
-use Rattle.ix_expr.specs.Environment.{Environment}
-use Rattle.ix_tree.specs.Plain.{Plain, dead, start, done, opt as opt_of, seq as seq_of, star as star_of, par as par_of, par_star as par_star_of, or as or_of, and as and_of, couple as couple_of, any as any_of, every as every_of, sync as sync_of, all as all_of}
-use Rattle.ix_can.specs.Nodes.{items_of, set_of, live, dead_if}
-use Rattle.ix_can.specs.TreeOf.{is_final}
-use Rattle.ix_can.specs.inside.May.{may}
-use Rattle.ix_can.specs.inside.Moved.{moved}
-use Rattle.ix_step.specs.inside.MapsAfter.{maps_after}
+use Rattle.ix_expr.specs.Environment.{Environment, bind}
+use Rattle.ix_expr.specs.Fitting.{FitsInside}
+use Rattle.ix_expr.specs.FormFaults.{Fits}
+use Rattle.ix_expr.proofs.Parts.{fits-operands}
+use Rattle.ix_tree.specs.Plain.{Plain, dead, start, done, is_dead, listed, items_of, pair, bag, entry, opt as opt_of, seq as seq_of, star as star_of, par as par_of, par_star as par_star_of, or as or_of, and as and_of, couple as couple_of, any as any_of, every as every_of, sync as sync_of, all as all_of}
+use Rattle.ix_tree.specs.Order.{tree_cmp, key, first_part, second_part}
+use Rattle.ix_can.specs.Nodes.{is_live, same_tree, set_of, put_in, live, dead_if}
+use Rattle.ix_can.specs.TreeOf.{is_final, tree_of}
+use Rattle.ix_can.specs.Ways.{is_empty}
+use Rattle.ix_can.specs.inside.May.{may, may_first, tree_at}
+use Rattle.ix_can.specs.inside.Moved.{moved, picks, bag_with, entry_with, or_initial}
+use Rattle.ix_can.proofs.Children.{any_made}
+use Rattle.ix_can.proofs.Lists.{one_test}
+use Rattle.ix_can.proofs.MovesShared.{moved_live, first_may}
+use Rattle.ix_can.proofs.MovesTell.{each_step}
+use Rattle.ix_can.proofs.Nodes.{dead_is, never_dead, same_is, same_from}
+use Rattle.ix_step.specs.inside.Initial.{initial_tree}
+use Rattle.ix_step.specs.inside.MapsAfter.{maps_after, map_after, begun_tree, with_tree}
 use Rattle.ix_step.specs.inside.MovedNode.{moved_node}
-use Rattle.ix_step.specs.inside.Moves.{live_moves, begun, begun_again}
+use Rattle.ix_step.specs.inside.Moves.{live_move, live_moves, begun, begun_again, second_parts, last_runs}
+use Rattle.ix_step.specs.inside.ParallelMoves.{pair_moves, pick_move, pick_moves, bag_moves}
+use Rattle.ix_step.specs.inside.Pruned.{passes, is_none, pruned}
 use Rattle.ix_step.proofs.Beginnings.{initial_is}
+use Rattle.ix_step.proofs.Gathered.{any_of_set}
+
+-- Tests
+
+not_not : (b : Bool) → not (not b) ≡ b
+not_not true = refl
+not_not false = refl
+
+neither : (b c : Bool) → (not b && not c) ≡ not (b || c)
+neither true c = refl
+neither false c = refl
+
+neither_back : (b c : Bool) → (not c && not b) ≡ not (b || c)
+neither_back true true = refl
+neither_back true false = refl
+neither_back false true = refl
+neither_back false false = refl
+
+and_true : (b : Bool) → (b && true) ≡ b
+and_true true = refl
+and_true false = refl
+
+-- what counts only where the first test holds is compared there
+only_where : (b : Bool) {c d : Bool} → (b ≡ true → c ≡ d) → (b && c) ≡ (b && d)
+only_where true h = h refl
+only_where false h = refl
+
+both_are : (a b c d : Bool) → a ≡ c → b ≡ d → (a && b) ≡ (c && d)
+both_are a b c d f g = ap (λ x. x && b) f ∙ ap (λ x. c && x) g
+
+-- Lists with nothing in them
+
+module _ {A : Type 0} where
+  empty_both : (us vs : List A) → is_empty (us ++ vs) ≡ (is_empty us && is_empty vs)
+  empty_both [] vs = refl
+  empty_both (u ∷ us) vs = refl
+
+  empty_when : (b : Bool) (x : A) → is_empty (when b (x ∷ [])) ≡ not b
+  empty_when true x = refl
+  empty_when false x = refl
+
+  empty_says : (xs : List A) → is_empty xs ≡ not (list_any (λ x. true) xs)
+  empty_says [] = refl
+  empty_says (x ∷ xs) = refl
+
+module _ {A B : Type 0} (test : A → Bool) (make : A → List B) (says : (x : A) → is_empty (make x) ≡ not (test x)) where
+  -- nothing is made exactly where none passes the test
+  none_made : (xs : List A) → is_empty (flat_map make xs) ≡ not (list_any test xs)
+  none_made [] = refl
+  none_made (x ∷ xs) =
+      empty_both (make x) (flat_map make xs)
+      ∙ both_are (is_empty (make x)) (is_empty (flat_map make xs)) (not (test x)) (not (list_any test xs)) (says x) (none_made xs)
+      ∙ neither (test x) (list_any test xs)
+
+listed_none : (xs : List Plain) → is_none (listed xs) ≡ is_empty xs
+listed_none [] = refl
+listed_none (x ∷ xs) = refl
+
+-- a set has no item exactly where nothing is put into it
+set_none : (xs : List Plain) → is_none (set_of xs) ≡ is_empty xs
+set_none xs =
+    listed_none (canon tree_cmp xs) ∙ empty_says (canon tree_cmp xs)
+    ∙ ap not (any_of_set (λ x. true) xs) ∙ sym (empty_says xs)
+
+-- nor does one of two lots
+sets_none : (us vs : List Plain) → is_none (set_of (us ++ vs)) ≡ (is_empty us && is_empty vs)
+sets_none us vs = set_none (us ++ vs) ∙ empty_both us vs
+
+-- Moved parts
 
 lives : (b : Bool) (t : Plain) → b ≡ true → dead_if (not b) t ≡ t
 lives true t h = refl
@@ -27,24 +109,186 @@ again_live : (b : Bool) (x : Form) (e : Environment) (a : PlainAction) → when 
 again_live true x e a = refl
 again_live false x e a = refl
 
-pub moved_is : (x : Form) (e : Environment) (t : Plain) (a : PlainAction) → may x e t a ≡ true → moved x e t a ≡ moved_node x e t a
-moved_is (atom x) e start a h = atom_done (may (atom x) e start a) h
-moved_is (opt y) e (opt_of b t) a h = lives (may (opt y) e (opt_of b t) a) _ h
-moved_is (seq y z) e (seq_of t rest) a h =
-    lives (may (seq y z) e (seq_of t rest) a) _ h
-    ∙ ap (λ u. seq_of (moved y e t a) (set_of (live_moves z e a (items_of rest) ++ when (is_final y (moved y e t a)) (u ∷ [])))) (initial_is z [])
-moved_is (star y) e (star_of again rest) a h =
-    lives (may (star y) e (star_of again rest) a) _ h
-    ∙ ap (λ more. star_of (list_any (is_final y) (live_moves y e a (items_of rest) ++ more)) (set_of (live_moves y e a (items_of rest) ++ more))) (again_live again y e a)
-moved_is (par y z) e (par_of pairs) a h = lives (may (par y z) e (par_of pairs) a) _ h
-moved_is (par_star y) e (par_star_of bags) a h = lives (may (par_star y) e (par_star_of bags) a) _ h
-moved_is (or y z) e (or_of t u) a h = lives (may (or y z) e (or_of t u) a) _ h
-moved_is (and y z) e (and_of t u) a h = lives (may (and y z) e (and_of t u) a) _ h
-moved_is (couple y z) e (couple_of t u) a h = lives (may (couple y z) e (couple_of t u) a) _ h
-moved_is (any p y) e (any_of common entries) a h = lives (may (any p y) e (any_of common entries) a) _ h
-moved_is (every p y) e (every_of common entries) a h = lives (may (every p y) e (every_of common entries) a) _ h
-moved_is (sync p y) e (sync_of common entries) a h = lives (may (sync p y) e (sync_of common entries) a) _ h
-moved_is (all p y) e (all_of maps) a h =
-    lives (may (all p y) e (all_of maps) a) _ h
-    ∙ ap (λ u. all_of (set_of (flat_map (maps_after p y e a u a.values) (items_of maps)))) (initial_is y [])
-moved_is _ e _ a h = absurd (true≢false (sym h))
+-- a dead tree isn't final
+dead_not_final : (x : Form) (t : Plain) → is_dead t ≡ true → is_final x t ≡ false
+dead_not_final x t d = ap (is_final x) (dead_is t d) ∙ never_dead x
+
+-- beside a dead common tree a value has an entry exactly where its tree is live
+entry_lives : (common : Plain) (v : List ℕ) (t : Plain) → is_dead common ≡ true → is_empty (entry_with common v t) ≡ not (is_live t)
+entry_lives common v t d =
+    empty_when (not (same_tree t common)) (entry v t)
+    ∙ ap (λ b. not (not b)) (ap (same_tree t) (dead_is common d) ∙ one_test (same_tree t dead) (is_dead t) (λ s. ap is_dead (same_is t dead s), λ k. same_from t dead (dead_is t k)))
+
+module _ (x : Form) (e : Environment) (a : PlainAction) where
+  -- a part is dead exactly where the action may not come next
+  died : (t : Plain) → not (may x e t a) ≡ is_dead (moved x e t a)
+  died t = ap not (sym (moved_live x e t a)) ∙ not_not (is_dead (moved x e t a))
+
+  unmoved : (t : Plain) → not (is_live (moved x e t a)) ≡ not (may x e t a)
+  unmoved t = ap not (moved_live x e t a)
+
+  none_moved : (ts : List Plain) → is_empty (live_moves x e a ts) ≡ not (list_any (λ t. may x e t a) ts)
+  none_moved = none_made (λ t. may x e t a) (live_move x e a) (λ t. empty_when (is_live (moved x e t a)) (moved x e t a) ∙ unmoved t)
+
+  -- the first action may come exactly where it moves the tree of the empty word
+  begins : Fits x e → is_live (begun x e a) ≡ may_first x e a
+  begins f =
+      let k = each_step x e a f in
+      moved_live x e (tree_of x [] []) a ∙ sym (first_may x e [] a k.first k.next)
+
+  begins_again : (again : Bool) → Fits x e → is_live (begun_again again x e a) ≡ (again && may_first x e a)
+  begins_again true f = begins f
+  begins_again false f = refl
+
+-- Forms: where none of its parts moves
+
+module _ (y z : Form) (e : Environment) (a : PlainAction) where
+  seq_died : (t : Plain) (us : List Plain) → not (may y e t a || list_any (λ s. may z e s a) us) ≡ (is_dead (moved y e t a) && is_none (set_of (second_parts y z e a (moved y e t a) us)))
+  seq_died t us =
+      let m : Plain = moved y e t a in
+      let some : Bool = list_any (λ s. may z e s a) us in
+      sym (neither (may y e t a) some)
+      ∙ ap (λ b. b && not some) (died y e a t)
+      ∙ only_where (is_dead m) (λ d.
+      sym (and_true (not some))
+      ∙ ap (λ b. not some && not b) (sym (dead_not_final y m d))
+      ∙ both_are (not some) (not (is_final y m)) (is_empty (live_moves z e a us)) (is_empty (when (is_final y m) (initial_tree z ∷ []))) (sym (none_moved z e a us)) (sym (empty_when (is_final y m) (initial_tree z)))
+      ∙ sym (sets_none (live_moves z e a us) (when (is_final y m) (initial_tree z ∷ []))))
+
+  none_paired : (p : Plain) → is_empty (pair_moves y z e a p) ≡ not (may y e (first_part p) a || may z e (second_part p) a)
+  none_paired p =
+      let x : Plain = first_part p in
+      let u : Plain = second_part p in
+      let left : Plain = moved y e (first_part p) a in
+      let right : Plain = moved z e (second_part p) a in
+      empty_both (when (is_live left) (pair left u ∷ [])) (when (is_live right) (pair x right ∷ []))
+      ∙ both_are (is_empty (when (is_live left) (pair left u ∷ []))) (is_empty (when (is_live right) (pair x right ∷ []))) (not (may y e x a)) (not (may z e u a))
+      (empty_when (is_live left) (pair left u) ∙ unmoved y e a x) (empty_when (is_live right) (pair x right) ∙ unmoved z e a u)
+      ∙ neither (may y e x a) (may z e u a)
+
+  par_died : (ps : List Plain) → not (list_any (λ p. may y e (first_part p) a || may z e (second_part p) a) ps) ≡ is_none (set_of (flat_map (pair_moves y z e a) ps))
+  par_died ps =
+      sym (none_made (λ p. may y e (first_part p) a || may z e (second_part p) a) (pair_moves y z e a) none_paired ps)
+      ∙ sym (set_none (flat_map (pair_moves y z e a) ps))
+
+  or_died : (t u : Plain) → not (may y e t a || may z e u a) ≡ (is_dead (moved y e t a) && is_dead (moved z e u a))
+  or_died t u =
+      sym (neither (may y e t a) (may z e u a))
+      ∙ both_are (not (may y e t a)) (not (may z e u a)) (is_dead (moved y e t a)) (is_dead (moved z e u a)) (died y e a t) (died z e a u)
+
+picked : (test : Plain → Bool) (ts : List Plain) → list_any (λ p. test p.0) (picks ts) ≡ list_any test ts
+picked test [] = refl
+picked test (t ∷ ts) =
+    ap (λ b. test t || b) (sym (any_made (λ (p : Plain × List Plain). test p.0) (λ (p : Plain × List Plain). (p.0, t ∷ p.1)) (λ (p : Plain × List Plain). test p.0) (λ p. refl) (picks ts)) ∙ picked test ts)
+
+module _ (y : Form) (e : Environment) (a : PlainAction) (f : Fits y e) where
+  star_died : (again : Bool) (us : List Plain) → not ((again && may_first y e a) || list_any (λ s. may y e s a) us) ≡ is_none (set_of (last_runs y e a again us))
+  star_died again us =
+      let first : Plain = begun_again again y e a in
+      let begin : Bool = again && may_first y e a in
+      let some : Bool = list_any (λ s. may y e s a) us in
+      sym (neither_back begin some)
+      ∙ both_are (not some) (not begin) (is_empty (live_moves y e a us)) (is_empty (live first)) (sym (none_moved y e a us)) (ap not (sym (begins_again y e a again f)) ∙ sym (empty_when (is_live first) first))
+      ∙ sym (sets_none (live_moves y e a us) (live first))
+
+  none_picked : (ts : List Plain) → is_empty (pick_moves y e a ts) ≡ not (list_any (λ s. may y e s a) ts)
+  none_picked ts =
+      none_made (λ (p : Plain × List Plain). may y e p.0 a) (pick_move y e a) (λ p. empty_when (is_live (moved y e p.0 a)) (bag (listed (put_in (moved y e p.0 a) p.1))) ∙ unmoved y e a p.0) (picks ts)
+      ∙ ap not (picked (λ s. may y e s a) ts)
+
+  none_bagged : (b : Plain) → is_empty (bag_moves y e a b) ≡ not (may_first y e a || list_any (λ s. may y e s a) (items_of (first_part b)))
+  none_bagged b =
+      let ts : List Plain = items_of (first_part b) in
+      let some : Bool = list_any (λ s. may y e s a) ts in
+      empty_both (pick_moves y e a ts) (bag_with (begun y e a) ts)
+      ∙ both_are (is_empty (pick_moves y e a ts)) (is_empty (bag_with (begun y e a) ts)) (not some) (not (may_first y e a)) (none_picked ts)
+      (empty_when (is_live (begun y e a)) (bag (listed (put_in (begun y e a) ts))) ∙ ap not (begins y e a f))
+      ∙ neither_back (may_first y e a) some
+
+  par_star_died : (bs : List Plain) → not (list_any (λ b. may_first y e a || list_any (λ s. may y e s a) (items_of (first_part b))) bs) ≡ is_none (set_of (flat_map (bag_moves y e a) bs))
+  par_star_died bs =
+      sym (none_made (λ b. may_first y e a || list_any (λ s. may y e s a) (items_of (first_part b))) (bag_moves y e a) none_bagged bs)
+      ∙ sym (set_none (flat_map (bag_moves y e a) bs))
+
+module _ (p : List ℕ) (y : Form) (e : Environment) (a : PlainAction) where
+  -- the entries of the values of a dead common tree
+  module _ (common next : Plain) (xs : List Plain) where
+    abbrev own_test : Plain → Bool
+    own_test x = may y (bind p (Some (key x)) e) (first_part x) a
+
+    abbrev own_entry : Plain → List Plain
+    own_entry x = entry_with next (key x) (moved y (bind p (Some (key x)) e) (first_part x) a)
+
+    abbrev value_test : List ℕ → Bool
+    value_test v = may y (bind p (Some v) e) (tree_at v common xs) a
+
+    abbrev value_entry : List ℕ → List Plain
+    value_entry v = entry_with next v (moved y (bind p (Some v) e) (tree_at v common xs) a)
+
+    none_entered : is_dead next ≡ true → not (list_any own_test xs || list_any value_test a.values) ≡ is_none (set_of (flat_map own_entry xs ++ flat_map value_entry a.values))
+    none_entered d =
+        sym (neither (list_any own_test xs) (list_any value_test a.values))
+        ∙ both_are (not (list_any own_test xs)) (not (list_any value_test a.values)) (is_empty (flat_map own_entry xs)) (is_empty (flat_map value_entry a.values))
+        (sym (none_made own_test own_entry (λ x. entry_lives next (key x) (moved y (bind p (Some (key x)) e) (first_part x) a) d ∙ unmoved y (bind p (Some (key x)) e) a (first_part x)) xs))
+        (sym (none_made value_test value_entry (λ v. entry_lives next v (moved y (bind p (Some v) e) (tree_at v common xs) a) d ∙ unmoved y (bind p (Some v) e) a (tree_at v common xs)) a.values))
+        ∙ sym (sets_none (flat_map own_entry xs) (flat_map value_entry a.values))
+
+  any_died : (common : Plain) (xs : List Plain) →
+      not (may y (bind p None e) common a || (list_any (λ x. may y (bind p (Some (key x)) e) (first_part x) a) xs || list_any (λ v. may y (bind p (Some v) e) (tree_at v common xs) a) a.values))
+      ≡ (is_dead (moved y (bind p None e) common a) && is_none (set_of (flat_map (λ x. entry_with (moved y (bind p None e) common a) (key x) (moved y (bind p (Some (key x)) e) (first_part x) a)) xs
+      ++ flat_map (λ v. entry_with (moved y (bind p None e) common a) v (moved y (bind p (Some v) e) (tree_at v common xs) a)) a.values)))
+  any_died common xs =
+      let next : Plain = moved y (bind p None e) common a in
+      let some : Bool = list_any (own_test common next xs) xs || list_any (value_test common next xs) a.values in
+      sym (neither (may y (bind p None e) common a) some)
+      ∙ ap (λ b. b && not some) (died y (bind p None e) a common)
+      ∙ only_where (is_dead next) (none_entered common next xs)
+
+  -- whether the value of the map goes on, or begins where it has no live tree
+  abbrev owner_test : Plain → List ℕ → Bool
+  owner_test m v = if is_dead (tree_at v dead (items_of (first_part m))) then may_first y (bind p (Some v) e) a else may y (bind p (Some v) e) (tree_at v dead (items_of (first_part m))) a
+
+  module _ (f : FitsInside p y e) where
+    owner_lives : (v : List ℕ) (t : Plain) → is_live (moved y (bind p (Some v) e) (or_initial (initial_tree y) t) a) ≡ (if is_dead t then may_first y (bind p (Some v) e) a else may y (bind p (Some v) e) t a)
+    owner_lives v t = chosen (is_dead t)
+      where
+        chosen : (b : Bool) → is_live (moved y (bind p (Some v) e) (if b then initial_tree y else t) a) ≡ (if b then may_first y (bind p (Some v) e) a else may y (bind p (Some v) e) t a)
+        chosen true = ap (λ u. is_live (moved y (bind p (Some v) e) u a)) (sym (initial_is y [])) ∙ begins y (bind p (Some v) e) a (f.body (Some v))
+        chosen false = moved_live y (bind p (Some v) e) t a
+
+    none_owned : (m : Plain) (v : List ℕ) → is_empty (map_after p y e a (initial_tree y) m v) ≡ not (owner_test m v)
+    none_owned m v =
+        let x : Plain = begun_tree p y e a (initial_tree y) m v in
+        empty_when (is_live x) (with_tree (initial_tree y) v x (items_of (first_part m)))
+        ∙ ap not (owner_lives v (tree_at v dead (items_of (first_part m))))
+
+    all_died : (ms : List Plain) → not (list_any (λ m. list_any (owner_test m) a.values) ms) ≡ is_none (set_of (flat_map (maps_after p y e a (initial_tree y) a.values) ms))
+    all_died ms =
+        sym (none_made (λ m. list_any (owner_test m) a.values) (maps_after p y e a (initial_tree y) a.values) (λ m. none_made (owner_test m) (map_after p y e a (initial_tree y) m) (none_owned m) a.values) ms)
+        ∙ sym (set_none (flat_map (maps_after p y e a (initial_tree y) a.values) ms))
+
+-- Each form
+
+pub moved_is : (x : Form) (e : Environment) (t : Plain) (a : PlainAction) → Fits x e → passes x e t a ≡ true → moved x e t a ≡ pruned (moved_node x e t a)
+moved_is (atom x) e start a f h = atom_done (may (atom x) e start a) h
+moved_is (opt y) e (opt_of b t) a f h = ap (λ d. dead_if d (opt_of false (moved y e t a))) (died y e a t)
+moved_is (seq y z) e (seq_of t rest) a f h =
+    ap (λ u. dead_if (not (may (seq y z) e (seq_of t rest) a)) (seq_of (moved y e t a) (set_of (live_moves z e a (items_of rest) ++ when (is_final y (moved y e t a)) (u ∷ []))))) (initial_is z [])
+    ∙ ap (λ d. dead_if d (moved_node (seq y z) e (seq_of t rest) a)) (seq_died y z e a t (items_of rest))
+moved_is (star y) e (star_of again rest) a f h =
+    ap (λ more. dead_if (not (may (star y) e (star_of again rest) a)) (star_of (list_any (is_final y) (live_moves y e a (items_of rest) ++ more)) (set_of (live_moves y e a (items_of rest) ++ more)))) (again_live again y e a)
+    ∙ ap (λ d. dead_if d (moved_node (star y) e (star_of again rest) a)) (star_died y e a (fits-operands (star y) e f) again (items_of rest))
+moved_is (par y z) e (par_of pairs) a f h = ap (λ d. dead_if d (moved_node (par y z) e (par_of pairs) a)) (par_died y z e a (items_of pairs))
+moved_is (par_star y) e (par_star_of bags) a f h =
+    ap (λ d. dead_if d (moved_node (par_star y) e (par_star_of bags) a)) (par_star_died y e a (fits-operands (par_star y) e f) (items_of bags))
+moved_is (or y z) e (or_of t u) a f h = ap (λ d. dead_if d (moved_node (or y z) e (or_of t u) a)) (or_died y z e a t u)
+moved_is (and y z) e (and_of t u) a f h = lives (may (and y z) e (and_of t u) a) _ h
+moved_is (couple y z) e (couple_of t u) a f h = lives (may (couple y z) e (couple_of t u) a) _ h
+moved_is (any p y) e (any_of common entries) a f h =
+    ap (λ d. dead_if d (moved_node (any p y) e (any_of common entries) a)) (any_died p y e a common (items_of entries))
+moved_is (every p y) e (every_of common entries) a f h = lives (may (every p y) e (every_of common entries) a) _ h
+moved_is (sync p y) e (sync_of common entries) a f h = lives (may (sync p y) e (sync_of common entries) a) _ h
+moved_is (all p y) e (all_of maps) a f h =
+    ap (λ u. dead_if (not (may (all p y) e (all_of maps) a)) (all_of (set_of (flat_map (maps_after p y e a u a.values) (items_of maps))))) (initial_is y [])
+    ∙ ap (λ d. dead_if d (moved_node (all p y) e (all_of maps) a)) (all_died p y e a (fits-operands (all p y) e f) (items_of maps))
+moved_is _ e _ a f h = refl

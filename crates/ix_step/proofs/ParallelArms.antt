@@ -1,19 +1,15 @@
 -- What is asked of the parts of a parallel tree before they are moved.
-use Rattle.std.proofs.Common.{◌≡◌, ◌<◌, ◌≤◌, true, List, [], ◌∷◌, length, map, inl, inr, sym, ap, subst, true≢false, arith}
+use Rattle.std.proofs.Common.{◌≡◌, ◌≤◌, List, [], ◌∷◌, inl, inr, ap, subst, arith}
 use Rattle.ix_words.specs.Each.{Each, Member}
 use Rattle.ix_words.proofs.Each.{Each-member, Each-members}
 use Rattle.ix_words.proofs.Canon.{Member-cases}
-use Rattle.ix_values.specs.PlainAction.{PlainAction}
 use Rattle.ix_expr.specs.Form.{Form, par, par_star}
 use Rattle.ix_expr.specs.Environment.{Environment}
 use Rattle.ix_expr.proofs.Parts.{fits-operands}
 use Rattle.ix_tree.specs.Plain.{Plain, dead, start, done, none, more, pair, bag, map as map_of, entry, listed, items_of, par as par_of, par_star as par_star_of, opt as opt_of, seq as seq_of, star as star_of, or as or_of, and as and_of, couple as couple_of, any as any_of, every as every_of, sync as sync_of, all as all_of}
-use Rattle.ix_tree.specs.PlainOf.{plain_bag}
-use Rattle.ix_tree.specs.declared.node.Bag.{Bag}
 use Rattle.ix_tree.specs.Order.{first_part, second_part}
 use Rattle.ix_tree.specs.Size.{size_of}
 use Rattle.ix_tree.proofs.PlainLists.{items_of-listed}
-use Rattle.ix_can.specs.inside.May.{may}
 use Rattle.ix_can.specs.Laws.{EachOnce, IsRising, IsProper}
 use Rattle.ix_step.specs.inside.Initial.{initial_tree}
 use Rattle.ix_step.specs.inside.ParallelMoves.{IsReadyPair, IsReadyBag}
@@ -112,8 +108,3 @@ module _ {e : Environment} where
 
   pub run_begins : {y : Form} {t : Plain} → Ready (par_star y) e t → Ready y e (initial_tree y)
   run_begins {y} r = first_ready (fits-operands (par_star y) e r.fits)
-
--- where the action may come there is a bag
-pub some_bag : (y : Form) (e : Environment) (a : PlainAction) (bs : List Bag) → may (par_star y) e (par_star_of (listed (map plain_bag bs))) a ≡ true → 0 < length bs
-some_bag y e a [] h = absurd (true≢false (sym h))
-some_bag y e a (b ∷ bs) h = omega arith

@@ -1,10 +1,11 @@
 -- The quantifiers' trees: what is asked of the trees of values before they are moved, and the entries after an action.
-use Rattle.std.proofs.Common.{◌≡◌, ℕ, ◌+◌, ◌≤◌, Bool, true, false, List, [], ◌∷◌, ◌++◌, map, flat_map, Option, Some, None, refl, sym, ap, ◌∙◌, subst, true≢false, arith, Less, if◌then◌else◌}
+use Rattle.std.proofs.Common.{◌≡◌, ℕ, ◌+◌, ◌≤◌, Bool, true, false, ◌&&◌, List, [], ◌∷◌, ◌++◌, map, flat_map, Option, Some, None, refl, sym, ap, ◌∙◌, subst, true≢false, arith, Less, if◌then◌else◌}
+use Rattle.std.specs.List.{list_any, list_all}
 use Rattle.std.specs.Map.{keys_of}
 use Rattle.std.specs.Ordering.{is_eq}
 use Rattle.ix_words.specs.Each.{Each, no_item, item}
 use Rattle.ix_words.specs.Canon.{Ascending, below}
-use Rattle.ix_words.proofs.Each.{Each-head, Each-tail, Each-weaker, Each-both}
+use Rattle.ix_words.proofs.Each.{Each-append, Each-anything, Each-head, Each-tail, Each-weaker, Each-both}
 use Rattle.ix_words.proofs.Canon.{flat_map-append}
 use Rattle.ix_values.specs.Order.{text_eq, text_cmp}
 use Rattle.ix_values.specs.lemmas.Order.{text_eq-decides}
@@ -22,14 +23,18 @@ use Rattle.ix_tree.proofs.PlainLists.{items_of-listed}
 use Rattle.ix_can.specs.Nodes.{set_of}
 use Rattle.ix_can.specs.TreeOf.{entries_of}
 use Rattle.ix_can.specs.Laws.{IsProper, ProperEntries}
-use Rattle.ix_can.specs.inside.May.{tree_at}
+use Rattle.ix_can.specs.Tests.{in_alphabet, values_and_outside}
+use Rattle.ix_can.specs.inside.May.{may, tree_at}
 use Rattle.ix_can.specs.inside.Moved.{entry_with}
+use Rattle.ix_can.proofs.Lists.{all_to}
 use Rattle.ix_step.specs.inside.Ready.{Ready}
 use Rattle.ix_step.specs.inside.EnterTrees.{entries_put}
-use Rattle.ix_step.specs.inside.ValueTrees.{ReadyInside, moved_part, common_after, tree_after, entries_after, touched}
+use Rattle.ix_step.specs.inside.ValueTrees.{ReadyInside, part_may, EachMay, moved_part, common_after, tree_after, entries_after, touched}
 use Rattle.ix_step.specs.declared.bodies.Reach.{Reach}
+use Rattle.ix_step.specs.declared.bodies.Reach.TheVariants.{All, Must, OwnAlphabet}
 use Rattle.ix_step.proofs.Gathered.{put_all-nothing}
 use Rattle.ix_step.proofs.EntriesPut.{key_at}
+use Rattle.ix_step.proofs.Pruning.{both_first, both_second}
 
 -- The trees of values
 
@@ -171,3 +176,50 @@ module _ (reach : Reach) (p : List ℕ) (y : Form) (e : Environment) (a : PlainA
   pub value_moves : (v : List ℕ) (t : Plain) → t ≡ tree_at v common (items_of (plain_entries es)) → moved_part reach y (bind p (Some v) e) a t ≡ tree_after reach p y e a common (map plain_entry es) v
   value_moves v t h =
       ap (moved_part reach y (bind p (Some v) e) a) (h ∙ ap (tree_at v common) (items_of-listed (map plain_entry es)))
+
+-- Which trees may move
+
+-- what the keys have, each item's key has
+each_key : {G : List ℕ → Type 0} (xs : List Plain) → Each (λ x. G (key x)) xs → Each G (map key xs)
+each_key [] h = no_item
+each_key (x ∷ xs) h = item (Each-head h) (each_key xs (Each-tail h))
+
+module _ (reach : Reach) (p : List ℕ) (y : Form) (e : Environment) (a : PlainAction) (common : Plain) (es : List (List ℕ × Plain)) where
+  abbrev own_may : Plain → Bool
+  own_may x = part_may reach y (bind p (Some (key x)) e) a (first_part x)
+
+  abbrev value_may : List Plain → List ℕ → Bool
+  value_may xs v = part_may reach y (bind p (Some v) e) a (tree_at v common xs)
+
+  -- the tree of each touched value may move where each entry's and each of the action's may
+  pub each_may : ReadyInside p y e common (map plain_entry es) → (list_all own_may (items_of (plain_entries es)) && list_all (value_may (items_of (plain_entries es))) a.values) ≡ true → EachMay reach p y e a common es
+  each_may r h =
+      let xs : List Plain = map plain_entry es in
+      let k : (list_all own_may xs && list_all (value_may xs) a.values) ≡ true = subst (λ (us : List Plain). (list_all own_may us && list_all (value_may us) a.values) ≡ true) (items_of-listed xs) h in
+      let own = all_to own_may xs (both_first (list_all own_may xs) (list_all (value_may xs) a.values) k) in
+      let each = all_to (value_may xs) a.values (both_second (list_all own_may xs) (list_all (value_may xs) a.values) k) in
+      let keys : Each (λ x. value_may xs (key x) ≡ true) xs =
+      Each-weaker (λ x q. ap (part_may reach y (bind p (Some (key x)) e) a) q.0 ∙ q.1) (Each-both (tree_at_own common xs r.beside.ascending) own) in
+      Each-append (subst (Each (λ v. value_may xs v ≡ true)) (keys_listed es) (each_key {G = λ v. value_may xs v ≡ true} xs keys)) each
+
+module _ (p : List ℕ) (y : Form) (e : Environment) (a : PlainAction) (common : Plain) (es : List (List ℕ × Plain)) where
+  -- of `any` none must
+  pub any_each : EachMay All p y e a common es
+  any_each = Each-anything (λ v. refl) (touched es a)
+
+  -- of `every` each must
+  pub every_common : may (every p y) e (every_of common (plain_entries es)) a ≡ true → may y (bind p None e) common a ≡ true
+  every_common h = both_first (may y (bind p None e) common a) _ h
+
+  pub every_each : ReadyInside p y e common (map plain_entry es) → may (every p y) e (every_of common (plain_entries es)) a ≡ true → EachMay Must p y e a common es
+  every_each r h = each_may Must p y e a common es r (both_second (may y (bind p None e) common a) _ h)
+
+  -- of `sync` each that has the action in its alphabet
+  pub sync_common : may (sync p y) e (sync_of common (plain_entries es)) a ≡ true → part_may OwnAlphabet y (bind p None e) a common ≡ true
+  sync_common h =
+      both_first (part_may OwnAlphabet y (bind p None e) a common) _ (both_second (list_any (λ v. in_alphabet y (bind p v e) a) (values_and_outside a)) _ h)
+
+  pub sync_each : ReadyInside p y e common (map plain_entry es) → may (sync p y) e (sync_of common (plain_entries es)) a ≡ true → EachMay OwnAlphabet p y e a common es
+  sync_each r h =
+      each_may OwnAlphabet p y e a common es r
+      (both_second (part_may OwnAlphabet y (bind p None e) a common) _ (both_second (list_any (λ v. in_alphabet y (bind p v e) a) (values_and_outside a)) _ h))

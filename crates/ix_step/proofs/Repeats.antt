@@ -1,5 +1,5 @@
 -- Of equal trees of a bag one is moved: the next gives the same bag.
-use Rattle.std.proofs.Common.{◌≡◌, ℕ, zero, suc, ◌<◌, ◌+◌, Bool, true, false, List, [], ◌∷◌, length, get_or, take, flat_map, refl, sym, ap, ◌∙◌, subst, arith, Ordering, Less, Equal, Greater}
+use Rattle.std.proofs.Common.{◌≡◌, ℕ, zero, suc, ◌<◌, ◌+◌, Bool, true, false, List, [], ◌∷◌, length, get_or, take, flat_map, refl, sym, ap, ◌∙◌, arith, Ordering, Less, Equal, Greater}
 use Rattle.std.specs.Cmp.{tied_itself}
 use Rattle.std.specs.List.{remove}
 use Rattle.ix_words.specs.Canon.{by_order, put_once, when}

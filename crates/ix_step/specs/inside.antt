@@ -9,3 +9,4 @@ pub mod ParallelMoves
 pub mod Ready
 pub mod ValueTrees
 pub mod MovedNode
+pub mod Pruned

@@ -8,19 +8,20 @@ ghost use Rattle.ix_expr.specs.Form.{seq, star};
 ghost use Rattle.ix_tree.specs.Plain.{listed, seq as seq_of, star as star_of};
 ghost use Rattle.ix_can.specs.Tests.{in_alphabet};
 ghost use Rattle.ix_can.specs.TreeOf.{is_final as is_final_by};
-ghost use Rattle.ix_can.specs.inside.May.{may};
+ghost use Rattle.ix_can.specs.inside.May.{may, moves_within};
 ghost use Rattle.ix_can.specs.inside.Moved.{moved, moved_inside};
 ghost use Rattle.ix_step.specs.inside.Initial.{initial_tree};
 ghost use Rattle.ix_step.specs.inside.Makes.{Makes, Collects};
 ghost use Rattle.ix_step.specs.inside.MovedNode.{moved_node};
 ghost use Rattle.ix_step.specs.inside.Moves.{live_moves, begun_again};
+ghost use Rattle.ix_step.specs.inside.Pruned.{passes, pruned};
 ghost use Rattle.ix_step.specs.inside.Ready.{Ready};
 
 use crate::bodies::{Body, Reach};
 use crate::fault::Unbuilt;
 use crate::first::first_tree;
 use crate::maps::advance_all;
-use crate::nodes::{bounded, within};
+use crate::nodes::{bounded, within, within_if_live};
 use crate::one_step::Step;
 use crate::parallel::{advance_par, advance_par_star};
 use crate::quantifiers::advance_values;
@@ -32,32 +33,58 @@ use ix_tree::{Knot, Node};
 
 /// The moved tree, dead where the action may not come next.
 ///
-/// `goes_on` is asked anew at each node: that it holds of a node doesn't say that it holds of its
-/// parts, as of `y | z` one side may do. A part of which it doesn't hold is dead.
+/// That is asked before the parts are moved only of an atom and of the forms of which each part must
+/// move: there a part may be above the limit while another is dead. A node of any other form is dead
+/// exactly where none of its moved parts is live.
 #[cycle(advance)]
 pub(crate) fn advance(step: Step, expr: &Expr, tree: &Knot) -> Result<Knot, Unbuilt>
     requires { Ready (form_of expr.now) step.env.now tree.now }
     ensures { Makes step.entry.limit (moved (form_of expr.now) step.entry.env.now tree.now step.entry.action.now) result }
 {
-    if !goes_on(expr, step.env, tree, step.action) {
+    if !passes(step, expr, tree) {
         return within(step, Node::Dead);
     }
+    advance_asked(step, expr, tree)
+}
+
+/// Whether the action may come next, as far as it is asked.
+fn passes(step: Step, expr: &Expr, tree: &Knot) -> bool
+    requires { Ready (form_of expr.now) step.env.now tree.now }
+    ensures { result ≡ passes (form_of expr.now) step.entry.env.now tree.now step.entry.action.now }
+{
+    match expr {
+        Expr::Atom(_)
+        | Expr::And(_, _)
+        | Expr::Couple(_, _)
+        | Expr::Every(_, _)
+        | Expr::Sync(_, _) => goes_on(expr, step.env, tree, step.action),
+        _ => true,
+    }
+}
+
+/// The moved tree, where the action is known to pass: nothing is asked again.
+#[cycle(advance)]
+pub(crate) fn advance_asked(step: Step, expr: &Expr, tree: &Knot) -> Result<Knot, Unbuilt>
+    requires ready { Ready (form_of expr.now) step.env.now tree.now }
+    requires passes { passes (form_of expr.now) step.env.now tree.now step.action.now ≡ true }
+    ensures { Makes step.entry.limit (moved (form_of expr.now) step.entry.env.now tree.now step.entry.action.now) result }
+{
     advance_node(step, expr, tree)
 }
 
-/// The moved tree of an action that may come next.
+/// The node of what the parts become, form by form.
 #[cycle(advance)]
 fn advance_node(step: Step, expr: &Expr, tree: &Knot) -> Result<Knot, Unbuilt>
     requires ready { Ready (form_of expr.now) step.env.now tree.now }
-    requires may { may (form_of expr.now) step.env.now tree.now step.action.now ≡ true }
-    ensures { Makes step.entry.limit (moved_node (form_of expr.now) step.entry.env.now tree.now step.entry.action.now) result }
+    requires passes { passes (form_of expr.now) step.env.now tree.now step.action.now ≡ true }
+    ensures { Makes step.entry.limit (pruned (moved_node (form_of expr.now) step.entry.env.now tree.now step.entry.action.now)) result }
 {
     match (expr, tree.node()) {
         (Expr::Atom(_), Node::Start) => within(step, Node::Done),
         (Expr::Opt(y), Node::Opt(_, x)) => {
             // The flag is false: after an action the word isn't empty.
             let x = advance(step, y, x)?;
-            within(step, Node::Opt(false, x))
+            within_if_live(step, Node::Opt(false, x))
         }
         (Expr::Seq(y, z), Node::Seq(first, rest)) => advance_seq(step, y, z, first, rest),
         (Expr::Star(y), Node::Star(again, rest)) => advance_star(step, y, *again, rest),
@@ -66,11 +93,11 @@ fn advance_node(step: Step, expr: &Expr, tree: &Knot) -> Result<Knot, Unbuilt>
         (Expr::Or(y, z), Node::Or(left, right)) => {
             let left = advance(step, y, left)?;
             let right = advance(step, z, right)?;
-            within(step, Node::Or(left, right))
+            within_if_live(step, Node::Or(left, right))
         }
         (Expr::And(y, z), Node::And(left, right)) => {
-            let left = advance(step, y, left)?;
-            let right = advance(step, z, right)?;
+            let left = advance_asked(step, y, left)?;
+            let right = advance_asked(step, z, right)?;
             within(step, Node::And(left, right))
         }
         (Expr::Couple(y, z), Node::Couple(left, right)) => {
@@ -81,11 +108,11 @@ fn advance_node(step: Step, expr: &Expr, tree: &Knot) -> Result<Knot, Unbuilt>
         (Expr::Any(parameter, expr), Node::Any(common, entries)) => {
             let body = Body { parameter, expr };
             let (common, entries) = advance_values(step, body, Reach::All, common, entries)?;
-            within(step, Node::Any(common, entries))
+            within_if_live(step, Node::Any(common, entries))
         }
         (Expr::Every(parameter, expr), Node::Every(common, entries)) => {
             let body = Body { parameter, expr };
-            let (common, entries) = advance_values(step, body, Reach::All, common, entries)?;
+            let (common, entries) = advance_values(step, body, Reach::Must, common, entries)?;
             within(step, Node::Every(common, entries))
         }
         (Expr::Sync(parameter, expr), Node::Sync(common, entries)) => {
@@ -104,11 +131,12 @@ fn advance_node(step: Step, expr: &Expr, tree: &Knot) -> Result<Knot, Unbuilt>
 /// The moved tree where the action is in the alphabet, else the tree as it was.
 #[cycle(advance)]
 pub(crate) fn advance_inside(step: Step, expr: &Expr, tree: &Knot) -> Result<Knot, Unbuilt>
-    requires { Ready (form_of expr.now) step.env.now tree.now }
+    requires ready { Ready (form_of expr.now) step.env.now tree.now }
+    requires may { moves_within (in_alphabet (form_of expr.now) step.env.now step.action.now) (may (form_of expr.now) step.env.now tree.now step.action.now) ≡ true }
     ensures { Makes step.entry.limit (moved_inside (in_alphabet (form_of expr.now) step.entry.env.now step.entry.action.now) (moved (form_of expr.now) step.entry.env.now tree.now step.entry.action.now) tree.now) result }
 {
     if contains(expr, step.env, step.action) {
-        return advance(step, expr, tree);
+        return advance_asked(step, expr, tree);
     }
     bounded(tree.share()?, step.limit)
 }
@@ -117,12 +145,12 @@ pub(crate) fn advance_inside(step: Step, expr: &Expr, tree: &Knot) -> Result<Kno
 #[cycle(advance)]
 fn advance_seq(step: Step, y: &Expr, z: &Expr, first: &Knot, rest: &[Knot]) -> Result<Knot, Unbuilt>
     requires { Ready (seq (form_of y.now) (form_of z.now)) step.env.now (seq_of first.now (listed rest.now)) }
-    ensures { Makes step.entry.limit (moved_node (seq (form_of y.now) (form_of z.now)) step.entry.env.now (seq_of first.now (listed rest.now)) step.entry.action.now) result }
+    ensures { Makes step.entry.limit (pruned (moved_node (seq (form_of y.now) (form_of z.now)) step.entry.env.now (seq_of first.now (listed rest.now)) step.entry.action.now)) result }
 {
     let first = advance(step, y, first)?;
     let mut set = advance_each(step, z, rest)?;
     put_first(&mut set, completes(y, &first), z, step.alloc)?;
-    within(step, Node::Seq(first, set.into_items()))
+    within_if_live(step, Node::Seq(first, set.into_items()))
 }
 
 /// Beside the moved alternatives stands one more: the run that begins with the action. The flag
@@ -131,14 +159,14 @@ fn advance_seq(step: Step, y: &Expr, z: &Expr, first: &Knot, rest: &[Knot]) -> R
 #[cycle(advance)]
 fn advance_star(step: Step, y: &Expr, again: bool, rest: &[Knot]) -> Result<Knot, Unbuilt>
     requires { Ready (star (form_of y.now)) step.env.now (star_of again (listed rest.now)) }
-    ensures { Makes step.entry.limit (moved_node (star (form_of y.now)) step.entry.env.now (star_of again (listed rest.now)) step.entry.action.now) result }
+    ensures { Makes step.entry.limit (pruned (moved_node (star (form_of y.now)) step.entry.env.now (star_of again (listed rest.now)) step.entry.action.now)) result }
 {
     let begun = advance_again(step, y, again)?;
     let mut set = advance_each(step, y, rest)?;
     put_live(&mut set, begun)?;
     let items = set.into_items();
     let again = some_completes(y, &items);
-    within(step, Node::Star(again, items))
+    within_if_live(step, Node::Star(again, items))
 }
 
 fn some_completes(y: &Expr, trees: &[Knot]) -> bool

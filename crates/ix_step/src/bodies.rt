@@ -10,11 +10,13 @@ pub(crate) struct Body<'a> {
     pub(crate) expr: &'a Expr,
 }
 
-/// Which values' states an action moves.
+/// Which values' states an action moves, and whether each of them must move.
 #[derive(Clone, Copy)]
 pub(crate) enum Reach {
-    /// All.
+    /// All, and it is enough that one does.
     All,
-    /// Those under whose value the body has the action in its alphabet.
+    /// All, and each must.
+    Must,
+    /// Those under whose value the body has the action in its alphabet, and each must.
     OwnAlphabet,
 }

@@ -15,7 +15,7 @@ ghost use Rattle.ix_step.specs.inside.Builds.{Builds, IsAbove};
 ghost use Rattle.ix_step.specs.inside.Makes.{Makes, IsOver};
 ghost use Rattle.ix_step.specs.inside.Ready.{Ready};
 
-use crate::advance::advance;
+use crate::advance::advance_asked;
 use crate::fault::{BuildFault, Unbuilt};
 use crate::first::first_tree;
 use crate::nodes::bounded;
@@ -80,6 +80,7 @@ fn moved_within(
     limit: usize,
 ) -> Result<Knot, Unbuilt>
     requires ready { Ready (form_of expr.now) env.now tree.now }
+    requires may { may (form_of expr.now) env.now tree.now action.now ≡ true }
     requires limit { limit ≤ 1000000 }
     ensures { Makes limit (moved (form_of expr.now) env.now tree.now action.now) result }
 {
@@ -89,7 +90,7 @@ fn moved_within(
         alloc,
         limit: at_least_one(limit),
     };
-    let moved = advance(step, expr, tree)?;
+    let moved = advance_asked(step, expr, tree)?;
     bounded(moved, limit)
 }
 

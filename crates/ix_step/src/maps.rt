@@ -14,6 +14,7 @@ ghost use Rattle.ix_entries.specs.inside.Entries.{KeysAscend};
 ghost use Rattle.ix_values.specs.Order.{text_cmp};
 ghost use Rattle.ix_step.specs.inside.Makes.{Makes, Collects, Gathers, IsOver, put_all};
 ghost use Rattle.ix_step.specs.inside.MovedNode.{moved_node};
+ghost use Rattle.ix_step.specs.inside.Pruned.{pruned};
 ghost use Rattle.ix_step.specs.inside.Ready.{Ready};
 ghost use Rattle.ix_step.specs.inside.MapsAfter.{HoldsWell, ReadyToBegin, begun_tree, map_after, maps_after, with_tree};
 
@@ -21,7 +22,7 @@ use crate::advance::advance;
 use crate::bodies::Body;
 use crate::fault::Unbuilt;
 use crate::first::first_tree;
-use crate::nodes::within;
+use crate::nodes::within_if_live;
 use crate::one_step::Step;
 use crate::sets::put as put_alternative;
 use ix_alts::AltSet;
@@ -34,11 +35,11 @@ use std::alloc::{AllocError, Global};
 #[cycle(advance)]
 pub(crate) fn advance_all(step: Step, body: Body, maps: &[Map]) -> Result<Knot, Unbuilt>
     requires { Ready (all body.parameter.now (form_of body.expr.now)) step.env.now (all_of (listed (map plain_map maps.now))) }
-    ensures { Makes step.entry.limit (moved_node (all body.entry.parameter.now (form_of body.entry.expr.now)) step.entry.env.now (all_of (listed (map plain_map maps.now))) step.entry.action.now) result }
+    ensures { Makes step.entry.limit (pruned (moved_node (all body.entry.parameter.now (form_of body.entry.expr.now)) step.entry.env.now (all_of (listed (map plain_map maps.now))) step.entry.action.now)) result }
 {
     let first = first_tree(body.expr, step.alloc)?;
     let set = advance_maps(step, body, &first, maps)?;
-    within(step, Node::All(set.into_items()))
+    within_if_live(step, Node::All(set.into_items()))
 }
 
 /// Each map gives one for each of the action's values, with the tree of that value moved. `first`

@@ -1,9 +1,10 @@
 //! The making of nodes within a limit.
 
-ghost use Rattle.std.specs.Prelude.{◌≤◌, ◌^◌};
+ghost use Rattle.std.specs.Prelude.{◌≡◌, ◌≤◌, ◌^◌};
 ghost use Rattle.ix_tree.specs.inside.PlainNode.{plain_node};
 ghost use Rattle.ix_tree.specs.Size.{size_of};
 ghost use Rattle.ix_step.specs.inside.Makes.{Makes};
+ghost use Rattle.ix_step.specs.inside.Pruned.{has_died, pruned};
 
 use crate::fault::Unbuilt;
 use crate::one_step::Step;
@@ -18,6 +19,34 @@ pub(crate) fn within(step: Step, node: Node) -> Result<Knot, Unbuilt>
         return Err(Unbuilt::Over);
     }
     Ok(Knot::new(step.alloc, node)?)
+}
+
+/// The knot of the node or, where none of its parts is live, the dead one.
+pub(crate) fn within_if_live(step: Step, node: Node) -> Result<Knot, Unbuilt>
+    requires { size_of (plain_node node) ≤ 2 ^ 32 }
+    ensures { Makes step.entry.limit (pruned (plain_node node)) result }
+{
+    if has_died(&node) {
+        return within(step, Node::Dead);
+    }
+    within(step, node)
+}
+
+/// Whether no part of the node is live, where it is enough that one is.
+fn has_died(node: &Node) -> bool
+    ensures { result ≡ has_died (plain_node node.now) }
+{
+    match node {
+        Node::Opt(_, x) => x.is_dead(),
+        Node::Seq(first, rest) => first.is_dead() && rest.as_slice().is_empty(),
+        Node::Star(_, rest) => rest.as_slice().is_empty(),
+        Node::Par(pairs) => pairs.as_slice().is_empty(),
+        Node::ParStar(bags) => bags.as_slice().is_empty(),
+        Node::Or(left, right) => left.is_dead() && right.is_dead(),
+        Node::Any(common, entries) => common.is_dead() && entries.as_slice().is_empty(),
+        Node::All(maps) => maps.as_slice().is_empty(),
+        _ => false,
+    }
 }
 
 /// The tree itself, if its Size is at most the limit.

@@ -12,12 +12,13 @@ ghost use Rattle.ix_step.specs.inside.Makes.{Makes, Collects, Gathers, put_all};
 ghost use Rattle.ix_step.specs.inside.MovedNode.{moved_node};
 ghost use Rattle.ix_step.specs.inside.Moves.{begun};
 ghost use Rattle.ix_step.specs.inside.ParallelMoves.{pair_moves, pick_move, pick_moves, bag_moves, IsReadyPair, IsReadyBag};
+ghost use Rattle.ix_step.specs.inside.Pruned.{pruned};
 ghost use Rattle.ix_step.specs.inside.Ready.{Ready};
 
 use crate::advance::{advance, advance_again};
 use crate::bags::{put_more, put_moved};
 use crate::fault::Unbuilt;
-use crate::nodes::within;
+use crate::nodes::{within, within_if_live};
 use crate::one_step::Step;
 use crate::pairs::put_pairs;
 use ix_alts::AltSet;
@@ -27,10 +28,10 @@ use ix_tree::{Bag, Knot, Node, Pair};
 #[cycle(advance)]
 pub(crate) fn advance_par(step: Step, y: &Expr, z: &Expr, pairs: &[Pair]) -> Result<Knot, Unbuilt>
     requires { Ready (par (form_of y.now) (form_of z.now)) step.env.now (par_of (listed (map plain_pair pairs.now))) }
-    ensures { Makes step.entry.limit (moved_node (par (form_of y.now) (form_of z.now)) step.entry.env.now (par_of (listed (map plain_pair pairs.now))) step.entry.action.now) result }
+    ensures { Makes step.entry.limit (pruned (moved_node (par (form_of y.now) (form_of z.now)) step.entry.env.now (par_of (listed (map plain_pair pairs.now))) step.entry.action.now)) result }
 {
     let set = advance_pairs(step, y, z, pairs)?;
-    within(step, Node::Par(set.into_items()))
+    within_if_live(step, Node::Par(set.into_items()))
 }
 
 #[cycle(advance)]
@@ -50,13 +51,15 @@ fn advance_pairs(step: Step, y: &Expr, z: &Expr, pairs: &[Pair]) -> Result<AltSe
 
 #[cycle(advance)]
 pub(crate) fn advance_par_star(step: Step, y: &Expr, bags: &[Bag]) -> Result<Knot, Unbuilt>
-    requires ready { Ready (par_star (form_of y.now)) step.env.now (par_star_of (listed (map plain_bag bags.now))) }
-    requires some { 0 < length bags.now }
-    ensures { Makes step.entry.limit (moved_node (par_star (form_of y.now)) step.entry.env.now (par_star_of (listed (map plain_bag bags.now))) step.entry.action.now) result }
+    requires { Ready (par_star (form_of y.now)) step.env.now (par_star_of (listed (map plain_bag bags.now))) }
+    ensures { Makes step.entry.limit (pruned (moved_node (par_star (form_of y.now)) step.entry.env.now (par_star_of (listed (map plain_bag bags.now))) step.entry.action.now)) result }
 {
+    if bags.is_empty() {
+        return within(step, Node::Dead);
+    }
     let first = advance_again(step, y, true)?;
     let set = advance_bags(step, y, &first, bags)?;
-    within(step, Node::ParStar(set.into_items()))
+    within_if_live(step, Node::ParStar(set.into_items()))
 }
 
 /// Each bag gives one for each of its trees, with that one moved, and one with a run more, whose

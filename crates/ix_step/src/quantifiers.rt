@@ -1,6 +1,6 @@
 //! The moved trees of the quantifiers `any`, `every` and `sync`.
 
-ghost use Rattle.std.specs.Prelude.{◌≡◌, ◌≤◌, Some, map};
+ghost use Rattle.std.specs.Prelude.{◌≡◌, ◌≤◌, true, None, Some, map};
 ghost use Rattle.ix_expr.specs.Environment.{bind};
 ghost use Rattle.ix_expr.specs.Fitting.{FitsInside};
 ghost use Rattle.ix_expr.specs.inside.FormOf.{form_of};
@@ -8,9 +8,9 @@ ghost use Rattle.ix_tree.specs.PlainOf.{plain_entry, plain_entries};
 ghost use Rattle.ix_tree.specs.Size.{size_of};
 ghost use Rattle.ix_can.specs.Laws.{IsProper};
 ghost use Rattle.ix_step.specs.inside.Makes.{Makes};
-ghost use Rattle.ix_step.specs.inside.ValueTrees.{ReadyInside, moved_part, common_after, entries_after, MakesEntries, MakesParts};
+ghost use Rattle.ix_step.specs.inside.ValueTrees.{ReadyInside, part_may, EachMay, moved_part, common_after, entries_after, MakesEntries, MakesParts};
 
-use crate::advance::{advance, advance_inside};
+use crate::advance::{advance, advance_asked, advance_inside};
 use crate::bodies::{Body, Reach};
 use crate::entries::{put_tree, touched_values};
 use crate::fault::Unbuilt;
@@ -30,7 +30,9 @@ pub(crate) fn advance_values(
     common: &Knot,
     entries: &[(Value, Knot)],
 ) -> Result<(Knot, Vec<(Value, Knot)>), Unbuilt>
-    requires { ReadyInside body.parameter.now (form_of body.expr.now) step.env.now common.now (map plain_entry entries.now) }
+    requires ready { ReadyInside body.parameter.now (form_of body.expr.now) step.env.now common.now (map plain_entry entries.now) }
+    requires common { part_may reach (form_of body.expr.now) (bind body.parameter.now None step.env.now) step.action.now common.now ≡ true }
+    requires each { EachMay reach body.parameter.now (form_of body.expr.now) step.env.now step.action.now common.now entries.now }
     ensures { MakesParts step.entry.limit
         (common_after reach body.entry.parameter.now (form_of body.entry.expr.now) step.entry.env.now step.entry.action.now common.now)
         (entries_after reach body.entry.parameter.now (form_of body.entry.expr.now) step.entry.env.now step.entry.action.now common.now (plain_entries entries.now))
@@ -52,6 +54,7 @@ fn advance_entries(
     next: &Knot,
 ) -> Result<Vec<(Value, Knot)>, Unbuilt>
     requires ready { ReadyInside body.parameter.now (form_of body.expr.now) step.env.now common.now (map plain_entry entries.now) }
+    requires each { EachMay reach body.parameter.now (form_of body.expr.now) step.env.now step.action.now common.now entries.now }
     requires next { next.now ≡ common_after reach body.parameter.now (form_of body.expr.now) step.env.now step.action.now common.now }
     ensures { MakesEntries step.entry.limit next.now
         (entries_after reach body.entry.parameter.now (form_of body.entry.expr.now) step.entry.env.now step.entry.action.now common.now (plain_entries entries.now))
@@ -80,6 +83,7 @@ fn advance_at(
     requires fits { FitsInside body.parameter.now (form_of body.expr.now) step.env.now }
     requires proper { IsProper (form_of body.expr.now) state.now }
     requires small { size_of state.now ≤ 1000000 }
+    requires may { part_may reach (form_of body.expr.now) (bind body.parameter.now value step.env.now) step.action.now state.now ≡ true }
     ensures { Makes step.entry.limit
         (moved_part reach (form_of body.entry.expr.now) (bind body.entry.parameter.now value step.entry.env.now) step.entry.action.now state.now)
         result }
@@ -93,6 +97,7 @@ fn advance_at(
     };
     match reach {
         Reach::All => advance(inside, body.expr, state),
+        Reach::Must => advance_asked(inside, body.expr, state),
         Reach::OwnAlphabet => advance_inside(inside, body.expr, state),
     }
 }

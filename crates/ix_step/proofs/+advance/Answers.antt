@@ -1,5 +1,5 @@
 -- The parts of a step: what each asks of the next, and what it makes.
-use Rattle.std.proofs.Common.{◌<◌, ◌≡◌, ◌≤◌, ◌+◌, refl, sym, ap, ◌∙◌, subst, arith, [], ◌∷◌, ◌++◌, map, length, flat_map, take, get_or, Some}
+use Rattle.std.proofs.Common.{◌<◌, ◌≡◌, ◌≤◌, ◌+◌, true, refl, sym, ap, ◌∙◌, subst, arith, [], ◌∷◌, ◌++◌, map, length, flat_map, take, get_or, Some}
 use Rattle.std.specs.List.{list_any, remove}
 use Rattle.std.proofs.lemmas.List.{length-map}
 use Rattle.ix_words.specs.Each.{Each, here}
@@ -18,7 +18,8 @@ use Rattle.ix_tree.specs.contracts.order.KnotPartialEq.TheImpl.{ghosts as tree_g
 use Rattle.ix_tree.proofs.PlainLists.{items_of-listed}
 use Rattle.ix_can.specs.Nodes.{live, put_in, set_of}
 use Rattle.ix_can.specs.Laws.{IsProper}
-use Rattle.ix_can.specs.inside.May.{tree_at}
+use Rattle.ix_can.specs.Tests.{in_alphabet}
+use Rattle.ix_can.specs.inside.May.{may, moves_within, tree_at}
 use Rattle.ix_can.specs.TreeOf.{is_final}
 use Rattle.ix_can.specs.inside.Moved.{moved, moved_inside, picks, bag_with, map_with, or_initial}
 use Rattle.ix_step.specs.inside.EnterTrees.{entries_put}
@@ -27,8 +28,9 @@ use Rattle.ix_step.specs.inside.Makes.{Makes, Gathers, put_all}
 use Rattle.ix_step.specs.inside.MapsAfter.{HoldsWell, begun_tree, map_after, maps_after}
 use Rattle.ix_step.specs.inside.Moves.{live_move, live_moves, begun_again, last_runs, second_parts}
 use Rattle.ix_step.specs.inside.ParallelMoves.{pairs_of, pair_moves, pick_move, bag_moves, IsReadyPair, IsReadyBag}
+use Rattle.ix_step.specs.inside.Pruned.{pruned}
 use Rattle.ix_step.specs.inside.Ready.{Ready}
-use Rattle.ix_step.specs.inside.ValueTrees.{tree_after}
+use Rattle.ix_step.specs.inside.ValueTrees.{part_may, tree_after}
 use Rattle.ix_step.proofs.Arms.{asked, opt_ready, or_first, or_second, and_first, and_second, couple_first, couple_second, seq_first, seq_rest, second_small, star_begins, star_rest}
 use Rattle.ix_step.proofs.Beginnings.{initial_is}
 use Rattle.ix_step.proofs.BagsPut.{length-picks, get-picks, size-put_in}
@@ -40,20 +42,23 @@ use Rattle.ix_step.proofs.Limits.{moved_is_dead, same_alphabet}
 use Rattle.ix_step.proofs.Measure.{form_size}
 use Rattle.ix_step.proofs.MovedIs.{moved_is}
 use Rattle.ix_step.proofs.ParallelArms.{pairs_ready, pairs_small, bags_ready, run_begins}
+use Rattle.ix_step.proofs.Pruning.{passed, refused, same_passes, and_first_may, and_second_may, couple_first_may, couple_second_may, no_items, some_items, list_over, beside_over}
 use Rattle.ix_step.proofs.Repeats.{picked_again}
-use Rattle.ix_step.proofs.Quantifying.{any_ready, every_ready, sync_ready, value_ready, entries_are, value_moves, at_ready}
+use Rattle.ix_step.proofs.Quantifying.{any_ready, every_ready, sync_ready, any_each, every_common, every_each, sync_common, sync_each, value_ready, entries_are, value_moves, at_ready}
 use Rattle.ix_step.proofs.Mapping.{begin_small, begin_ready, all_held, map_keys, start_ready, owner_made}
 use Rattle.ix_step.proofs.+advance.Goals as goal
 
-pub advance::advance-returns-then-not-goes_on : goal.advance::advance-returns-then-not-goes_on
-advance::advance-returns-then-not-goes_on t c =
+pub advance::advance-returns-then-not-passes : goal.advance::advance-returns-then-not-passes
+advance::advance-returns-then-not-passes t c =
+    let x = form_of c.args.expr.now in
+    let may_not = refused x c.args.step.env.now c.args.tree.now c.args.step.action.now (sym c.passes.ensures ∙ c.if-not-passes.true) in
     subst (λ x. Makes c.args.step.limit x c.within.result)
-    (sym (moved_is_dead (form_of c.args.expr.now) c.args.step.env.now c.args.tree.now c.args.step.action.now (sym c.goes_on.ensures ∙ c.if-not-goes_on.true))) c.within.ensures
+    (sym (moved_is_dead x c.args.step.env.now c.args.tree.now c.args.step.action.now may_not)) c.within.ensures
 
-pub advance::advance-returns : goal.advance::advance-returns
-advance::advance-returns t c =
+pub advance::advance_asked-returns : goal.advance::advance_asked-returns
+advance::advance_asked-returns t c =
     subst (λ x. Makes c.args.step.limit x c.advance_node.result)
-    (sym (moved_is (form_of c.args.expr.now) c.args.step.env.now c.args.tree.now c.args.step.action.now (sym c.goes_on.ensures ∙ c.if-not-goes_on.false))) c.advance_node.ensures
+    (sym (moved_is (form_of c.args.expr.now) c.args.step.env.now c.args.tree.now c.args.step.action.now c.requires.ready.fits c.requires.passes)) c.advance_node.ensures
 
 pub advance::advance_again-returns : goal.advance::advance_again-returns
 advance::advance_again-returns t c =
@@ -62,11 +67,20 @@ advance::advance_again-returns t c =
     (ap (λ p. moved x c.args.step.env.now p c.args.step.action.now) (c.in_ok-tree.ensures ∙ sym (initial_is x []))
     ∙ ap (λ b. begun_again b x c.args.step.env.now c.args.step.action.now) (sym c.if-not-again.false)) c.advance.ensures
 
+pub advance::advance_inside-advance_asked-requires : goal.advance::advance_inside-advance_asked-requires
+advance::advance_inside-advance_asked-requires t c =
+    let x = form_of c.args.expr.now in
+    let inside = sym (same_alphabet c.contains.result x c.args.step.env.now c.args.step.action.now c.contains.ensures) ∙ c.if-contains.true in
+    let may_come = subst (λ i. moves_within i (may x c.args.step.env.now c.args.tree.now c.args.step.action.now) ≡ true) inside c.requires.may in (
+      omega arith,
+      (c.requires.ready, passed x c.args.step.env.now c.args.tree.now c.args.step.action.now may_come),
+    )
+
 pub advance::advance_inside-returns-then-contains : goal.advance::advance_inside-returns-then-contains
 advance::advance_inside-returns-then-contains t c =
     let x = form_of c.args.expr.now in
     let inside = sym (same_alphabet c.contains.result x c.args.step.env.now c.args.step.action.now c.contains.ensures) ∙ c.if-contains.true in
-    subst (λ i. Makes c.args.step.limit (moved_inside i (moved x c.args.step.env.now c.args.tree.now c.args.step.action.now) c.args.tree.now) c.advance.result) (sym inside) c.advance.ensures
+    subst (λ i. Makes c.args.step.limit (moved_inside i (moved x c.args.step.env.now c.args.tree.now c.args.step.action.now) c.args.tree.now) c.advance_asked.result) (sym inside) c.advance_asked.ensures
 
 pub advance::advance_inside-returns : goal.advance::advance_inside-returns
 advance::advance_inside-returns t c =
@@ -99,36 +113,54 @@ advance::advance_node-advance-requires-in-Or-Or-2 t c =
       or_second (asked is refl (sym c.node.ensures ∙ ap plain_node c.in-Or-Or.is-1) c.requires.ready),
     )
 
-pub advance::advance_node-advance-requires-in-And-And : goal.advance::advance_node-advance-requires-in-And-And
-advance::advance_node-advance-requires-in-And-And t c =
+pub advance::advance_node-advance_asked-requires : goal.advance::advance_node-advance_asked-requires
+advance::advance_node-advance_asked-requires t c =
     let is : form_of c.args.expr.now ≡ and (form_of c.deref-in-And-And.result.now) (form_of c.in-And-And.z.value) = ap form_of c.in-And-And.is-0 ∙ ap (λ v. and (form_of v) (form_of c.in-And-And.z.value)) (sym c.deref-in-And-And.ensures) in
+    let tree = sym c.node.ensures ∙ ap plain_node c.in-And-And.is-1 in
     let size = ap form_size is in (
       omega (arith, size),
-      and_first (asked is refl (sym c.node.ensures ∙ ap plain_node c.in-And-And.is-1) c.requires.ready),
+      (
+        and_first (asked is refl tree c.requires.ready),
+        passed (form_of c.deref-in-And-And.result.now) c.args.step.env.now c.in-And-And.left c.args.step.action.now
+            (and_first_may (form_of c.deref-in-And-And.result.now) (form_of c.in-And-And.z.value) c.args.step.env.now c.args.step.action.now c.in-And-And.left c.in-And-And.right (same_passes c.args.step.env.now c.args.step.action.now is tree c.requires.passes)),
+      ),
     )
 
-pub advance::advance_node-advance-requires-in-And-And-2 : goal.advance::advance_node-advance-requires-in-And-And-2
-advance::advance_node-advance-requires-in-And-And-2 t c =
+pub advance::advance_node-advance_asked-requires-in-And-And : goal.advance::advance_node-advance_asked-requires-in-And-And
+advance::advance_node-advance_asked-requires-in-And-And t c =
     let is : form_of c.args.expr.now ≡ and (form_of c.in-And-And.y.value) (form_of c.deref-in-And-And-2.result.now) = ap form_of c.in-And-And.is-0 ∙ ap (λ v. and (form_of c.in-And-And.y.value) (form_of v)) (sym c.deref-in-And-And-2.ensures) in
+    let tree = sym c.node.ensures ∙ ap plain_node c.in-And-And.is-1 in
     let size = ap form_size is in (
       omega (arith, size),
-      and_second (asked is refl (sym c.node.ensures ∙ ap plain_node c.in-And-And.is-1) c.requires.ready),
+      (
+        and_second (asked is refl tree c.requires.ready),
+        passed (form_of c.deref-in-And-And-2.result.now) c.args.step.env.now c.in-And-And.right c.args.step.action.now
+            (and_second_may (form_of c.in-And-And.y.value) (form_of c.deref-in-And-And-2.result.now) c.args.step.env.now c.args.step.action.now c.in-And-And.left c.in-And-And.right (same_passes c.args.step.env.now c.args.step.action.now is tree c.requires.passes)),
+      ),
     )
 
 pub advance::advance_node-advance_inside-requires : goal.advance::advance_node-advance_inside-requires
 advance::advance_node-advance_inside-requires t c =
     let is : form_of c.args.expr.now ≡ couple (form_of c.deref-in-Couple-Couple.result.now) (form_of c.in-Couple-Couple.z.value) = ap form_of c.in-Couple-Couple.is-0 ∙ ap (λ v. couple (form_of v) (form_of c.in-Couple-Couple.z.value)) (sym c.deref-in-Couple-Couple.ensures) in
+    let tree = sym c.node.ensures ∙ ap plain_node c.in-Couple-Couple.is-1 in
     let size = ap form_size is in (
       omega (arith, size),
-      couple_first (asked is refl (sym c.node.ensures ∙ ap plain_node c.in-Couple-Couple.is-1) c.requires.ready),
+      (
+        couple_first (asked is refl tree c.requires.ready),
+        couple_first_may (form_of c.deref-in-Couple-Couple.result.now) (form_of c.in-Couple-Couple.z.value) c.args.step.env.now c.args.step.action.now c.in-Couple-Couple.left c.in-Couple-Couple.right (same_passes c.args.step.env.now c.args.step.action.now is tree c.requires.passes),
+      ),
     )
 
 pub advance::advance_node-advance_inside-requires-in-Couple-Couple : goal.advance::advance_node-advance_inside-requires-in-Couple-Couple
 advance::advance_node-advance_inside-requires-in-Couple-Couple t c =
     let is : form_of c.args.expr.now ≡ couple (form_of c.in-Couple-Couple.y.value) (form_of c.deref-in-Couple-Couple-2.result.now) = ap form_of c.in-Couple-Couple.is-0 ∙ ap (λ v. couple (form_of c.in-Couple-Couple.y.value) (form_of v)) (sym c.deref-in-Couple-Couple-2.ensures) in
+    let tree = sym c.node.ensures ∙ ap plain_node c.in-Couple-Couple.is-1 in
     let size = ap form_size is in (
       omega (arith, size),
-      couple_second (asked is refl (sym c.node.ensures ∙ ap plain_node c.in-Couple-Couple.is-1) c.requires.ready),
+      (
+        couple_second (asked is refl tree c.requires.ready),
+        couple_second_may (form_of c.in-Couple-Couple.y.value) (form_of c.deref-in-Couple-Couple-2.result.now) c.args.step.env.now c.args.step.action.now c.in-Couple-Couple.left c.in-Couple-Couple.right (same_passes c.args.step.env.now c.args.step.action.now is tree c.requires.passes),
+      ),
     )
 
 pub advance::advance_node-advance_values-requires : goal.advance::advance_node-advance_values-requires
@@ -137,25 +169,29 @@ advance::advance_node-advance_values-requires t c =
     let tree = sym c.node.ensures ∙ ap plain_node c.in-Any-Any.is-1 ∙ ap (λ v. any_of c.in-Any-Any.common (plain_entries v)) (sym c.deref-in-Any-Any-2.ensures.value) in
     let size = ap form_size is in (
       omega (arith, size),
-      any_ready c.deref-in-Any-Any-2.result.now (asked is refl tree c.requires.ready),
+      (any_ready c.deref-in-Any-Any-2.result.now (asked is refl tree c.requires.ready), (refl, any_each c.in-Any-Any.parameter (form_of c.deref-in-Any-Any.result.now) c.args.step.env.now c.args.step.action.now c.in-Any-Any.common c.deref-in-Any-Any-2.result.now)),
     )
 
 pub advance::advance_node-advance_values-requires-in-Every-Every : goal.advance::advance_node-advance_values-requires-in-Every-Every
 advance::advance_node-advance_values-requires-in-Every-Every t c =
     let is : form_of c.args.expr.now ≡ every c.in-Every-Every.parameter (form_of c.deref-in-Every-Every.result.now) = ap form_of c.in-Every-Every.is-0 ∙ ap (λ v. every c.in-Every-Every.parameter (form_of v)) (sym c.deref-in-Every-Every.ensures) in
     let tree = sym c.node.ensures ∙ ap plain_node c.in-Every-Every.is-1 ∙ ap (λ v. every_of c.in-Every-Every.common (plain_entries v)) (sym c.deref-in-Every-Every-2.ensures.value) in
+    let ready = every_ready c.deref-in-Every-Every-2.result.now (asked is refl tree c.requires.ready) in
+    let come = same_passes c.args.step.env.now c.args.step.action.now is tree c.requires.passes in
     let size = ap form_size is in (
       omega (arith, size),
-      every_ready c.deref-in-Every-Every-2.result.now (asked is refl tree c.requires.ready),
+      (ready, (every_common c.in-Every-Every.parameter (form_of c.deref-in-Every-Every.result.now) c.args.step.env.now c.args.step.action.now c.in-Every-Every.common c.deref-in-Every-Every-2.result.now come, every_each c.in-Every-Every.parameter (form_of c.deref-in-Every-Every.result.now) c.args.step.env.now c.args.step.action.now c.in-Every-Every.common c.deref-in-Every-Every-2.result.now ready come)),
     )
 
 pub advance::advance_node-advance_values-requires-in-Sync-Sync : goal.advance::advance_node-advance_values-requires-in-Sync-Sync
 advance::advance_node-advance_values-requires-in-Sync-Sync t c =
     let is : form_of c.args.expr.now ≡ sync c.in-Sync-Sync.parameter (form_of c.deref-in-Sync-Sync.result.now) = ap form_of c.in-Sync-Sync.is-0 ∙ ap (λ v. sync c.in-Sync-Sync.parameter (form_of v)) (sym c.deref-in-Sync-Sync.ensures) in
     let tree = sym c.node.ensures ∙ ap plain_node c.in-Sync-Sync.is-1 ∙ ap (λ v. sync_of c.in-Sync-Sync.common (plain_entries v)) (sym c.deref-in-Sync-Sync-2.ensures.value) in
+    let ready = sync_ready c.deref-in-Sync-Sync-2.result.now (asked is refl tree c.requires.ready) in
+    let come = same_passes c.args.step.env.now c.args.step.action.now is tree c.requires.passes in
     let size = ap form_size is in (
       omega (arith, size),
-      sync_ready c.deref-in-Sync-Sync-2.result.now (asked is refl tree c.requires.ready),
+      (ready, (sync_common c.in-Sync-Sync.parameter (form_of c.deref-in-Sync-Sync.result.now) c.args.step.env.now c.args.step.action.now c.in-Sync-Sync.common c.deref-in-Sync-Sync-2.result.now come, sync_each c.in-Sync-Sync.parameter (form_of c.deref-in-Sync-Sync.result.now) c.args.step.env.now c.args.step.action.now c.in-Sync-Sync.common c.deref-in-Sync-Sync-2.result.now ready come)),
     )
 
 pub advance::advance_seq-advance-requires : goal.advance::advance_seq-advance-requires
@@ -170,13 +206,19 @@ pub advance::advance_seq-put_first-requires-clause-small : goal.advance::advance
 advance::advance_seq-put_first-requires-clause-small t c =
     second_small c.requires
 
+pub advance::advance_seq-returns-in_err-first : goal.advance::advance_seq-returns-in_err-first
+advance::advance_seq-returns-in_err-first t c =
+    exit_over _ c.from_residual.result _ c.from_residual.ensures.1 c.in_err-first.ensures (λ lt.
+    beside_over c.args.step.limit (seq_of (moved (form_of c.args.y.now) c.args.step.env.now c.args.first.now c.args.step.action.now) (set_of (second_parts (form_of c.args.y.now) (form_of c.args.z.now) c.args.step.env.now c.args.step.action.now (moved (form_of c.args.y.now) c.args.step.env.now c.args.first.now c.args.step.action.now) (items_of (listed c.args.rest.now))))) c.args.step.positive (moved (form_of c.args.y.now) c.args.step.env.now c.args.first.now c.args.step.action.now) (set_of (second_parts (form_of c.args.y.now) (form_of c.args.z.now) c.args.step.env.now c.args.step.action.now (moved (form_of c.args.y.now) c.args.step.env.now c.args.first.now c.args.step.action.now) (items_of (listed c.args.rest.now)))) (omega arith) (omega arith))
+
 pub advance::advance_seq-returns-in_err-set : goal.advance::advance_seq-returns-in_err-set
 advance::advance_seq-returns-in_err-set t c =
     let ms = live_moves (form_of c.args.z.now) c.args.step.env.now c.args.step.action.now (items_of (listed c.args.rest.now)) in
     let more = when (is_final (form_of c.args.y.now) (moved (form_of c.args.y.now) c.args.step.env.now c.args.first.now c.args.step.action.now)) (initial_tree (form_of c.args.z.now) ∷ []) in
     let same = ap (λ l. size_all (put_all (live_moves (form_of c.args.z.now) c.args.step.env.now c.args.step.action.now l) [])) (items_of-listed c.args.rest.now) in
     let k = front_of_set ms more in
-    exit_over _ c.from_residual-in_err-set.result _ c.from_residual-in_err-set.ensures.1 c.in_err-set.ensures (λ lt. omega (arith, same, k))
+    exit_over _ c.from_residual-in_err-set.result _ c.from_residual-in_err-set.ensures.1 c.in_err-set.ensures (λ lt.
+    beside_over c.args.step.limit (seq_of (moved (form_of c.args.y.now) c.args.step.env.now c.args.first.now c.args.step.action.now) (set_of (second_parts (form_of c.args.y.now) (form_of c.args.z.now) c.args.step.env.now c.args.step.action.now (moved (form_of c.args.y.now) c.args.step.env.now c.args.first.now c.args.step.action.now) (items_of (listed c.args.rest.now))))) c.args.step.positive (moved (form_of c.args.y.now) c.args.step.env.now c.args.first.now c.args.step.action.now) (set_of (second_parts (form_of c.args.y.now) (form_of c.args.z.now) c.args.step.env.now c.args.step.action.now (moved (form_of c.args.y.now) c.args.step.env.now c.args.first.now c.args.step.action.now) (items_of (listed c.args.rest.now)))) (omega (arith, same, k)) (omega arith))
 
 pub advance::advance_seq-returns-in_err-put_first : goal.advance::advance_seq-returns-in_err-put_first
 advance::advance_seq-returns-in_err-put_first t c =
@@ -187,7 +229,7 @@ advance::advance_seq-returns-in_err-put_first t c =
     ∙ ap (λ b. set_of (live_moves z c.args.step.env.now c.args.step.action.now c.args.rest.now ++ when b (initial_tree z ∷ []))) begins
     ∙ ap (λ l. set_of (second_parts (form_of c.args.y.now) z c.args.step.env.now c.args.step.action.now (moved (form_of c.args.y.now) c.args.step.env.now c.args.first.now c.args.step.action.now) l)) (sym (items_of-listed c.args.rest.now)) in
     exit_over _ c.from_residual-in_err-put_first.result _ c.from_residual-in_err-put_first.ensures.1 c.in_err-put_first.ensures.gathers (λ lt.
-    omega (arith, ap size_of whole, c.in_ok-set.ensures.1))
+    beside_over c.args.step.limit (seq_of (moved (form_of c.args.y.now) c.args.step.env.now c.args.first.now c.args.step.action.now) (set_of (second_parts (form_of c.args.y.now) (form_of c.args.z.now) c.args.step.env.now c.args.step.action.now (moved (form_of c.args.y.now) c.args.step.env.now c.args.first.now c.args.step.action.now) (items_of (listed c.args.rest.now))))) c.args.step.positive (moved (form_of c.args.y.now) c.args.step.env.now c.args.first.now c.args.step.action.now) (set_of (second_parts (form_of c.args.y.now) (form_of c.args.z.now) c.args.step.env.now c.args.step.action.now (moved (form_of c.args.y.now) c.args.step.env.now c.args.first.now c.args.step.action.now) (items_of (listed c.args.rest.now)))) (omega (arith, ap size_of whole, c.in_ok-set.ensures.1)) (omega arith))
 
 pub advance::advance_seq-returns : goal.advance::advance_seq-returns
 advance::advance_seq-returns t c =
@@ -198,8 +240,8 @@ advance::advance_seq-returns t c =
     ∙ ap (λ b. set_of (live_moves z c.args.step.env.now c.args.step.action.now c.args.rest.now ++ when b (initial_tree z ∷ []))) begins
     ∙ ap (λ l. set_of (second_parts (form_of c.args.y.now) z c.args.step.env.now c.args.step.action.now (moved (form_of c.args.y.now) c.args.step.env.now c.args.first.now c.args.step.action.now) l)) (sym (items_of-listed c.args.rest.now)) in
     let items = ap listed (c.into_items.ensures.items ∙ c.in_ok-put_first.ensures.gathers) ∙ whole in
-    subst (λ x. Makes c.args.step.limit x c.within.result)
-    (ap (λ x. seq_of x (listed c.into_items.result.items)) c.in_ok-first.ensures.0 ∙ ap (seq_of (moved (form_of c.args.y.now) c.args.step.env.now c.args.first.now c.args.step.action.now)) items) c.within.ensures
+    subst (λ x. Makes c.args.step.limit (pruned x) c.within_if_live.result)
+    (ap (λ x. seq_of x (listed c.into_items.result.items)) c.in_ok-first.ensures.0 ∙ ap (seq_of (moved (form_of c.args.y.now) c.args.step.env.now c.args.first.now c.args.step.action.now)) items) c.within_if_live.ensures
 
 pub advance::advance_star-advance_again-requires : goal.advance::advance_star-advance_again-requires
 advance::advance_star-advance_again-requires t c =
@@ -212,13 +254,15 @@ advance::advance_star-advance_each-requires t c =
 pub advance::advance_star-returns-in_err-begun : goal.advance::advance_star-returns-in_err-begun
 advance::advance_star-returns-in_err-begun t c =
     exit_over _ c.from_residual.result _ c.from_residual.ensures.1 c.in_err-begun.ensures (λ lt.
-    let k = live_in_set c.args.step.limit (live_moves (form_of c.args.y.now) c.args.step.env.now c.args.step.action.now (items_of (listed c.args.rest.now))) (begun_again c.args.again (form_of c.args.y.now) c.args.step.env.now c.args.step.action.now) c.args.step.positive lt in omega arith)
+    let k = live_in_set c.args.step.limit (live_moves (form_of c.args.y.now) c.args.step.env.now c.args.step.action.now (items_of (listed c.args.rest.now))) (begun_again c.args.again (form_of c.args.y.now) c.args.step.env.now c.args.step.action.now) c.args.step.positive lt in
+    list_over c.args.step.limit (star_of (list_any (is_final (form_of c.args.y.now)) (last_runs (form_of c.args.y.now) c.args.step.env.now c.args.step.action.now c.args.again (items_of (listed c.args.rest.now)))) (set_of (last_runs (form_of c.args.y.now) c.args.step.env.now c.args.step.action.now c.args.again (items_of (listed c.args.rest.now))))) (set_of (last_runs (form_of c.args.y.now) c.args.step.env.now c.args.step.action.now c.args.again (items_of (listed c.args.rest.now)))) k (omega arith))
 
 pub advance::advance_star-returns-in_err-set : goal.advance::advance_star-returns-in_err-set
 advance::advance_star-returns-in_err-set t c =
     let same = ap (λ l. size_all (put_all (live_moves (form_of c.args.y.now) c.args.step.env.now c.args.step.action.now l) [])) (items_of-listed c.args.rest.now) in
     let k = front_of_set (live_moves (form_of c.args.y.now) c.args.step.env.now c.args.step.action.now (items_of (listed c.args.rest.now))) (live (begun_again c.args.again (form_of c.args.y.now) c.args.step.env.now c.args.step.action.now)) in
-    exit_over _ c.from_residual-in_err-set.result _ c.from_residual-in_err-set.ensures.1 c.in_err-set.ensures (λ lt. omega (arith, same, k))
+    exit_over _ c.from_residual-in_err-set.result _ c.from_residual-in_err-set.ensures.1 c.in_err-set.ensures (λ lt.
+    list_over c.args.step.limit (star_of (list_any (is_final (form_of c.args.y.now)) (last_runs (form_of c.args.y.now) c.args.step.env.now c.args.step.action.now c.args.again (items_of (listed c.args.rest.now)))) (set_of (last_runs (form_of c.args.y.now) c.args.step.env.now c.args.step.action.now c.args.again (items_of (listed c.args.rest.now))))) (set_of (last_runs (form_of c.args.y.now) c.args.step.env.now c.args.step.action.now c.args.again (items_of (listed c.args.rest.now)))) (omega (arith, same, k)) (omega arith))
 
 pub advance::advance_star-returns-in_err-put_live : goal.advance::advance_star-returns-in_err-put_live
 advance::advance_star-returns-in_err-put_live t c =
@@ -226,7 +270,7 @@ advance::advance_star-returns-in_err-put_live t c =
     ∙ ap (λ x. set_of (live_moves (form_of c.args.y.now) c.args.step.env.now c.args.step.action.now c.args.rest.now ++ live x)) c.in_ok-begun.ensures.0
     ∙ ap (λ l. set_of (last_runs (form_of c.args.y.now) c.args.step.env.now c.args.step.action.now c.args.again l)) (sym (items_of-listed c.args.rest.now)) in
     exit_over _ c.from_residual-in_err-put_live.result _ c.from_residual-in_err-put_live.ensures.1 c.in_err-put_live.ensures.gathers (λ lt.
-    omega (arith, ap size_of whole, c.in_ok-set.ensures.1))
+    list_over c.args.step.limit (star_of (list_any (is_final (form_of c.args.y.now)) (last_runs (form_of c.args.y.now) c.args.step.env.now c.args.step.action.now c.args.again (items_of (listed c.args.rest.now)))) (set_of (last_runs (form_of c.args.y.now) c.args.step.env.now c.args.step.action.now c.args.again (items_of (listed c.args.rest.now))))) (set_of (last_runs (form_of c.args.y.now) c.args.step.env.now c.args.step.action.now c.args.again (items_of (listed c.args.rest.now)))) (omega (arith, ap size_of whole, c.in_ok-set.ensures.1)) (omega arith))
 
 pub advance::advance_star-returns : goal.advance::advance_star-returns
 advance::advance_star-returns t c =
@@ -235,8 +279,8 @@ advance::advance_star-returns t c =
     ∙ ap (λ l. set_of (last_runs (form_of c.args.y.now) c.args.step.env.now c.args.step.action.now c.args.again l)) (sym (items_of-listed c.args.rest.now)) in
     let items = ap listed (c.into_items-items.ensures.items ∙ c.in_ok-put_live.ensures.gathers) ∙ whole in
     let again = c.some_completes-again.ensures ∙ ap (list_any (is_final (form_of c.args.y.now))) (c.deref.ensures.value ∙ sym (items_of-listed c.into_items-items.result.items) ∙ ap items_of items ∙ items_of-listed (canon tree_cmp (last_runs (form_of c.args.y.now) c.args.step.env.now c.args.step.action.now c.args.again (items_of (listed c.args.rest.now))))) ∙ any_of_set (is_final (form_of c.args.y.now)) (last_runs (form_of c.args.y.now) c.args.step.env.now c.args.step.action.now c.args.again (items_of (listed c.args.rest.now))) in
-    subst (λ x. Makes c.args.step.limit x c.within.result)
-    (ap (λ b. star_of b (listed c.into_items-items.result.items)) again ∙ ap (star_of (list_any (is_final (form_of c.args.y.now)) (last_runs (form_of c.args.y.now) c.args.step.env.now c.args.step.action.now c.args.again (items_of (listed c.args.rest.now))))) items) c.within.ensures
+    subst (λ x. Makes c.args.step.limit (pruned x) c.within_if_live.result)
+    (ap (λ b. star_of b (listed c.into_items-items.result.items)) again ∙ ap (star_of (list_any (is_final (form_of c.args.y.now)) (last_runs (form_of c.args.y.now) c.args.step.env.now c.args.step.action.now c.args.again (items_of (listed c.args.rest.now))))) items) c.within_if_live.ensures
 
 pub advance::advance_each-advance-requires : goal.advance::advance_each-advance-requires
 advance::advance_each-advance-requires t c =
@@ -313,36 +357,44 @@ parallel::advance_par-advance_pairs-requires t c =
 pub parallel::advance_par-returns-in_err-set : goal.parallel::advance_par-returns-in_err-set
 parallel::advance_par-returns-in_err-set t c =
     let whole = made_set (pair_moves (form_of c.args.y.now) (form_of c.args.z.now) c.args.step.env.now c.args.step.action.now) (map plain_pair c.args.pairs.now) in
-    exit_over _ c.from_residual.result _ c.from_residual.ensures.1 c.in_err-set.ensures (λ lt. omega (arith, ap size_of whole))
+    exit_over _ c.from_residual.result _ c.from_residual.ensures.1 c.in_err-set.ensures (λ lt.
+    list_over c.args.step.limit (par_of (set_of (flat_map (pair_moves (form_of c.args.y.now) (form_of c.args.z.now) c.args.step.env.now c.args.step.action.now) (items_of (listed (map plain_pair c.args.pairs.now)))))) (set_of (flat_map (pair_moves (form_of c.args.y.now) (form_of c.args.z.now) c.args.step.env.now c.args.step.action.now) (items_of (listed (map plain_pair c.args.pairs.now))))) (omega (arith, ap size_of whole)) (omega arith))
 
 pub parallel::advance_par-returns : goal.parallel::advance_par-returns
 parallel::advance_par-returns t c =
-    subst (λ l. Makes c.args.step.limit (par_of l) c.within.result)
-    (ap (λ v. listed (map plain_pair v)) c.into_items.ensures.items ∙ ap listed c.in_ok-set.ensures.0 ∙ made_set (pair_moves (form_of c.args.y.now) (form_of c.args.z.now) c.args.step.env.now c.args.step.action.now) (map plain_pair c.args.pairs.now)) c.within.ensures
+    subst (λ l. Makes c.args.step.limit (pruned (par_of l)) c.within_if_live.result)
+    (ap (λ v. listed (map plain_pair v)) c.into_items.ensures.items ∙ ap listed c.in_ok-set.ensures.0 ∙ made_set (pair_moves (form_of c.args.y.now) (form_of c.args.z.now) c.args.step.env.now c.args.step.action.now) (map plain_pair c.args.pairs.now)) c.within_if_live.ensures
+
+pub parallel::advance_par_star-returns-then-is_empty : goal.parallel::advance_par_star-returns-then-is_empty
+parallel::advance_par_star-returns-then-is_empty t c =
+    subst (λ bags. Makes c.args.step.limit (pruned (par_star_of (set_of (flat_map (bag_moves (form_of c.args.y.now) c.args.step.env.now c.args.step.action.now) (items_of (listed (map plain_bag bags))))))) c.within.result)
+    (sym (no_items c.args.bags.now (sym c.is_empty.ensures ∙ c.if-is_empty.true))) c.within.ensures
 
 pub parallel::advance_par_star-advance_again-requires : goal.parallel::advance_par_star-advance_again-requires
 parallel::advance_par_star-advance_again-requires t c =
-    (omega arith, run_begins c.requires.ready)
+    (omega arith, run_begins c.requires)
 
 pub parallel::advance_par_star-advance_bags-requires : goal.parallel::advance_par_star-advance_bags-requires
 parallel::advance_par_star-advance_bags-requires t c =
-    (omega arith, (bags_ready (map plain_bag c.args.bags.now) c.requires.ready, (c.in_ok-first.ensures.0, omega (arith, ap size_of c.in_ok-first.ensures.0, c.in_ok-first.ensures.1, c.args.step.bounded))))
+    (omega arith, (bags_ready (map plain_bag c.args.bags.now) c.requires, (c.in_ok-first.ensures.0, omega (arith, ap size_of c.in_ok-first.ensures.0, c.in_ok-first.ensures.1, c.args.step.bounded))))
 
 pub parallel::advance_par_star-returns-in_err-first : goal.parallel::advance_par_star-returns-in_err-first
 parallel::advance_par_star-returns-in_err-first t c =
-    let some : 0 < length (items_of (listed (map plain_bag c.args.bags.now))) = omega (arith, ap length (items_of-listed (map plain_bag c.args.bags.now)), length-map c.args.bags.now plain_bag, c.requires.some) in
+    let some : 0 < length (items_of (listed (map plain_bag c.args.bags.now))) = omega (arith, ap length (items_of-listed (map plain_bag c.args.bags.now)), length-map c.args.bags.now plain_bag, some_items c.args.bags.now (sym c.is_empty.ensures ∙ c.if-is_empty.false)) in
     exit_over _ c.from_residual.result _ c.from_residual.ensures.1 c.in_err-first.ensures (λ lt.
-    let k = first_over c.args.step.limit (form_of c.args.y.now) c.args.step.env.now c.args.step.action.now (items_of (listed (map plain_bag c.args.bags.now))) some c.args.step.positive lt in omega arith)
+    let k = first_over c.args.step.limit (form_of c.args.y.now) c.args.step.env.now c.args.step.action.now (items_of (listed (map plain_bag c.args.bags.now))) some c.args.step.positive lt in
+    list_over c.args.step.limit (par_star_of (set_of (flat_map (bag_moves (form_of c.args.y.now) c.args.step.env.now c.args.step.action.now) (items_of (listed (map plain_bag c.args.bags.now)))))) (set_of (flat_map (bag_moves (form_of c.args.y.now) c.args.step.env.now c.args.step.action.now) (items_of (listed (map plain_bag c.args.bags.now))))) k (omega arith))
 
 pub parallel::advance_par_star-returns-in_err-set : goal.parallel::advance_par_star-returns-in_err-set
 parallel::advance_par_star-returns-in_err-set t c =
     let whole = made_set (bag_moves (form_of c.args.y.now) c.args.step.env.now c.args.step.action.now) (map plain_bag c.args.bags.now) in
-    exit_over _ c.from_residual-in_err-set.result _ c.from_residual-in_err-set.ensures.1 c.in_err-set.ensures (λ lt. omega (arith, ap size_of whole))
+    exit_over _ c.from_residual-in_err-set.result _ c.from_residual-in_err-set.ensures.1 c.in_err-set.ensures (λ lt.
+    list_over c.args.step.limit (par_star_of (set_of (flat_map (bag_moves (form_of c.args.y.now) c.args.step.env.now c.args.step.action.now) (items_of (listed (map plain_bag c.args.bags.now)))))) (set_of (flat_map (bag_moves (form_of c.args.y.now) c.args.step.env.now c.args.step.action.now) (items_of (listed (map plain_bag c.args.bags.now))))) (omega (arith, ap size_of whole)) (omega arith))
 
 pub parallel::advance_par_star-returns : goal.parallel::advance_par_star-returns
 parallel::advance_par_star-returns t c =
-    subst (λ l. Makes c.args.step.limit (par_star_of l) c.within.result)
-    (ap (λ v. listed (map plain_bag v)) c.into_items.ensures.items ∙ ap listed c.in_ok-set.ensures.0 ∙ made_set (bag_moves (form_of c.args.y.now) c.args.step.env.now c.args.step.action.now) (map plain_bag c.args.bags.now)) c.within.ensures
+    subst (λ l. Makes c.args.step.limit (pruned (par_star_of l)) c.within_if_live.result)
+    (ap (λ v. listed (map plain_bag v)) c.into_items.ensures.items ∙ ap listed c.in_ok-set.ensures.0 ∙ made_set (bag_moves (form_of c.args.y.now) c.args.step.env.now c.args.step.action.now) (map plain_bag c.args.bags.now)) c.within_if_live.ensures
 
 pub parallel::advance_bags-advance_picks-requires : goal.parallel::advance_bags-advance_picks-requires
 parallel::advance_bags-advance_picks-requires t c =
@@ -452,11 +504,19 @@ quantifiers::advance_entries-state_at-state-requires t c =
 
 pub quantifiers::advance_entries-advance_at-requires : goal.quantifiers::advance_entries-advance_at-requires
 quantifiers::advance_entries-advance_at-requires t c =
-    let r = value_ready c.args.body.parameter.now (form_of c.args.body.expr.now) c.args.step.env.now c.args.common.now c.args.entries.now c.value-item.result c.requires.ready in (
+    let r = value_ready c.args.body.parameter.now (form_of c.args.body.expr.now) c.args.step.env.now c.args.common.now c.args.entries.now c.value-item.result c.requires.ready in
+    let vals = c.deref-value-items.ensures.value ∙ c.in_ok-values.ensures in
+    let each = subst (Each (λ v. part_may c.args.reach (form_of c.args.body.expr.now) (bind c.args.body.parameter.now (Some v) c.args.step.env.now) c.args.step.action.now (tree_at v c.args.common.now (map plain_entry c.args.entries.now)) ≡ true)) (sym vals) c.requires.each in
+    let own = each_at {G = λ v. part_may c.args.reach (form_of c.args.body.expr.now) (bind c.args.body.parameter.now (Some v) c.args.step.env.now) c.args.step.action.now (tree_at v c.args.common.now (map plain_entry c.args.entries.now)) ≡ true} c.deref-value-items.result.now c.loop-value.value-index c.value-item.result (omega arith) c.value-item.is each in
+    let state = c.state_at-state.ensures ∙ ap (tree_at c.value-item.result c.args.common.now) (items_of-listed (map plain_entry c.args.entries.now)) in
+    let may_come = ap (part_may c.args.reach (form_of c.args.body.expr.now) (bind c.args.body.parameter.now (Some c.value-item.result) c.args.step.env.now) c.args.step.action.now) state ∙ own in (
       omega arith,
       (
         c.requires.ready.fits,
-        (subst (IsProper (form_of c.args.body.expr.now)) (sym c.state_at-state.ensures) r.proper, omega (arith, ap size_of c.state_at-state.ensures, r.small)),
+        (
+          subst (IsProper (form_of c.args.body.expr.now)) (sym c.state_at-state.ensures) r.proper,
+          (omega (arith, ap size_of c.state_at-state.ensures, r.small), may_come),
+        ),
       ),
     )
 
@@ -512,7 +572,7 @@ quantifiers::advance_entries-returns t c =
 
 pub quantifiers::advance_values-advance_at-requires : goal.quantifiers::advance_values-advance_at-requires
 quantifiers::advance_values-advance_at-requires t c =
-    (omega arith, (c.requires.fits, (c.requires.proper, omega (arith, c.requires.small))))
+    (omega arith, (c.requires.ready.fits, (c.requires.ready.proper, (omega (arith, c.requires.ready.small), c.requires.common))))
 
 pub maps::advance_all-first_tree-requires : goal.maps::advance_all-first_tree-requires
 maps::advance_all-first_tree-requires t c =
@@ -525,12 +585,13 @@ maps::advance_all-advance_maps-requires t c =
 pub maps::advance_all-returns-in_err-set : goal.maps::advance_all-returns-in_err-set
 maps::advance_all-returns-in_err-set t c =
     let whole = made_set (maps_after c.args.body.parameter.now (form_of c.args.body.expr.now) c.args.step.env.now c.args.step.action.now c.in_ok-first.first c.args.step.action.now.values) (map plain_map c.args.maps.now) ∙ ap (λ z. set_of (flat_map (maps_after c.args.body.parameter.now (form_of c.args.body.expr.now) c.args.step.env.now c.args.step.action.now z c.args.step.action.now.values) (items_of (listed (map plain_map c.args.maps.now))))) c.in_ok-first.ensures in
-    exit_over _ c.from_residual-in_err-set.result _ c.from_residual-in_err-set.ensures.1 c.in_err-set.ensures (λ lt. omega (arith, ap size_of whole))
+    exit_over _ c.from_residual-in_err-set.result _ c.from_residual-in_err-set.ensures.1 c.in_err-set.ensures (λ lt.
+    list_over c.args.step.limit (all_of (set_of (flat_map (maps_after c.args.body.parameter.now (form_of c.args.body.expr.now) c.args.step.env.now c.args.step.action.now (initial_tree (form_of c.args.body.expr.now)) c.args.step.action.now.values) (items_of (listed (map plain_map c.args.maps.now)))))) (set_of (flat_map (maps_after c.args.body.parameter.now (form_of c.args.body.expr.now) c.args.step.env.now c.args.step.action.now (initial_tree (form_of c.args.body.expr.now)) c.args.step.action.now.values) (items_of (listed (map plain_map c.args.maps.now))))) (omega (arith, ap size_of whole)) (omega arith))
 
 pub maps::advance_all-returns : goal.maps::advance_all-returns
 maps::advance_all-returns t c =
-    subst (λ l. Makes c.args.step.limit (all_of l) c.within.result)
-    (ap (λ v. listed (map plain_map v)) c.into_items.ensures.items ∙ ap listed c.in_ok-set.ensures.0 ∙ made_set (maps_after c.args.body.parameter.now (form_of c.args.body.expr.now) c.args.step.env.now c.args.step.action.now c.in_ok-first.first c.args.step.action.now.values) (map plain_map c.args.maps.now) ∙ ap (λ z. set_of (flat_map (maps_after c.args.body.parameter.now (form_of c.args.body.expr.now) c.args.step.env.now c.args.step.action.now z c.args.step.action.now.values) (items_of (listed (map plain_map c.args.maps.now))))) c.in_ok-first.ensures) c.within.ensures
+    subst (λ l. Makes c.args.step.limit (pruned (all_of l)) c.within_if_live.result)
+    (ap (λ v. listed (map plain_map v)) c.into_items.ensures.items ∙ ap listed c.in_ok-set.ensures.0 ∙ made_set (maps_after c.args.body.parameter.now (form_of c.args.body.expr.now) c.args.step.env.now c.args.step.action.now c.in_ok-first.first c.args.step.action.now.values) (map plain_map c.args.maps.now) ∙ ap (λ z. set_of (flat_map (maps_after c.args.body.parameter.now (form_of c.args.body.expr.now) c.args.step.env.now c.args.step.action.now z c.args.step.action.now.values) (items_of (listed (map plain_map c.args.maps.now))))) c.in_ok-first.ensures) c.within_if_live.ensures
 
 pub maps::advance_owner-or_first-requires : goal.maps::advance_owner-or_first-requires
 maps::advance_owner-or_first-requires t c =
@@ -594,6 +655,18 @@ pub quantifiers::advance_at-advance-requires : goal.quantifiers::advance_at-adva
 quantifiers::advance_at-advance-requires t c =
     (omega arith, at_ready c.args.value c.with-env.result c.with-env.ensures c.requires.fits c.requires.proper c.requires.small)
 
+pub quantifiers::advance_at-advance_asked-requires : goal.quantifiers::advance_at-advance_asked-requires
+quantifiers::advance_at-advance_asked-requires t c =
+    let y = form_of c.args.body.expr.now in
+    let must = subst (λ r. part_may r y (bind c.args.body.parameter.now c.args.value c.args.step.env.now) c.args.step.action.now c.args.state.now ≡ true) c.in-Must.is c.requires.may in (
+      omega arith,
+      (at_ready c.args.value c.with-env.result c.with-env.ensures c.requires.fits c.requires.proper c.requires.small, passed y c.with-env.result c.args.state.now c.args.step.action.now (ap (λ f. may y f c.args.state.now c.args.step.action.now) c.with-env.ensures ∙ must)),
+    )
+
 pub quantifiers::advance_at-advance_inside-requires : goal.quantifiers::advance_at-advance_inside-requires
 quantifiers::advance_at-advance_inside-requires t c =
-    (omega arith, at_ready c.args.value c.with-env.result c.with-env.ensures c.requires.fits c.requires.proper c.requires.small)
+    let y = form_of c.args.body.expr.now in
+    let must = subst (λ r. part_may r y (bind c.args.body.parameter.now c.args.value c.args.step.env.now) c.args.step.action.now c.args.state.now ≡ true) c.in-OwnAlphabet.is c.requires.may in (
+      omega arith,
+      (at_ready c.args.value c.with-env.result c.with-env.ensures c.requires.fits c.requires.proper c.requires.small, ap (λ f. moves_within (in_alphabet y f c.args.step.action.now) (may y f c.args.state.now c.args.step.action.now)) c.with-env.ensures ∙ must),
+    )

@@ -18,7 +18,10 @@ use Rattle.ix_step.proofs.Measure.{form_size}
 use Rattle.ix_step.proofs.+advance.Given as goal
 
 abbrev pub decreases-advance::advance : goal.decreases-advance::advance
-decreases-advance::advance l = 8 * form_size (form_of l.expr.now) + 1
+decreases-advance::advance l = 8 * form_size (form_of l.expr.now) + 2
+
+abbrev pub decreases-advance::advance_asked : goal.decreases-advance::advance_asked
+decreases-advance::advance_asked l = 8 * form_size (form_of l.expr.now) + 1
 
 abbrev pub decreases-advance::advance_node : goal.decreases-advance::advance_node
 decreases-advance::advance_node l = 8 * form_size (form_of l.expr.now)
@@ -27,13 +30,13 @@ abbrev pub decreases-advance::advance_inside : goal.decreases-advance::advance_i
 decreases-advance::advance_inside l = 8 * form_size (form_of l.expr.now) + 2
 
 abbrev pub decreases-advance::advance_seq : goal.decreases-advance::advance_seq
-decreases-advance::advance_seq l = 8 * form_size (form_of l.y.now) + 8 * form_size (form_of l.z.now) + 3
+decreases-advance::advance_seq l = 8 * form_size (form_of l.y.now) + 8 * form_size (form_of l.z.now) + 4
 
 abbrev pub decreases-advance::advance_star : goal.decreases-advance::advance_star
-decreases-advance::advance_star l = 8 * form_size (form_of l.y.now) + 3
+decreases-advance::advance_star l = 8 * form_size (form_of l.y.now) + 4
 
 abbrev pub decreases-advance::advance_each : goal.decreases-advance::advance_each
-decreases-advance::advance_each l = 8 * form_size (form_of l.expr.now) + 2
+decreases-advance::advance_each l = 8 * form_size (form_of l.expr.now) + 3
 
 -- the set holds what the trees so far give, within the limit
 abbrev pub invariant-advance::advance_each-loop-tree : goal.invariant-advance::advance_each-loop-tree
@@ -44,13 +47,13 @@ invariant-advance::advance_each-loop-tree l = record {
 }
 
 abbrev pub decreases-advance::advance_again : goal.decreases-advance::advance_again
-decreases-advance::advance_again l = 8 * form_size (form_of l.expr.now) + 2
+decreases-advance::advance_again l = 8 * form_size (form_of l.expr.now) + 3
 
 abbrev pub decreases-parallel::advance_par : goal.decreases-parallel::advance_par
-decreases-parallel::advance_par l = 8 * form_size (form_of l.y.now) + 8 * form_size (form_of l.z.now) + 3
+decreases-parallel::advance_par l = 8 * form_size (form_of l.y.now) + 8 * form_size (form_of l.z.now) + 4
 
 abbrev pub decreases-parallel::advance_pairs : goal.decreases-parallel::advance_pairs
-decreases-parallel::advance_pairs l = 8 * form_size (form_of l.y.now) + 8 * form_size (form_of l.z.now) + 2
+decreases-parallel::advance_pairs l = 8 * form_size (form_of l.y.now) + 8 * form_size (form_of l.z.now) + 3
 
 -- the set holds what the pairs so far give, within the limit
 abbrev pub invariant-parallel::advance_pairs-loop-pair : goal.invariant-parallel::advance_pairs-loop-pair
@@ -61,10 +64,10 @@ invariant-parallel::advance_pairs-loop-pair l = record {
 }
 
 abbrev pub decreases-parallel::advance_par_star : goal.decreases-parallel::advance_par_star
-decreases-parallel::advance_par_star l = 8 * form_size (form_of l.y.now) + 5
+decreases-parallel::advance_par_star l = 8 * form_size (form_of l.y.now) + 6
 
 abbrev pub decreases-parallel::advance_bags : goal.decreases-parallel::advance_bags
-decreases-parallel::advance_bags l = 8 * form_size (form_of l.y.now) + 4
+decreases-parallel::advance_bags l = 8 * form_size (form_of l.y.now) + 5
 
 -- the set holds what the bags so far give, within the limit
 abbrev pub invariant-parallel::advance_bags-loop-bag : goal.invariant-parallel::advance_bags-loop-bag
@@ -75,7 +78,7 @@ invariant-parallel::advance_bags-loop-bag l = record {
 }
 
 abbrev pub decreases-parallel::advance_picks : goal.decreases-parallel::advance_picks
-decreases-parallel::advance_picks l = 8 * form_size (form_of l.y.now) + 3
+decreases-parallel::advance_picks l = 8 * form_size (form_of l.y.now) + 4
 
 -- the set holds the bags in which one of the trees so far is moved, within the limit
 abbrev pub invariant-parallel::advance_picks-loop-place : goal.invariant-parallel::advance_picks-loop-place
@@ -86,7 +89,7 @@ invariant-parallel::advance_picks-loop-place l = record {
 }
 
 abbrev pub decreases-parallel::advance_pick : goal.decreases-parallel::advance_pick
-decreases-parallel::advance_pick l = 8 * form_size (form_of l.y.now) + 2
+decreases-parallel::advance_pick l = 8 * form_size (form_of l.y.now) + 3
 
 abbrev pub decreases-quantifiers::advance_values : goal.decreases-quantifiers::advance_values
 decreases-quantifiers::advance_values l = 8 * form_size (form_of l.body.expr.now) + 5
@@ -105,10 +108,10 @@ abbrev pub decreases-quantifiers::advance_at : goal.decreases-quantifiers::advan
 decreases-quantifiers::advance_at l = 8 * form_size (form_of l.body.expr.now) + 3
 
 abbrev pub decreases-maps::advance_all : goal.decreases-maps::advance_all
-decreases-maps::advance_all l = 8 * form_size (form_of l.body.expr.now) + 5
+decreases-maps::advance_all l = 8 * form_size (form_of l.body.expr.now) + 6
 
 abbrev pub decreases-maps::advance_maps : goal.decreases-maps::advance_maps
-decreases-maps::advance_maps l = 8 * form_size (form_of l.body.expr.now) + 4
+decreases-maps::advance_maps l = 8 * form_size (form_of l.body.expr.now) + 5
 
 -- the set holds what the maps so far give, within the limit
 abbrev pub invariant-maps::advance_maps-loop-state : goal.invariant-maps::advance_maps-loop-state
@@ -119,7 +122,7 @@ invariant-maps::advance_maps-loop-state l = record {
 }
 
 abbrev pub decreases-maps::advance_owners : goal.decreases-maps::advance_owners
-decreases-maps::advance_owners l = 8 * form_size (form_of l.body.expr.now) + 3
+decreases-maps::advance_owners l = 8 * form_size (form_of l.body.expr.now) + 4
 
 -- the set holds what the values so far give, within the limit
 abbrev pub invariant-maps::advance_owners-loop-value : goal.invariant-maps::advance_owners-loop-value
@@ -130,4 +133,4 @@ invariant-maps::advance_owners-loop-value l = record {
 }
 
 abbrev pub decreases-maps::advance_owner : goal.decreases-maps::advance_owner
-decreases-maps::advance_owner l = 8 * form_size (form_of l.body.expr.now) + 2
+decreases-maps::advance_owner l = 8 * form_size (form_of l.body.expr.now) + 3

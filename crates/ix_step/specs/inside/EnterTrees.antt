@@ -1,6 +1,6 @@
 -- What it means that the trees of values are put among entries beside a common tree.
 use Rattle.std.specs.Prelude.{◌≡◌, ℕ, ◌≤◌, List, [], map, Result, MatchResult}
-use Rattle.ix_tree.specs.Plain.{Plain, listed, pair}
+use Rattle.ix_tree.specs.Plain.{Plain, listed, more}
 use Rattle.ix_tree.specs.PlainOf.{plain_entry, plain_entries}
 use Rattle.ix_tree.specs.Size.{size_of}
 use Rattle.ix_can.specs.TreeOf.{entries_of}
@@ -20,4 +20,4 @@ pub record HoldTrees (common : Plain) (tree : List ℕ → Plain) (values : List
 abbrev pub EnterTrees : ℕ → Plain → (List ℕ → Plain) → List (List ℕ) → List (List ℕ × Plain) → Result ℕ Unbuilt → Type 0
 EnterTrees limit common tree values entries r =
     MatchResult r (λ total. HoldTrees common tree values entries total × (total ≤ limit))
-    (IsOver limit (pair common (listed (entries_put common tree values))))
+    (IsOver limit (more common (listed (entries_put common tree values))))

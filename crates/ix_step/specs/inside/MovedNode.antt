@@ -9,7 +9,7 @@ use Rattle.ix_can.specs.Nodes.{items_of, set_of}
 use Rattle.ix_can.specs.Tests.{in_alphabet}
 use Rattle.ix_can.specs.TreeOf.{is_final}
 use Rattle.ix_can.specs.inside.Moved.{moved, moved_inside}
-use Rattle.ix_step.specs.declared.bodies.Reach.TheVariants.{All, OwnAlphabet}
+use Rattle.ix_step.specs.declared.bodies.Reach.TheVariants.{All, Must, OwnAlphabet}
 use Rattle.ix_step.specs.inside.Initial.{initial_tree}
 use Rattle.ix_step.specs.inside.MapsAfter.{maps_after}
 use Rattle.ix_step.specs.inside.Moves.{second_parts, last_runs}
@@ -33,7 +33,7 @@ moved_node (couple y z) e (couple_of t u) a =
 moved_node (any p y) e (any_of common entries) a =
     any_of (common_after All p y e a common) (entries_after All p y e a common entries)
 moved_node (every p y) e (every_of common entries) a =
-    every_of (common_after All p y e a common) (entries_after All p y e a common entries)
+    every_of (common_after Must p y e a common) (entries_after Must p y e a common entries)
 moved_node (sync p y) e (sync_of common entries) a =
     sync_of (common_after OwnAlphabet p y e a common) (entries_after OwnAlphabet p y e a common entries)
 moved_node (all p y) e (all_of maps) a =

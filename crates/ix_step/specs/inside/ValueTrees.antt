@@ -1,23 +1,24 @@
 -- The trees of an operand under each value of a quantifier's parameter, and what is asked of them before they are moved.
-use Rattle.std.specs.Prelude.{◌≡◌, ℕ, ◌+◌, ◌≤◌, List, ◌++◌, flat_map, Some, None, Result, MatchResult}
+use Rattle.std.specs.Prelude.{◌≡◌, ℕ, ◌+◌, ◌≤◌, Bool, true, List, ◌++◌, map, flat_map, Some, None, Result, MatchResult}
 use Rattle.std.specs.Map.{keys_of}
 use Rattle.std.proofs.Common.{Global, Vec}
+use Rattle.ix_words.specs.Each.{Each}
 use Rattle.ix_values.specs.PlainAction.{PlainAction}
 use Rattle.ix_expr.specs.Form.{Form}
 use Rattle.ix_expr.specs.Environment.{Environment, bind}
 use Rattle.ix_expr.specs.Fitting.{FitsInside}
-use Rattle.ix_tree.specs.Plain.{Plain, listed, pair, items_of}
-use Rattle.ix_tree.specs.PlainOf.{plain_entries}
+use Rattle.ix_tree.specs.Plain.{Plain, listed, more, items_of}
+use Rattle.ix_tree.specs.PlainOf.{plain_entry, plain_entries}
 use Rattle.ix_tree.specs.Order.{key, first_part}
 use Rattle.ix_tree.specs.Size.{size_of}
 use Rattle.ix_can.specs.Nodes.{set_of}
 use Rattle.ix_can.specs.Tests.{in_alphabet}
 use Rattle.ix_can.specs.Laws.{IsProper, ProperEntries}
-use Rattle.ix_can.specs.inside.May.{tree_at}
+use Rattle.ix_can.specs.inside.May.{may, moves_within, tree_at}
 use Rattle.ix_can.specs.inside.Moved.{moved, moved_inside, entry_with}
 use Rattle.ix_step.specs.inside.Makes.{IsOver}
 use Rattle.ix_step.specs.declared.bodies.Reach.{Reach}
-use Rattle.ix_step.specs.declared.bodies.Reach.TheVariants.{All, OwnAlphabet}
+use Rattle.ix_step.specs.declared.bodies.Reach.TheVariants.{All, Must, OwnAlphabet}
 use Rattle.ix_step.specs.declared.fault.Unbuilt.{Unbuilt}
 
 -- the operand fits under every value, and the trees are proper ones of it and not too large
@@ -30,6 +31,7 @@ pub record ReadyInside (p : List ℕ) (y : Form) (e : Environment) (common : Pla
 -- the moved tree; where only what is in the alphabet moves, the tree as it was outside it
 abbrev pub moved_part : Reach → Form → Environment → PlainAction → Plain → Plain
 moved_part All y e a t = moved y e t a
+moved_part Must y e a t = moved y e t a
 moved_part OwnAlphabet y e a t = moved_inside (in_alphabet y e a) (moved y e t a) t
 
 -- the common tree after the action
@@ -50,13 +52,24 @@ entries_after reach p y e a common entries =
 abbrev pub touched : List (List ℕ × Plain) → PlainAction → List (List ℕ)
 touched entries a = keys_of entries ++ a.values
 
+-- whether the tree may move, where it must: where only what is in the alphabet moves, what is outside it stands still
+abbrev pub part_may : Reach → Form → Environment → PlainAction → Plain → Bool
+part_may All y e a t = true
+part_may Must y e a t = may y e t a
+part_may OwnAlphabet y e a t = moves_within (in_alphabet y e a) (may y e t a)
+
+-- the tree of each value that has an entry or is the action's may move, where it must
+abbrev pub EachMay : Reach → List ℕ → Form → Environment → PlainAction → Plain → List (List ℕ × Plain) → Type 0
+EachMay reach p y e a common entries =
+    Each (λ v. part_may reach y (bind p (Some v) e) a (tree_at v common (map plain_entry entries)) ≡ true) (touched entries a)
+
 -- the entries were made and are within the limit, or with the common tree they are above it, or memory ran out
 abbrev pub MakesEntries : ℕ → Plain → Plain → Result (Vec (List ℕ × Plain) Global) Unbuilt → Type 0
 MakesEntries limit common entries r =
-    MatchResult r (λ made. (plain_entries made.items ≡ entries) × (size_of entries ≤ limit)) (IsOver limit (pair common entries))
+    MatchResult r (λ made. (plain_entries made.items ≡ entries) × (size_of entries ≤ limit)) (IsOver limit (more common entries))
 
 -- the common tree and the entries were made, or together they are above the limit, or memory ran out
 abbrev pub MakesParts : ℕ → Plain → Plain → Result (Plain × Vec (List ℕ × Plain) Global) Unbuilt → Type 0
 MakesParts limit common entries r =
     MatchResult r (λ parts. (parts.0 ≡ common) × (plain_entries parts.1.items ≡ entries) × (size_of common ≤ limit) × (size_of entries ≤ limit))
-    (IsOver limit (pair common entries))
+    (IsOver limit (more common entries))
