@@ -1,10 +1,9 @@
 -- What may be asked of a node may be asked of its parts.
-use Rattle.std.proofs.Common.{◌≡◌, ℕ, zero, suc, ◌<◌, Bool, List, [], ◌∷◌, length, get_or, Option, Some, map, sym, subst, arith, false, true≢false}
+use Rattle.std.proofs.Common.{◌≡◌, ℕ, zero, suc, ◌<◌, Bool, List, [], ◌∷◌, length, get_or, Option, map, sym, subst, arith, false, true≢false}
 use Rattle.ix_words.specs.Canon.{Ascending}
 use Rattle.ix_words.specs.Each.{Each, no_item, item}
 use Rattle.ix_words.proofs.Each.{Each-head, Each-tail, Each-weaker}
 use Rattle.ix_values.specs.Order.{text_cmp}
-use Rattle.ix_entries.specs.inside.Entries.{KeysAscend}
 use Rattle.ix_expr.specs.Environment.{Environment, bind}
 use Rattle.ix_expr.specs.Fitting.{FitsInside}
 use Rattle.ix_expr.specs.FormFaults.{Fits}

@@ -16,7 +16,7 @@ use Rattle.ix_values.specs.Order.{text_eq, text_cmp}
 use Rattle.ix_values.specs.lemmas.Order.{text_cmp-same, text_eq-decides}
 use Rattle.ix_entries.specs.inside.Entries.{KeysAscend, item_at}
 use Rattle.ix_tree.specs.Order.{key, first_part}
-use Rattle.ix_tree.specs.Plain.{Plain, dead, items_of}
+use Rattle.ix_tree.specs.Plain.{Plain, items_of}
 use Rattle.ix_tree.specs.PlainOf.{plain_entry, plain_entries}
 use Rattle.ix_tree.proofs.PlainLists.{items_of-listed}
 use Rattle.ix_can.specs.inside.May.{tree_at}

@@ -26,6 +26,7 @@ pub mod MovesTell
 pub mod Measures
 pub mod Children
 pub mod Keys
+pub mod NamedOutside
 pub mod UnseenValues
 pub mod Asking
 mod Examples

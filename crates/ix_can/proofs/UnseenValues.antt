@@ -9,17 +9,20 @@ use Rattle.ix_values.specs.lemmas.Order.{text_eq-decides}
 use Rattle.ix_values.specs.PlainAction.{PlainAction}
 use Rattle.ix_expr.specs.Form.{Form}
 use Rattle.ix_expr.specs.Environment.{Environment, bind}
-use Rattle.ix_expr.specs.Laws.{AtomsAgreeAt}
+use Rattle.ix_expr.specs.Laws.{AtomsAgreeAt, EachAtomNames}
+use Rattle.ix_expr.specs.Sees.{Sees}
 use Rattle.ix_expr.proofs.Agreement.{alphabet-leads, unused-leads, member-or-not}
 use Rattle.ix_expr.proofs.Unseen.{unseen-outside}
-use Rattle.ix_tree.specs.Plain.{Plain}
+use Rattle.ix_tree.specs.Plain.{Plain, dead}
 use Rattle.ix_tree.specs.Order.{key, first_part}
+use Rattle.ix_can.specs.Nodes.{is_dead}
 use Rattle.ix_can.specs.Tests.{in_alphabet}
-use Rattle.ix_can.specs.inside.CanAsk.{may_or_stays, each_may_or_stays, UnseenAnswer}
+use Rattle.ix_can.specs.inside.CanAsk.{first_or_stays, may_or_stays, each_may_or_stays, may_own, UnseenFirst, UnseenAnswer}
 use Rattle.ix_can.specs.inside.May.{moves_within, may, tree_at}
 use Rattle.ix_can.proofs.Keys.{tree_at_own}
 use Rattle.ix_can.proofs.Lists.{itself, unless_either, all_to, all_from}
-use Rattle.ix_can.proofs.MovesAlike.{atoms_alphabet, may_alike}
+use Rattle.ix_can.proofs.MovesAlike.{atoms_alphabet, first_alike, may_alike}
+use Rattle.ix_can.proofs.NamedOutside.{given_outside, if_false, none_first, none_next}
 use Rattle.ix_can.proofs.Testing.{alphabet_says}
 
 -- a test that no item passes
@@ -38,6 +41,23 @@ entry_or_common G common v (x ∷ xs) each = one (text_eq (key x) v) refl (Each-
         → G v (if b then first_part x else tree_at v common xs) ⊎ ((if b then first_part x else tree_at v common xs) ≡ common)
     one true e here later = inl (subst (λ u. G u (first_part x)) ((text_eq-decides (key x) v).0 e) here)
     one false e here later = later
+
+module _ (y : Form) (p : List ℕ) (e : Environment) (a : PlainAction) where
+  -- where outside is answered so on the first action, each value is that the body doesn't see
+  pub unseen_first : (s b : Bool) → first_or_stays s y (bind p None e) a ≡ b → UnseenFirst b s y p e a
+  unseen_first s b outside v n =
+      let agree : AtomsAgreeAt y (bind p (Some v) e) (bind p None e) a = unseen-outside y e p v a n in
+      (λ i. moves_within (not s || atoms_alphabet a y (bind p (Some v) e) (bind p None e) agree i) (first_alike a y (bind p (Some v) e) (bind p None e) agree i))
+      ∙ outside
+
+  -- where each atom names the parameter, no value begins that the body doesn't see
+  pub unseen_out : EachAtomNames p y → UnseenFirst false false y p e a
+  unseen_out names = unseen_first false false (none_first p a y (bind p None e) names (given_outside p e))
+
+  -- and none goes on
+  pub unseen_dead : EachAtomNames p y → (v : List ℕ) → ¬ Sees y p v a → (t : Plain) → may y (bind p (Some v) e) t a ≡ false
+  unseen_dead names v n t =
+      may_alike a y t (bind p (Some v) e) (bind p None e) (unseen-outside y e p v a n) ∙ none_next p a y (bind p None e) t names (given_outside p e)
 
 module _ (y : Form) (p : List ℕ) (e : Environment) (a : PlainAction) (common : Plain) (xs : List Plain) where
   -- where outside and every entry are answered alike, so is every value that the body doesn't see
@@ -63,6 +83,13 @@ module _ (y : Form) (p : List ℕ) (e : Environment) (a : PlainAction) (common :
       → UnseenAnswer true s y p e a common xs
   unseen_all s outside each = unseen_alike s true outside (all_to (λ x. may_or_stays s y (bind p (Some (key x)) e) (first_part x) a) xs each)
 
+  -- nor in a map where it has an entry
+  pub unseen_own : EachAtomNames p y → (v : List ℕ) → ¬ Sees y p v a → may_own y p e a xs v ≡ false
+  unseen_own names v n =
+      let agree : AtomsAgreeAt y (bind p (Some v) e) (bind p None e) a = unseen-outside y e p v a n in
+      if_false (is_dead (tree_at v dead xs)) (unseen_out y p e a names v n)
+      (may_alike a y (tree_at v dead xs) (bind p (Some v) e) (bind p None e) agree ∙ none_next p a y (bind p None e) (tree_at v dead xs) names (given_outside p e))
+
   outside_stays : (b m : Bool) → b ≡ false → moves_within b m ≡ true
   outside_stays false m h = refl
   outside_stays true m h = absurd (true≢false h)
@@ -74,7 +101,7 @@ module _ (y : Form) (p : List ℕ) (e : Environment) (a : PlainAction) (common :
       (atoms_alphabet a y (bind p (Some v) e) (bind p None e) (unseen-outside y e p v a n) ∙ outside)
 
   -- a value that isn't one of the action's is in the alphabet only where outside is
-  unused_outside : (v : List ℕ) → ¬ Member v a.values → in_alphabet y (bind p None e) a ≡ false → in_alphabet y (bind p (Some v) e) a ≡ false
+  pub unused_outside : (v : List ℕ) → ¬ Member v a.values → in_alphabet y (bind p None e) a ≡ false → in_alphabet y (bind p (Some v) e) a ≡ false
   unused_outside v n outside = one (in_alphabet y (bind p (Some v) e) a) refl
     where
       one : (b : Bool) → in_alphabet y (bind p (Some v) e) a ≡ b → in_alphabet y (bind p (Some v) e) a ≡ false

@@ -84,14 +84,16 @@ fn each_completes(y: &Expr, items: &[Knot]) -> bool
 
 #[cycle(completes)]
 fn pair_completes(y: &Expr, z: &Expr, pair: &Pair) -> bool
-    ensures { result ≡ (is_final (form_of y.now) pair.now.first && is_final (form_of z.now) pair.now.second) }
+    ensures { result ≡ (is_final (form_of y.now) pair.now.first && is_final (form_of z.now)
+        pair.now.second) }
 {
     completes(y, &pair.first) && completes(z, &pair.second)
 }
 
 #[cycle(completes)]
 fn some_pair_completes(y: &Expr, z: &Expr, pairs: &[Pair]) -> bool
-    ensures { result ≡ list_any (λ p. is_final (form_of y.now) (first_part p) && is_final (form_of z.now) (second_part p)) (items_of (listed (map plain_pair pairs.now))) }
+    ensures { result ≡ list_any (λ p. is_final (form_of y.now) (first_part p) && is_final (form_of
+        z.now) (second_part p)) (items_of (listed (map plain_pair pairs.now))) }
 {
     for pair in pairs {
         if pair_completes(y, z, pair) {
@@ -103,7 +105,8 @@ fn some_pair_completes(y: &Expr, z: &Expr, pairs: &[Pair]) -> bool
 
 #[cycle(completes)]
 fn some_bag_completes(y: &Expr, bags: &[Bag]) -> bool
-    ensures { result ≡ list_any (λ b. list_all (is_final (form_of y.now)) (items_of (first_part b))) (items_of (listed (map plain_bag bags.now))) }
+    ensures { result ≡ list_any (λ b. list_all (is_final (form_of y.now)) (items_of (first_part b)))
+        (items_of (listed (map plain_bag bags.now))) }
 {
     for bag in bags {
         if each_completes(y, &bag.items) {
@@ -115,7 +118,8 @@ fn some_bag_completes(y: &Expr, bags: &[Bag]) -> bool
 
 #[cycle(completes)]
 fn some_entry_completes(y: &Expr, entries: &[(Value, Knot)]) -> bool
-    ensures { result ≡ list_any (λ x. is_final (form_of y.now) (first_part x)) (items_of (plain_entries entries.now)) }
+    ensures { result ≡ list_any (λ x. is_final (form_of y.now) (first_part x)) (items_of
+        (plain_entries entries.now)) }
 {
     for entry in entries {
         if completes(y, &entry.1) {
@@ -127,7 +131,8 @@ fn some_entry_completes(y: &Expr, entries: &[(Value, Knot)]) -> bool
 
 #[cycle(completes)]
 fn each_entry_completes(y: &Expr, entries: &[(Value, Knot)]) -> bool
-    ensures { result ≡ list_all (λ x. is_final (form_of y.now) (first_part x)) (items_of (plain_entries entries.now)) }
+    ensures { result ≡ list_all (λ x. is_final (form_of y.now) (first_part x)) (items_of
+        (plain_entries entries.now)) }
 {
     for entry in entries {
         if !completes(y, &entry.1) {
@@ -139,7 +144,8 @@ fn each_entry_completes(y: &Expr, entries: &[(Value, Knot)]) -> bool
 
 #[cycle(completes)]
 fn some_map_completes(y: &Expr, maps: &[Map]) -> bool
-    ensures { result ≡ list_any (λ m. list_all (λ x. is_final (form_of y.now) (first_part x)) (items_of (first_part m))) (items_of (listed (map plain_map maps.now))) }
+    ensures { result ≡ list_any (λ m. list_all (λ x. is_final (form_of y.now) (first_part x))
+        (items_of (first_part m))) (items_of (listed (map plain_map maps.now))) }
 {
     for map in maps {
         if each_entry_completes(y, &map.entries) {

@@ -1,6 +1,6 @@
 //! Whether an action may come first.
 
-ghost use Rattle.std.specs.Prelude.{◌≡◌, ◌↔◌, ◌∷◌, [], Some, true, IsTrue};
+ghost use Rattle.std.specs.Prelude.{◌≡◌, ◌↔◌, ◌∷◌, [], Some, true, false, IsTrue};
 ghost use Rattle.std.specs.List.{list_all, list_any};
 ghost use Rattle.ix_expr.specs.Environment.{bind};
 ghost use Rattle.ix_expr.specs.Fitting.{FitsInside};
@@ -8,12 +8,12 @@ ghost use Rattle.ix_expr.specs.Form.{seq, par, or, and, couple};
 ghost use Rattle.ix_expr.specs.FormFaults.{Fits};
 ghost use Rattle.ix_expr.specs.inside.FormOf.{form_of};
 ghost use Rattle.ix_expr.specs.Meaning.{IsPartial};
-ghost use Rattle.ix_can.specs.inside.CanAsk.{first_or_stays};
+ghost use Rattle.ix_can.specs.inside.CanAsk.{first_or_stays, UnseenFirst};
 ghost use Rattle.ix_can.specs.inside.May.{may_first};
 ghost use Rattle.ix_can.specs.Tests.{in_alphabet, values_and_outside};
 
 use crate::plain_tests::{accepts_empty, in_alphabet, is_match};
-use ix_expr::{Env, Expr};
+use ix_expr::{Env, Expr, sees};
 use ix_values::{Action, Name, Value};
 
 /// Whether the word of this one action is partial.
@@ -117,7 +117,8 @@ fn begins_at(
 #[cycle(begins)]
 fn begins_for_some(p: &Name, y: &Expr, env: &Env, action: &Action) -> bool
     requires { FitsInside p.now (form_of y.now) env.now }
-    ensures { result ≡ list_any (λ v. may_first (form_of y.now) (bind p.now v env.now) action.now) (values_and_outside action.now) }
+    ensures { result ≡ list_any (λ v. may_first (form_of y.now) (bind p.now v env.now) action.now)
+        (values_and_outside action.now) }
 {
     begins_at(false, p, y, None, env, action) || some_value_begins(p, y, env, action)
 }
@@ -125,31 +126,38 @@ fn begins_for_some(p: &Name, y: &Expr, env: &Env, action: &Action) -> bool
 #[cycle(begins)]
 fn begins_for_each(stays: bool, p: &Name, y: &Expr, env: &Env, action: &Action) -> bool
     requires { FitsInside p.now (form_of y.now) env.now }
-    ensures { result ≡ list_all (λ v. first_or_stays stays (form_of y.now) (bind p.now v env.now) action.now) (values_and_outside action.now) }
+    ensures { result ≡ list_all (λ v. first_or_stays stays (form_of y.now) (bind p.now v env.now)
+        action.now) (values_and_outside action.now) }
 {
     begins_at(stays, p, y, None, env, action) && each_value_begins(stays, p, y, env, action)
 }
 
+/// A value that the body doesn't see doesn't begin.
 #[cycle(begins)]
 fn some_value_begins(p: &Name, y: &Expr, env: &Env, action: &Action) -> bool
-    requires { FitsInside p.now (form_of y.now) env.now }
-    ensures { result ≡ list_any (λ v. may_first (form_of y.now) (bind p.now (Some v) env.now) action.now) action.now.values }
+    requires fits { FitsInside p.now (form_of y.now) env.now }
+    requires unseen { UnseenFirst false false (form_of y.now) p.now env.now action.now }
+    ensures { result ≡ list_any (λ v. may_first (form_of y.now) (bind p.now (Some v) env.now)
+        action.now) action.now.values }
 {
     for value in action.values() {
-        if begins_at(false, p, y, Some(*value), env, action) {
+        if sees(y, p, value, action) && begins_at(false, p, y, Some(*value), env, action) {
             return true;
         }
     }
     false
 }
 
+/// A value that the body doesn't see begins, or stays.
 #[cycle(begins)]
 fn each_value_begins(stays: bool, p: &Name, y: &Expr, env: &Env, action: &Action) -> bool
-    requires { FitsInside p.now (form_of y.now) env.now }
-    ensures { result ≡ list_all (λ v. first_or_stays stays (form_of y.now) (bind p.now (Some v) env.now) action.now) action.now.values }
+    requires fits { FitsInside p.now (form_of y.now) env.now }
+    requires unseen { UnseenFirst true stays (form_of y.now) p.now env.now action.now }
+    ensures { result ≡ list_all (λ v. first_or_stays stays (form_of y.now) (bind p.now (Some v)
+        env.now) action.now) action.now.values }
 {
     for value in action.values() {
-        if !begins_at(stays, p, y, Some(*value), env, action) {
+        if sees(y, p, value, action) && !begins_at(stays, p, y, Some(*value), env, action) {
             return false;
         }
     }

@@ -8,6 +8,7 @@ ghost use Rattle.ix_expr.specs.Environment.{bind};
 ghost use Rattle.ix_expr.specs.Fitting.{FitsInside};
 ghost use Rattle.ix_expr.specs.FormFaults.{Fits};
 ghost use Rattle.ix_expr.specs.inside.FormOf.{form_of};
+ghost use Rattle.ix_expr.specs.Laws.{EachAtomNames};
 ghost use Rattle.ix_expr.specs.Meaning.{IsPartial};
 ghost use Rattle.ix_tree.specs.Order.{key, first_part, second_part};
 ghost use Rattle.ix_tree.specs.Plain.{listed, items_of};
@@ -109,7 +110,8 @@ fn begins_again(again: bool, y: &Expr, env: &Env, action: &Action) -> bool
 fn some_goes_on(y: &Expr, env: &Env, items: &[Knot], action: &Action) -> bool
     requires fits { Fits (form_of y.now) env.now }
     requires proper { Each (IsProper (form_of y.now)) (items_of (listed items.now)) }
-    ensures { result ≡ list_any (λ x. may (form_of y.now) env.now x action.now) (items_of (listed items.now)) }
+    ensures { result ≡ list_any (λ x. may (form_of y.now) env.now x action.now) (items_of (listed
+        items.now)) }
 {
     for item in items {
         if goes_on(y, env, item, action) {
@@ -123,7 +125,8 @@ fn some_goes_on(y: &Expr, env: &Env, items: &[Knot], action: &Action) -> bool
 fn pair_goes_on(y: &Expr, z: &Expr, env: &Env, pair: &Pair, action: &Action) -> bool
     requires first { CanAsk (form_of y.now) env.now pair.now.first }
     requires second { CanAsk (form_of z.now) env.now pair.now.second }
-    ensures { result ≡ (may (form_of y.now) env.now pair.now.first action.now || may (form_of z.now) env.now pair.now.second action.now) }
+    ensures { result ≡ (may (form_of y.now) env.now pair.now.first action.now || may (form_of z.now)
+        env.now pair.now.second action.now) }
 {
     goes_on(y, env, &pair.first, action) || goes_on(z, env, &pair.second, action)
 }
@@ -132,8 +135,11 @@ fn pair_goes_on(y: &Expr, z: &Expr, env: &Env, pair: &Pair, action: &Action) -> 
 fn some_pair_goes_on(y: &Expr, z: &Expr, env: &Env, pairs: &[Pair], action: &Action) -> bool
     requires left { Fits (form_of y.now) env.now }
     requires right { Fits (form_of z.now) env.now }
-    requires proper { Each (λ p. IsProper (form_of y.now) (first_part p) × IsProper (form_of z.now) (second_part p)) (items_of (listed (map plain_pair pairs.now))) }
-    ensures { result ≡ list_any (λ p. may (form_of y.now) env.now (first_part p) action.now || may (form_of z.now) env.now (second_part p) action.now) (items_of (listed (map plain_pair pairs.now))) }
+    requires proper { Each (λ p. IsProper (form_of y.now) (first_part p) × IsProper (form_of z.now)
+        (second_part p)) (items_of (listed (map plain_pair pairs.now))) }
+    ensures { result ≡ list_any (λ p. may (form_of y.now) env.now (first_part p) action.now || may
+        (form_of z.now) env.now (second_part p) action.now) (items_of (listed (map plain_pair
+        pairs.now))) }
 {
     for pair in pairs {
         if pair_goes_on(y, z, env, pair, action) {
@@ -147,7 +153,8 @@ fn some_pair_goes_on(y: &Expr, z: &Expr, env: &Env, pairs: &[Pair], action: &Act
 fn bag_goes_on(y: &Expr, env: &Env, bag: &Bag, action: &Action) -> bool
     requires fits { Fits (form_of y.now) env.now }
     requires proper { Each (IsProper (form_of y.now)) (items_of (listed bag.now.items.items)) }
-    ensures { result ≡ (may_first (form_of y.now) env.now action.now || list_any (λ x. may (form_of y.now) env.now x action.now) (items_of (listed bag.now.items.items))) }
+    ensures { result ≡ (may_first (form_of y.now) env.now action.now || list_any (λ x. may (form_of
+        y.now) env.now x action.now) (items_of (listed bag.now.items.items))) }
 {
     begins(y, env, action) || some_goes_on(y, env, &bag.items, action)
 }
@@ -155,8 +162,11 @@ fn bag_goes_on(y: &Expr, env: &Env, bag: &Bag, action: &Action) -> bool
 #[cycle(goes_on)]
 fn some_bag_goes_on(y: &Expr, env: &Env, bags: &[Bag], action: &Action) -> bool
     requires fits { Fits (form_of y.now) env.now }
-    requires proper { Each (λ b. IsRising (items_of (first_part b)) × Each (IsProper (form_of y.now)) (items_of (first_part b))) (items_of (listed (map plain_bag bags.now))) }
-    ensures { result ≡ list_any (λ b. may_first (form_of y.now) env.now action.now || list_any (λ x. may (form_of y.now) env.now x action.now) (items_of (first_part b))) (items_of (listed (map plain_bag bags.now))) }
+    requires proper { Each (λ b. IsRising (items_of (first_part b)) × Each (IsProper (form_of
+        y.now)) (items_of (first_part b))) (items_of (listed (map plain_bag bags.now))) }
+    ensures { result ≡ list_any (λ b. may_first (form_of y.now) env.now action.now || list_any (λ x.
+        may (form_of y.now) env.now x action.now) (items_of (first_part b))) (items_of (listed (map
+        plain_bag bags.now))) }
 {
     for bag in bags {
         if bag_goes_on(y, env, bag, action) {
@@ -189,7 +199,8 @@ fn goes_on_at(
 ) -> bool
     requires fits { FitsInside body.parameter.now (form_of body.expr.now) env.now }
     requires proper { IsProper (form_of body.expr.now) state.now }
-    ensures { result ≡ may_or_stays (stays outside) (form_of body.entry.expr.now) (bind body.entry.parameter.now value env.now) state.now action.now }
+    ensures { result ≡ may_or_stays (stays outside) (form_of body.entry.expr.now) (bind
+        body.entry.parameter.now value env.now) state.now action.now }
 {
     let inside = env.with(*body.parameter, value);
     goes_on_or_stays(body.expr, outside, &inside, state, action)
@@ -198,8 +209,11 @@ fn goes_on_at(
 #[cycle(goes_on)]
 fn some_entry_goes_on(body: Body, env: &Env, entries: &[(Value, Knot)], action: &Action) -> bool
     requires fits { FitsInside body.parameter.now (form_of body.expr.now) env.now }
-    requires proper { Each (λ x. IsProper (form_of body.expr.now) (first_part x)) (items_of (plain_entries entries.now)) }
-    ensures { result ≡ list_any (λ x. may (form_of body.entry.expr.now) (bind body.entry.parameter.now (Some (key x)) env.now) (first_part x) action.now) (items_of (plain_entries entries.now)) }
+    requires proper { Each (λ x. IsProper (form_of body.expr.now) (first_part x)) (items_of
+        (plain_entries entries.now)) }
+    ensures { result ≡ list_any (λ x. may (form_of body.entry.expr.now) (bind
+        body.entry.parameter.now (Some (key x)) env.now) (first_part x) action.now) (items_of
+        (plain_entries entries.now)) }
 {
     for entry in entries {
         if goes_on_at(body, Outside::Refused, Some(entry.0), env, &entry.1, action) {
@@ -218,8 +232,11 @@ fn each_entry_goes_on(
     action: &Action,
 ) -> bool
     requires fits { FitsInside body.parameter.now (form_of body.expr.now) env.now }
-    requires proper { Each (λ x. IsProper (form_of body.expr.now) (first_part x)) (items_of (plain_entries entries.now)) }
-    ensures { result ≡ list_all (λ x. may_or_stays (stays outside) (form_of body.entry.expr.now) (bind body.entry.parameter.now (Some (key x)) env.now) (first_part x) action.now) (items_of (plain_entries entries.now)) }
+    requires proper { Each (λ x. IsProper (form_of body.expr.now) (first_part x)) (items_of
+        (plain_entries entries.now)) }
+    ensures { result ≡ list_all (λ x. may_or_stays (stays outside) (form_of body.entry.expr.now)
+        (bind body.entry.parameter.now (Some (key x)) env.now) (first_part x) action.now) (items_of
+        (plain_entries entries.now)) }
 {
     for entry in entries {
         if !goes_on_at(body, outside, Some(entry.0), env, &entry.1, action) {
@@ -244,7 +261,9 @@ fn some_own_goes_on(
     requires entries { AreProper (form_of body.expr.now) entries.now }
     requires unseen { UnseenAnswer false (stays Refused) (form_of body.expr.now) body.parameter.now
         env.now action.now common.now (items_of (plain_entries entries.now)) }
-    ensures { result ≡ list_any (λ v. may (form_of body.entry.expr.now) (bind body.entry.parameter.now (Some v) env.now) (tree_at v common.now (items_of (plain_entries entries.now))) action.now) action.now.values }
+    ensures { result ≡ list_any (λ v. may (form_of body.entry.expr.now) (bind
+        body.entry.parameter.now (Some v) env.now) (tree_at v common.now (items_of (plain_entries
+        entries.now))) action.now) action.now.values }
 {
     for value in action.values() {
         let state = state_at(entries, common, value);
@@ -273,7 +292,9 @@ fn each_own_goes_on(
     requires entries { AreProper (form_of body.expr.now) entries.now }
     requires unseen { UnseenAnswer true (stays outside) (form_of body.expr.now) body.parameter.now
         env.now action.now common.now (items_of (plain_entries entries.now)) }
-    ensures { result ≡ list_all (λ v. may_or_stays (stays outside) (form_of body.entry.expr.now) (bind body.entry.parameter.now (Some v) env.now) (tree_at v common.now (items_of (plain_entries entries.now))) action.now) action.now.values }
+    ensures { result ≡ list_all (λ v. may_or_stays (stays outside) (form_of body.entry.expr.now)
+        (bind body.entry.parameter.now (Some v) env.now) (tree_at v common.now (items_of
+        (plain_entries entries.now))) action.now) action.now.values }
 {
     for value in action.values() {
         let state = state_at(entries, common, value);
@@ -298,9 +319,13 @@ fn some_goes_on_for(
     requires fits { FitsInside body.parameter.now (form_of body.expr.now) env.now }
     requires common { IsProper (form_of body.expr.now) common.now }
     requires entries { AreProper (form_of body.expr.now) entries.now }
-    ensures { result ≡ (may (form_of body.entry.expr.now) (bind body.entry.parameter.now None env.now) common.now action.now
-        || (list_any (λ x. may (form_of body.entry.expr.now) (bind body.entry.parameter.now (Some (key x)) env.now) (first_part x) action.now) (items_of (plain_entries entries.now))
-        || list_any (λ v. may (form_of body.entry.expr.now) (bind body.entry.parameter.now (Some v) env.now) (tree_at v common.now (items_of (plain_entries entries.now))) action.now) action.now.values)) }
+    ensures { result ≡ (may (form_of body.entry.expr.now) (bind body.entry.parameter.now None
+        env.now) common.now action.now
+        || (list_any (λ x. may (form_of body.entry.expr.now) (bind body.entry.parameter.now (Some
+        (key x)) env.now) (first_part x) action.now) (items_of (plain_entries entries.now))
+        || list_any (λ v. may (form_of body.entry.expr.now) (bind body.entry.parameter.now (Some v)
+        env.now) (tree_at v common.now (items_of (plain_entries entries.now))) action.now)
+        action.now.values)) }
 {
     goes_on_at(body, Outside::Refused, None, env, common, action)
         || (some_entry_goes_on(body, env, entries, action)
@@ -354,8 +379,13 @@ fn each_goes_on_or_stays(
 #[cycle(goes_on)]
 fn some_map_goes_on(body: Body, env: &Env, maps: &[Map], action: &Action) -> bool
     requires fits { FitsInside body.parameter.now (form_of body.expr.now) env.now }
-    requires proper { Each (λ m. ProperEntries (IsProper (form_of body.expr.now)) (tree_of (form_of body.expr.now) [] []) (items_of (first_part m))) (items_of (listed (map plain_map maps.now))) }
-    ensures { result ≡ list_any (λ m. list_any (λ v. may_own (form_of body.entry.expr.now) body.entry.parameter.now env.now action.now (items_of (first_part m)) v) action.now.values) (items_of (listed (map plain_map maps.now))) }
+    requires named { EachAtomNames body.parameter.now (form_of body.expr.now) }
+    requires proper { Each (λ m. ProperEntries (IsProper (form_of body.expr.now)) (tree_of (form_of
+        body.expr.now) [] []) (items_of (first_part m))) (items_of (listed (map plain_map
+        maps.now))) }
+    ensures { result ≡ list_any (λ m. list_any (λ v. may_own (form_of body.entry.expr.now)
+        body.entry.parameter.now env.now action.now (items_of (first_part m)) v) action.now.values)
+        (items_of (listed (map plain_map maps.now))) }
 {
     for map in maps {
         if some_owner_goes_on(body, env, &map.entries, action) {
@@ -365,14 +395,19 @@ fn some_map_goes_on(body: Body, env: &Env, maps: &[Map], action: &Action) -> boo
     false
 }
 
+/// A value that the body doesn't see doesn't go on, since each atom names the parameter.
 #[cycle(goes_on)]
 fn some_owner_goes_on(body: Body, env: &Env, entries: &[(Value, Knot)], action: &Action) -> bool
     requires fits { FitsInside body.parameter.now (form_of body.expr.now) env.now }
+    requires named { EachAtomNames body.parameter.now (form_of body.expr.now) }
     requires proper { AreProper (form_of body.expr.now) entries.now }
-    ensures { result ≡ list_any (λ v. may_own (form_of body.entry.expr.now) body.entry.parameter.now env.now action.now (items_of (plain_entries entries.now)) v) action.now.values }
+    ensures { result ≡ list_any (λ v. may_own (form_of body.entry.expr.now) body.entry.parameter.now
+        env.now action.now (items_of (plain_entries entries.now)) v) action.now.values }
 {
     for value in action.values() {
-        if owner_goes_on(body, value, env, entries, action) {
+        if sees(body.expr, body.parameter, value, action)
+            && owner_goes_on(body, value, env, entries, action)
+        {
             return true;
         }
     }
@@ -390,7 +425,8 @@ fn owner_goes_on(
 ) -> bool
     requires fits { FitsInside body.parameter.now (form_of body.expr.now) env.now }
     requires proper { AreProper (form_of body.expr.now) entries.now }
-    ensures { result ≡ may_own (form_of body.entry.expr.now) body.entry.parameter.now env.now action.now (items_of (plain_entries entries.now)) value.now }
+    ensures { result ≡ may_own (form_of body.entry.expr.now) body.entry.parameter.now env.now
+        action.now (items_of (plain_entries entries.now)) value.now }
 {
     match state_of(entries, value) {
         Some(state) if !state.is_dead() => {

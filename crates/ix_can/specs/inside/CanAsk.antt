@@ -7,7 +7,6 @@ use Rattle.ix_values.specs.Order.{text_cmp}
 use Rattle.ix_values.specs.PlainAction.{PlainAction}
 use Rattle.ix_expr.specs.Form.{Form}
 use Rattle.ix_expr.specs.Environment.{Environment, bind}
-use Rattle.ix_expr.specs.Fitting.{FitsInside}
 use Rattle.ix_expr.specs.FormFaults.{Fits}
 use Rattle.ix_expr.specs.Sees.{Sees}
 use Rattle.ix_tree.specs.Plain.{Plain, dead}
@@ -54,6 +53,10 @@ each_may_or_stays stays y p e a common entries =
     may_or_stays stays y (bind p None e) common a
     && (list_all (λ x. may_or_stays stays y (bind p (Some (key x)) e) (first_part x) a) entries
     && list_all (λ v. may_or_stays stays y (bind p (Some v) e) (tree_at v common entries) a) a.values)
+
+-- of each value that no atom sees the answer on the first action is b
+abbrev pub UnseenFirst : Bool → Bool → Form → List ℕ → Environment → PlainAction → Type 0
+UnseenFirst b stays y p e a = (v : List ℕ) → ¬ Sees y p v a → first_or_stays stays y (bind p (Some v) e) a ≡ b
 
 -- of each value that no atom sees the answer is b
 abbrev pub UnseenAnswer : Bool → Bool → Form → List ℕ → Environment → PlainAction → Plain → List Plain → Type 0

@@ -1,5 +1,5 @@
 -- The answers of the arms whose alternatives are lists of trees.
-use Rattle.std.proofs.Common.{◌&&◌, map, sym, ap, ◌∙◌}
+use Rattle.std.proofs.Common.{map, sym, ap, ◌∙◌}
 use Rattle.std.specs.List.{list_all, list_any}
 use Rattle.ix_expr.specs.inside.FormOf.{form_of}
 use Rattle.ix_tree.specs.Order.{first_part}

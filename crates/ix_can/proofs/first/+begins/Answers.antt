@@ -1,14 +1,16 @@
 -- What each call behind `can_first` asks holds, and what the quantifiers answer.
-use Rattle.std.proofs.Common.{◌≡◌, inl, inr, ℕ, Bool, true, List, Option, Some, None, refl, sym, ◌∙◌, subst, rules}
+use Rattle.std.proofs.Common.{◌≡◌, inl, inr, ℕ, Bool, true, false, List, Option, Some, None, refl, sym, ◌∙◌, subst, rules}
 use Rattle.ix_expr.specs.declared.expr.Expr.{Expr}
 use Rattle.ix_expr.specs.declared.expr.Expr.TheViews.{the_lemmas}
 use Rattle.ix_expr.specs.Environment.{bind}
 use Rattle.ix_expr.specs.Fitting.{FitsInside, OperandsFit}
-use Rattle.ix_expr.specs.Form.{couple}
+use Rattle.ix_expr.specs.Form.{couple, all}
+use Rattle.ix_expr.proofs.LawsOfNames.{fits-names}
 use Rattle.ix_expr.specs.FormFaults.{Fits}
 use Rattle.ix_expr.specs.inside.FormOf.{form_of}
 use Rattle.ix_expr.proofs.Parts.{fits-operands}
-use Rattle.ix_can.specs.inside.CanAsk.{first_or_stays}
+use Rattle.ix_can.specs.inside.CanAsk.{first_or_stays, UnseenFirst}
+use Rattle.ix_can.proofs.UnseenValues.{unseen_first, unseen_out}
 use Rattle.ix_can.specs.inside.May.{may_first}
 use Rattle.ix_can.specs.Tests.{in_alphabet}
 use Rattle.ix_can.proofs.Children.{either_else, both_then, any_made, all_made}
@@ -81,7 +83,14 @@ pub begins-some_value_begins-requires : goal.begins-some_value_begins-requires
 begins-some_value_begins-requires t c =
     let e = c.args.env.now in
     let inside : FitsInside c.in-All.p (form_of c.in-All.y.value) e = subst (λ (x : Expr). OperandsFit (form_of x) e) c.in-All.is (fits-operands (form_of c.args.expr.now) e c.requires) in
-    (search (rules, the_lemmas), subst (λ (x : Expr). FitsInside c.in-All.p (form_of x) e) (sym c.deref-in-All.ensures) inside)
+    let fits : Fits (all c.in-All.p (form_of c.in-All.y.value)) e = subst (λ (x : Expr). Fits (form_of x) e) c.in-All.is c.requires in
+    let out = unseen_out (form_of c.in-All.y.value) c.in-All.p e c.args.action.now (fits-names c.in-All.p (form_of c.in-All.y.value) e fits) in (
+      search (rules, the_lemmas),
+      (
+        subst (λ (x : Expr). FitsInside c.in-All.p (form_of x) e) (sym c.deref-in-All.ensures) inside,
+        subst (λ (x : Expr). UnseenFirst false false (form_of x) c.in-All.p e c.args.action.now) (sym c.deref-in-All.ensures) out,
+      ),
+    )
 
 pub begins_at-begins_or_stays-requires : goal.begins_at-begins_or_stays-requires
 begins_at-begins_or_stays-requires t c =
@@ -100,3 +109,11 @@ begins_for_some-returns-else-begins_at t c =
     let f : Option (List ℕ) → Bool = λ v. may_first y (bind c.args.p.now v c.args.env.now) c.args.action.now in
     either_else c.begins_at.result c.some_value_begins.result (f None) _ c.if-begins_at.false c.begins_at.ensures
     (c.some_value_begins.ensures ∙ any_made f Some (λ v. f (Some v)) (λ v. refl) c.args.action.now.values)
+
+pub begins_for_some-some_value_begins-requires : goal.begins_for_some-some_value_begins-requires
+begins_for_some-some_value_begins-requires t c =
+    (search (rules, the_lemmas), (c.requires, unseen_first (form_of c.args.y.now) c.args.p.now c.args.env.now c.args.action.now false false (sym c.begins_at.ensures ∙ c.if-begins_at.false)))
+
+pub begins_for_each-each_value_begins-requires : goal.begins_for_each-each_value_begins-requires
+begins_for_each-each_value_begins-requires t c =
+    (search (rules, the_lemmas), (c.requires, unseen_first (form_of c.args.y.now) c.args.p.now c.args.env.now c.args.action.now c.args.stays true (sym c.begins_at.ensures ∙ c.if-begins_at.true)))

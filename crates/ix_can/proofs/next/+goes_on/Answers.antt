@@ -1,25 +1,29 @@
 -- What each call behind `can` asks holds.
-use Rattle.std.proofs.Common.{◌≡◌, Bool, true, ◌&&◌, map, Some, None, arith, rules, sym, ap, ◌∙◌, subst}
+use Rattle.std.proofs.Common.{◌≡◌, ℕ, ◌+◌, List, length, get_or, drop, true≢false, Bool, true, false, ◌&&◌, ◌||◌, map, Some, None, arith, rules, sym, ap, ◌∙◌, subst}
 use Rattle.ix_expr.specs.declared.expr.Expr.TheViews.{the_lemmas}
 use Rattle.ix_expr.specs.Environment.{Environment}
 use Rattle.ix_expr.specs.Form.{Form, opt, seq, star, par, par_star, or, and, couple, any, every, sync, all}
 use Rattle.ix_expr.specs.FormFaults.{Fits}
+use Rattle.ix_expr.proofs.LawsOfNames.{fits-names}
 use Rattle.ix_expr.specs.inside.FormOf.{form_of}
 use Rattle.ix_words.specs.Canon.{Ascending}
 use Rattle.ix_values.specs.Order.{text_cmp}
 use Rattle.ix_tree.specs.Order.{key}
-use Rattle.ix_tree.specs.Plain.{Plain, listed, items_of, seq as seq_of, star as star_of, par as par_of, par_star as par_star_of, any as any_of, every as every_of, sync as sync_of, all as all_of}
+use Rattle.std.specs.List.{list_any}
+use Rattle.std.proofs.lemmas.List.{at_drop_more}
+use Rattle.ix_tree.specs.Plain.{Plain, dead, listed, items_of, seq as seq_of, star as star_of, par as par_of, par_star as par_star_of, any as any_of, every as every_of, sync as sync_of, all as all_of}
 use Rattle.ix_tree.specs.PlainOf.{plain_pair, plain_bag, plain_map, plain_entry, plain_entries}
 use Rattle.ix_tree.specs.inside.PlainNode.{plain_node}
 use Rattle.ix_tree.proofs.PlainLists.{items_of-listed}
-use Rattle.ix_can.specs.inside.CanAsk.{CanAsk, AreProper, stays}
+use Rattle.ix_can.specs.inside.CanAsk.{CanAsk, AreProper, stays, may_own}
 use Rattle.ix_can.specs.Laws.{IsProper}
 use Rattle.ix_can.specs.inside.May.{may}
 use Rattle.ix_can.specs.Tests.{in_alphabet}
 use Rattle.ix_can.proofs.Asking.{opt_asked, seq_first, seq_rest, star_rest, par_pairs, par_star_bags, or_first, or_second, and_first, and_second, couple_first, couple_second, any_values, every_values, sync_values, all_maps, tree_has, part_has, entries_proper, state_proper, own_proper}
 use Rattle.ix_can.proofs.Keys.{entries_ascend}
-use Rattle.ix_can.proofs.UnseenValues.{unseen_none, unseen_all, unseen_stay, own_tell}
+use Rattle.ix_can.proofs.UnseenValues.{unseen_none, unseen_all, unseen_stay, unseen_own, own_tell}
 use Rattle.ix_can.proofs.next.+goes_on.Goals as goal
+use Rattle.ix_can.proofs.next.+goes_on.Goals.{some_owner_goes_on-else-sees-via-then-sees+else-owner_goes_on, some_owner_goes_on-else-sees-via-else-sees}
 
 -- a test that is asked where the other one holds
 inside_too : (i b r : Bool) → i ≡ true → r ≡ b → r ≡ (i && b)
@@ -95,7 +99,9 @@ goes_on-each_goes_on_or_stays-requires t c =
 
 pub goes_on-some_map_goes_on-requires : goal.goes_on-some_map_goes_on-requires
 goes_on-some_map_goes_on-requires t c =
-    (search (rules, the_lemmas), all_maps (asked (ap form_of c.in-All-All.is-0 ∙ ap (λ v. all c.in-All-All.parameter (form_of v)) (sym c.deref-in-All-All.ensures)) (sym c.node.ensures ∙ ap plain_node c.in-All-All.is-1 ∙ ap (λ v. all_of (listed (map plain_map v))) (sym c.deref-in-All-All-2.ensures.value)) c.requires))
+    let k = asked (ap form_of c.in-All-All.is-0 ∙ ap (λ v. all c.in-All-All.parameter (form_of v)) (sym c.deref-in-All-All.ensures)) (sym c.node.ensures ∙ ap plain_node c.in-All-All.is-1 ∙ ap (λ v. all_of (listed (map plain_map v))) (sym c.deref-in-All-All-2.ensures.value)) c.requires in
+    let maps = all_maps k in
+    (search (rules, the_lemmas), (maps.0, (fits-names c.in-All-All.parameter (form_of c.deref-in-All-All.result.now) c.args.env.now k.fits, maps.1)))
 
 pub goes_on-returns-in-ParStar-ParStar : goal.goes_on-returns-in-ParStar-ParStar
 goes_on-returns-in-ParStar-ParStar t c =
@@ -163,7 +169,7 @@ each_entry_goes_on-goes_on_at-requires t c =
 pub some_map_goes_on-some_owner_goes_on-requires : goal.some_map_goes_on-some_owner_goes_on-requires
 some_map_goes_on-some_owner_goes_on-requires t c =
     let y = form_of c.args.body.expr.now in
-    (search (rules, the_lemmas), (c.requires.fits, subst (AreProper y) (sym c.deref.ensures.value) (entries_proper (part_has plain_map c.args.maps.now c.loop-map.map-index c.map-item.result c.requires.proper (omega arith) c.map-item.is))))
+    (search (rules, the_lemmas), (c.requires.fits, (c.requires.named, subst (AreProper y) (sym c.deref.ensures.value) (entries_proper (part_has plain_map c.args.maps.now c.loop-map.map-index c.map-item.result c.requires.proper (omega arith) c.map-item.is)))))
 
 pub some_own_goes_on-goes_on_at-requires : goal.some_own_goes_on-goes_on_at-requires
 some_own_goes_on-goes_on_at-requires t c =
@@ -203,3 +209,20 @@ each_goes_on_or_stays-returns t c =
     let outside = ap (λ f. in_alphabet y f c.args.action.now) (sym c.with.ensures) ∙ sym c.in_alphabet.ensures ∙ c.if-in_alphabet.false in
     let ascending = subst (Ascending (λ x z. text_cmp (key x) (key z))) (sym (items_of-listed (map plain_entry es))) (entries_ascend es c.requires.entries.ascending) in
     own_tell y c.args.body.parameter.now c.args.env.now c.args.action.now c.args.common.now (items_of (plain_entries es)) ascending outside c.each_own_goes_on.result c.each_own_goes_on.ensures
+
+pub some_owner_goes_on-loop-value-preserved : goal.some_owner_goes_on-loop-value-preserved
+some_owner_goes_on-loop-value-preserved t c =
+    let xs = items_of (plain_entries c.args.entries.now) in
+    let own : List ℕ → Bool = may_own (form_of c.args.body.expr.now) c.args.body.parameter.now c.args.env.now c.args.action.now xs in
+    let v = c.value-item.result in
+    let vs = c.args.action.now.values in
+    let is = c.value-item.is ∙ ap (λ l. get_or l c.loop-value.value-index v) c.values-value-items.ensures.value in
+    let out : own v ≡ false = elim c.else-sees.branch [
+      | some_owner_goes_on-else-sees-via-then-sees+else-owner_goes_on w ↦ sym w.owner_goes_on.ensures ∙ w.if-owner_goes_on.false
+      | some_owner_goes_on-else-sees-via-else-sees w ↦
+          unseen_own (form_of c.args.body.expr.now) c.args.body.parameter.now c.args.env.now c.args.action.now dead xs c.requires.named v (λ s. true≢false (sym (c.sees.ensures.1 s) ∙ w.if-sees.false))
+    ] in
+    c.loop-value.invariant
+    ∙ at_drop_more (list_any own) vs c.loop-value.value-index v (omega (arith, ap length c.values-value-items.ensures.value))
+    ∙ ap (λ u. own u || list_any own (drop (c.loop-value.value-index + 1) vs)) (sym is)
+    ∙ ap (λ b. b || list_any own (drop (c.loop-value.value-index + 1) vs)) out

@@ -1,7 +1,6 @@
 -- Measures and invariants of the functions behind `can`.
-use Rattle.std.proofs.Common.{◌≡◌, ◌&&◌, ◌||◌, ◌+◌, ◌*◌, [], Some, drop, map}
+use Rattle.std.proofs.Common.{◌≡◌, ◌||◌, ◌+◌, ◌*◌, Some, drop, map}
 use Rattle.std.specs.List.{list_all, list_any}
-use Rattle.ix_words.specs.Each.{Each}
 use Rattle.ix_expr.specs.Environment.{bind}
 use Rattle.ix_expr.specs.inside.FormOf.{form_of}
 use Rattle.ix_tree.specs.Order.{key, first_part, second_part}
@@ -9,8 +8,6 @@ use Rattle.ix_tree.specs.Plain.{listed, items_of}
 use Rattle.ix_tree.specs.PlainOf.{plain_pair, plain_bag, plain_map, plain_entries}
 use Rattle.ix_can.specs.inside.CanAsk.{stays, may_or_stays, may_own}
 use Rattle.ix_can.specs.inside.May.{may, may_first, tree_at}
-use Rattle.ix_can.specs.Laws.{IsProper, IsRising, ProperEntries}
-use Rattle.ix_can.specs.TreeOf.{tree_of}
 use Rattle.ix_can.proofs.Measures.{count}
 use Rattle.ix_can.proofs.next.+goes_on.Given as goal
 
