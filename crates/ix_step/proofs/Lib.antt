@@ -11,6 +11,8 @@ pub mod SameTrees
 pub mod Quantifying
 pub mod MapEntries
 pub mod Mapping
+pub mod OwnEntries
+pub mod SeenValues
 pub mod MovedIs
 pub mod Pruning
 pub mod Exits

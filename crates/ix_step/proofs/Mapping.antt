@@ -10,6 +10,7 @@ use Rattle.ix_values.specs.Order.{text_eq, text_cmp}
 use Rattle.ix_entries.specs.inside.Entries.{IsProper as IsProperList, KeysAscend, with_entry}
 use Rattle.ix_expr.specs.Form.{Form, all}
 use Rattle.ix_expr.specs.Environment.{Environment, bind}
+use Rattle.ix_expr.proofs.LawsOfNames.{fits-names}
 use Rattle.ix_expr.proofs.Parts.{fits-operands}
 use Rattle.ix_tree.specs.Plain.{Plain, dead, entry, listed, items_of, is_dead, all as all_of, map as map_of}
 use Rattle.ix_tree.specs.PlainOf.{plain_map, plain_entry, plain_entries}
@@ -32,7 +33,8 @@ use Rattle.ix_step.specs.inside.MapsAfter.{HoldsWell, ReadyToBegin, with_tree}
 use Rattle.ix_step.proofs.Gathered.{put_all-nothing, put_all_holds, size_all}
 use Rattle.ix_step.proofs.Beginnings.{initial_is, initial_proper, initial_small}
 use Rattle.ix_step.proofs.EntriesPut.{keys_ascend}
-use Rattle.ix_step.proofs.Quantifying.{tree_at_has, tree_at_size}
+use Rattle.ix_can.proofs.Keys.{tree_at_has}
+use Rattle.ix_step.proofs.Quantifying.{tree_at_size}
 use Rattle.ix_step.proofs.MapEntries.{with_entry_map}
 use Rattle.ix_step.proofs.SameTrees.{same_trees}
 
@@ -141,6 +143,7 @@ pub begin_ready : (p : List ℕ) (y : Form) (e : Environment) (initial ps : Plai
 begin_ready p y e initial ps r i =
     record {
       fits = fits-operands (all p y) e r.fits;
+      named = fits-names p y e r.fits;
       proper = subst (IsProper y) (sym i) (initial_proper y);
       small = omega (arith, ap size_of i, begin_small p y e ps r);
     }
@@ -191,7 +194,7 @@ module _ (m : Map) (es : List (List ℕ × Plain)) (copied : es ≡ m.entries.it
         (subst (λ (z : Plain). Ready y (bind p (Some v) e) z) s
         (record {
           fits = r.fits.body (Some v);
-          proper = tree_at_has (λ z. is_dead z ≡ false → IsProper y z) v dead (items_of (first_part (plain_map m))) (λ n. absurd (true≢false n)) (Each-weaker (λ x g n. g) h.beside.each) (ap is_dead s ∙ live);
+          proper = tree_at_has (λ z. is_dead z ≡ false → IsProper y z) dead v (items_of (first_part (plain_map m))) (λ n. absurd (true≢false n)) (Each-weaker (λ x g n. g) h.beside.each) (ap is_dead s ∙ live);
           small = omega (arith, found_size v, h.small);
         }))
 

@@ -1,14 +1,12 @@
 -- The quantifiers' trees: what is asked of the trees of values before they are moved, and the entries after an action.
-use Rattle.std.proofs.Common.{◌≡◌, ℕ, ◌+◌, ◌≤◌, Bool, true, false, ◌&&◌, List, [], ◌∷◌, ◌++◌, map, flat_map, Option, Some, None, refl, sym, ap, ◌∙◌, subst, true≢false, arith, Less, if◌then◌else◌}
+use Rattle.std.proofs.Common.{◌≡◌, ℕ, ◌+◌, ◌≤◌, Bool, true, false, ◌&&◌, List, [], ◌∷◌, ◌++◌, map, flat_map, Option, Some, None, refl, sym, ap, ◌∙◌, subst, arith, if◌then◌else◌}
 use Rattle.std.specs.List.{list_any, list_all}
 use Rattle.std.specs.Map.{keys_of}
-use Rattle.std.specs.Ordering.{is_eq}
 use Rattle.ix_words.specs.Each.{Each, no_item, item}
-use Rattle.ix_words.specs.Canon.{Ascending, below}
+use Rattle.ix_words.specs.Canon.{Ascending}
 use Rattle.ix_words.proofs.Each.{Each-append, Each-anything, Each-head, Each-tail, Each-weaker, Each-both}
 use Rattle.ix_words.proofs.Canon.{flat_map-append}
 use Rattle.ix_values.specs.Order.{text_eq, text_cmp}
-use Rattle.ix_values.specs.lemmas.Order.{text_eq-decides}
 use Rattle.ix_values.specs.PlainAction.{PlainAction}
 use Rattle.ix_expr.specs.Form.{Form, any, every, sync}
 use Rattle.ix_expr.specs.Environment.{Environment, bind}
@@ -26,6 +24,7 @@ use Rattle.ix_can.specs.Laws.{IsProper, ProperEntries}
 use Rattle.ix_can.specs.Tests.{in_alphabet, values_and_outside}
 use Rattle.ix_can.specs.inside.May.{may, tree_at}
 use Rattle.ix_can.specs.inside.Moved.{entry_with}
+use Rattle.ix_can.proofs.Keys.{tree_at_has, tree_at_own}
 use Rattle.ix_can.proofs.Lists.{all_to}
 use Rattle.ix_step.specs.inside.Ready.{Ready}
 use Rattle.ix_step.specs.inside.EnterTrees.{entries_put}
@@ -33,19 +32,9 @@ use Rattle.ix_step.specs.inside.ValueTrees.{ReadyInside, part_may, EachMay, move
 use Rattle.ix_step.specs.declared.bodies.Reach.{Reach}
 use Rattle.ix_step.specs.declared.bodies.Reach.TheVariants.{All, Must, OwnAlphabet}
 use Rattle.ix_step.proofs.Gathered.{put_all-nothing}
-use Rattle.ix_step.proofs.EntriesPut.{key_at}
 use Rattle.ix_step.proofs.Pruning.{both_first, both_second}
 
 -- The trees of values
-
--- what the common tree and each entry's have, the tree of every value has
-pub tree_at_has : (G : Plain → Type 0) (v : List ℕ) (common : Plain) (xs : List Plain) → G common → Each (λ x. G (first_part x)) xs → G (tree_at v common xs)
-tree_at_has G v common [] g h = g
-tree_at_has G v common (x ∷ xs) g h = chosen (text_eq (key x) v) (tree_at_has G v common xs g (Each-tail h))
-  where
-    chosen : (b : Bool) → G (tree_at v common xs) → G (if b then first_part x else tree_at v common xs)
-    chosen true k = Each-head h
-    chosen false k = k
 
 -- it is no larger than the common tree and the entries together
 pub tree_at_size : (v : List ℕ) (common : Plain) (es : List (List ℕ × Plain)) → size_of (tree_at v common (map plain_entry es)) ≤ size_of common + size_of (plain_entries es)
@@ -55,26 +44,6 @@ tree_at_size v common (e ∷ es) = chosen (text_eq e.0 v) (tree_at_size v common
     chosen : (b : Bool) → size_of (tree_at v common (map plain_entry es)) ≤ size_of common + size_of (plain_entries es) → size_of (if b then e.1 else tree_at v common (map plain_entry es)) ≤ size_of common + size_of (plain_entries (e ∷ es))
     chosen true k = omega arith
     chosen false k = omega (arith, k)
-
-not_below : (v : List ℕ) → ¬ (text_cmp v v ≡ Less)
-not_below v h =
-    let tied : text_eq v v ≡ true = (text_eq-decides v v).1 refl in
-    true≢false (sym tied ∙ sym (key_at v v) ∙ ap is_eq h)
-
--- an entry's value has its tree
-tree_at_own : (common : Plain) (xs : List Plain) → Ascending (λ x y. text_cmp (key x) (key y)) xs → Each (λ x. tree_at (key x) common xs ≡ first_part x) xs
-tree_at_own common [] h = no_item
-tree_at_own common (x ∷ xs) (below g h) =
-    item
-    (ap (λ b. if b then first_part x else tree_at (key x) common xs) ((text_eq-decides (key x) (key x)).1 refl))
-    (Each-weaker (λ z k. ap (λ b. if b then first_part x else tree_at (key z) common xs) (differs z (text_eq (key x) (key z)) refl k.0) ∙ k.1) (Each-both g (tree_at_own common xs h)))
-  where
-    differs : (z : Plain) (b : Bool) → text_eq (key x) (key z) ≡ b → text_cmp (key x) (key z) ≡ Less → text_eq (key x) (key z) ≡ false
-    differs z false e l = e
-    differs z true e l =
-        let same : key x ≡ key z = (text_eq-decides (key x) (key z)).0 e in
-        let itself : text_cmp (key x) (key x) ≡ Less = ap (text_cmp (key x)) same ∙ l in
-        absurd (not_below (key x) itself)
 
 -- What is asked of them
 
@@ -94,7 +63,7 @@ module _ (p : List ℕ) (y : Form) (e : Environment) (common : Plain) where
       subst (λ l. Ready y (bind p (Some v) e) (tree_at v common l)) (sym (items_of-listed (map plain_entry es)))
       (record {
         fits = r.fits.body (Some v);
-        proper = tree_at_has (IsProper y) v common (map plain_entry es) r.proper r.beside.each;
+        proper = tree_at_has (IsProper y) common v (map plain_entry es) r.proper r.beside.each;
         small = omega (arith, r.small, tree_at_size v common es);
       })
 
@@ -165,13 +134,6 @@ entries_touched reach p y e a common es r =
     moved_are_put (λ v t. moved_part reach y (bind p (Some v) e) a t) common (common_after reach p y e a common) a.values es r.beside.ascending
 
 module _ (reach : Reach) (p : List ℕ) (y : Form) (e : Environment) (a : PlainAction) (common : Plain) (es : List (List ℕ × Plain)) where
-  -- so with an equal common tree and equal values
-  pub entries_are : (next : Plain) (vs : List (List ℕ)) → ReadyInside p y e common (map plain_entry es) → next ≡ common_after reach p y e a common → vs ≡ touched es a → entries_after reach p y e a common (plain_entries es) ≡ listed (entries_put next (tree_after reach p y e a common (map plain_entry es)) vs)
-  entries_are next vs r n v =
-      entries_touched reach p y e a common es r
-      ∙ ap (λ x. listed (entries_put x (tree_after reach p y e a common (map plain_entry es)) (touched es a))) (sym n)
-      ∙ ap (λ l. listed (entries_put next (tree_after reach p y e a common (map plain_entry es)) l)) (sym v)
-
   -- the tree of a value after the action
   pub value_moves : (v : List ℕ) (t : Plain) → t ≡ tree_at v common (items_of (plain_entries es)) → moved_part reach y (bind p (Some v) e) a t ≡ tree_after reach p y e a common (map plain_entry es) v
   value_moves v t h =

@@ -24,7 +24,7 @@ use crate::maps::advance_all;
 use crate::nodes::{bounded, within, within_if_live};
 use crate::one_step::Step;
 use crate::parallel::{advance_par, advance_par_star};
-use crate::quantifiers::advance_values;
+use crate::quantifiers::{advance_sync, advance_values};
 use crate::sets::{put_first, put_live};
 use ix_alts::AltSet;
 use ix_can::{completes, goes_on};
@@ -39,7 +39,8 @@ use ix_tree::{Knot, Node};
 #[cycle(advance)]
 pub(crate) fn advance(step: Step, expr: &Expr, tree: &Knot) -> Result<Knot, Unbuilt>
     requires { Ready (form_of expr.now) step.env.now tree.now }
-    ensures { Makes step.entry.limit (moved (form_of expr.now) step.entry.env.now tree.now step.entry.action.now) result }
+    ensures { Makes step.entry.limit (moved (form_of expr.now) step.entry.env.now tree.now
+        step.entry.action.now) result }
 {
     if !passes(step, expr, tree) {
         return within(step, Node::Dead);
@@ -67,7 +68,8 @@ fn passes(step: Step, expr: &Expr, tree: &Knot) -> bool
 pub(crate) fn advance_asked(step: Step, expr: &Expr, tree: &Knot) -> Result<Knot, Unbuilt>
     requires ready { Ready (form_of expr.now) step.env.now tree.now }
     requires passes { passes (form_of expr.now) step.env.now tree.now step.action.now ≡ true }
-    ensures { Makes step.entry.limit (moved (form_of expr.now) step.entry.env.now tree.now step.entry.action.now) result }
+    ensures { Makes step.entry.limit (moved (form_of expr.now) step.entry.env.now tree.now
+        step.entry.action.now) result }
 {
     advance_node(step, expr, tree)
 }
@@ -77,7 +79,8 @@ pub(crate) fn advance_asked(step: Step, expr: &Expr, tree: &Knot) -> Result<Knot
 fn advance_node(step: Step, expr: &Expr, tree: &Knot) -> Result<Knot, Unbuilt>
     requires ready { Ready (form_of expr.now) step.env.now tree.now }
     requires passes { passes (form_of expr.now) step.env.now tree.now step.action.now ≡ true }
-    ensures { Makes step.entry.limit (pruned (moved_node (form_of expr.now) step.entry.env.now tree.now step.entry.action.now)) result }
+    ensures { Makes step.entry.limit (pruned (moved_node (form_of expr.now) step.entry.env.now
+        tree.now step.entry.action.now)) result }
 {
     match (expr, tree.node()) {
         (Expr::Atom(_), Node::Start) => within(step, Node::Done),
@@ -116,10 +119,7 @@ fn advance_node(step: Step, expr: &Expr, tree: &Knot) -> Result<Knot, Unbuilt>
             within(step, Node::Every(common, entries))
         }
         (Expr::Sync(parameter, expr), Node::Sync(common, entries)) => {
-            let body = Body { parameter, expr };
-            let own = Reach::OwnAlphabet;
-            let (common, entries) = advance_values(step, body, own, common, entries)?;
-            within(step, Node::Sync(common, entries))
+            advance_sync(step, Body { parameter, expr }, common, entries)
         }
         (Expr::All(parameter, expr), Node::All(maps)) => {
             advance_all(step, Body { parameter, expr }, maps)
@@ -132,8 +132,11 @@ fn advance_node(step: Step, expr: &Expr, tree: &Knot) -> Result<Knot, Unbuilt>
 #[cycle(advance)]
 pub(crate) fn advance_inside(step: Step, expr: &Expr, tree: &Knot) -> Result<Knot, Unbuilt>
     requires ready { Ready (form_of expr.now) step.env.now tree.now }
-    requires may { moves_within (in_alphabet (form_of expr.now) step.env.now step.action.now) (may (form_of expr.now) step.env.now tree.now step.action.now) ≡ true }
-    ensures { Makes step.entry.limit (moved_inside (in_alphabet (form_of expr.now) step.entry.env.now step.entry.action.now) (moved (form_of expr.now) step.entry.env.now tree.now step.entry.action.now) tree.now) result }
+    requires may { moves_within (in_alphabet (form_of expr.now) step.env.now step.action.now) (may
+        (form_of expr.now) step.env.now tree.now step.action.now) ≡ true }
+    ensures { Makes step.entry.limit (moved_inside (in_alphabet (form_of expr.now)
+        step.entry.env.now step.entry.action.now) (moved (form_of expr.now) step.entry.env.now
+        tree.now step.entry.action.now) tree.now) result }
 {
     if contains(expr, step.env, step.action) {
         return advance_asked(step, expr, tree);
@@ -144,8 +147,10 @@ pub(crate) fn advance_inside(step: Step, expr: &Expr, tree: &Knot) -> Result<Kno
 /// Beside the moved alternatives for z stands one more where the first part is final: z may begin.
 #[cycle(advance)]
 fn advance_seq(step: Step, y: &Expr, z: &Expr, first: &Knot, rest: &[Knot]) -> Result<Knot, Unbuilt>
-    requires { Ready (seq (form_of y.now) (form_of z.now)) step.env.now (seq_of first.now (listed rest.now)) }
-    ensures { Makes step.entry.limit (pruned (moved_node (seq (form_of y.now) (form_of z.now)) step.entry.env.now (seq_of first.now (listed rest.now)) step.entry.action.now)) result }
+    requires { Ready (seq (form_of y.now) (form_of z.now)) step.env.now (seq_of first.now (listed
+        rest.now)) }
+    ensures { Makes step.entry.limit (pruned (moved_node (seq (form_of y.now) (form_of z.now))
+        step.entry.env.now (seq_of first.now (listed rest.now)) step.entry.action.now)) result }
 {
     let first = advance(step, y, first)?;
     let mut set = advance_each(step, z, rest)?;
@@ -159,7 +164,8 @@ fn advance_seq(step: Step, y: &Expr, z: &Expr, first: &Knot, rest: &[Knot]) -> R
 #[cycle(advance)]
 fn advance_star(step: Step, y: &Expr, again: bool, rest: &[Knot]) -> Result<Knot, Unbuilt>
     requires { Ready (star (form_of y.now)) step.env.now (star_of again (listed rest.now)) }
-    ensures { Makes step.entry.limit (pruned (moved_node (star (form_of y.now)) step.entry.env.now (star_of again (listed rest.now)) step.entry.action.now)) result }
+    ensures { Makes step.entry.limit (pruned (moved_node (star (form_of y.now)) step.entry.env.now
+        (star_of again (listed rest.now)) step.entry.action.now)) result }
 {
     let begun = advance_again(step, y, again)?;
     let mut set = advance_each(step, y, rest)?;
@@ -183,7 +189,8 @@ fn some_completes(y: &Expr, trees: &[Knot]) -> bool
 #[cycle(advance)]
 fn advance_each(step: Step, expr: &Expr, trees: &[Knot]) -> Result<AltSet<Knot>, Unbuilt>
     requires { Each (Ready (form_of expr.now) step.env.now) trees.now }
-    ensures { Collects (λ xs. xs) step.entry.limit (live_moves (form_of expr.now) step.entry.env.now step.entry.action.now trees.now) result }
+    ensures { Collects (λ xs. xs) step.entry.limit (live_moves (form_of expr.now) step.entry.env.now
+        step.entry.action.now trees.now) result }
 {
     let mut set = AltSet::new(step.alloc, step.limit);
     for tree in trees {
@@ -197,7 +204,8 @@ fn advance_each(step: Step, expr: &Expr, trees: &[Knot]) -> Result<AltSet<Knot>,
 #[cycle(advance)]
 pub(crate) fn advance_again(step: Step, expr: &Expr, again: bool) -> Result<Knot, Unbuilt>
     requires { Ready (form_of expr.now) step.env.now (initial_tree (form_of expr.now)) }
-    ensures { Makes step.entry.limit (begun_again again (form_of expr.now) step.entry.env.now step.entry.action.now) result }
+    ensures { Makes step.entry.limit (begun_again again (form_of expr.now) step.entry.env.now
+        step.entry.action.now) result }
 {
     if !again {
         return within(step, Node::Dead);

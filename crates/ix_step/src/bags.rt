@@ -39,7 +39,8 @@ fn others_of(items: &[Knot], place: usize, alloc: Global) -> Result<Vec<Knot>, A
 fn put_bag(set: &mut AltSet<Bag>, tree: Knot, others: Vec<Knot>) -> Result<(), Unbuilt>
     requires small { size_of tree + size_of (listed others.items) ≤ 2000000 }
     requires within { size_of (listed (map plain_bag set.old.items)) ≤ set.old.budget }
-    ensures gathers { Gathers set.old.budget (bag (listed (put_in tree others.items)) ∷ []) (map plain_bag set.old.items) (map plain_bag set.new.items) result }
+    ensures gathers { Gathers set.old.budget (bag (listed (put_in tree others.items)) ∷ []) (map
+        plain_bag set.old.items) (map plain_bag set.new.items) result }
     ensures within { size_of (listed (map plain_bag set.new.items)) ≤ set.old.budget }
     ensures budget { set.new.budget ≡ set.old.budget }
 {
@@ -63,7 +64,8 @@ pub(crate) fn put_moved(
     requires items { size_of (listed items.now) ≤ 1000000 }
     requires place { place < length items.now }
     requires within { size_of (listed (map plain_bag set.old.items)) ≤ set.old.budget }
-    ensures gathers { Gathers set.old.budget (bag_with tree (remove items.now place)) (map plain_bag set.old.items) (map plain_bag set.new.items) result }
+    ensures gathers { Gathers set.old.budget (bag_with tree (remove items.now place)) (map plain_bag
+        set.old.items) (map plain_bag set.new.items) result }
     ensures within { size_of (listed (map plain_bag set.new.items)) ≤ set.old.budget }
     ensures budget { set.new.budget ≡ set.old.budget }
 {
@@ -84,7 +86,8 @@ pub(crate) fn put_more(
     requires more { size_of more.now ≤ 1000000 }
     requires items { size_of (listed items.now) ≤ 1000000 }
     requires within { size_of (listed (map plain_bag set.old.items)) ≤ set.old.budget }
-    ensures gathers { Gathers set.old.budget (bag_with more.now items.now) (map plain_bag set.old.items) (map plain_bag set.new.items) result }
+    ensures gathers { Gathers set.old.budget (bag_with more.now items.now) (map plain_bag
+        set.old.items) (map plain_bag set.new.items) result }
     ensures within { size_of (listed (map plain_bag set.new.items)) ≤ set.old.budget }
     ensures budget { set.new.budget ≡ set.old.budget }
 {

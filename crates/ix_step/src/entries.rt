@@ -1,15 +1,19 @@
 //! The entries of values beside a common tree.
 
-ghost use Rattle.std.specs.Prelude.{◌≡◌, ℕ, ◌≤◌, ◌++◌, ◌∷◌, [], List, IfOk};
+ghost use Rattle.std.specs.Prelude.{◌≡◌, ℕ, ◌≤◌, ◌++◌, ◌∷◌, [], List, IfOk, OnOk};
+ghost use Rattle.std.specs.Map.{keys_of};
 ghost use Rattle.ix_values.specs.Order.{text_cmp};
 ghost use Rattle.ix_entries.specs.inside.Entries.{IsProper};
+ghost use Rattle.ix_expr.specs.inside.FormOf.{form_of};
 ghost use Rattle.ix_tree.specs.Plain.{Plain};
 ghost use Rattle.ix_tree.specs.Size.{size_of};
 ghost use Rattle.ix_step.specs.inside.EnterTrees.{HoldTrees, EnterTrees};
-ghost use Rattle.ix_step.specs.inside.ValueTrees.{touched};
+ghost use Rattle.ix_step.specs.inside.ValueTrees.{AddsSeen, TakesIn};
 
+use crate::bodies::Body;
 use crate::fault::Unbuilt;
 use ix_entries::put;
+use ix_expr::sees;
 use ix_tree::Knot;
 use ix_values::{Action, Value};
 use std::alloc::{AllocError, Global};
@@ -48,18 +52,56 @@ pub(crate) fn put_tree(
     Ok(total + 1 + size)
 }
 
-/// The values that have entries, and then the action's. A value may come twice.
+/// The values that have entries, and those of the action that the body sees. A value may come
+/// twice. Every other value moves as outside does.
 pub(crate) fn touched_values(
+    alloc: Global,
+    body: Body,
     entries: &[(Value, Knot)],
     action: &Action,
-    alloc: Global,
 ) -> Result<Vec<Value>, AllocError>
-    ensures { IfOk result (λ values. values.items ≡ touched entries.now action.now) }
+    ensures { IfOk result (λ values. TakesIn (form_of body.entry.expr.now) body.entry.parameter.now
+        action.now entries.now values.items) }
+{
+    let mut values = entry_values(alloc, entries)?;
+    push_seen(&mut values, body, action)?;
+    Ok(values)
+}
+
+fn entry_values(alloc: Global, entries: &[(Value, Knot)]) -> Result<Vec<Value>, AllocError>
+    ensures { IfOk result (λ values. values.items ≡ keys_of entries.now) }
 {
     let mut values = Vec::new(alloc);
     for entry in entries {
         values.push(entry.0)?;
     }
-    values.extend_from_slice(action.values())?;
     Ok(values)
+}
+
+fn push_seen(values: &mut Vec<Value>, body: Body, action: &Action) -> Result<(), AllocError>
+    ensures { OnOk result (AddsSeen (form_of body.entry.expr.now) body.entry.parameter.now
+        action.now
+        action.now.values values.old.items values.new.items) }
+{
+    for value in action.values() {
+        push_if_seen(values, body, value, action)?;
+    }
+    Ok(())
+}
+
+fn push_if_seen(
+    values: &mut Vec<Value>,
+    body: Body,
+    value: &Value,
+    action: &Action,
+) -> Result<(), AllocError>
+    ensures { OnOk result (AddsSeen (form_of body.entry.expr.now) body.entry.parameter.now
+        action.now
+        (value.now ∷ []) values.old.items values.new.items) }
+{
+    if !sees(body.expr, body.parameter, value, action) {
+        return Ok(());
+    }
+    values.push(*value)?;
+    Ok(())
 }

@@ -25,7 +25,8 @@ pub(crate) fn put_pairs(
     requires left { size_of left ≤ 1000000 }
     requires right { size_of right ≤ 1000000 }
     requires within { size_of (listed (map plain_pair set.old.items)) ≤ set.old.budget }
-    ensures gathers { Gathers set.old.budget (pairs_of pair.now.first pair.now.second left right) (map plain_pair set.old.items) (map plain_pair set.new.items) result }
+    ensures gathers { Gathers set.old.budget (pairs_of pair.now.first pair.now.second left right)
+        (map plain_pair set.old.items) (map plain_pair set.new.items) result }
     ensures within { size_of (listed (map plain_pair set.new.items)) ≤ set.old.budget }
     ensures budget { set.new.budget ≡ set.old.budget }
 {
@@ -37,7 +38,8 @@ fn put_left(set: &mut AltSet<Pair>, first: Knot, right: &Knot) -> Result<(), Unb
     requires first { size_of first ≤ 1000000 }
     requires right { size_of right.now ≤ 1000000 }
     requires within { size_of (listed (map plain_pair set.old.items)) ≤ set.old.budget }
-    ensures gathers { Gathers set.old.budget (when (is_live first) (pair first right.now ∷ [])) (map plain_pair set.old.items) (map plain_pair set.new.items) result }
+    ensures gathers { Gathers set.old.budget (when (is_live first) (pair first right.now ∷ [])) (map
+        plain_pair set.old.items) (map plain_pair set.new.items) result }
     ensures within { size_of (listed (map plain_pair set.new.items)) ≤ set.old.budget }
     ensures budget { set.new.budget ≡ set.old.budget }
 {
@@ -52,7 +54,8 @@ fn put_right(set: &mut AltSet<Pair>, left: &Knot, second: Knot) -> Result<(), Un
     requires left { size_of left.now ≤ 1000000 }
     requires second { size_of second ≤ 1000000 }
     requires within { size_of (listed (map plain_pair set.old.items)) ≤ set.old.budget }
-    ensures gathers { Gathers set.old.budget (when (is_live second) (pair left.now second ∷ [])) (map plain_pair set.old.items) (map plain_pair set.new.items) result }
+    ensures gathers { Gathers set.old.budget (when (is_live second) (pair left.now second ∷ []))
+        (map plain_pair set.old.items) (map plain_pair set.new.items) result }
     ensures within { size_of (listed (map plain_pair set.new.items)) ≤ set.old.budget }
     ensures budget { set.new.budget ≡ set.old.budget }
 {

@@ -27,8 +27,11 @@ use ix_tree::{Bag, Knot, Node, Pair};
 
 #[cycle(advance)]
 pub(crate) fn advance_par(step: Step, y: &Expr, z: &Expr, pairs: &[Pair]) -> Result<Knot, Unbuilt>
-    requires { Ready (par (form_of y.now) (form_of z.now)) step.env.now (par_of (listed (map plain_pair pairs.now))) }
-    ensures { Makes step.entry.limit (pruned (moved_node (par (form_of y.now) (form_of z.now)) step.entry.env.now (par_of (listed (map plain_pair pairs.now))) step.entry.action.now)) result }
+    requires { Ready (par (form_of y.now) (form_of z.now)) step.env.now (par_of (listed (map
+        plain_pair pairs.now))) }
+    ensures { Makes step.entry.limit (pruned (moved_node (par (form_of y.now) (form_of z.now))
+        step.entry.env.now (par_of (listed (map plain_pair pairs.now))) step.entry.action.now))
+        result }
 {
     let set = advance_pairs(step, y, z, pairs)?;
     within_if_live(step, Node::Par(set.into_items()))
@@ -36,9 +39,11 @@ pub(crate) fn advance_par(step: Step, y: &Expr, z: &Expr, pairs: &[Pair]) -> Res
 
 #[cycle(advance)]
 fn advance_pairs(step: Step, y: &Expr, z: &Expr, pairs: &[Pair]) -> Result<AltSet<Pair>, Unbuilt>
-    requires ready { Each (IsReadyPair (form_of y.now) (form_of z.now) step.env.now) (map plain_pair pairs.now) }
+    requires ready { Each (IsReadyPair (form_of y.now) (form_of z.now) step.env.now) (map plain_pair
+        pairs.now) }
     requires small { Each (λ p. size_of p ≤ 1000000) (map plain_pair pairs.now) }
-    ensures { Collects (map plain_pair) step.entry.limit (flat_map (pair_moves (form_of y.now) (form_of z.now) step.entry.env.now step.entry.action.now) (map plain_pair pairs.now)) result }
+    ensures { Collects (map plain_pair) step.entry.limit (flat_map (pair_moves (form_of y.now)
+        (form_of z.now) step.entry.env.now step.entry.action.now) (map plain_pair pairs.now)) result }
 {
     let mut set = AltSet::new(step.alloc, step.limit);
     for pair in pairs {
@@ -51,8 +56,11 @@ fn advance_pairs(step: Step, y: &Expr, z: &Expr, pairs: &[Pair]) -> Result<AltSe
 
 #[cycle(advance)]
 pub(crate) fn advance_par_star(step: Step, y: &Expr, bags: &[Bag]) -> Result<Knot, Unbuilt>
-    requires { Ready (par_star (form_of y.now)) step.env.now (par_star_of (listed (map plain_bag bags.now))) }
-    ensures { Makes step.entry.limit (pruned (moved_node (par_star (form_of y.now)) step.entry.env.now (par_star_of (listed (map plain_bag bags.now))) step.entry.action.now)) result }
+    requires { Ready (par_star (form_of y.now)) step.env.now (par_star_of (listed (map plain_bag
+        bags.now))) }
+    ensures { Makes step.entry.limit (pruned (moved_node (par_star (form_of y.now))
+        step.entry.env.now (par_star_of (listed (map plain_bag bags.now))) step.entry.action.now))
+        result }
 {
     if bags.is_empty() {
         return within(step, Node::Dead);
@@ -69,7 +77,8 @@ fn advance_bags(step: Step, y: &Expr, first: &Knot, bags: &[Bag]) -> Result<AltS
     requires ready { Each (IsReadyBag (form_of y.now) step.env.now) (map plain_bag bags.now) }
     requires first { first.now ≡ begun (form_of y.now) step.env.now step.action.now }
     requires small { size_of first.now ≤ 1000000 }
-    ensures { Collects (map plain_bag) step.entry.limit (flat_map (bag_moves (form_of y.now) step.entry.env.now step.entry.action.now) (map plain_bag bags.now)) result }
+    ensures { Collects (map plain_bag) step.entry.limit (flat_map (bag_moves (form_of y.now)
+        step.entry.env.now step.entry.action.now) (map plain_bag bags.now)) result }
 {
     let mut set = AltSet::new(step.alloc, step.limit);
     for bag in bags {
@@ -86,7 +95,9 @@ fn advance_picks(step: Step, y: &Expr, items: &[Knot], set: &mut AltSet<Bag>) ->
     requires size { size_of (listed items.now) ≤ 1000000 }
     requires budget { set.old.budget ≡ step.limit }
     requires within { size_of (listed (map plain_bag set.old.items)) ≤ step.limit }
-    ensures gathers { Gathers step.entry.limit (pick_moves (form_of y.now) step.entry.env.now step.entry.action.now items.now) (map plain_bag set.old.items) (map plain_bag set.new.items) result }
+    ensures gathers { Gathers step.entry.limit (pick_moves (form_of y.now) step.entry.env.now
+        step.entry.action.now items.now) (map plain_bag set.old.items) (map plain_bag set.new.items)
+        result }
     ensures within { size_of (listed (map plain_bag set.new.items)) ≤ step.entry.limit }
     ensures budget { set.new.budget ≡ step.entry.limit }
 {
@@ -111,10 +122,14 @@ fn advance_pick(
     requires size { size_of (listed items.now) ≤ 1000000 }
     requires place { place < length items.now }
     requires item { item.now ≡ get_or items.now place item.now }
-    requires so_far { (start : List Plain) × (map plain_bag set.old.items ≡ put_all (flat_map (pick_move (form_of y.now) step.env.now step.action.now) (take place (picks items.now))) start) }
+    requires so_far { (start : List Plain) × (map plain_bag set.old.items ≡ put_all (flat_map
+        (pick_move (form_of y.now) step.env.now step.action.now) (take place (picks items.now)))
+        start) }
     requires budget { set.old.budget ≡ step.limit }
     requires within { size_of (listed (map plain_bag set.old.items)) ≤ step.limit }
-    ensures gathers { Gathers step.entry.limit (pick_move (form_of y.now) step.entry.env.now step.entry.action.now (item.now, remove items.now place)) (map plain_bag set.old.items) (map plain_bag set.new.items) result }
+    ensures gathers { Gathers step.entry.limit (pick_move (form_of y.now) step.entry.env.now
+        step.entry.action.now (item.now, remove items.now place)) (map plain_bag set.old.items) (map
+        plain_bag set.new.items) result }
     ensures within { size_of (listed (map plain_bag set.new.items)) ≤ step.entry.limit }
     ensures budget { set.new.budget ≡ step.entry.limit }
 {
@@ -128,7 +143,8 @@ fn advance_pick(
 /// Whether the tree equals the one before its place.
 fn is_repeat(items: &[Knot], place: usize, item: &Knot) -> bool
     requires { place < length items.now }
-    ensures { IsTrue result → (before : ℕ) × (place ≡ before + 1) × (item.now ≡ get_or items.now before item.now) }
+    ensures { IsTrue result → (before : ℕ) × (place ≡ before + 1) × (item.now ≡ get_or items.now
+        before item.now) }
 {
     if place == 0 {
         return false;

@@ -1,22 +1,30 @@
 //! The moved trees of the quantifiers `any`, `every` and `sync`.
 
-ghost use Rattle.std.specs.Prelude.{◌≡◌, ◌≤◌, true, None, Some, map};
+ghost use Rattle.std.specs.Prelude.{◌≡◌, ◌≤◌, true, false, None, Some, map};
 ghost use Rattle.ix_expr.specs.Environment.{bind};
 ghost use Rattle.ix_expr.specs.Fitting.{FitsInside};
+ghost use Rattle.ix_expr.specs.Form.{sync};
 ghost use Rattle.ix_expr.specs.inside.FormOf.{form_of};
+ghost use Rattle.ix_tree.specs.Plain.{sync as sync_of};
 ghost use Rattle.ix_tree.specs.PlainOf.{plain_entry, plain_entries};
 ghost use Rattle.ix_tree.specs.Size.{size_of};
 ghost use Rattle.ix_can.specs.Laws.{IsProper};
+ghost use Rattle.ix_can.specs.Tests.{in_alphabet};
+ghost use Rattle.ix_step.specs.declared.bodies.Reach.TheVariants.{OwnAlphabet};
 ghost use Rattle.ix_step.specs.inside.Makes.{Makes};
-ghost use Rattle.ix_step.specs.inside.ValueTrees.{ReadyInside, part_may, EachMay, moved_part, common_after, entries_after, MakesEntries, MakesParts};
+ghost use Rattle.ix_step.specs.inside.MovedNode.{moved_node};
+ghost use Rattle.ix_step.specs.inside.ValueTrees.{ReadyInside, part_may, EachMay, moved_part, common_after, entries_after, MakesEntries, MakesParts, MakesOwn};
 
 use crate::advance::{advance, advance_asked, advance_inside};
 use crate::bodies::{Body, Reach};
 use crate::entries::{put_tree, touched_values};
 use crate::fault::Unbuilt;
+use crate::nodes::within;
 use crate::one_step::Step;
 use ix_can::state_at;
-use ix_tree::Knot;
+use ix_entries::put;
+use ix_expr::contains;
+use ix_tree::{Knot, Node, share_entries};
 use ix_values::Value;
 
 /// The common state after the action, and the states of the values that differ from it. Only the
@@ -30,12 +38,17 @@ pub(crate) fn advance_values(
     common: &Knot,
     entries: &[(Value, Knot)],
 ) -> Result<(Knot, Vec<(Value, Knot)>), Unbuilt>
-    requires ready { ReadyInside body.parameter.now (form_of body.expr.now) step.env.now common.now (map plain_entry entries.now) }
-    requires common { part_may reach (form_of body.expr.now) (bind body.parameter.now None step.env.now) step.action.now common.now ≡ true }
-    requires each { EachMay reach body.parameter.now (form_of body.expr.now) step.env.now step.action.now common.now entries.now }
+    requires ready { ReadyInside body.parameter.now (form_of body.expr.now) step.env.now common.now
+        (map plain_entry entries.now) }
+    requires common { part_may reach (form_of body.expr.now) (bind body.parameter.now None
+        step.env.now) step.action.now common.now ≡ true }
+    requires each { EachMay reach body.parameter.now (form_of body.expr.now) step.env.now
+        step.action.now common.now entries.now }
     ensures { MakesParts step.entry.limit
-        (common_after reach body.entry.parameter.now (form_of body.entry.expr.now) step.entry.env.now step.entry.action.now common.now)
-        (entries_after reach body.entry.parameter.now (form_of body.entry.expr.now) step.entry.env.now step.entry.action.now common.now (plain_entries entries.now))
+        (common_after reach body.entry.parameter.now (form_of body.entry.expr.now)
+        step.entry.env.now step.entry.action.now common.now)
+        (entries_after reach body.entry.parameter.now (form_of body.entry.expr.now)
+        step.entry.env.now step.entry.action.now common.now (plain_entries entries.now))
         result }
 {
     let next = advance_at(step, body, reach, None, common)?;
@@ -53,14 +66,18 @@ fn advance_entries(
     entries: &[(Value, Knot)],
     next: &Knot,
 ) -> Result<Vec<(Value, Knot)>, Unbuilt>
-    requires ready { ReadyInside body.parameter.now (form_of body.expr.now) step.env.now common.now (map plain_entry entries.now) }
-    requires each { EachMay reach body.parameter.now (form_of body.expr.now) step.env.now step.action.now common.now entries.now }
-    requires next { next.now ≡ common_after reach body.parameter.now (form_of body.expr.now) step.env.now step.action.now common.now }
+    requires ready { ReadyInside body.parameter.now (form_of body.expr.now) step.env.now common.now
+        (map plain_entry entries.now) }
+    requires each { EachMay reach body.parameter.now (form_of body.expr.now) step.env.now
+        step.action.now common.now entries.now }
+    requires next { next.now ≡ common_after reach body.parameter.now (form_of body.expr.now)
+        step.env.now step.action.now common.now }
     ensures { MakesEntries step.entry.limit next.now
-        (entries_after reach body.entry.parameter.now (form_of body.entry.expr.now) step.entry.env.now step.entry.action.now common.now (plain_entries entries.now))
+        (entries_after reach body.entry.parameter.now (form_of body.entry.expr.now)
+        step.entry.env.now step.entry.action.now common.now (plain_entries entries.now))
         result }
 {
-    let values = touched_values(entries, step.action, step.alloc)?;
+    let values = touched_values(step.alloc, body, entries, step.action)?;
     let mut built = Vec::new(step.alloc);
     let mut total = 0;
     for value in &values {
@@ -69,6 +86,67 @@ fn advance_entries(
         total = put_tree(&mut built, total, next, *value, tree, step.limit)?;
     }
     Ok(built)
+}
+
+/// The moved tree of `sync`. Where outside isn't in the alphabet, the common state stays, and of the
+/// values only the action's own may move.
+#[cycle(advance)]
+pub(crate) fn advance_sync(
+    step: Step,
+    body: Body,
+    common: &Knot,
+    entries: &[(Value, Knot)],
+) -> Result<Knot, Unbuilt>
+    requires ready { ReadyInside body.parameter.now (form_of body.expr.now) step.env.now common.now
+        (map plain_entry entries.now) }
+    requires common { part_may OwnAlphabet (form_of body.expr.now)
+        (bind body.parameter.now None step.env.now) step.action.now common.now ≡ true }
+    requires each { EachMay OwnAlphabet body.parameter.now (form_of body.expr.now) step.env.now
+        step.action.now common.now entries.now }
+    ensures { Makes step.entry.limit
+        (moved_node (sync body.entry.parameter.now (form_of body.entry.expr.now)) step.entry.env.now
+        (sync_of common.now (plain_entries entries.now)) step.entry.action.now)
+        result }
+{
+    if contains(
+        body.expr,
+        &step.env.with(*body.parameter, None),
+        step.action,
+    ) {
+        let own = Reach::OwnAlphabet;
+        let (common, entries) = advance_values(step, body, own, common, entries)?;
+        return within(step, Node::Sync(common, entries));
+    }
+    let entries = advance_own(step, body, common, entries)?;
+    within(step, Node::Sync(common.share()?, entries))
+}
+
+/// The states of `sync` where outside isn't in the alphabet.
+#[cycle(advance)]
+fn advance_own(
+    step: Step,
+    body: Body,
+    common: &Knot,
+    entries: &[(Value, Knot)],
+) -> Result<Vec<(Value, Knot)>, Unbuilt>
+    requires ready { ReadyInside body.parameter.now (form_of body.expr.now) step.env.now common.now
+        (map plain_entry entries.now) }
+    requires outside { in_alphabet (form_of body.expr.now)
+        (bind body.parameter.now None step.env.now) step.action.now ≡ false }
+    requires each { EachMay OwnAlphabet body.parameter.now (form_of body.expr.now) step.env.now
+        step.action.now common.now entries.now }
+    ensures { MakesOwn step.entry.limit common.now
+        (entries_after OwnAlphabet body.entry.parameter.now (form_of body.entry.expr.now)
+        step.entry.env.now step.entry.action.now common.now (plain_entries entries.now))
+        result }
+{
+    let mut own = share_entries(step.alloc, entries)?;
+    for value in step.action.values() {
+        let state = state_at(entries, common, value);
+        let tree = advance_at(step, body, Reach::OwnAlphabet, Some(*value), state)?;
+        put(&mut own, common, *value, tree)?;
+    }
+    Ok(own)
 }
 
 /// The state under a value after the action, where a value of None is outside.
@@ -83,9 +161,11 @@ fn advance_at(
     requires fits { FitsInside body.parameter.now (form_of body.expr.now) step.env.now }
     requires proper { IsProper (form_of body.expr.now) state.now }
     requires small { size_of state.now ≤ 1000000 }
-    requires may { part_may reach (form_of body.expr.now) (bind body.parameter.now value step.env.now) step.action.now state.now ≡ true }
+    requires may { part_may reach (form_of body.expr.now) (bind body.parameter.now value
+        step.env.now) step.action.now state.now ≡ true }
     ensures { Makes step.entry.limit
-        (moved_part reach (form_of body.entry.expr.now) (bind body.entry.parameter.now value step.entry.env.now) step.entry.action.now state.now)
+        (moved_part reach (form_of body.entry.expr.now) (bind body.entry.parameter.now value
+        step.entry.env.now) step.entry.action.now state.now)
         result }
 {
     let env = step.env.with(*body.parameter, value);

@@ -52,7 +52,8 @@ pub(crate) fn put_first(
 ) -> Result<(), Unbuilt>
     requires small { size_of (initial_tree (form_of expr.now)) ≤ 1000000 }
     requires within { size_of (listed set.old.items) ≤ set.old.budget }
-    ensures gathers { Gathers set.old.budget (when begins (initial_tree (form_of expr.now) ∷ [])) set.old.items set.new.items result }
+    ensures gathers { Gathers set.old.budget (when begins (initial_tree (form_of expr.now) ∷ []))
+        set.old.items set.new.items result }
     ensures within { size_of (listed set.new.items) ≤ set.old.budget }
     ensures budget { set.new.budget ≡ set.old.budget }
 {

@@ -1,13 +1,15 @@
 -- The parts of a step: what each asks of the next, and what it makes.
-use Rattle.std.proofs.Common.{◌<◌, ◌≡◌, ◌≤◌, ◌+◌, true, refl, sym, ap, ◌∙◌, subst, arith, [], ◌∷◌, ◌++◌, map, length, flat_map, take, get_or, Some}
+use Rattle.std.proofs.Common.{◌<◌, ◌≡◌, ◌≤◌, ◌+◌, true, refl, sym, ap, ◌∙◌, subst, arith, [], ◌∷◌, ◌++◌, map, length, flat_map, take, drop, get_or, Some, None, true≢false}
 use Rattle.std.specs.List.{list_any, remove}
+use Rattle.std.specs.Map.{keys_of}
 use Rattle.std.proofs.lemmas.List.{length-map}
 use Rattle.ix_words.specs.Each.{Each, here}
-use Rattle.ix_words.proofs.Each.{Member-right}
-use Rattle.std.proofs.Math.Seq.{take-length}
+use Rattle.ix_words.proofs.Each.{Member-right, Each-member}
+use Rattle.std.proofs.Math.Seq.{take-length, drop-length}
 use Rattle.ix_words.specs.Canon.{canon, when}
 use Rattle.ix_expr.specs.inside.FormOf.{form_of}
 use Rattle.ix_expr.specs.Environment.{bind}
+use Rattle.ix_expr.specs.FormFaults.{Fits}
 use Rattle.ix_expr.specs.Form.{opt, or, and, couple, any, every, sync}
 use Rattle.ix_tree.specs.Plain.{dead, bag, listed, items_of, seq as seq_of, star as star_of, par as par_of, par_star as par_star_of, any as any_of, every as every_of, sync as sync_of, all as all_of}
 use Rattle.ix_tree.specs.PlainOf.{plain_pair, plain_bag, plain_map, plain_entry, plain_entries}
@@ -30,7 +32,8 @@ use Rattle.ix_step.specs.inside.Moves.{live_move, live_moves, begun_again, last_
 use Rattle.ix_step.specs.inside.ParallelMoves.{pairs_of, pair_moves, pick_move, bag_moves, IsReadyPair, IsReadyBag}
 use Rattle.ix_step.specs.inside.Pruned.{pruned}
 use Rattle.ix_step.specs.inside.Ready.{Ready}
-use Rattle.ix_step.specs.inside.ValueTrees.{part_may, tree_after}
+use Rattle.ix_step.specs.declared.bodies.Reach.TheVariants.{OwnAlphabet}
+use Rattle.ix_step.specs.inside.ValueTrees.{part_may, common_after, tree_after, touched, TakesIn}
 use Rattle.ix_step.proofs.Arms.{asked, opt_ready, or_first, or_second, and_first, and_second, couple_first, couple_second, seq_first, seq_rest, second_small, star_begins, star_rest}
 use Rattle.ix_step.proofs.Beginnings.{initial_is}
 use Rattle.ix_step.proofs.BagsPut.{length-picks, get-picks, size-put_in}
@@ -44,8 +47,13 @@ use Rattle.ix_step.proofs.MovedIs.{moved_is}
 use Rattle.ix_step.proofs.ParallelArms.{pairs_ready, pairs_small, bags_ready, run_begins}
 use Rattle.ix_step.proofs.Pruning.{passed, refused, same_passes, and_first_may, and_second_may, couple_first_may, couple_second_may, no_items, some_items, list_over, beside_over}
 use Rattle.ix_step.proofs.Repeats.{picked_again}
-use Rattle.ix_step.proofs.Quantifying.{any_ready, every_ready, sync_ready, any_each, every_common, every_each, sync_common, sync_each, value_ready, entries_are, value_moves, at_ready}
-use Rattle.ix_step.proofs.Mapping.{begin_small, begin_ready, all_held, map_keys, start_ready, owner_made}
+use Rattle.ix_step.proofs.Quantifying.{any_ready, every_ready, sync_ready, any_each, every_common, every_each, sync_common, sync_each, value_ready, entries_touched, value_moves, at_ready}
+use Rattle.ix_step.proofs.Mapping.{begin_small, begin_ready, all_held, map_keys, start_ready, owner_made, copy_proper}
+use Rattle.ix_step.proofs.OwnEntries.{GivesAll, common_stays, before_own, one_given, all_given, one_more_size}
+use Rattle.ix_step.proofs.SameTrees.{same_trees}
+use Rattle.ix_step.proofs.SeenValues.{item_among, entries_are}
+use Rattle.ix_can.proofs.Keys.{entries_ascend}
+use Rattle.ix_can.proofs.UnseenValues.{unseen_dead}
 use Rattle.ix_step.proofs.+advance.Goals as goal
 
 pub advance::advance-returns-then-not-passes : goal.advance::advance-returns-then-not-passes
@@ -183,8 +191,8 @@ advance::advance_node-advance_values-requires-in-Every-Every t c =
       (ready, (every_common c.in-Every-Every.parameter (form_of c.deref-in-Every-Every.result.now) c.args.step.env.now c.args.step.action.now c.in-Every-Every.common c.deref-in-Every-Every-2.result.now come, every_each c.in-Every-Every.parameter (form_of c.deref-in-Every-Every.result.now) c.args.step.env.now c.args.step.action.now c.in-Every-Every.common c.deref-in-Every-Every-2.result.now ready come)),
     )
 
-pub advance::advance_node-advance_values-requires-in-Sync-Sync : goal.advance::advance_node-advance_values-requires-in-Sync-Sync
-advance::advance_node-advance_values-requires-in-Sync-Sync t c =
+pub advance::advance_node-advance_sync-requires : goal.advance::advance_node-advance_sync-requires
+advance::advance_node-advance_sync-requires t c =
     let is : form_of c.args.expr.now ≡ sync c.in-Sync-Sync.parameter (form_of c.deref-in-Sync-Sync.result.now) = ap form_of c.in-Sync-Sync.is-0 ∙ ap (λ v. sync c.in-Sync-Sync.parameter (form_of v)) (sym c.deref-in-Sync-Sync.ensures) in
     let tree = sym c.node.ensures ∙ ap plain_node c.in-Sync-Sync.is-1 ∙ ap (λ v. sync_of c.in-Sync-Sync.common (plain_entries v)) (sym c.deref-in-Sync-Sync-2.ensures.value) in
     let ready = sync_ready c.deref-in-Sync-Sync-2.result.now (asked is refl tree c.requires.ready) in
@@ -505,9 +513,9 @@ quantifiers::advance_entries-state_at-state-requires t c =
 pub quantifiers::advance_entries-advance_at-requires : goal.quantifiers::advance_entries-advance_at-requires
 quantifiers::advance_entries-advance_at-requires t c =
     let r = value_ready c.args.body.parameter.now (form_of c.args.body.expr.now) c.args.step.env.now c.args.common.now c.args.entries.now c.value-item.result c.requires.ready in
-    let vals = c.deref-value-items.ensures.value ∙ c.in_ok-values.ensures in
-    let each = subst (Each (λ v. part_may c.args.reach (form_of c.args.body.expr.now) (bind c.args.body.parameter.now (Some v) c.args.step.env.now) c.args.step.action.now (tree_at v c.args.common.now (map plain_entry c.args.entries.now)) ≡ true)) (sym vals) c.requires.each in
-    let own = each_at {G = λ v. part_may c.args.reach (form_of c.args.body.expr.now) (bind c.args.body.parameter.now (Some v) c.args.step.env.now) c.args.step.action.now (tree_at v c.args.common.now (map plain_entry c.args.entries.now)) ≡ true} c.deref-value-items.result.now c.loop-value.value-index c.value-item.result (omega arith) c.value-item.is each in
+    let takes = subst (TakesIn (form_of c.args.body.expr.now) c.args.body.parameter.now c.args.step.action.now c.args.entries.now) (sym c.deref-value-items.ensures.value) c.in_ok-values.ensures in
+    let among = item_among c.deref-value-items.result.now c.loop-value.value-index c.value-item.result (omega arith) c.value-item.is in
+    let own = Each-member c.requires.each (takes.within c.value-item.result among) in
     let state = c.state_at-state.ensures ∙ ap (tree_at c.value-item.result c.args.common.now) (items_of-listed (map plain_entry c.args.entries.now)) in
     let may_come = ap (part_may c.args.reach (form_of c.args.body.expr.now) (bind c.args.body.parameter.now (Some c.value-item.result) c.args.step.env.now) c.args.step.action.now) state ∙ own in (
       omega arith,
@@ -522,8 +530,8 @@ quantifiers::advance_entries-advance_at-requires t c =
 
 pub quantifiers::advance_entries-returns-in_err-tree : goal.quantifiers::advance_entries-returns-in_err-tree
 quantifiers::advance_entries-returns-in_err-tree t c =
-    let vals = c.deref-value-items.ensures.value ∙ c.in_ok-values.ensures in
-    let whole = entries_are c.args.reach c.args.body.parameter.now (form_of c.args.body.expr.now) c.args.step.env.now c.args.step.action.now c.args.common.now c.args.entries.now c.args.next.now c.deref-value-items.result.now c.requires.ready c.requires.next vals in
+    let takes = subst (TakesIn (form_of c.args.body.expr.now) c.args.body.parameter.now c.args.step.action.now c.args.entries.now) (sym c.deref-value-items.ensures.value) c.in_ok-values.ensures in
+    let whole = entries_are c.args.reach c.args.body.parameter.now (form_of c.args.body.expr.now) c.args.step.env.now c.args.step.action.now c.args.common.now c.args.entries.now c.args.next.now c.deref-value-items.result.now c.requires.ready c.requires.next takes in
     let same = value_moves c.args.reach c.args.body.parameter.now (form_of c.args.body.expr.now) c.args.step.env.now c.args.step.action.now c.args.common.now c.args.entries.now c.value-item.result c.state_at-state.result.now c.state_at-state.ensures in
     let lt : c.loop-value.value-index < length c.deref-value-items.result.now = omega arith in
     let k = value_size c.args.next.now (tree_after c.args.reach c.args.body.parameter.now (form_of c.args.body.expr.now) c.args.step.env.now c.args.step.action.now c.args.common.now (map plain_entry c.args.entries.now)) (take c.loop-value.value-index c.deref-value-items.result.now ++ c.value-item.result ∷ []) c.value-item.result (Member-right (take c.loop-value.value-index c.deref-value-items.result.now) here) in
@@ -541,8 +549,8 @@ quantifiers::advance_entries-put_tree-requires-clause-within t c =
 
 pub quantifiers::advance_entries-returns-in_err-total : goal.quantifiers::advance_entries-returns-in_err-total
 quantifiers::advance_entries-returns-in_err-total t c =
-    let vals = c.deref-value-items.ensures.value ∙ c.in_ok-values.ensures in
-    let whole = entries_are c.args.reach c.args.body.parameter.now (form_of c.args.body.expr.now) c.args.step.env.now c.args.step.action.now c.args.common.now c.args.entries.now c.args.next.now c.deref-value-items.result.now c.requires.ready c.requires.next vals in
+    let takes = subst (TakesIn (form_of c.args.body.expr.now) c.args.body.parameter.now c.args.step.action.now c.args.entries.now) (sym c.deref-value-items.ensures.value) c.in_ok-values.ensures in
+    let whole = entries_are c.args.reach c.args.body.parameter.now (form_of c.args.body.expr.now) c.args.step.env.now c.args.step.action.now c.args.common.now c.args.entries.now c.args.next.now c.deref-value-items.result.now c.requires.ready c.requires.next takes in
     let same = value_moves c.args.reach c.args.body.parameter.now (form_of c.args.body.expr.now) c.args.step.env.now c.args.step.action.now c.args.common.now c.args.entries.now c.value-item.result c.state_at-state.result.now c.state_at-state.ensures in
     let lt : c.loop-value.value-index < length c.deref-value-items.result.now = omega arith in
     let n = upto_size c.args.next.now (tree_after c.args.reach c.args.body.parameter.now (form_of c.args.body.expr.now) c.args.step.env.now c.args.step.action.now c.args.common.now (map plain_entry c.args.entries.now)) c.deref-value-items.result.now c.loop-value.value-index c.value-item.result lt c.value-item.is in
@@ -562,8 +570,8 @@ quantifiers::advance_entries-loop-value-preserved t c =
 
 pub quantifiers::advance_entries-returns : goal.quantifiers::advance_entries-returns
 quantifiers::advance_entries-returns t c =
-    let vals = c.deref-value-items.ensures.value ∙ c.in_ok-values.ensures in
-    let whole = entries_are c.args.reach c.args.body.parameter.now (form_of c.args.body.expr.now) c.args.step.env.now c.args.step.action.now c.args.common.now c.args.entries.now c.args.next.now c.deref-value-items.result.now c.requires.ready c.requires.next vals in
+    let takes = subst (TakesIn (form_of c.args.body.expr.now) c.args.body.parameter.now c.args.step.action.now c.args.entries.now) (sym c.deref-value-items.ensures.value) c.in_ok-values.ensures in
+    let whole = entries_are c.args.reach c.args.body.parameter.now (form_of c.args.body.expr.now) c.args.step.env.now c.args.step.action.now c.args.common.now c.args.entries.now c.args.next.now c.deref-value-items.result.now c.requires.ready c.requires.next takes in
     let all : c.loop-value.value-index ≡ length c.deref-value-items.result.now = omega (arith, c.loop-value-test.false, c.loop-value.auto.value-index-end) in
     let held = c.loop-value.invariant.held in
     let items = held.items ∙ ap (λ n. entries_put c.args.next.now (tree_after c.args.reach c.args.body.parameter.now (form_of c.args.body.expr.now) c.args.step.env.now c.args.step.action.now c.args.common.now (map plain_entry c.args.entries.now)) (take n c.deref-value-items.result.now)) all ∙ ap (entries_put c.args.next.now (tree_after c.args.reach c.args.body.parameter.now (form_of c.args.body.expr.now) c.args.step.env.now c.args.step.action.now c.args.common.now (map plain_entry c.args.entries.now))) (take-length c.deref-value-items.result.now) in
@@ -573,6 +581,96 @@ quantifiers::advance_entries-returns t c =
 pub quantifiers::advance_values-advance_at-requires : goal.quantifiers::advance_values-advance_at-requires
 quantifiers::advance_values-advance_at-requires t c =
     (omega arith, (c.requires.ready.fits, (c.requires.ready.proper, (omega (arith, c.requires.ready.small), c.requires.common))))
+
+pub quantifiers::advance_sync-contains-requires : goal.quantifiers::advance_sync-contains-requires
+quantifiers::advance_sync-contains-requires t c =
+    subst (Fits (form_of c.args.body.expr.now)) (sym c.with.ensures) (c.requires.ready.fits.body None)
+
+pub quantifiers::advance_sync-advance_values-requires : goal.quantifiers::advance_sync-advance_values-requires
+quantifiers::advance_sync-advance_values-requires t c =
+    (omega arith, (c.requires.ready, (c.requires.common, c.requires.each)))
+
+pub quantifiers::advance_sync-advance_own-requires : goal.quantifiers::advance_sync-advance_own-requires
+quantifiers::advance_sync-advance_own-requires t c =
+    let y = form_of c.args.body.expr.now in
+    let outside = ap (λ f. in_alphabet y f c.args.step.action.now) (sym c.with.ensures) ∙ sym (same_alphabet c.contains.result y c.with.result c.args.step.action.now c.contains.ensures) ∙ c.if-contains.false in
+    (omega arith, (c.requires.ready, (outside, c.requires.each)))
+
+pub quantifiers::advance_sync-returns : goal.quantifiers::advance_sync-returns
+quantifiers::advance_sync-returns t c =
+    let y = form_of c.args.body.expr.now in
+    let outside = ap (λ f. in_alphabet y f c.args.step.action.now) (sym c.with.ensures) ∙ sym (same_alphabet c.contains.result y c.with.result c.args.step.action.now c.contains.ensures) ∙ c.if-contains.false in
+    let common = c.in_ok-share.ensures ∙ sym (common_stays c.args.body.parameter.now (form_of c.args.body.expr.now) c.args.step.env.now c.args.step.action.now c.args.common.now c.args.entries.now outside) in
+    subst (λ x. Makes c.args.step.limit x c.within-2.result) (λ i. sync_of (common i) (c.in_ok-entries.ensures.0 i)) c.within-2.ensures
+
+pub quantifiers::advance_sync-returns-in_err-entries : goal.quantifiers::advance_sync-returns-in_err-entries
+quantifiers::advance_sync-returns-in_err-entries t c =
+    let y = form_of c.args.body.expr.now in
+    let outside = ap (λ f. in_alphabet y f c.args.step.action.now) (sym c.with.ensures) ∙ sym (same_alphabet c.contains.result y c.with.result c.args.step.action.now c.contains.ensures) ∙ c.if-contains.false in
+    let common = common_stays c.args.body.parameter.now (form_of c.args.body.expr.now) c.args.step.env.now c.args.step.action.now c.args.common.now c.args.entries.now outside in
+    exit_over _ c.from_residual-in_err-entries.result _ c.from_residual-in_err-entries.ensures.1 c.in_err-entries.ensures (λ over. omega (arith, ap size_of common, over))
+
+pub quantifiers::advance_own-loop-value-init : goal.quantifiers::advance_own-loop-value-init
+quantifiers::advance_own-loop-value-init t c =
+    record {
+      proper = copy_proper c.args.common.now c.in_ok-own.own.items (map plain_entry c.args.entries.now) (ap (map plain_entry) c.in_ok-own.ensures) c.requires.ready.beside;
+      given = before_own c.args.body.parameter.now (form_of c.args.body.expr.now) c.args.step.env.now c.args.step.action.now c.args.common.now c.args.entries.now c.in_ok-own.own.items c.requires.outside c.in_ok-own.ensures;
+      small = omega (arith, ap (λ l. size_of (plain_entries l)) c.in_ok-own.ensures, c.requires.ready.small);
+    }
+
+pub quantifiers::advance_own-state_at-state-requires : goal.quantifiers::advance_own-state_at-state-requires
+quantifiers::advance_own-state_at-state-requires t c =
+    keys_ascend c.args.entries.now c.requires.ready.beside.ascending
+
+pub quantifiers::advance_own-advance_at-requires : goal.quantifiers::advance_own-advance_at-requires
+quantifiers::advance_own-advance_at-requires t c =
+    let r = value_ready c.args.body.parameter.now (form_of c.args.body.expr.now) c.args.step.env.now c.args.common.now c.args.entries.now c.value-item.result c.requires.ready in
+    let among = item_among c.args.step.action.now.values c.loop-value.value-index c.value-item.result (omega (arith, ap length c.values-value-items.ensures.value)) (c.value-item.is ∙ ap (λ l. get_or l c.loop-value.value-index c.value-item.result) c.values-value-items.ensures.value) in
+    let own = Each-member c.requires.each (Member-right (keys_of c.args.entries.now) among) in
+    let state = c.state_at-state.ensures ∙ ap (tree_at c.value-item.result c.args.common.now) (items_of-listed (map plain_entry c.args.entries.now)) in
+    let may_come = ap (part_may OwnAlphabet (form_of c.args.body.expr.now) (bind c.args.body.parameter.now (Some c.value-item.result) c.args.step.env.now) c.args.step.action.now) state ∙ own in (
+      omega arith,
+      (
+        c.requires.ready.fits,
+        (
+          subst (IsProper (form_of c.args.body.expr.now)) (sym c.state_at-state.ensures) r.proper,
+          (omega (arith, ap size_of c.state_at-state.ensures, r.small), may_come),
+        ),
+      ),
+    )
+
+pub quantifiers::advance_own-returns-in_err-tree : goal.quantifiers::advance_own-returns-in_err-tree
+quantifiers::advance_own-returns-in_err-tree t c =
+    let whole = entries_touched OwnAlphabet c.args.body.parameter.now (form_of c.args.body.expr.now) c.args.step.env.now c.args.step.action.now c.args.common.now c.args.entries.now c.requires.ready in
+    let common = common_stays c.args.body.parameter.now (form_of c.args.body.expr.now) c.args.step.env.now c.args.step.action.now c.args.common.now c.args.entries.now c.requires.outside in
+    let same = value_moves OwnAlphabet c.args.body.parameter.now (form_of c.args.body.expr.now) c.args.step.env.now c.args.step.action.now c.args.common.now c.args.entries.now c.value-item.result c.state_at-state.result.now c.state_at-state.ensures in
+    let among = item_among c.args.step.action.now.values c.loop-value.value-index c.value-item.result (omega (arith, ap length c.values-value-items.ensures.value)) (c.value-item.is ∙ ap (λ l. get_or l c.loop-value.value-index c.value-item.result) c.values-value-items.ensures.value) in
+    let k = value_size (common_after OwnAlphabet c.args.body.parameter.now (form_of c.args.body.expr.now) c.args.step.env.now c.args.step.action.now c.args.common.now) (tree_after OwnAlphabet c.args.body.parameter.now (form_of c.args.body.expr.now) c.args.step.env.now c.args.step.action.now c.args.common.now (map plain_entry c.args.entries.now)) (touched c.args.entries.now c.args.step.action.now) c.value-item.result (Member-right (keys_of c.args.entries.now) among) in
+    exit_over _ c.from_residual-in_err-tree.result _ c.from_residual-in_err-tree.ensures.1 c.in_err-tree.ensures (λ over.
+    omega (arith, ap size_of whole, ap size_of common, ap size_of same, k, over))
+
+pub quantifiers::advance_own-put-requires : goal.quantifiers::advance_own-put-requires
+quantifiers::advance_own-put-requires t c = c.loop-value.invariant.proper
+
+pub quantifiers::advance_own-loop-value-preserved : goal.quantifiers::advance_own-loop-value-preserved
+quantifiers::advance_own-loop-value-preserved t c =
+    let same = c.in_ok-tree.ensures.0 ∙ value_moves OwnAlphabet c.args.body.parameter.now (form_of c.args.body.expr.now) c.args.step.env.now c.args.step.action.now c.args.common.now c.args.entries.now c.value-item.result c.state_at-state.result.now c.state_at-state.ensures in
+    let grown = one_more_size tree_ghosts.eq same_trees c.args.common.now c.loop-value.own.items c.value-item.result c.in_ok-tree.tree c.put.new.entries.items (entries_ascend c.loop-value.own.items c.loop-value.invariant.proper.ascending) c.in_ok-put.ensures.list in
+    record {
+      proper = c.put.ensures.proper;
+      given = one_given tree_ghosts.eq same_trees c.args.common.now (tree_after OwnAlphabet c.args.body.parameter.now (form_of c.args.body.expr.now) c.args.step.env.now c.args.step.action.now c.args.common.now (map plain_entry c.args.entries.now)) c.args.step.action.now.values c.loop-value.value-index c.value-item.result c.in_ok-tree.tree c.loop-value.own.items c.put.new.entries.items
+          (omega (arith, ap length c.values-value-items.ensures.value)) (c.value-item.is ∙ ap (λ l. get_or l c.loop-value.value-index c.value-item.result) c.values-value-items.ensures.value)
+          same c.in_ok-put.ensures.item c.in_ok-put.ensures.others c.loop-value.invariant.given;
+      small = omega (arith, grown, c.loop-value.invariant.small, ap size_of c.in_ok-tree.ensures.0, c.in_ok-tree.ensures.1, c.args.step.bounded);
+    }
+
+pub quantifiers::advance_own-returns : goal.quantifiers::advance_own-returns
+quantifiers::advance_own-returns t c =
+    let all : c.loop-value.value-index ≡ length c.args.step.action.now.values = omega (arith, c.loop-value-test.false, c.loop-value.auto.value-index-end, ap length c.values-value-items.ensures.value) in
+    let none : drop c.loop-value.value-index c.args.step.action.now.values ≡ [] = ap (λ n. drop n c.args.step.action.now.values) all ∙ drop-length c.args.step.action.now.values in
+    let given = subst (λ l. GivesAll c.args.common.now (tree_after OwnAlphabet c.args.body.parameter.now (form_of c.args.body.expr.now) c.args.step.env.now c.args.step.action.now c.args.common.now (map plain_entry c.args.entries.now)) l c.loop-value.own.items) none c.loop-value.invariant.given in
+    let same = all_given tree_ghosts.eq same_trees c.args.common.now c.args.body.parameter.now (form_of c.args.body.expr.now) c.args.step.env.now c.args.step.action.now c.args.entries.now c.loop-value.own.items c.requires.ready c.requires.outside c.loop-value.invariant.proper given in
+    (sym same, omega (arith, ap size_of same, c.loop-value.invariant.small, all, c.values-value-items.ensures.valid.few))
 
 pub maps::advance_all-first_tree-requires : goal.maps::advance_all-first_tree-requires
 maps::advance_all-first_tree-requires t c =
@@ -604,6 +702,18 @@ maps::advance_owner-advance-requires t c =
       subst (Ready (form_of c.args.body.expr.now) c.with-env.result) (sym found)
           (start_ready c.args.state.now c.deref.result.now c.deref.ensures.value c.args.body.parameter.now (form_of c.args.body.expr.now) c.args.step.env.now c.with-env.result c.args.first.now c.args.value.now c.with-env.ensures c.requires.ready c.requires.held),
     )
+
+pub maps::advance_owner-returns-then-not-sees : goal.maps::advance_owner-returns-then-not-sees
+maps::advance_owner-returns-then-not-sees t c =
+    let y = form_of c.args.body.expr.now in
+    let p = c.args.body.parameter.now in
+    let e = c.args.step.env.now in
+    let found = or_initial c.args.first.now (tree_at c.args.value.now dead (items_of (first_part (plain_map c.args.state.now)))) in
+    let out = unseen_dead y p e c.args.step.action.now c.requires.ready.named c.args.value.now (λ s. true≢false (sym (c.sees.ensures.1 s) ∙ c.if-not-sees.true)) found in
+    let same = sym (moved_is_dead y (bind p (Some c.args.value.now) e) found c.args.step.action.now out) in
+    owner_made c.args.step.limit c.larger.result c.args.first.now c.args.value.now (begun_tree p y e c.args.step.action.now c.args.first.now (plain_map c.args.state.now) c.args.value.now) dead (items_of (first_part (plain_map c.args.state.now))) c.within.result same
+    (omega (arith, c.larger.ensures.first, c.args.step.positive)) c.larger.ensures.first (omega (arith, c.larger.ensures.second, c.size.ensures.value))
+    (c.larger.ensures.bound 1000000 c.args.step.bounded (omega (arith, c.size.ensures.value, c.requires.ready.small))) c.within.ensures
 
 pub maps::advance_owner-returns : goal.maps::advance_owner-returns
 maps::advance_owner-returns t c =

@@ -1,10 +1,10 @@
 -- Measures and invariants of the functions behind `step`.
-use Rattle.std.proofs.Common.{◌+◌, ◌*◌, ◌≡◌, ◌≤◌, [], map, take, flat_map}
+use Rattle.std.proofs.Common.{◌+◌, ◌*◌, ◌≡◌, ◌≤◌, [], map, take, drop, flat_map}
 use Rattle.ix_expr.specs.inside.FormOf.{form_of}
 use Rattle.ix_values.specs.Order.{text_cmp}
 use Rattle.ix_entries.specs.inside.Entries.{IsProper}
 use Rattle.ix_tree.specs.Plain.{listed}
-use Rattle.ix_tree.specs.PlainOf.{plain_pair, plain_bag, plain_map, plain_entry}
+use Rattle.ix_tree.specs.PlainOf.{plain_pair, plain_bag, plain_map, plain_entry, plain_entries}
 use Rattle.ix_tree.specs.Size.{size_of}
 use Rattle.ix_tree.specs.contracts.order.KnotPartialEq.TheImpl.{ghosts as tree_ghosts}
 use Rattle.ix_can.specs.inside.Moved.{picks}
@@ -14,7 +14,9 @@ use Rattle.ix_step.specs.inside.MapsAfter.{maps_after, map_after}
 use Rattle.ix_step.specs.inside.Moves.{live_move}
 use Rattle.ix_step.specs.inside.ParallelMoves.{pair_moves, bag_moves, pick_move}
 use Rattle.ix_step.specs.inside.ValueTrees.{tree_after}
+use Rattle.ix_step.specs.declared.bodies.Reach.TheVariants.{OwnAlphabet}
 use Rattle.ix_step.proofs.Measure.{form_size}
+use Rattle.ix_step.proofs.OwnEntries.{GivesAll}
 use Rattle.ix_step.proofs.+advance.Given as goal
 
 abbrev pub decreases-advance::advance : goal.decreases-advance::advance
@@ -102,6 +104,19 @@ invariant-quantifiers::advance_entries-loop-value l = record {
   proper : IsProper text_cmp tree_ghosts.eq l.next l.built.items;
   held : HoldTrees l.next (tree_after l.reach l.body.parameter.now (form_of l.body.expr.now) l.step.env.now l.step.action.now l.common (map plain_entry l.entries)) (take l.value-index l.value-items) l.built.items l.total;
   within : l.total ≤ l.step.limit;
+}
+
+abbrev pub decreases-quantifiers::advance_sync : goal.decreases-quantifiers::advance_sync
+decreases-quantifiers::advance_sync l = 8 * form_size (form_of l.body.expr.now) + 6
+
+abbrev pub decreases-quantifiers::advance_own : goal.decreases-quantifiers::advance_own
+decreases-quantifiers::advance_own l = 8 * form_size (form_of l.body.expr.now) + 4
+
+abbrev pub invariant-quantifiers::advance_own-loop-value : goal.invariant-quantifiers::advance_own-loop-value
+invariant-quantifiers::advance_own-loop-value l = record {
+  proper : IsProper text_cmp tree_ghosts.eq l.common l.own.items;
+  given : GivesAll l.common (tree_after OwnAlphabet l.body.parameter.now (form_of l.body.expr.now) l.step.env.now l.step.action.now l.common (map plain_entry l.entries)) (drop l.value-index l.step.action.now.values) l.own.items;
+  small : size_of (plain_entries l.own.items) ≤ 1000000 + l.value-index * 1000001;
 }
 
 abbrev pub decreases-quantifiers::advance_at : goal.decreases-quantifiers::advance_at

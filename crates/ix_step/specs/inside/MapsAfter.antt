@@ -4,6 +4,7 @@ use Rattle.ix_values.specs.PlainAction.{PlainAction}
 use Rattle.ix_expr.specs.Form.{Form}
 use Rattle.ix_expr.specs.Environment.{Environment, bind}
 use Rattle.ix_expr.specs.Fitting.{FitsInside}
+use Rattle.ix_expr.specs.Laws.{EachAtomNames}
 use Rattle.ix_tree.specs.Plain.{Plain, dead, map as map_of, items_of}
 use Rattle.ix_tree.specs.Order.{key, first_part}
 use Rattle.ix_tree.specs.Size.{size_of}
@@ -18,9 +19,11 @@ pub record HoldsWell (y : Form) (initial : Plain) (m : Plain) : Type 0 where
   pub beside : ProperEntries (IsProper y) initial (items_of (first_part m))
   pub small : size_of m ≤ 1000000
 
--- the operand fits under every value, and the initial tree is a proper one and not too large
+-- the operand fits under every value, each atom of it names the parameter, and the initial tree is a proper one and not
+-- too large
 pub record ReadyToBegin (p : List ℕ) (y : Form) (e : Environment) (initial : Plain) : Type 0 where
   pub fits : FitsInside p y e
+  pub named : EachAtomNames p y
   pub proper : IsProper y initial
   pub small : size_of initial ≤ 1000000
 

@@ -1,12 +1,13 @@
 -- The trees of an operand under each value of a quantifier's parameter, and what is asked of them before they are moved.
-use Rattle.std.specs.Prelude.{◌≡◌, ℕ, ◌+◌, ◌≤◌, Bool, true, List, ◌++◌, map, flat_map, Some, None, Result, MatchResult}
+use Rattle.std.specs.Prelude.{◌≡◌, ◌⊎◌, ℕ, ◌+◌, ◌≤◌, Bool, true, List, ◌++◌, map, flat_map, Some, None, Result, MatchResult}
 use Rattle.std.specs.Map.{keys_of}
 use Rattle.std.proofs.Common.{Global, Vec}
-use Rattle.ix_words.specs.Each.{Each}
+use Rattle.ix_words.specs.Each.{Each, Member}
 use Rattle.ix_values.specs.PlainAction.{PlainAction}
 use Rattle.ix_expr.specs.Form.{Form}
 use Rattle.ix_expr.specs.Environment.{Environment, bind}
 use Rattle.ix_expr.specs.Fitting.{FitsInside}
+use Rattle.ix_expr.specs.Sees.{Sees}
 use Rattle.ix_tree.specs.Plain.{Plain, listed, more, items_of}
 use Rattle.ix_tree.specs.PlainOf.{plain_entry, plain_entries}
 use Rattle.ix_tree.specs.Order.{key, first_part}
@@ -63,6 +64,18 @@ abbrev pub EachMay : Reach → List ℕ → Form → Environment → PlainAction
 EachMay reach p y e a common entries =
     Each (λ v. part_may reach y (bind p (Some v) e) a (tree_at v common (map plain_entry entries)) ≡ true) (touched entries a)
 
+-- of the values that are offered those are added that some atom sees, and each that was there stays
+pub record AddsSeen (y : Form) (p : List ℕ) (a : PlainAction) (offered old new : List (List ℕ)) : Type 0 where
+  pub within : (v : List ℕ) → Member v new → Member v old ⊎ Member v offered
+  pub kept : (v : List ℕ) → Member v old → Member v new
+  pub seen : (v : List ℕ) → Member v offered → Member v new ⊎ (¬ Sees y p v a)
+
+-- the values are touched ones, and take in each that has an entry and each of the action's that some atom sees
+pub record TakesIn (y : Form) (p : List ℕ) (a : PlainAction) (entries : List (List ℕ × Plain)) (values : List (List ℕ)) : Type 0 where
+  pub within : (v : List ℕ) → Member v values → Member v (touched entries a)
+  pub entered : (v : List ℕ) → Member v (keys_of entries) → Member v values
+  pub seen : (v : List ℕ) → Member v a.values → Member v values ⊎ (¬ Sees y p v a)
+
 -- the entries were made and are within the limit, or with the common tree they are above it, or memory ran out
 abbrev pub MakesEntries : ℕ → Plain → Plain → Result (Vec (List ℕ × Plain) Global) Unbuilt → Type 0
 MakesEntries limit common entries r =
@@ -73,3 +86,8 @@ abbrev pub MakesParts : ℕ → Plain → Plain → Result (Plain × Vec (List �
 MakesParts limit common entries r =
     MatchResult r (λ parts. (parts.0 ≡ common) × (plain_entries parts.1.items ≡ entries) × (size_of common ≤ limit) × (size_of entries ≤ limit))
     (IsOver limit (more common entries))
+
+-- the entries were made and aren't large beyond measure, or with the common tree they are above the limit, or memory ran out
+abbrev pub MakesOwn : ℕ → Plain → Plain → Result (Vec (List ℕ × Plain) Global) Unbuilt → Type 0
+MakesOwn limit common entries r =
+    MatchResult r (λ made. (plain_entries made.items ≡ entries) × (size_of entries ≤ 6000000)) (IsOver limit (more common entries))
