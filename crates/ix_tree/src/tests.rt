@@ -131,6 +131,11 @@ fn copies(rt: HostRuntime) -> Result<(), Fail> {
     assert!(rt; tree.copy(alloc)? == tree);
     assert!(rt; tree.size() == 13 && !tree.is_dead());
     assert!(rt; Tree::of(Knot::new(alloc, Node::Dead)?).is_dead());
+    let mut entries = Vec::new(alloc);
+    entries.push((value, half(alloc)?))?;
+    let map = Map { entries };
+    let entries = share_entries(alloc, &map.entries)?;
+    assert!(rt; Map { entries } == map);
     Ok(())
 }
 
