@@ -75,8 +75,14 @@ impl<'a, S: Site, K: Sink> ScriptSite<'a, S, K> {
 }
 
 impl<'a, S: Site, K: Sink> Site for ScriptSite<'a, S, K> {
-    ghost use Rattle.std.specs.Prelude.{Some, None, refl};
+    ghost use Rattle.std.specs.Prelude.{◌<◌, length, IfOk, OnErr, Some, None, refl};
+    ghost use Rattle.ix_outside.specs.Contents.{Gives, piece_of};
+    ghost use Rattle.ix_outside.specs.Counts.{Rose};
+    ghost use Rattle.ix_outside.specs.Crashes.{LeavesTheSame, OneCall};
+    ghost use Rattle.ix_outside.specs.Event.{FitsBuffer};
     ghost use Rattle.ix_outside.specs.Loans.{free, lent, reads, unused_wire};
+    ghost use Rattle.ix_outside.specs.SiteState.{OnlyWire};
+    ghost use Rattle.ix_script.specs.inside.NextPiece.{IsNextPiece};
     ghost use Rattle.ix_script.specs.inside.WithoutSends.{without_sends};
     ghost use Rattle.ix_script.specs.lemmas.OtherDisk.{lawful_without_sends};
     ghost use Rattle.ix_script.specs.inside.Site.{given_of};
@@ -114,7 +120,24 @@ impl<'a, S: Site, K: Sink> Site for ScriptSite<'a, S, K> {
         Ok(())
     }
 
-    fn next(&mut self, buf: &mut [u8]) -> Result<Event, WireFailed> {
+    /// The script's next event. Its bytes are as many as the buffer takes, or the last of a piece.
+    fn next(&mut self, buf: &mut [u8]) -> Result<Event, WireFailed>
+        requires { 0 < length buf.old }
+        ensures next { IfOk result (λ event. IsNextPiece (length buf.old) self.old.cursor.bytes.now
+            (given_of self.old) (record { event = event; bytes = piece_of event.kind buf.new })) }
+
+        ensures event { IfOk result (FitsBuffer (length buf.old)) }
+        ensures failed { OnErr result (Rose (⟦<Self as Site>⟧.state self.old).counts.wire
+            (⟦<Self as Site>⟧.state self.new).counts.wire) }
+        ensures contents { Gives buf.new result (⟦<Self as Site>⟧.state self.old).contents
+            (⟦<Self as Site>⟧.state self.new).contents }
+        ensures now { LeavesTheSame (⟦<Self as Site>⟧.crashes self.old).now
+            (⟦<Self as Site>⟧.crashes self.new).now }
+        ensures call { OneCall (⟦<Self as Site>⟧.state self.old) (⟦<Self as Site>⟧.state self.new)
+            (⟦<Self as Site>⟧.crashes self.old) (⟦<Self as Site>⟧.crashes self.new) }
+        ensures rest { OnlyWire (⟦<Self as Site>⟧.state self.old)
+            (⟦<Self as Site>⟧.state self.new) }
+    {
         Ok(self.next_event(buf))
     }
 
