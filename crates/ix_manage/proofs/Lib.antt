@@ -13,3 +13,4 @@ pub mod Playing
 pub mod ServeLemmas
 pub mod ServeEnding
 pub mod Fronts
+pub mod Coming

@@ -161,4 +161,5 @@ const BEFORE_A: &[u8] = b"\xA5IXJ1\x00\x05a - b\x7F\x00\x01a\x00";
 mod journals;
 mod refusals;
 mod replays;
+mod serves;
 mod traces;
