@@ -1,21 +1,23 @@
 -- The canonical text of what was read opens no more levels than the text that was read.
-use Rattle.std.proofs.Common.{◌≡◌, ℕ, ◌+◌, ◌≤◌, List, [], ◌∷◌, ◌++◌, map, refl, sym, ap, ◌∙◌, subst, arith}
+use Rattle.std.proofs.Common.{◌≡◌, ℕ, ◌+◌, ◌≤◌, List, [], ◌∷◌, ◌++◌, length, map, refl, sym, ap, ◌∙◌, subst, arith}
 use Rattle.ix_lex.specs.Lexing.{PlainToken, token}
 use Rattle.ix_expr.specs.Form.{Form}
+use Rattle.ix_expr.specs.FormFaults.{IsWellFormed}
 use Rattle.ix_expr.specs.Spelling.{IsSpelled}
 use Rattle.ix_expr.specs.CanonicalText.{binding, canonical_text}
 use Rattle.ix_parse.specs.declared.faults.Fault.TheVariants as faults
 use Rattle.ix_parse.specs.Symbols.{Symbol, symbol_of, Meaning}
 use Rattle.ix_parse.specs.Grammar.{Wanted}
 use Rattle.ix_parse.specs.Faults.{OpensLevel, Met, symbols_of, HasMeaning, StandsFor}
+use Rattle.ix_parse.specs.Canonical.{OpensAtMost}
 use Rattle.ix_parse.specs.Laws.{CanonicalTextsOpenFewLevels, WhatWasReadReadsBack}
 use Rattle.ix_parse.specs.inside.StackMachine.{config, wanted, levels}
 use Rattle.ix_parse.proofs.Runs.{run-wanted}
 use Rattle.ix_parse.proofs.Meeting.{wanted-when}
 use Rattle.ix_parse.proofs.InGrammar.{map-split}
-use Rattle.ix_parse.proofs.Levels.{opened, opened_by-least, opened_by-bare, Shallow, stands-opened}
-use Rattle.ix_parse.proofs.Printing.{printed, printed-pieces, binding-some}
-use Rattle.ix_parse.proofs.ReadingBack.{canonical-reads_back}
+use Rattle.ix_parse.proofs.Levels.{opened, opened_at, opened_by-least, opened_by-bare, Shallow, stands-opened}
+use Rattle.ix_parse.proofs.Printing.{Printed, canonical-printed, printed-pieces}
+use Rattle.ix_parse.proofs.ReadingBack.{canonical-reads_back, printed-stands}
 use Rattle.ix_parse.proofs.OneMeaning.{pieces-one, tokens-one, nothing-at}
 use Rattle.ix_parse.proofs.SpelledForms.{meaning-spelled}
 
@@ -79,27 +81,40 @@ read-opened text x stands =
     let least = opened_by-least 1 (binding x) (opened x) in
     omega arith
 
--- so its canonical text opens no level where 64 are open
-pub canonical-opens_few : CanonicalTextsOpenFewLevels
-canonical-opens_few text x stands us vs t cut wants opens =
-    let spelled = read-spelled text x stands in
-    let p = printed x spelled 0 in
+-- a text that is cut into tokens which open at most 64 levels opens no level where 64 are open
+printed-shallow :
+    (text : List ℕ) (d : ℕ) (x : Form) → Printed 0 text 1 x d → d ≤ 64 → OpensAtMost 64 text
+printed-shallow text d x p few us vs t cut wants opens =
     let tokens : p.tokens ≡ us ++ t ∷ vs =
     tokens-one p.tokens (us ++ t ∷ vs)
-    (pieces-one (canonical_text x) (map token p.tokens) (map token (us ++ t ∷ vs))
-    (printed-pieces x spelled) cut) in
+    (pieces-one text (map token p.tokens) (map token (us ++ t ∷ vs)) (printed-pieces text 1 d x p)
+    cut) in
     let r = run-wanted 64 (symbols_of us) wants in
-    let some = binding-some x in
     let low =
-    p.opens [] r.stack (symbols_of us) (symbols_of vs) (symbol_of t) some
+    p.opens [] r.stack (symbols_of us) (symbols_of vs) (symbol_of t) (omega arith)
     (ap symbols_of tokens ∙ map-split us (t ∷ vs)) r.is opens in
-    let bare = opened_by-bare (binding x) (binding x) (opened x) (omega arith) in
-    let few = read-opened text x stands in
     let deep : levels r.stack ≡ levels [] + 64 = r.deeper in
     omega arith
+
+-- so does the canonical text of what was read
+pub canonical-opens_few : CanonicalTextsOpenFewLevels
+canonical-opens_few text x stands =
+    let spelled = read-spelled text x stands in
+    let bare = opened_by-bare (binding x) (binding x) (opened x) (omega arith) in
+    let few = read-opened text x stands in
+    printed-shallow (canonical_text x) (opened_at (binding x) x) x (canonical-printed x spelled)
+    (omega arith)
 
 -- and reads back
 pub read-reads_back : WhatWasReadReadsBack
 read-reads_back text x stands short =
     canonical-reads_back x (read-spelled text x stands) stands.well_formed short
     (canonical-opens_few text x stands)
+
+-- a text that is cut into tokens which stand for a well-formed expression and open at most 64 levels
+-- stands for it
+pub few_levels-stand :
+    (text : List ℕ) (d : ℕ) (x : Form) → Printed 0 text 1 x d → d ≤ 64 → IsWellFormed x
+    → length text ≤ 16384 → StandsFor text x
+few_levels-stand text d x p few formed short =
+    printed-stands text d x p formed short (printed-shallow text d x p few)

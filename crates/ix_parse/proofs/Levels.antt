@@ -158,50 +158,49 @@ no-cut (u ∷ us) vs t e = cc
 
 -- an operator between two operands
 pub opens-binary :
-    (at : ℕ) (o : Operator) (ts us : List Symbol) (x : Meaning) (y : Form) → Stands (level o) ts x
-    → OpensWithin (level o) ts (opened_at (level o) x.form)
-    → OpensWithin (suc (level o)) us (opened_at (suc (level o)) y)
-    → OpensWithin (level o) (ts ++ between at o ∷ us) (opened_at (level o) (joined_form o x.form y))
-opens-binary at o ts us x y stands first second s s' front back t fits split ran opens =
+    (at : ℕ) (o : Operator) (ts us : List Symbol) (x : Meaning) (c d : ℕ) → Stands (level o) ts x
+    → OpensWithin (level o) ts c → OpensWithin (suc (level o)) us d
+    → OpensWithin (level o) (ts ++ between at o ∷ us) (max c d)
+opens-binary at o ts us x c d stands first second s s' front back t fits split ran opens =
     by-cut (cut-at ts (between at o) us front t back split)
   where
     by-cut :
         CutAt ts (between at o) us front t back
-        → levels s' < levels s + opened_at (level o) (joined_form o x.form y)
+        → levels s' < levels s + max c d
     by-cut (CutAt.ahead rest is) =
         let low = first s s' front rest t fits is ran opens in
-        omega (arith, opened-joined o x.form y)
+        omega arith
     by-cut (CutAt.here is) = absurd (not-opening (between at o) t is (λ none. none) opens)
     by-cut (CutAt.behind more fronts backs) =
         let went = run-left at o ts more x s fits (run-stands (level o) ts x stands s fits) in
         let ran' = sym went ∙ ap (run (Some (config s wanted))) (sym fronts) ∙ ran in
         let low = second (left at o x ∷ s) s' more back t (omega arith) backs ran' opens in
-        omega (arith, opened-joined o x.form y)
+        omega arith
 
 -- a prefix in front of an operand
 pub opens-prefixed :
-    (at : ℕ) (p : Prefix) (ts : List Symbol) (x : Form) → OpensWithin 6 ts (opened_at 6 x)
-    → OpensWithin 6 (before at p ∷ ts) (opened_at 6 (prefixed_form p x))
-opens-prefixed at p ts x inner s s' [] vs t fits split ran opens =
-    let same = same-levels s s' ran in omega (arith, opened-prefixed p x)
-opens-prefixed at p ts x inner s s' (u ∷ us) vs t fits split ran opens =
+    (at : ℕ) (p : Prefix) (ts : List Symbol) (d : ℕ) → OpensWithin 6 ts d
+    → OpensWithin 6 (before at p ∷ ts) (suc d)
+opens-prefixed at p ts d inner s s' [] vs t fits split ran opens =
+    let same = same-levels s s' ran in omega arith
+opens-prefixed at p ts d inner s s' (u ∷ us) vs t fits split ran opens =
     let head : before at p ≡ u = cc in
     let tail : ts ≡ us ++ t ∷ vs = cc in
     let ran' : run (Some (config (sign at p ∷ s) wanted)) us ≡ Some (config s' wanted) =
     ap (λ v. run (Some (config s wanted)) (v ∷ us)) head ∙ ran in
     let low = inner (sign at p ∷ s) s' us vs t (omega arith) tail ran' opens in
-    omega (arith, opened-prefixed p x)
+    omega arith
 
 -- a quantifier in front of an operand
 pub opens-quantified :
-    (at : ℕ) (w : List ℕ) (q : Quantifier) (p : List ℕ) (ts : List Symbol) (x : Form)
-    → class_of w ≡ Quantifies q → OpensWithin 6 ts (opened_at 6 x)
-    → OpensWithin 6 (word at w ∷ param p ∷ ts) (opened_at 6 (quantified_form q p x))
-opens-quantified at w q p ts x is inner s s' [] vs t fits split ran opens =
-    let same = same-levels s s' ran in omega (arith, opened-quantified q p x)
-opens-quantified at w q p ts x is inner s s' (u ∷ []) vs t fits split ran opens =
+    (at : ℕ) (w : List ℕ) (q : Quantifier) (p : List ℕ) (ts : List Symbol) (d : ℕ)
+    → class_of w ≡ Quantifies q → OpensWithin 6 ts d
+    → OpensWithin 6 (word at w ∷ param p ∷ ts) (suc d)
+opens-quantified at w q p ts d is inner s s' [] vs t fits split ran opens =
+    let same = same-levels s s' ran in omega arith
+opens-quantified at w q p ts d is inner s s' (u ∷ []) vs t fits split ran opens =
     let second : param p ≡ t = cc in absurd (not-opening (param p) t second (λ none. none) opens)
-opens-quantified at w q p ts x is inner s s' (u ∷ v ∷ us) vs t fits split ran opens =
+opens-quantified at w q p ts d is inner s s' (u ∷ v ∷ us) vs t fits split ran opens =
     let first : word at w ≡ u = cc in
     let second : param p ≡ v = cc in
     let tail : ts ≡ us ++ t ∷ vs = cc in
@@ -210,7 +209,7 @@ opens-quantified at w q p ts x is inner s s' (u ∷ v ∷ us) vs t fits split ra
     ∙ ap (λ a. run (Some (config s wanted)) (a ∷ param p ∷ us)) first
     ∙ ap (λ a. run (Some (config s wanted)) (u ∷ a ∷ us)) second ∙ ran in
     let low = inner (binder at q p ∷ s) s' us vs t (omega arith) tail ran' opens in
-    omega (arith, opened-quantified q p x)
+    omega arith
 
 -- parentheses around an operand
 pub opens-group :

@@ -1,5 +1,5 @@
 -- The canonical text of an expression is cut into tokens that stand for it.
-use Rattle.std.proofs.Common.{◌≡◌, ℕ, suc, ◌+◌, ◌<◌, ◌≤◌, Bool, true, false, leb, ltb, List, [], ◌∷◌, ◌++◌, length, map, codes, Some, refl, sym, ap, ◌∙◌, subst, arith, append_assoc, leb-false, leb-true, ltb-false, ltb-true}
+use Rattle.std.proofs.Common.{◌≡◌, ℕ, suc, ◌+◌, ◌<◌, ◌≤◌, Bool, true, false, leb, ltb, List, [], ◌∷◌, ◌++◌, length, map, max, codes, Some, refl, sym, ap, ◌∙◌, subst, arith, append_assoc, leb-false, leb-true, ltb-false, ltb-true}
 use Rattle.std.specs.Prelude.{All}
 use Rattle.std.specs.List.{list_all}
 use Rattle.std.proofs.lemmas.List.{append-nil}
@@ -46,15 +46,19 @@ symbols-append : (ts us : List PlainToken) → symbols_of (ts ++ us) ≡ symbols
 symbols-append [] us = refl
 symbols-append (t ∷ ts) us = ap (λ l. symbol_of t ∷ l) (symbols-append ts us)
 
--- the text at this place is cut into tokens that stand for the form at level n, and open no more
--- levels than it has
-pub record Printed (at : ℕ) (text : List ℕ) (n : ℕ) (x : Form) : Type 0 where
+-- the text at this place is cut into tokens that stand for the form at level n, and open at most d
+-- levels
+pub record Printed (at : ℕ) (text : List ℕ) (n : ℕ) (x : Form) (d : ℕ) : Type 0 where
   pub tokens : List PlainToken
   pub places : List ℕ
   pub cuts : CutsEnded at text tokens
   pub short : NoneLong tokens
   pub stands : Stands n (symbols_of tokens) (meaning x places)
-  pub opens : OpensWithin n (symbols_of tokens) (opened_at n x)
+  pub opens : OpensWithin n (symbols_of tokens) d
+
+-- no more levels than the canonical text does at that level
+abbrev PrintedOf : ℕ → List ℕ → ℕ → Form → Type 0
+PrintedOf at text n x = Printed at text n x (opened_at n x)
 
 pub binding-some : (x : Form) → 1 ≤ binding x
 binding-some (forms.atom a) = omega arith
@@ -86,35 +90,14 @@ binding-low (forms.every p y) = omega arith
 binding-low (forms.sync p y) = omega arith
 binding-low (forms.all p y) = omega arith
 
--- an operand, in parentheses where it binds too weakly
-printed-enclosed :
-    (test : Bool) (k : ℕ) (x : Form) (text : List ℕ) (at : ℕ) → k ≤ 6
-    → ((from : ℕ) → Printed from text (binding x) x) → (test ≡ false → k ≤ binding x)
-    → (test ≡ true → binding x < k) → Printed at (enclosed test text) k x
-printed-enclosed false k x text at low inner tight loose =
-    let p = inner at in
-    let bare = opened_by-bare (binding x) (binding x) (opened x) (omega arith) in
-    let least = opened_by-least k (binding x) (opened x) in
-    record {
-      tokens = p.tokens;
-      places = p.places;
-      cuts = p.cuts;
-      short = p.short;
-      stands =
-          Stands-loosen (binding x) k (symbols_of p.tokens) (meaning x p.places) (tight refl)
-          (binding-low x) p.stands;
-      opens =
-          opens-loosen k (binding x) (opened_at (binding x) x) (opened_at k x) (symbols_of p.tokens)
-          (tight refl) (omega arith) p.opens;
-    }
-printed-enclosed true k x text at low inner tight loose =
-    let p = inner (at + 1) in
+-- an operand in parentheses
+pub printed-group :
+    (x : Form) (text : List ℕ) (at d : ℕ) → Printed (at + 1) text 1 x d
+    → Printed at ((40 ∷ text) ++ 41 ∷ []) 6 x (suc d)
+printed-group x text at d p =
     let open_token = token_at kinds.Open (40 ∷ []) at in
     let close_token = token_at kinds.Close (41 ∷ []) (at + length (40 ∷ text)) in
     let symbols : symbols_of (open_token ∷ p.tokens ++ close_token ∷ []) ≡ opening ∷ symbols_of p.tokens ++ closing ∷ [] = ap (λ l. opening ∷ l) (symbols-append p.tokens (close_token ∷ [])) in
-    let bare = opened_by-bare (binding x) (binding x) (opened x) (omega arith) in
-    let one_more = opened_by-enclosed k (binding x) (opened x) (loose refl) in
-    let some = binding-some x in
     record {
       tokens = open_token ∷ p.tokens ++ close_token ∷ [];
       places = p.places;
@@ -125,21 +108,48 @@ printed-enclosed true k x text at low inner tight loose =
           (cuts-sign (at + length (40 ∷ text)) 41 kinds.Close refl));
       short = (λ long. long, none_long-append p.tokens (close_token ∷ []) p.short (λ long. long, tt));
       stands =
-          subst (λ l. Stands k l (meaning x p.places)) (sym symbols)
-          (Stands-loosen 6 k _ (meaning x p.places) low (omega arith)
-          (Stands.group (symbols_of p.tokens) (meaning x p.places) (Stands-loosen (binding x) 1 (symbols_of p.tokens) (meaning x p.places) (binding-some x) (binding-low x) p.stands)));
+          subst (λ l. Stands 6 l (meaning x p.places)) (sym symbols)
+          (Stands.group (symbols_of p.tokens) (meaning x p.places) p.stands);
       opens =
-          subst (λ l. OpensWithin k l (opened_at k x)) (sym symbols)
-          (opens-loosen k 6 (suc (opened x)) (opened_at k x)
-          (opening ∷ symbols_of p.tokens ++ closing ∷ []) low (omega arith)
-          (opens-group (symbols_of p.tokens) (opened x)
-          (opens-loosen 1 (binding x) (opened_at (binding x) x) (opened x)
-          (symbols_of p.tokens) some (omega arith) p.opens)));
+          subst (λ l. OpensWithin 6 l (suc d)) (sym symbols)
+          (opens-group (symbols_of p.tokens) d p.opens);
     }
 
+-- at a looser level, with more levels
+pub printed-loosen :
+    (n m : ℕ) (x : Form) (text : List ℕ) (at c d : ℕ) → n ≤ m → m ≤ 6 → c ≤ d
+    → Printed at text m x c → Printed at text n x d
+printed-loosen n m x text at c d loose low more p = record {
+  tokens = p.tokens;
+  places = p.places;
+  cuts = p.cuts;
+  short = p.short;
+  stands = Stands-loosen m n (symbols_of p.tokens) (meaning x p.places) loose low p.stands;
+  opens = opens-loosen n m c d (symbols_of p.tokens) loose more p.opens;
+}
+
+-- an operand, in parentheses where it binds too weakly
+printed-enclosed :
+    (test : Bool) (k : ℕ) (x : Form) (text : List ℕ) (at : ℕ) → k ≤ 6
+    → ((from : ℕ) → PrintedOf from text (binding x) x) → (test ≡ false → k ≤ binding x)
+    → (test ≡ true → binding x < k) → PrintedOf at (enclosed test text) k x
+printed-enclosed false k x text at low inner tight loose =
+    let bare = opened_by-bare (binding x) (binding x) (opened x) (omega arith) in
+    let least = opened_by-least k (binding x) (opened x) in
+    printed-loosen k (binding x) x text at (opened_at (binding x) x) (opened_at k x) (tight refl)
+    (binding-low x) (omega arith) (inner at)
+printed-enclosed true k x text at low inner tight loose =
+    let bare = opened_by-bare (binding x) (binding x) (opened x) (omega arith) in
+    let one_more = opened_by-enclosed k (binding x) (opened x) (loose refl) in
+    printed-loosen k 6 x ((40 ∷ text) ++ 41 ∷ []) at (suc (opened x)) (opened_at k x) low
+    (omega arith) (omega arith)
+    (printed-group x text at (opened x)
+    (printed-loosen 1 (binding x) x text (at + 1) (opened_at (binding x) x) (opened x)
+    (binding-some x) (binding-low x) (omega arith) (inner (at + 1))))
+
 -- an operator between two operands
-printed-binary : (o : Operator) (b : ℕ) (kind : TokenKind) (x y : Form) (at : ℕ) (t u : List ℕ) → sign_of b ≡ Some kind → ((n : ℕ) → symbol_by kind n (b ∷ []) ≡ between n o) → Printed at t (level o) x → ((from : ℕ) → Printed from u (suc (level o)) y) → Printed at ((t ++ (32 ∷ b ∷ 32 ∷ [])) ++ u) (level o) (joined_form o x y)
-printed-binary o b kind x y at t u is_sign is_between l right =
+printed-binary : (o : Operator) (b : ℕ) (kind : TokenKind) (x y : Form) (at : ℕ) (t u : List ℕ) (c d : ℕ) → sign_of b ≡ Some kind → ((n : ℕ) → symbol_by kind n (b ∷ []) ≡ between n o) → Printed at t (level o) x c → ((from : ℕ) → Printed from u (suc (level o)) y d) → Printed at ((t ++ (32 ∷ b ∷ 32 ∷ [])) ++ u) (level o) (joined_form o x y) (max c d)
+printed-binary o b kind x y at t u c d is_sign is_between l right =
     let place = at + length t + 1 in
     let sign_token = token_at kind (b ∷ []) place in
     let r = right (at + length (t ++ (32 ∷ b ∷ 32 ∷ []))) in
@@ -162,15 +172,14 @@ printed-binary o b kind x y at t u is_sign is_between l right =
           subst (λ s. Stands (level o) s (meaning (joined_form o x y) (place ∷ l.places ++ r.places))) (sym symbols)
           (Stands.binary place o (symbols_of l.tokens) (symbols_of r.tokens) (meaning x l.places) (meaning y r.places) l.stands r.stands);
       opens =
-          subst (λ s. OpensWithin (level o) s (opened_at (level o) (joined_form o x y)))
-          (sym symbols)
-          (opens-binary place o (symbols_of l.tokens) (symbols_of r.tokens) (meaning x l.places) y
+          subst (λ s. OpensWithin (level o) s (max c d)) (sym symbols)
+          (opens-binary place o (symbols_of l.tokens) (symbols_of r.tokens) (meaning x l.places) c d
           l.stands l.opens r.opens);
     }
 
 -- a prefix in front of an operand
-printed-prefix : (sign : Prefix) (b : ℕ) (kind : TokenKind) (x : Form) (at : ℕ) (t : List ℕ) → sign_of b ≡ Some kind → ((n : ℕ) → symbol_by kind n (b ∷ []) ≡ before n sign) → Printed (at + 1) t 6 x → Printed at (b ∷ t) 6 (prefixed_form sign x)
-printed-prefix sign b kind x at t is_sign is_before p =
+printed-prefix : (sign : Prefix) (b : ℕ) (kind : TokenKind) (x : Form) (at : ℕ) (t : List ℕ) (d : ℕ) → sign_of b ≡ Some kind → ((n : ℕ) → symbol_by kind n (b ∷ []) ≡ before n sign) → Printed (at + 1) t 6 x d → Printed at (b ∷ t) 6 (prefixed_form sign x) (suc d)
+printed-prefix sign b kind x at t d is_sign is_before p =
     let sign_token = token_at kind (b ∷ []) at in
     let not_long : ¬ IsLong (symbol_of sign_token) = λ long. (let P : Symbol → Type 0 = λ s. IsLong s in subst P (is_before at) long) in
     record {
@@ -182,8 +191,8 @@ printed-prefix sign b kind x at t is_sign is_before p =
           subst (λ s. Stands 6 (s ∷ symbols_of p.tokens) (meaning (prefixed_form sign x) (at ∷ p.places))) (sym (is_before at))
           (Stands.prefixes at sign (symbols_of p.tokens) (meaning x p.places) p.stands);
       opens =
-          subst (λ s. OpensWithin 6 (s ∷ symbols_of p.tokens) (opened_at 6 (prefixed_form sign x)))
-          (sym (is_before at)) (opens-prefixed at sign (symbols_of p.tokens) x p.opens);
+          subst (λ s. OpensWithin 6 (s ∷ symbols_of p.tokens) (suc d)) (sym (is_before at))
+          (opens-prefixed at sign (symbols_of p.tokens) d p.opens);
     }
 
 not_long : (n : ℕ) → n ≤ 32 → ¬ (32 < n)
@@ -194,8 +203,8 @@ begins-letter [] e = e
 begins-letter (b ∷ bs) e = e
 
 -- a quantifier in front of an operand
-printed-quantifier : (q : Quantifier) (w p : List ℕ) (x : Form) (at : ℕ) (t : List ℕ) → class_of w ≡ Quantifies q → 0 < length w → list_all is_word_byte w ≡ true → length w ≤ 32 → IsName p → ((from : ℕ) → Printed from t 6 x) → Printed at ((w ++ (32 ∷ 36 ∷ p)) ++ (32 ∷ t)) 6 (quantified_form q p x)
-printed-quantifier q w p x at t is some all few name inner =
+printed-quantifier : (q : Quantifier) (w p : List ℕ) (x : Form) (at : ℕ) (t : List ℕ) (d : ℕ) → class_of w ≡ Quantifies q → 0 < length w → list_all is_word_byte w ≡ true → length w ≤ 32 → IsName p → ((from : ℕ) → Printed from t 6 x d) → Printed at ((w ++ (32 ∷ 36 ∷ p)) ++ (32 ∷ t)) 6 (quantified_form q p x) (suc d)
+printed-quantifier q w p x at t d is some all few name inner =
     let word_token = token_at kinds.Word w at in
     let param_token = token_at kinds.Param (36 ∷ p) (at + length w + 1) in
     let from = at + length (w ++ (32 ∷ 36 ∷ p)) in
@@ -210,7 +219,7 @@ printed-quantifier q w p x at t is some all few name inner =
           (any-then from (32 ∷ []) t [] r.tokens (cuts-blank from) r.cuts);
       short = (not_long (length w) few, (not_long (length p) name.short, r.short));
       stands = Stands.quantifies at w q p (symbols_of r.tokens) (meaning x r.places) is r.stands;
-      opens = opens-quantified at w q p (symbols_of r.tokens) x is r.opens;
+      opens = opens-quantified at w q p (symbols_of r.tokens) d is r.opens;
     }
 
 -- an argument
@@ -258,7 +267,7 @@ letter-some : (w : List ℕ) → begins_with_letter w ≡ true → 0 < length w
 letter-some [] e = absurd cc
 letter-some (b ∷ bs) e = omega arith
 
-printed-atom : (at : ℕ) (w : List ℕ) (args : List Arg) → IsAtom (atom_of w args) → Printed at (w ++ arguments_text args) 6 (forms.atom (atom_of w args))
+printed-atom : (at : ℕ) (w : List ℕ) (args : List Arg) → IsAtom (atom_of w args) → Printed at (w ++ arguments_text args) 6 (forms.atom (atom_of w args)) 0
 printed-atom at w [] a =
     let name_token = token_at kinds.Word w at in
     record {
@@ -297,17 +306,17 @@ printed-atom at w (b ∷ args) a =
     }
 
 -- operands of an operator and of a prefix
-left-operand : (k : ℕ) (x : Form) (text : List ℕ) (at : ℕ) → k ≤ 5 → ((from : ℕ) → Printed from text (binding x) x) → Printed at (enclosed (ltb (binding x) k) text) k x
+left-operand : (k : ℕ) (x : Form) (text : List ℕ) (at : ℕ) → k ≤ 5 → ((from : ℕ) → PrintedOf from text (binding x) x) → PrintedOf at (enclosed (ltb (binding x) k) text) k x
 left-operand k x text at low inner =
     printed-enclosed (ltb (binding x) k) k x text at (omega arith) inner
     (λ e. ltb-false (binding x) k e) (λ e. ltb-true (binding x) k e)
 
-right-operand : (k : ℕ) (x : Form) (text : List ℕ) (at : ℕ) → k ≤ 5 → ((from : ℕ) → Printed from text (binding x) x) → Printed at (enclosed (leb (binding x) k) text) (suc k) x
+right-operand : (k : ℕ) (x : Form) (text : List ℕ) (at : ℕ) → k ≤ 5 → ((from : ℕ) → PrintedOf from text (binding x) x) → PrintedOf at (enclosed (leb (binding x) k) text) (suc k) x
 right-operand k x text at low inner =
     printed-enclosed (leb (binding x) k) (suc k) x text at (omega arith) inner
     (λ e. leb-false (binding x) k e) (λ e. let low = leb-true (binding x) k e in omega arith)
 
-operand : (x : Form) (text : List ℕ) (at : ℕ) → ((from : ℕ) → Printed from text (binding x) x) → Printed at (operand_text (binding x, text)) 6 x
+operand : (x : Form) (text : List ℕ) (at : ℕ) → ((from : ℕ) → PrintedOf from text (binding x) x) → PrintedOf at (operand_text (binding x, text)) 6 x
 operand x text at inner =
     printed-enclosed (leb (binding x) 5) 6 x text at (omega arith) inner
     (λ e. leb-false (binding x) 5 e) (λ e. let low = leb-true (binding x) 5 e in omega arith)
@@ -329,28 +338,42 @@ unfolding class_of
 all_class = refl
 
 -- the canonical text of an expression is cut into tokens that stand for it
-pub printed : (x : Form) → IsSpelled x → (at : ℕ) → Printed at (canonical_text x) (binding x) x
+pub printed : (x : Form) → IsSpelled x → (at : ℕ) → Printed at (canonical_text x) (binding x) x (opened_at (binding x) x)
 printed (forms.atom a) spelled at = printed-atom at a.name a.arguments spelled
-printed (forms.opt y) spelled at = printed-prefix prefixes.Opt 63 kinds.Question y at _ refl (λ n. refl) (operand y (canonical_text y) (at + 1) (printed y spelled))
-printed (forms.star y) spelled at = printed-prefix prefixes.Star 42 kinds.Star y at _ refl (λ n. refl) (operand y (canonical_text y) (at + 1) (printed y spelled))
-printed (forms.par_star y) spelled at = printed-prefix prefixes.ParStar 35 kinds.Hash y at _ refl (λ n. refl) (operand y (canonical_text y) (at + 1) (printed y spelled))
-printed (forms.or y z) spelled at = printed-binary operators.Or 124 kinds.Bar y z at _ _ refl (λ n. refl) (left-operand 1 y (canonical_text y) at (omega arith) (printed y spelled.0)) (λ from. right-operand 1 z (canonical_text z) from (omega arith) (printed z spelled.1))
-printed (forms.and y z) spelled at = printed-binary operators.And 38 kinds.Amp y z at _ _ refl (λ n. refl) (left-operand 2 y (canonical_text y) at (omega arith) (printed y spelled.0)) (λ from. right-operand 2 z (canonical_text z) from (omega arith) (printed z spelled.1))
-printed (forms.couple y z) spelled at = printed-binary operators.Couple 64 kinds.At y z at _ _ refl (λ n. refl) (left-operand 3 y (canonical_text y) at (omega arith) (printed y spelled.0)) (λ from. right-operand 3 z (canonical_text z) from (omega arith) (printed z spelled.1))
-printed (forms.par y z) spelled at = printed-binary operators.Par 43 kinds.Plus y z at _ _ refl (λ n. refl) (left-operand 4 y (canonical_text y) at (omega arith) (printed y spelled.0)) (λ from. right-operand 4 z (canonical_text z) from (omega arith) (printed z spelled.1))
-printed (forms.seq y z) spelled at = printed-binary operators.Seq 45 kinds.Minus y z at _ _ refl (λ n. refl) (left-operand 5 y (canonical_text y) at (omega arith) (printed y spelled.0)) (λ from. right-operand 5 z (canonical_text z) from (omega arith) (printed z spelled.1))
-printed (forms.any p y) spelled at = printed-quantifier quantifiers.Any (codes "any") p y at _ any_class (omega arith) refl (omega arith) spelled.0 (λ from. operand y (canonical_text y) from (printed y spelled.1))
-printed (forms.every p y) spelled at = printed-quantifier quantifiers.Every (codes "every") p y at _ every_class (omega arith) refl (omega arith) spelled.0 (λ from. operand y (canonical_text y) from (printed y spelled.1))
-printed (forms.sync p y) spelled at = printed-quantifier quantifiers.Sync (codes "sync") p y at _ sync_class (omega arith) refl (omega arith) spelled.0 (λ from. operand y (canonical_text y) from (printed y spelled.1))
-printed (forms.all p y) spelled at = printed-quantifier quantifiers.All (codes "all") p y at _ all_class (omega arith) refl (omega arith) spelled.0 (λ from. operand y (canonical_text y) from (printed y spelled.1))
+printed (forms.opt y) spelled at = printed-prefix prefixes.Opt 63 kinds.Question y at _ _ refl (λ n. refl) (operand y (canonical_text y) (at + 1) (printed y spelled))
+printed (forms.star y) spelled at = printed-prefix prefixes.Star 42 kinds.Star y at _ _ refl (λ n. refl) (operand y (canonical_text y) (at + 1) (printed y spelled))
+printed (forms.par_star y) spelled at = printed-prefix prefixes.ParStar 35 kinds.Hash y at _ _ refl (λ n. refl) (operand y (canonical_text y) (at + 1) (printed y spelled))
+printed (forms.or y z) spelled at = printed-binary operators.Or 124 kinds.Bar y z at _ _ _ _ refl (λ n. refl) (left-operand 1 y (canonical_text y) at (omega arith) (printed y spelled.0)) (λ from. right-operand 1 z (canonical_text z) from (omega arith) (printed z spelled.1))
+printed (forms.and y z) spelled at = printed-binary operators.And 38 kinds.Amp y z at _ _ _ _ refl (λ n. refl) (left-operand 2 y (canonical_text y) at (omega arith) (printed y spelled.0)) (λ from. right-operand 2 z (canonical_text z) from (omega arith) (printed z spelled.1))
+printed (forms.couple y z) spelled at = printed-binary operators.Couple 64 kinds.At y z at _ _ _ _ refl (λ n. refl) (left-operand 3 y (canonical_text y) at (omega arith) (printed y spelled.0)) (λ from. right-operand 3 z (canonical_text z) from (omega arith) (printed z spelled.1))
+printed (forms.par y z) spelled at = printed-binary operators.Par 43 kinds.Plus y z at _ _ _ _ refl (λ n. refl) (left-operand 4 y (canonical_text y) at (omega arith) (printed y spelled.0)) (λ from. right-operand 4 z (canonical_text z) from (omega arith) (printed z spelled.1))
+printed (forms.seq y z) spelled at = printed-binary operators.Seq 45 kinds.Minus y z at _ _ _ _ refl (λ n. refl) (left-operand 5 y (canonical_text y) at (omega arith) (printed y spelled.0)) (λ from. right-operand 5 z (canonical_text z) from (omega arith) (printed z spelled.1))
+printed (forms.any p y) spelled at = printed-quantifier quantifiers.Any (codes "any") p y at _ _ any_class (omega arith) refl (omega arith) spelled.0 (λ from. operand y (canonical_text y) from (printed y spelled.1))
+printed (forms.every p y) spelled at = printed-quantifier quantifiers.Every (codes "every") p y at _ _ every_class (omega arith) refl (omega arith) spelled.0 (λ from. operand y (canonical_text y) from (printed y spelled.1))
+printed (forms.sync p y) spelled at = printed-quantifier quantifiers.Sync (codes "sync") p y at _ _ sync_class (omega arith) refl (omega arith) spelled.0 (λ from. operand y (canonical_text y) from (printed y spelled.1))
+printed (forms.all p y) spelled at = printed-quantifier quantifiers.All (codes "all") p y at _ _ all_class (omega arith) refl (omega arith) spelled.0 (λ from. operand y (canonical_text y) from (printed y spelled.1))
 
--- and of these tokens alone
+-- a text that is cut into tokens is cut into these alone
 pub printed-pieces :
-    (x : Form) (spelled : IsSpelled x)
-    → Pieces 0 (canonical_text x) (map token (printed x spelled 0).tokens)
-printed-pieces x spelled =
-    let p = printed x spelled 0 in
-    let text = canonical_text x in
+    (text : List ℕ) (n d : ℕ) (x : Form) (p : Printed 0 text n x d)
+    → Pieces 0 text (map token p.tokens)
+printed-pieces text n d x p =
     subst (λ l. Pieces 0 l (map token p.tokens)) (append-nil text)
     (subst (Pieces 0 (text ++ [])) (append-nil (map token p.tokens))
     (p.cuts [] [] refl (Pieces.done (0 + length text))))
+
+-- canonical text is, at the level of a whole text
+pub canonical-printed : (x : Form) → IsSpelled x → Printed 0 (canonical_text x) 1 x (opened_at (binding x) x)
+canonical-printed x spelled =
+    printed-loosen 1 (binding x) x (canonical_text x) 0 (opened_at (binding x) x)
+    (opened_at (binding x) x) (binding-some x) (binding-low x) (omega arith) (printed x spelled 0)
+
+-- `*`, `all` and `@` of texts that may have more parentheses than canonical ones
+pub printed-star : (x : Form) (text : List ℕ) (at d : ℕ) → Printed (at + 1) text 6 x d → Printed at (42 ∷ text) 6 (forms.star x) (suc d)
+printed-star x text at d = printed-prefix prefixes.Star 42 kinds.Star x at text d refl (λ n. refl)
+
+pub printed-all : (p : List ℕ) (x : Form) (text : List ℕ) (at d : ℕ) → IsName p → ((from : ℕ) → Printed from text 6 x d) → Printed at ((codes "all" ++ (32 ∷ 36 ∷ p)) ++ (32 ∷ text)) 6 (forms.all p x) (suc d)
+printed-all p x text at d = printed-quantifier quantifiers.All (codes "all") p x at text d all_class (omega arith) refl (omega arith)
+
+pub printed-couple : (x y : Form) (t u : List ℕ) (at c d : ℕ) → Printed at t 3 x c → ((from : ℕ) → Printed from u 4 y d) → Printed at ((t ++ (32 ∷ 64 ∷ 32 ∷ [])) ++ u) 3 (forms.couple x y) (max c d)
+printed-couple x y t u at c d = printed-binary operators.Couple 64 kinds.At x y at t u c d refl (λ n. refl)

@@ -7,13 +7,13 @@ use Rattle.ix_expr.specs.Form.{Form}
 use Rattle.ix_expr.specs.FormFaults.{nodes_of, fault_at, IsWellFormed}
 use Rattle.ix_expr.specs.CanonicalText.{binding, canonical_text}
 use Rattle.ix_parse.specs.Symbols.{symbol_of}
-use Rattle.ix_parse.specs.Faults.{IsLong, Nodes, symbols_of}
-use Rattle.ix_parse.specs.Canonical.{CanonicalTextReadsBack}
-use Rattle.ix_parse.proofs.Cuts.{Stands-loosen}
+use Rattle.ix_parse.specs.Faults.{IsLong, Nodes, StandsFor, symbols_of}
+use Rattle.ix_parse.specs.Canonical.{CanonicalTextReadsBack, OpensAtMost}
 use Rattle.ix_parse.proofs.Places.{Stands-places}
 use Rattle.ix_parse.proofs.NodeCounts.{Nodes-append, Nodes-front, text-nodes}
 use Rattle.ix_parse.proofs.InGrammar.{IsWithin, HasMeaning-within, map-split}
-use Rattle.ix_parse.proofs.Printing.{meaning, NoneLong, printed, printed-pieces, binding-some, binding-low}
+use Rattle.ix_parse.proofs.Levels.{opened_at}
+use Rattle.ix_parse.proofs.Printing.{meaning, NoneLong, Printed, canonical-printed, printed-pieces}
 
 none-long : (us vs all : List PlainToken) (t : PlainToken) → NoneLong all → all ≡ us ++ t ∷ vs → ¬ IsLong (symbol_of t)
 none-long us vs all t none split = at us (subst NoneLong split none)
@@ -35,15 +35,15 @@ few-nodes x formed =
     (λ few. few)
     (order 512 (length (nodes_of x)))
 
-pub canonical-reads_back : CanonicalTextReadsBack
-canonical-reads_back x spelled formed short shallow =
-    let p = printed x spelled 0 in
-    let text = canonical_text x in
+-- a text that is cut into tokens which stand for a well-formed expression stands for it, where it
+-- opens at most 64 levels
+pub printed-stands : (text : List ℕ) (d : ℕ) (x : Form) → Printed 0 text 1 x d → IsWellFormed x
+    → length text ≤ 16384 → OpensAtMost 64 text → StandsFor text x
+printed-stands text d x p formed short shallow =
     let m = meaning x p.places in
-    let stands = Stands-loosen (binding x) 1 (symbols_of p.tokens) m (binding-some x) (binding-low x) p.stands in
-    let cut = printed-pieces x spelled in
-    let counted = text-nodes (symbols_of p.tokens) m stands in
-    let count = Stands-places (symbols_of p.tokens) m stands in
+    let cut = printed-pieces text 1 d x p in
+    let counted = text-nodes (symbols_of p.tokens) m p.stands in
+    let count = Stands-places (symbols_of p.tokens) m p.stands in
     let few = few-nodes x formed in
     let within : IsWithin p.tokens = record {
       short = λ us vs t split. none-long us vs p.tokens t p.short split;
@@ -54,4 +54,9 @@ canonical-reads_back x spelled formed short shallow =
           let low = Nodes-front [] (symbols_of us ++ symbol_of t ∷ []) (symbols_of vs) (length p.places) (512 + 1) front (subst (λ l. Nodes [] l (length p.places)) symbols counted) in
           omega arith);
     } in
-    record { places = p.places; means = HasMeaning-within p.tokens m stands within text short cut; well_formed = formed }
+    record { places = p.places; means = HasMeaning-within p.tokens m p.stands within text short cut; well_formed = formed }
+
+pub canonical-reads_back : CanonicalTextReadsBack
+canonical-reads_back x spelled formed short shallow =
+    printed-stands (canonical_text x) (opened_at (binding x) x) x (canonical-printed x spelled) formed
+    short shallow
