@@ -14,6 +14,6 @@ pub enum OpenFault {
     Damaged { at: usize },
     /// A million records are open, and so is the gate behind them.
     Many,
-    /// There was no memory for the file's bytes, the history, the header or the text kept.
+    /// There was no memory for the front of the file, the history, the header or the text kept.
     Memory,
 }

@@ -39,8 +39,15 @@ impl Store {
     /// Opens the attached file as the journal of an expression with this text, and gives the
     /// history that it keeps. A journal that was never opened is made anew. Any other file stays.
     ///
-    /// What was left unsynced before is brought to the disk first. The text is compared before the
-    /// records are read.
+    /// What was left unsynced before is brought to the disk first. Then, in this order:
+    /// - `NotJournal`: the file is no journal, nor the front of one;
+    /// - `OtherExpression`: it keeps another text, whether it was opened or not;
+    /// - `Damaged`: an open gate, one of the first 1,000,000, isn't followed by a whole record of
+    ///   an action and a further gate;
+    /// - `Many`: 1,000,000 records are open, and so is the gate behind them.
+    ///
+    /// `Disk` comes where a call of the disk failed, and `Memory` where memory was wanted, both at
+    /// any step. After them a journal that was to be made anew may be so in part.
     pub fn start<S: Site>(
         alloc: Global,
         site: &mut S,
