@@ -5,14 +5,14 @@ use Rattle.std.proofs.Common.{MatchResult}
 use Rattle.std.specs.Prelude.{unwrap_or}
 use Rattle.std.specs.Result.{IsErrAnd}
 use Rattle.clap.specs.Words.{App, Text}
-use Rattle.ix_cli.specs.Commands.{trace_command, replay_command, serve_command}
+use Rattle.ix_cli.specs.Commands.{trace_command, replay_command, serve_command, work_command}
 use Rattle.ix_cli.specs.Words.{Refuses}
 use Rattle.ix_cli.specs.declared.fault.WordsFault.{WordsFault}
 use Rattle.ix_cli.specs.declared.fault.WordsFault.TheVariants.{Bad, Memory}
 use Rattle.ix_cli.specs.inside.Jobs.{Explains}
 use Rattle.ix_cli.specs.inside.Matches.{Blames}
-use Rattle.ix_cli.proofs.PlainCommands.{trace_name, replay_name, serve_name}
-use Rattle.ix_cli.proofs.Named.{initial, trace_initial, replay_initial, serve_initial}
+use Rattle.ix_cli.proofs.PlainCommands.{trace_name, replay_name, serve_name, work_name}
+use Rattle.ix_cli.proofs.Named.{initial, trace_initial, replay_initial, serve_initial, work_initial}
 
 -- `?` hands a fault up as it is
 pub handed_up : {T : Type 0} (r : Result T WordsFault) (fault : WordsFault) (P : T → Type 0)
@@ -39,6 +39,7 @@ module _ (words : List Text) where
     inr blamed,
     other replay_command (codes "trace") first (λ same. omega (arith, replay_initial)),
     other serve_command (codes "trace") first (λ same. omega (arith, serve_initial)),
+    other work_command (codes "trace") first (λ same. omega (arith, work_initial)),
   )
 
   pub replay_blamed : slice_get words 0 ≡ Some (codes "replay") → (fault : WordsFault)
@@ -48,6 +49,7 @@ module _ (words : List Text) where
     other trace_command (codes "replay") first (λ same. omega (arith, trace_initial)),
     inr blamed,
     other serve_command (codes "replay") first (λ same. omega (arith, serve_initial)),
+    other work_command (codes "replay") first (λ same. omega (arith, work_initial)),
   )
 
   pub serve_blamed : slice_get words 0 ≡ Some (codes "serve") → (fault : WordsFault)
@@ -56,6 +58,17 @@ module _ (words : List Text) where
   serve_blamed first (Bad text) blamed = (
     other trace_command (codes "serve") first (λ same. omega (arith, trace_initial)),
     other replay_command (codes "serve") first (λ same. omega (arith, replay_initial)),
+    inr blamed,
+    other work_command (codes "serve") first (λ same. omega (arith, work_initial)),
+  )
+
+  pub work_blamed : slice_get words 0 ≡ Some (codes "work") → (fault : WordsFault)
+      → Blames work_command words fault → Explains words fault
+  work_blamed first Memory blamed = tt
+  work_blamed first (Bad text) blamed = (
+    other trace_command (codes "work") first (λ same. omega (arith, trace_initial)),
+    other replay_command (codes "work") first (λ same. omega (arith, replay_initial)),
+    other serve_command (codes "work") first (λ same. omega (arith, serve_initial)),
     inr blamed,
   )
 
@@ -66,13 +79,14 @@ module _ (words : List Text) where
 
   -- words that begin with no command's name
   pub unknown_blamed : (name : Text) → slice_get words 0 ≡ Some name → name ≢ codes "trace"
-      → name ≢ codes "replay" → name ≢ codes "serve" → (fault : WordsFault)
+      → name ≢ codes "replay" → name ≢ codes "serve" → name ≢ codes "work" → (fault : WordsFault)
       → Explains words fault
-  unknown_blamed name first no_trace no_replay no_serve Memory = tt
-  unknown_blamed name first no_trace no_replay no_serve (Bad text) = (
+  unknown_blamed name first no_trace no_replay no_serve no_work Memory = tt
+  unknown_blamed name first no_trace no_replay no_serve no_work (Bad text) = (
     not_named trace_command name (codes "trace") first trace_name no_trace,
     not_named replay_command name (codes "replay") first replay_name no_replay,
     not_named serve_command name (codes "serve") first serve_name no_serve,
+    not_named work_command name (codes "work") first work_name no_work,
   )
 
 -- the text of the first word

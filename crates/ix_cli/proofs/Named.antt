@@ -4,9 +4,9 @@ use Rattle.std.proofs.Common.{codes}
 use Rattle.std.specs.Prelude.{unwrap_or}
 use Rattle.std.specs.Str.Parse.{digits_value, without_leading_plus}
 use Rattle.clap.specs.Words.{App, Text}
-use Rattle.ix_cli.specs.Commands.{trace_command, replay_command, serve_command}
+use Rattle.ix_cli.specs.Commands.{trace_command, replay_command, serve_command, work_command}
 use Rattle.ix_cli.specs.Words.{IsTaken, Job, Names, NamesNoJob, Refuses, Says, SaysNumber}
-use Rattle.ix_cli.specs.Words.{trace, replay, serve}
+use Rattle.ix_cli.specs.Words.{trace, replay, serve, work}
 
 -- the first byte of a command's name
 abbrev pub initial : App → ℕ
@@ -23,6 +23,10 @@ replay_initial = refl
 pub serve_initial : initial serve_command ≡ 115
 unfolding serve_command
 serve_initial = refl
+
+pub work_initial : initial work_command ≡ 119
+unfolding work_command
+work_initial = refl
 
 module _ (words : List Text) where
   -- two commands that take the words have one name
@@ -59,18 +63,32 @@ module _ (words : List Text) where
       (same_text serve_command (codes "JOURNAL") j k x.2 y.2 i)
       (same_text serve_command (codes "SOCKET") s u x.3 y.3 i)
       (same_number x.4 y.4 i) (same_number x.5 y.5 i)
+  one_job (work c s n) (work d t o) x y =
+      λ i. work (same_number x.1 y.1 i) (same_number x.2 y.2 i) (same_number x.3 y.3 i)
   one_job (trace e a n) (replay f k u o v) x y =
       absurd (not_both x.0 y.0 (λ same. omega (arith, trace_initial, replay_initial)))
   one_job (trace e a n) (serve f k u o v) x y =
       absurd (not_both x.0 y.0 (λ same. omega (arith, trace_initial, serve_initial)))
+  one_job (trace e a n) (work d t o) x y =
+      absurd (not_both x.0 y.0 (λ same. omega (arith, trace_initial, work_initial)))
   one_job (replay e j s n t) (trace f b o) x y =
       absurd (not_both x.0 y.0 (λ same. omega (arith, replay_initial, trace_initial)))
   one_job (replay e j s n t) (serve f k u o v) x y =
       absurd (not_both x.0 y.0 (λ same. omega (arith, replay_initial, serve_initial)))
+  one_job (replay e j s n t) (work d u o) x y =
+      absurd (not_both x.0 y.0 (λ same. omega (arith, replay_initial, work_initial)))
   one_job (serve e j s n t) (trace f b o) x y =
       absurd (not_both x.0 y.0 (λ same. omega (arith, serve_initial, trace_initial)))
   one_job (serve e j s n t) (replay f k u o v) x y =
       absurd (not_both x.0 y.0 (λ same. omega (arith, serve_initial, replay_initial)))
+  one_job (serve e j s n t) (work d u o) x y =
+      absurd (not_both x.0 y.0 (λ same. omega (arith, serve_initial, work_initial)))
+  one_job (work c s n) (trace f b o) x y =
+      absurd (not_both x.0 y.0 (λ same. omega (arith, work_initial, trace_initial)))
+  one_job (work c s n) (replay f k u o v) x y =
+      absurd (not_both x.0 y.0 (λ same. omega (arith, work_initial, replay_initial)))
+  one_job (work c s n) (serve f k u o v) x y =
+      absurd (not_both x.0 y.0 (λ same. omega (arith, work_initial, serve_initial)))
 
   -- a command that takes the words doesn't refuse them
   taken_refused : {command : App} → IsTaken command words → Refuses command words → ⊥
@@ -81,3 +99,4 @@ module _ (words : List Text) where
   no_job (trace e a n) none named = taken_refused named.0 none.0
   no_job (replay e j s n t) none named = taken_refused named.0 none.1
   no_job (serve e j s n t) none named = taken_refused named.0 none.2
+  no_job (work c s n) none named = taken_refused named.0 none.3

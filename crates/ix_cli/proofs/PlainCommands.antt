@@ -1,9 +1,10 @@
--- The three commands are plain, and these are their arguments.
+-- The four commands are plain, and these are their arguments.
 use Rattle.std.proofs.Common.{◌≡◌, refl, lit<, codes}
 use Rattle.std.specs.List.{Contains}
 use Rattle.clap.specs.Words.{App, Rule}
-use Rattle.ix_cli.specs.Commands.{trace_command, replay_command, serve_command}
-use Rattle.ix_cli.specs.Commands.{word, nodes_option, turns_option}
+use Rattle.ix_cli.specs.Commands.{trace_command, replay_command, serve_command, work_command}
+use Rattle.ix_cli.specs.Commands.{word, number_word, nodes_option, turns_option, most_asks}
+use Rattle.ix_cli.specs.Commands.{most_seed}
 use Rattle.ix_cli.specs.inside.Matches.{IsPlainCommand}
 
 -- the command has this argument
@@ -37,6 +38,18 @@ replay_plain = record {
 pub serve_plain : IsPlainCommand serve_command
 unfolding serve_command
 serve_plain = record {
+  no_subcommands = refl;
+  simple = refl;
+  ready = refl;
+  free = refl;
+  requires_all = refl;
+  single = refl;
+  distinct = refl;
+}
+
+pub work_plain : IsPlainCommand work_command
+unfolding work_command
+work_plain = record {
   no_subcommands = refl;
   simple = refl;
   ready = refl;
@@ -98,6 +111,18 @@ pub serve_turns : HasArgument serve_command turns_option
 unfolding serve_command
 serve_turns = (4, lit< tt, refl)
 
+pub work_count : HasArgument work_command (number_word (codes "N") 0 most_asks)
+unfolding work_command
+work_count = (0, lit< tt, refl)
+
+pub work_seed : HasArgument work_command (number_word (codes "SEED") 0 most_seed)
+unfolding work_command
+work_seed = (1, lit< tt, refl)
+
+pub work_nodes : HasArgument work_command nodes_option
+unfolding work_command
+work_nodes = (2, lit< tt, refl)
+
 pub trace_name : trace_command.top.name ≡ codes "trace"
 unfolding trace_command
 trace_name = refl
@@ -109,3 +134,7 @@ replay_name = refl
 pub serve_name : serve_command.top.name ≡ codes "serve"
 unfolding serve_command
 serve_name = refl
+
+pub work_name : work_command.top.name ≡ codes "work"
+unfolding work_command
+work_name = refl

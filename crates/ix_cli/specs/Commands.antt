@@ -1,19 +1,30 @@
 -- The commands of the command line, as clap sees them: the words and the options of each.
-use Rattle.std.specs.Prelude.{ℕ, [], ◌∷◌, Some, true, codes}
+use Rattle.std.specs.Prelude.{ℕ, ◌-◌, ◌^◌, [], ◌∷◌, Some, true, codes}
 use Rattle.clap.specs.Words.{App, Rule, Text, new_app, new_rule, with_rule}
 use Rattle.clap.specs.declared.builder.action.ArgAction.TheVariants.{Set}
 use Rattle.clap.specs.declared.builder.value_parser.ValueParser.TheVariants as parser
 
--- the greatest limit of Size, and the most events of a run
+-- the greatest limit of Size, the most events of a run and the most asks of a workload
 abbrev pub most_nodes : ℕ
 most_nodes = 1000000
 
 abbrev pub most_turns : ℕ
 most_turns = 1000000000
 
+abbrev pub most_asks : ℕ
+most_asks = 1000000
+
+-- the greatest seed
+abbrev pub most_seed : ℕ
+most_seed = 2 ^ 64 - 1
+
 -- a word that has to be there
 abbrev pub word : Text → Rule
 word name = record (new_rule name) { action = Some Set; required = true }
+
+-- a word that has to be there and is a number in a range
+abbrev pub number_word : Text → ℕ → ℕ → Rule
+number_word name least most = record (word name) { parser = Some (parser.Unsigned least most) }
 
 -- an option with a number in a range, and the text of the number where the option isn't there
 abbrev pub number_option : Text → ℕ → ℕ → Text → Rule
@@ -47,3 +58,8 @@ unfoldable pub serve_command : App
 serve_command = with_rule (with_rule (with_rule (with_rule (with_rule (new_app (codes "serve"))
     (word (codes "EXPR"))) (word (codes "JOURNAL"))) (word (codes "SOCKET")))
     nodes_option) turns_option
+
+-- `work N SEED [--nodes N]`
+unfoldable pub work_command : App
+work_command = with_rule (with_rule (with_rule (new_app (codes "work"))
+    (number_word (codes "N") 0 most_asks)) (number_word (codes "SEED") 0 most_seed)) nodes_option

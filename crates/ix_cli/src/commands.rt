@@ -1,8 +1,8 @@
 //! The commands, as `clap` reads them.
 ghost use Rattle.std.specs.Prelude.{◌≡◌, false, IfOk};
 ghost use Rattle.clap.specs.Words.{app_of, rule_of};
-ghost use Rattle.ix_cli.specs.Commands.{word, nodes_option, turns_option};
-ghost use Rattle.ix_cli.specs.Commands.{trace_command, replay_command, serve_command};
+ghost use Rattle.ix_cli.specs.Commands.{word, number_word, nodes_option, turns_option};
+ghost use Rattle.ix_cli.specs.Commands.{trace_command, replay_command, serve_command, work_command};
 
 use clap::builder::ValueParser;
 use clap::{Arg, ArgAction, Command};
@@ -13,6 +13,9 @@ const MOST_NODES: u64 = 1_000_000;
 
 /// The most events of a run.
 const MOST_TURNS: u64 = 1_000_000_000;
+
+/// The most asks of a workload.
+const MOST_ASKS: u64 = 1_000_000;
 
 const EXPRESSION_HELP: &str = "The file of the expression";
 
@@ -27,6 +30,14 @@ fn word<'a>(alloc: Global, name: &'a str, help: &'a str) -> Arg<'a>
         .required(true)
         .action(ArgAction::Set)
         .help(help)
+}
+
+/// A word that has to be there and is a number from 0 to the most.
+fn number_word<'a>(alloc: Global, name: &'a str, most: u64, help: &'a str) -> Arg<'a>
+    ensures rule { rule_of result ≡ number_word name.entry.now 0 most }
+    ensures local { result.global ≡ false }
+{
+    word(alloc, name, help).value_parser(ValueParser::unsigned(0, most))
 }
 
 /// The option `--nodes N`.
@@ -97,4 +108,21 @@ pub(crate) fn serve<'a>(alloc: Global) -> Result<Command<'a>, AllocError>
         .arg(nodes_option(alloc))?
         .arg(turns_option(alloc))?
         .bin_name("ixm serve")
+}
+
+/// The command `work`.
+pub(crate) fn work<'a>(alloc: Global) -> Result<Command<'a>, AllocError>
+    ensures { IfOk result (λ command. app_of command ≡ work_command) }
+{
+    Command::new(alloc, "work")
+        .about("Asks for the actions of a generated workload, and counts the answers")
+        .arg(number_word(
+            alloc,
+            "N",
+            MOST_ASKS,
+            "The number of asks, from 0 to 1000000",
+        ))?
+        .arg(number_word(alloc, "SEED", u64::MAX, "The seed, any number below 2^64"))?
+        .arg(nodes_option(alloc))?
+        .bin_name("ixm work")
 }

@@ -32,6 +32,7 @@ Commands:
   trace EXPR ACTIONS [--nodes N]
   replay EXPR JOURNAL SCRIPT [--nodes N] [--turns N]
   serve EXPR JOURNAL SOCKET [--nodes N] [--turns N]
+  work N SEED [--nodes N]
 
 For more information on a command, put '--help' behind its name.
 ";

@@ -35,6 +35,12 @@ pub enum Job {
         nodes: usize,
         turns: u64,
     },
+    /// Ask for `count` actions, from 0 to 1,000,000, of the workload of a seed.
+    Work {
+        count: u64,
+        seed: u64,
+        nodes: usize,
+    },
 }
 
 /// The job of words that begin with `trace`.
@@ -83,5 +89,20 @@ pub(crate) fn read_serve(alloc: Global, words: &[String]) -> Result<Job, WordsFa
         socket: text(alloc, &matches, "SOCKET")?,
         nodes: number(&matches, "nodes") as usize,
         turns: number(&matches, "turns"),
+    })
+}
+
+/// The job of words that begin with `work`.
+pub(crate) fn read_work(alloc: Global, words: &[String]) -> Result<Job, WordsFault>
+    requires { slice_get (map string_bytes words.now) 0 ≡ Some (codes "work") }
+    ensures { MatchResult result
+        (λ job. Names (map string_bytes words.now) (job_of job))
+        (Explains (map string_bytes words.now)) }
+{
+    let matches = parse(alloc, commands::work(alloc)?, words)?;
+    Ok(Job::Work {
+        count: number(&matches, "N"),
+        seed: number(&matches, "SEED"),
+        nodes: number(&matches, "nodes") as usize,
     })
 }

@@ -37,6 +37,7 @@ pub fn read_words(alloc: Global, words: &[String]) -> Result<Job, WordsFault>
         "trace" => job::read_trace(alloc, words),
         "replay" => job::read_replay(alloc, words),
         "serve" => job::read_serve(alloc, words),
+        "work" => job::read_work(alloc, words),
         _ => Err(no_command(alloc)),
     }
 }

@@ -33,6 +33,7 @@ fn shown(alloc: Global, job: &Job) -> Result<String, AllocError> {
             nodes,
             turns,
         } => format!(in alloc; "serve {expr} {journal} {socket} {nodes} {turns}"),
+        Job::Work { count, seed, nodes } => format!(in alloc; "work {count} {seed} {nodes}"),
     }
 }
 
@@ -63,6 +64,11 @@ fn jobs(rt: HostRuntime) -> Result<(), Fail> {
         ),
         ("serve x j s", "serve x j s 100000 1000000000"),
         ("serve x j s --turns=7", "serve x j s 100000 7"),
+        ("work 0 7", "work 0 7 100000"),
+        (
+            "work 1000000 18446744073709551615 --nodes 4",
+            "work 1000000 18446744073709551615 4",
+        ),
     ];
     for (words, job) in rows {
         let words = words_of(rt.alloc(), words)?;
@@ -120,6 +126,19 @@ fn words_that_clap_refuses(rt: HostRuntime) -> Result<(), Fail> {
             "error: the argument '--turns <turns>' cannot be used multiple times\n",
         ),
         ("serve x j s t", "error: unexpected argument 't' found\n"),
+        ("work 5 -1", "error: unexpected argument '-1' found\n"),
+        (
+            "work 1000001 1",
+            "error: invalid value '1000001' for '<N>': ",
+        ),
+        (
+            "work 5 18446744073709551616",
+            "error: invalid value '18446744073709551616' for '<SEED>': ",
+        ),
+        (
+            "work 5 1 --nodes 0",
+            "error: invalid value '0' for '--nodes <nodes>': ",
+        ),
         (
             "trace --help",
             "Says of each action of a file whether the expression lets it be next\n\nUsage: ixm ",
@@ -141,6 +160,7 @@ Commands:
   trace EXPR ACTIONS [--nodes N]
   replay EXPR JOURNAL SCRIPT [--nodes N] [--turns N]
   serve EXPR JOURNAL SOCKET [--nodes N] [--turns N]
+  work N SEED [--nodes N]
 
 For more information on a command, put '--help' behind its name.
 ";
@@ -148,15 +168,7 @@ For more information on a command, put '--help' behind its name.
 #[test]
 fn words_of_no_command(rt: HostRuntime) -> Result<(), Fail> {
     assert_eq!(rt; answer(rt.alloc(), &[])?.as_str(), TOLD);
-    for words in [
-        "fly",
-        "work 1 7",
-        "",
-        "Trace x a",
-        "--help",
-        "help",
-        "x trace",
-    ] {
+    for words in ["fly", "", "Trace x a", "--help", "help", "x trace"] {
         let words = words_of(rt.alloc(), words)?;
         assert_eq!(rt; answer(rt.alloc(), words.as_slice())?.as_str(), TOLD);
     }

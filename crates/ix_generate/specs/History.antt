@@ -2,6 +2,8 @@
 use Rattle.std.specs.Prelude.{◌==◌, ◌/◌, ◌%◌, ◌++◌, ℕ, Bool, List, [], ◌∷◌, Option, Some, None}
 use Rattle.std.specs.Prelude.{find}
 use Rattle.std.specs.Prelude.{option_and_then, reverse}
+use Rattle.rand_pcg.specs.Lcg.{Lcg, advance}
+use Rattle.rand_pcg.specs.Pcg.{multiplier_64, pcg32}
 use Rattle.ix_generate.specs.Workload.{Ask, PlainWorkload, ask_for, begun, behind_draw, call, drawn}
 use Rattle.ix_generate.specs.Workload.{perform, with_granted}
 
@@ -23,6 +25,13 @@ last_call history patient = option_and_then called_to (find (is_for patient) (re
 abbrev pub ask_behind : List Ask → ℕ → Ask
 ask_behind history number =
     ask_for (last_call history (number % 40)) (number % 40) (number / 40 % 10)
+
+-- the generator of a seed behind so many draws, and the number that it gives then
+abbrev pub generator_behind : ℕ → ℕ → Lcg
+generator_behind seed count = advance 64 multiplier_64 count (begun seed).generator
+
+abbrev pub number_behind : ℕ → ℕ → ℕ
+number_behind seed count = (pcg32 (generator_behind seed count)).0
 
 -- Asks were drawn from the workload of a seed, each of them refused or granted: those granted are
 -- this history, and this is the workload then.

@@ -14,3 +14,7 @@ pub mod ServeLemmas
 pub mod ServeEnding
 pub mod Fronts
 pub mod Coming
+pub mod Examinations
+pub mod Working
+pub mod ShortLines
+pub mod WorkEnding

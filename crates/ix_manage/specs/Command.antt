@@ -1,30 +1,34 @@
 -- What a job names.
 use Rattle.std.specs.Prelude.{◌≡◌, ℕ, List, Option, None, Some}
-use Rattle.ix_cli.specs.Words.{Job, Names, trace, replay, serve}
+use Rattle.ix_cli.specs.Words.{Job, Names, trace, replay, serve, work}
 
--- the file of its expression
+-- the file of its expression, where it has one
 abbrev pub expression_of : Job → Option (List ℕ)
 expression_of (trace expression actions limit) = Some expression
 expression_of (replay expression journal script limit turns) = Some expression
 expression_of (serve expression journal socket limit turns) = Some expression
+expression_of (work count seed limit) = None
 
 -- its journal
 abbrev pub journal_of : Job → Option (List ℕ)
 journal_of (trace expression actions limit) = None
 journal_of (replay expression journal script limit turns) = Some journal
 journal_of (serve expression journal socket limit turns) = Some journal
+journal_of (work count seed limit) = None
 
 -- the socket on which it takes connections
 abbrev pub socket_of : Job → Option (List ℕ)
 socket_of (trace expression actions limit) = None
 socket_of (replay expression journal script limit turns) = None
 socket_of (serve expression journal socket limit turns) = Some socket
+socket_of (work count seed limit) = None
 
 -- the limit of Size
 abbrev pub limit_of : Job → ℕ
 limit_of (trace expression actions limit) = limit
 limit_of (replay expression journal script limit turns) = limit
 limit_of (serve expression journal socket limit turns) = limit
+limit_of (work count seed limit) = limit
 
 -- the words name no job that has a journal
 abbrev pub NamesNoJournal : List (List ℕ) → Type 0

@@ -9,7 +9,7 @@ use Rattle.ix_outside.specs.Crashes.{Crashes}
 use Rattle.ix_outside.specs.Disk.{Disk}
 use Rattle.ix_outside.specs.SiteState.{SiteState}
 use Rattle.ix_manager.specs.Runs.{Opening}
-use Rattle.ix_cli.specs.Words.{Job, Names, NamesNoJob, trace, replay, serve}
+use Rattle.ix_cli.specs.Words.{Job, Names, NamesNoJob, trace, replay, serve, work}
 use Rattle.ix_manage.specs.ActionLines.{line}
 use Rattle.ix_manage.specs.Command.{expression_of, journal_of, limit_of}
 use Rattle.ix_manage.specs.Puts.{LastLine, Puts}
@@ -17,6 +17,7 @@ use Rattle.ix_manage.specs.Journal.{OfJournal, OnJournal, RefusesFile, journal_l
 use Rattle.ix_manage.specs.Session.{Session, Takes}
 use Rattle.ix_manage.specs.Replay.{HasBadScript, Plays, ReadsEvents, ReplayEnds}
 use Rattle.ix_manage.specs.Serve.{OnWire, ServeEnds}
+use Rattle.ix_manage.specs.Work.{Works}
 use Rattle.ix_manage.specs.Trace.{fault_line, large_line, HasBadActions, HasBadText, ReadsActions, ReadsForm, Starts, StartsAbove, Traces}
 
 -- the opening is of the expression, under the limit
@@ -29,6 +30,7 @@ ReadsRest files (trace expression actions limit) = ⊤
 ReadsRest files (replay expression journal script limit turns) =
     (events : List GivenEvent) × ReadsEvents files script events
 ReadsRest files (serve expression journal socket limit turns) = ⊤
+ReadsRest files (work count seed limit) = ⊤
 
 -- a job of an expression keeps a journal, and its files are read
 pub record KeepsJournal (files : Option Listing) (job : Job) (expression : List ℕ) : Type 0 where
@@ -109,6 +111,9 @@ pub data JobEnds (files : Option Listing) (disk : Option Disk)
       → IsFrom x limit session.opening → Takes turns session
       → ServeEnds turns session status whole part
       → JobEnds files disk (serve expression journal socket limit turns) status whole part (Some session)
+  worked : {count seed limit status : ℕ} {whole part : List ℕ}
+      → Works count seed limit status whole part
+      → JobEnds files disk (work count seed limit) status whole part None
 
 -- what a job may make of the files, the output and the site
 pub record JobOver (files : Option Listing) (job : Job) (before after : SiteState) (is : Crashes)

@@ -8,4 +8,5 @@ pub mod Ends
 pub mod Puts
 pub mod Session
 pub mod Journal
+pub mod Work
 pub mod inside

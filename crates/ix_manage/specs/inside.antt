@@ -8,3 +8,4 @@ pub mod ReplayProgress
 pub mod ServeProgress
 pub mod TracesLines
 pub mod Turns
+pub mod Working

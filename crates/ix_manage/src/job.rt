@@ -32,3 +32,13 @@ pub(crate) struct ServeWords<'a> {
     /// The most events that are taken.
     pub turns: u64,
 }
+
+/// The words of a work.
+#[derive(Clone, Copy)]
+pub(crate) struct WorkWords {
+    /// How many asks are made.
+    pub count: u64,
+    pub seed: u64,
+    /// The limit of Size.
+    pub limit: usize,
+}

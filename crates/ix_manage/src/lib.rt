@@ -27,6 +27,7 @@ mod start;
 mod trace;
 mod turn;
 mod turns;
+mod work;
 
 use ix_outside::{Failed, Files, Sink, Site};
 use run::{Stop, run};
@@ -49,6 +50,10 @@ use std::alloc::Global;
 /// - `serve EXPR JOURNAL SOCKET` does the same over the site's own connections: it listens on
 ///   SOCKET, puts `history N`, and then sends the replies to the events that the site gives. Where
 ///   the wire fails the run ends with status 6; a client that is gone doesn't end it.
+/// - `work N SEED` asks an engine for N actions, from 0 to 1,000,000, that are generated from the
+///   number SEED, one after the other, each of which joins the history where it is allowed. It puts
+///   `asked N granted G refused R nodes S`, S being the Size of the tree at the end. The expression
+///   is that of the workload, `EXAMINATIONS` of `ix_generate`.
 ///
 /// `--nodes N` is the limit of Size, from 1 to 1,000,000, which is 100,000 otherwise, and in a
 /// replay and a serve `--turns N` the most events that are taken, from 1 to 1,000,000,000.

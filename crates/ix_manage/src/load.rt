@@ -47,7 +47,8 @@ pub(crate) fn load_expression<F: Files>(
     }
 }
 
-fn read_expression(alloc: Global, text: &[u8]) -> Result<Expression, Refusal>
+/// The expression of a text.
+pub(crate) fn read_expression(alloc: Global, text: &[u8]) -> Result<Expression, Refusal>
     ensures ok { IfOk result (StandsFor text.now) }
     ensures err { IfErr result (RefusesText text.now) }
 {

@@ -11,13 +11,14 @@ ghost use Rattle.ix_manage.specs.Site.{OnlyCalls};
 ghost use Rattle.ix_manage.specs.inside.Leaves.{FailedWhere, IsNoFailure, Leaves, LostWhere};
 ghost use Rattle.ix_manage.specs.inside.Playing.{TraceEnds};
 
-use crate::job::{ReplayWords, ServeWords, TraceWords};
+use crate::job::{ReplayWords, ServeWords, TraceWords, WorkWords};
 use crate::load::load_actions;
 use crate::refusal::Refusal;
 use crate::replay::replay;
 use crate::serve::serve;
 use crate::start::start;
 use crate::trace::trace;
+use crate::work::work;
 use ix_cli::{Job, WordsFault, read_words};
 use ix_outside::{Files, Sink, Site};
 use std::alloc::Global;
@@ -137,6 +138,14 @@ fn run_job<F: Files, S: Site, K: Sink>(
                 turns: *turns,
             };
             serve(alloc, names, files, site, out)
+        }
+        Job::Work { count, seed, nodes } => {
+            let names = WorkWords {
+                count: *count,
+                seed: *seed,
+                limit: *nodes,
+            };
+            work(alloc, names, out)
         }
     }
 }

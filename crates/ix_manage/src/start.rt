@@ -1,13 +1,18 @@
-//! The engine that a trace begins with.
-ghost use Rattle.std.specs.Prelude.{◌≡◌, ◌≤◌, [], IfOk, IfErr, IsErrOf};
+//! The engines that a trace and a work begin with.
+ghost use Rattle.std.specs.Prelude.{◌≡◌, ◌≤◌, [], IfOk, IfErr, IsErrOf, OnOk};
+ghost use Rattle.ix_can.specs.TreeOf.{tree_size};
+ghost use Rattle.ix_generate.specs.Workload.{examinations};
+ghost use Rattle.ix_parse.specs.Faults.{StandsFor};
 ghost use Rattle.ix_outside.specs.Counts.{Rose};
 ghost use Rattle.ix_outside.specs.FilesState.{OnlyFaults};
-ghost use Rattle.ix_manage.specs.inside.Refusal.{RefusesStart};
+ghost use Rattle.ix_manage.specs.inside.Refusal.{RefusesForm, RefusesStart, RefusesWorkload};
 ghost use Rattle.ix_manage.specs.Trace.{Starts};
 
-use crate::load::load_expression;
+use crate::load::{load_expression, read_expression};
 use crate::refusal::Refusal;
 use ix_engine::Engine;
+use ix_expr::Expression;
+use ix_generate::EXAMINATIONS;
 use ix_outside::Files;
 use ix_step::BuildFault;
 use std::alloc::Global;
@@ -35,6 +40,36 @@ pub(crate) fn start<F: Files>(
         Ok(expression) => expression,
         Err(refusal) => return Err(refusal),
     };
+    engine_of(alloc, expression, limit)
+}
+
+/// The engine that a work begins with.
+pub(crate) fn start_workload(alloc: Global, limit: usize) -> Result<Engine, Refusal>
+    requires least { 1 ≤ limit }
+    requires most { limit ≤ 1000000 }
+
+    ensures stands { IfOk result (λ engine. StandsFor examinations engine.form) }
+    ensures small { IfOk result (λ engine. tree_size engine.form [] ≤ limit) }
+    ensures limit { IfOk result (λ engine. engine.limit ≡ limit) }
+    ensures history { IfOk result (λ engine. engine.history ≡ []) }
+    ensures err { IfErr result (RefusesWorkload limit) }
+{
+    match read_expression(alloc, EXAMINATIONS) {
+        Ok(expression) => engine_of(alloc, expression, limit),
+        Err(refusal) => Err(refusal),
+    }
+}
+
+fn engine_of(alloc: Global, expression: Expression, limit: usize) -> Result<Engine, Refusal>
+    requires least { 1 ≤ limit }
+    requires most { limit ≤ 1000000 }
+
+    ensures form { IfOk result (λ engine. engine.form ≡ expression) }
+    ensures small { OnOk result (tree_size expression [] ≤ limit) }
+    ensures limit { IfOk result (λ engine. engine.limit ≡ limit) }
+    ensures history { IfOk result (λ engine. engine.history ≡ []) }
+    ensures err { IfErr result (RefusesForm expression limit) }
+{
     match Engine::new(alloc, expression, limit) {
         Ok(engine) => Ok(engine),
         Err(BuildFault::Over { limit }) => Err(Refusal::Large { limit }),

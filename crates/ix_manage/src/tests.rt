@@ -163,3 +163,4 @@ mod refusals;
 mod replays;
 mod serves;
 mod traces;
+mod works;

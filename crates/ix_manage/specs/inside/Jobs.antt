@@ -1,8 +1,9 @@
 -- The job of words that were read.
-use Rattle.ix_cli.specs.Words.{Job, trace, replay, serve}
+use Rattle.ix_cli.specs.Words.{Job, trace, replay, serve, work}
 use Rattle.ix_manage.specs.declared.job.TraceWords.{TraceWords}
 use Rattle.ix_manage.specs.declared.job.ReplayWords.{ReplayWords}
 use Rattle.ix_manage.specs.declared.job.ServeWords.{ServeWords}
+use Rattle.ix_manage.specs.declared.job.WorkWords.{WorkWords}
 
 -- the trace that words name
 abbrev pub trace_of : TraceWords → Job
@@ -17,3 +18,7 @@ replay_of names =
 abbrev pub serve_of : ServeWords → Job
 serve_of names =
     serve names.expression.now names.journal.now names.socket.now names.limit names.turns
+
+-- the work that words name
+abbrev pub work_of : WorkWords → Job
+work_of names = work names.count names.seed names.limit

@@ -1,12 +1,15 @@
 -- Why a run ends before it has its answer, and what it puts then.
-use Rattle.std.specs.Prelude.{◌≡◌, ℕ, List, ◌++◌, Option, codes, decimal, ⊤}
+use Rattle.std.specs.Prelude.{◌≡◌, ℕ, ◌<◌, List, [], ◌++◌, Option, codes, decimal, ⊤}
 use Rattle.ix_manage.specs.declared.refusal.Refusal.{Refusal}
 use Rattle.ix_manage.specs.declared.refusal.Refusal.TheVariants.{BadText, Large, LostExpression, BadActions, LostActions, BadScript, LostScript, Disk, Wire, Journal, Turns, Memory}
 use Rattle.ix_manage.specs.declared.refusal.JournalRefusal.{JournalRefusal}
 use Rattle.ix_manage.specs.declared.refusal.JournalRefusal.TheVariants.{Foreign, Damaged, Many, Word, Heavy}
 use Rattle.ix_outside.specs.Files.{Listing}
-use Rattle.ix_parse.specs.Faults.{IsFirstFault}
+use Rattle.ix_parse.specs.Faults.{IsFirstFault, StandsFor}
 use Rattle.ix_script.specs.Grammar.{IsFirstScriptFault}
+use Rattle.ix_expr.specs.Form.{Form}
+use Rattle.ix_can.specs.TreeOf.{tree_size}
+use Rattle.ix_generate.specs.Workload.{examinations}
 use Rattle.ix_manage.specs.ActionLines.{line}
 use Rattle.ix_manage.specs.Journal.{journal_line}
 use Rattle.ix_manage.specs.Replay.{HasBadScript}
@@ -71,6 +74,19 @@ RefusesStart files name limit (Large most) = (most ≡ limit) × StartsAbove fil
 RefusesStart files name limit LostExpression = ⊤
 RefusesStart files name limit Memory = ⊤
 RefusesStart files name limit _ = ⊥
+
+-- why no engine is made of a form under a limit
+abbrev pub RefusesForm : Form → ℕ → Refusal → Type 0
+RefusesForm x limit (Large most) = (most ≡ limit) × (limit < tree_size x [])
+RefusesForm x limit Memory = ⊤
+RefusesForm x limit _ = ⊥
+
+-- why no engine is made for a workload under a limit
+abbrev pub RefusesWorkload : ℕ → Refusal → Type 0
+RefusesWorkload limit (Large most) =
+    (most ≡ limit) × ((x : Form) × StandsFor examinations x × (limit < tree_size x []))
+RefusesWorkload limit Memory = ⊤
+RefusesWorkload limit _ = ⊥
 
 -- why an actions file of this name is refused
 abbrev pub RefusesActions : Option Listing → List ℕ → Refusal → Type 0

@@ -4,7 +4,7 @@ use super::*;
 #[test]
 fn other_words_are_refused(rt: HostRuntime) -> Result<(), Fail> {
     let alloc = rt.alloc();
-    let cases: [(&[&str], &[u8]); 8] = [
+    let cases: [(&[&str], &[u8]); 9] = [
         (&[], b"Usage: ixm COMMAND WORDS"),
         (&["fly"], b"Usage: ixm COMMAND WORDS"),
         (&["--help"], b"Usage: ixm COMMAND WORDS"),
@@ -22,6 +22,7 @@ fn other_words_are_refused(rt: HostRuntime) -> Result<(), Fail> {
             b"error: ",
         ),
         (&["serve", "expression", "-"], b"error: "),
+        (&["work", "5", "1", "--nodes", "0"], b"error: "),
     ];
     for (words, front) in cases {
         let got = run_on(alloc, words, b"a", b"a", None)?;

@@ -4,7 +4,10 @@ use Rattle.ix_cli.specs.Words.{Job, trace}
 use Rattle.ix_cli.specs.inside.Jobs.{job_of}
 use Rattle.ix_manage.specs.Ends.{JobOver}
 use Rattle.ix_manage.specs.Session.{Session}
+use Rattle.ix_manage.specs.inside.Jobs.{work_of}
 use Rattle.ix_manage.specs.inside.Playing.{TraceEnds}
+use Rattle.ix_manage.specs.inside.Working.{WorkEnds}
+use Rattle.ix_manage.specs.declared.job.WorkWords.{WorkWords}
 use Rattle.ix_manage.proofs.Stops.{leaves_on}
 use Rattle.ix_manage.proofs.run.run_job.Goals as goal
 
@@ -28,3 +31,24 @@ returns-in-Trace-clause-leaves g c =
     }) in
     leaves_on ends (g.K.Sink.state c.args.out.now) (g.K.Sink.state c.run_trace.new.out)
     c.run_trace.result c.run_trace.ensures.leaves
+
+pub returns-in-Work-clause-leaves : goal.returns-in-Work-clause-leaves
+returns-in-Work-clause-leaves g c =
+    let files = (g.F.Files.state c.args.files.now).contents in
+    let site = g.S.Site.state c.args.site.now in
+    let crashes = g.S.Site.crashes c.args.site.now in
+    let names : WorkWords =
+    record { count = c.in-Work.count; seed = c.in-Work.seed; limit = c.in-Work.nodes } in
+    let named : job_of c.args.job.now ≡ work_of names = ap job_of c.in-Work.is in
+    let ends : (status : ℕ) (whole part : List ℕ) (session : Option Session)
+    → WorkEnds names status whole part session
+    → JobOver files (job_of c.args.job.now) site site crashes status whole part session =
+    λ status whole part session end.
+    subst (λ (job : Job). JobOver files job site site crashes status whole part session) (sym named)
+    (record {
+      ends = end files site.disk;
+      journal = λ expression journal of_expression has_journal. absurd (none-some journal has_journal);
+      wire = λ socket same. absurd (none-some socket same);
+    }) in
+    leaves_on ends (g.K.Sink.state c.args.out.now) (g.K.Sink.state c.work.new.out)
+    c.work.result c.work.ensures.leaves

@@ -1,0 +1,127 @@
+//! One run of `work`, up to the last line that a refusal puts.
+ghost use Rattle.std.specs.Prelude.{◌≡◌, ◌≤◌, [], IfOk, IfErr};
+ghost use Rattle.ix_outside.specs.SinkState.{OnlyPuts};
+ghost use Rattle.ix_manage.specs.inside.Leaves.{IsNoFailure, IsNoLoss, Leaves};
+ghost use Rattle.ix_manage.specs.inside.Working.{AsksNext, Sums, WorkEnds};
+
+use crate::job::WorkWords;
+use crate::refusal::{Refusal, append};
+use crate::run::Stop;
+use crate::start::start_workload;
+use arrayvec::ArrayVec;
+use itoa::Buffer;
+use ix_engine::{Engine, PrepareFault};
+use ix_generate::Workload;
+use ix_outside::Sink;
+use std::alloc::{AllocError, Global};
+
+/// How many asks there were, were granted and were refused, and the Size of the tree behind them.
+#[derive(Clone, Copy)]
+struct Summary {
+    asked: u64,
+    granted: u64,
+    refused: u64,
+    nodes: usize,
+}
+
+impl Summary {
+    ghost use Rattle.ix_manage.specs.Work.{work_line};
+
+    fn line(self) -> ArrayVec<u8, 64>
+        requires asked { self.asked ≤ 1000000 }
+        requires granted { self.granted ≤ 1000000 }
+        requires refused { self.refused ≤ 1000000 }
+        requires nodes { self.nodes ≤ 1000000 }
+        ensures { result.items ≡ work_line self.asked self.granted self.refused self.nodes }
+    {
+        let mut line = ArrayVec::new();
+        append(&mut line, b"asked ");
+        append(&mut line, Buffer::new().format(self.asked).as_bytes());
+        append(&mut line, b" granted ");
+        append(&mut line, Buffer::new().format(self.granted).as_bytes());
+        append(&mut line, b" refused ");
+        append(&mut line, Buffer::new().format(self.refused).as_bytes());
+        append(&mut line, b" nodes ");
+        append(&mut line, Buffer::new().format(self.nodes).as_bytes());
+        append(&mut line, b"\n");
+        line
+    }
+}
+
+/// Makes the asks of the workload, and puts the line that sums them up.
+pub(crate) fn work<K: Sink>(alloc: Global, names: WorkWords, out: &mut K) -> Result<(), Stop>
+    requires least { 1 ≤ names.limit }
+    requires most { names.limit ≤ 1000000 }
+    requires count { names.count ≤ 1000000 }
+
+    ensures leaves { Leaves (WorkEnds names) (K.state out.old) (K.state out.new) result }
+    ensures lost { IfErr result IsNoLoss }
+    ensures failed { IfErr result IsNoFailure }
+    ensures puts { OnlyPuts (K.state out.old) (K.state out.new) }
+{
+    let mut engine = match start_workload(alloc, names.limit) {
+        Ok(engine) => engine,
+        Err(refusal) => return Err(Stop::Refused(refusal)),
+    };
+    let summary = match ask_all(alloc, &mut engine, names) {
+        Ok(summary) => summary,
+        Err(_) => return Err(Stop::Refused(Refusal::Memory)),
+    };
+    match out.put(&summary.line()) {
+        Ok(()) => Ok(()),
+        Err(_) => Err(Stop::Output),
+    }
+}
+
+/// Makes the asks, of an engine whose history is empty.
+fn ask_all(alloc: Global, engine: &mut Engine, names: WorkWords) -> Result<Summary, AllocError>
+    requires most { names.limit ≤ 1000000 }
+    requires count { names.count ≤ 1000000 }
+    requires limit { engine.old.limit ≡ names.limit }
+    requires empty { engine.old.history ≡ [] }
+
+    ensures sums { IfOk result (Sums engine.old.form names) }
+    ensures asked { IfOk result (λ summary. summary.asked ≤ 1000000) }
+    ensures granted { IfOk result (λ summary. summary.granted ≤ 1000000) }
+    ensures refused { IfOk result (λ summary. summary.refused ≤ 1000000) }
+    ensures nodes { IfOk result (λ summary. summary.nodes ≤ 1000000) }
+{
+    let mut workload = Workload::new(names.seed);
+    let mut granted = 0;
+    let mut refused = 0;
+    for _ask in 0..names.count {
+        if ask_next(alloc, engine, &mut workload)? {
+            granted += 1;
+        } else {
+            refused += 1;
+        }
+    }
+    Ok(Summary {
+        asked: names.count,
+        granted,
+        refused,
+        nodes: engine.nodes(),
+    })
+}
+
+/// Whether the next ask is granted; it joins the history then.
+fn ask_next(alloc: Global, engine: &mut Engine, workload: &mut Workload) -> Result<bool, AllocError>
+    ensures asks { IfOk result
+        (λ granted. AsksNext engine.old workload.old granted engine.new.history workload.new) }
+    ensures form { engine.new.form ≡ engine.old.form }
+    ensures limit { engine.new.limit ≡ engine.old.limit }
+{
+    let action = workload.draw();
+    match engine.prepare(alloc, &action) {
+        Ok(next) => {
+            engine.reserve_one()?;
+            engine.commit(next);
+            workload.granted(&action);
+            Ok(true)
+        }
+        Err(PrepareFault::Memory) => Err(AllocError),
+        Err(PrepareFault::NotPartial) => Ok(false),
+        Err(PrepareFault::Full) => Ok(false),
+        Err(PrepareFault::Over { .. }) => Ok(false),
+    }
+}
