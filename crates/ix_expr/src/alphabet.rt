@@ -37,7 +37,9 @@ pub fn contains(expr: &Expr, env: &Env, action: &Action) -> bool
 #[cycle(alphabet)]
 fn contains_for_some(body: &Expr, parameter: &Name, env: &Env, action: &Action) -> bool
     requires { FitsInside parameter.now (form_of body.now) env.now }
-    ensures { IsTrue result ↔ ((v : List ℕ) × InAlphabet (form_of body.now) (bind parameter.now (Some v) env.now) action.now) }
+    ensures { IsTrue result
+        ↔ ((v : List ℕ)
+        × InAlphabet (form_of body.now) (bind parameter.now (Some v) env.now) action.now) }
 {
     for value in action.values() {
         if contains(body, &env.with(*parameter, Some(*value)), action) {

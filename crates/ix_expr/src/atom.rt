@@ -1,6 +1,7 @@
 //! Atoms.
 
-ghost use Rattle.std.specs.Prelude.{◌≡◌, ◌<◌, ◌≤◌, ◌↔◌, ◌⊎◌, IsTrue, IsNone, IfSome, [], ◌∷◌, length, All};
+ghost use Rattle.std.specs.Prelude.{◌≡◌, ◌<◌, ◌≤◌, ◌↔◌, ◌⊎◌, IsTrue, IsNone, IfSome, [], ◌∷◌};
+ghost use Rattle.std.specs.Prelude.{length, All};
 ghost use Rattle.ix_values.specs.inside.Padding.{padded};
 ghost use Rattle.ix_values.specs.Texts.{IsName};
 ghost use Rattle.ix_expr.specs.Form.{atom_of};
@@ -31,18 +32,26 @@ impl Model for Atom {
 
     ghost view = { λ a. atom_of a.name (take a.count a.args) };
 
-    ghost invariant = { λ a. IsPadded 4 (Fixed (48 ∷ [])) a.count a.args × IsAtom (atom_of a.name (take a.count a.args)) };
+    ghost invariant = { λ a. IsPadded 4 (Fixed (48 ∷ [])) a.count a.args
+        × IsAtom (atom_of a.name (take a.count a.args)) };
 
-    ghost inverse = { λ x. record { name = x.name; args = padded 4 (Fixed (48 ∷ [])) x.arguments; count = length x.arguments } };
+    ghost inverse = { λ x.
+        record {
+          name = x.name;
+          args = padded 4 (Fixed (48 ∷ [])) x.arguments;
+          count = length x.arguments;
+        } };
 
-    ghost inverse_ok = { λ a h. λ i. record { name = a.name; args = sym h.0.filled i; count = h.0.counted i } };
+    ghost inverse_ok = { λ a h. λ i.
+        record { name = a.name; args = sym h.0.filled i; count = h.0.counted i } };
 }
 
 impl Atom {
     /// The atom of this name and these arguments, or None where the name is a reserved word (`any`,
     /// `every`, `sync`, `all` or `times`) or there are more than four arguments.
     pub fn new(name: Name, args: &[Arg]) -> Option<Atom>
-        ensures refused { IsNone result ↔ (IsTrue (reserved.is_reserved name) ⊎ (4 < length args.now)) }
+        ensures refused { IsNone result
+            ↔ (IsTrue (reserved.is_reserved name) ⊎ (4 < length args.now)) }
         ensures value { IfSome result (λ atom. atom ≡ atom_of name args.now) }
         ensures valid { IfSome result IsAtom }
     {

@@ -28,9 +28,13 @@ impl Model for Env {
 
     ghost invariant = { λ e. IsPadded 8 (97 ∷ [], None) e.count e.entries × (e.count ≤ 8) };
 
-    ghost inverse = { λ v. record { entries = padded 8 (97 ∷ [], None) (reverse v); count = length (reverse v) } };
+    ghost inverse = { λ v.
+        record { entries = padded 8 (97 ∷ [], None) (reverse v); count = length (reverse v) } };
 
-    ghost inverse_ok = { λ a h. ap (λ items. record { entries = padded 8 (97 ∷ [], None) items; count = length items }) (reverse-reverse (take a.count a.entries)) ∙ (λ i. record { entries = sym h.0.filled i; count = h.0.counted i }) };
+    ghost inverse_ok = { λ a h.
+        ap (λ items. record { entries = padded 8 (97 ∷ [], None) items; count = length items })
+        (reverse-reverse (take a.count a.entries))
+        ∙ (λ i. record { entries = sym h.0.filled i; count = h.0.counted i }) };
 }
 
 impl Env {

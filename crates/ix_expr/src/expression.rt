@@ -44,7 +44,8 @@ impl Model for Expression {
 
     ghost view = { λ a. form_of a.expr };
 
-    ghost invariant = { λ a. IsSpelled (form_of a.expr) × IsWellFormed (form_of a.expr) × (a.nodes ≡ length (nodes_of (form_of a.expr))) };
+    ghost invariant = { λ a. IsSpelled (form_of a.expr) × IsWellFormed (form_of a.expr)
+        × (a.nodes ≡ length (nodes_of (form_of a.expr))) };
 }
 
 impl Expression {
@@ -52,7 +53,8 @@ impl Expression {
     pub fn new(expr: Expr) -> Result<Expression, FormFault>
         ensures ok { IsOk result ↔ IsWellFormed (form_of expr) }
         ensures value { IfOk result (λ expression. expression ≡ form_of expr) }
-        ensures fault { IfErr result (λ fault. IsFirstFormFault (form_of expr) fault.code fault.node) }
+        ensures fault { IfErr result
+            (λ fault. IsFirstFormFault (form_of expr) fault.code fault.node) }
     {
         match walk(&expr, 1, &Scope::Whole, 0) {
             Ok(nodes) => Ok(Expression { expr, nodes }),

@@ -48,7 +48,9 @@ impl Scope<'_> {
 
     /// Whether one of the quantifiers is an `all` whose parameter the atom doesn't name.
     pub(crate) fn misses(&self, atom: &Atom) -> bool
-        ensures { result ≡ list_any (λ b. b.is_all && not (faults.names_parameter b.parameter atom.now)) (binders self.now) }
+        ensures { result
+            ≡ list_any (λ b. b.is_all && not (faults.names_parameter b.parameter atom.now))
+            (binders self.now) }
     {
         match self {
             Scope::Whole => false,
@@ -61,7 +63,8 @@ impl Scope<'_> {
     }
 
     pub(crate) fn binds_all(&self, atom: &Atom) -> bool
-        ensures { result ≡ list_all (faults.is_bound_argument (binders self.now)) atom.now.arguments }
+        ensures { result
+            ≡ list_all (faults.is_bound_argument (binders self.now)) atom.now.arguments }
     {
         atom.args().iter().all(|arg| self.binds_argument(arg))
     }

@@ -24,9 +24,9 @@ fn boxed(alloc: Global, expr: Option<Expr>) -> Result<Box<Expr>, Fail> {
     }
 }
 
-/// One node over the operands on the stack, the first operand uppermost: `a` to `m` are atoms without arguments, `1`, `2`,
-/// `3` and `4` are `a($p)`, `a($q)`, `a(p)` and `a($p,$q)`, `?` an option, `-` a sequence, `A` to `Z` an `any` and `*` an
-/// `all $p`.
+/// One node over the operands on the stack, the first operand uppermost: `a` to `m` are atoms
+/// without arguments, `1`, `2`, `3` and `4` are `a($p)`, `a($q)`, `a(p)` and `a($p,$q)`, `?` an
+/// option, `-` a sequence, `A` to `Z` an `any` and `*` an `all $p`.
 fn node(alloc: Global, symbol: u8, stack: &mut Vec<Expr>) -> Result<Expr, Fail> {
     match symbol {
         b'1' => atom(b"a", &[Arg::Param(name(b"p")?)]),
@@ -69,7 +69,8 @@ fn expression(alloc: Global, text: &[u8]) -> Result<Expr, Fail> {
     Ok(stack.pop().ok_or("no expression")?)
 }
 
-/// 0 and the number of nodes, or the code and the node of the first form fault, of the expression in prefix notation.
+/// 0 and the number of nodes, or the code and the node of the first form fault, of the expression
+/// in prefix notation.
 fn verdict(alloc: Global, text: &[u8]) -> Result<(u8, usize), Fail> {
     match Expression::new(expression(alloc, text)?) {
         Ok(expression) => Ok((0, expression.nodes())),
@@ -77,7 +78,8 @@ fn verdict(alloc: Global, text: &[u8]) -> Result<(u8, usize), Fail> {
     }
 }
 
-/// Each code at the first node where it can stand, a middle one and the last; two faults at one node; the limits.
+/// Each code at the first node where it can stand, a middle one and the last; two faults at one
+/// node; the limits.
 const FORM_FAULTS: [(&[u8], u8, usize); 25] = [
     (b"1", 5, 0),
     (b"--a1c", 5, 3),
@@ -124,7 +126,8 @@ fn atoms(rt: HostRuntime) -> Result<(), Fail> {
     Ok(())
 }
 
-/// In `any $p ?a($p)` the parameter may be any value; under an environment it is the one given, or outside.
+/// In `any $p ?a($p)` the parameter may be any value; under an environment it is the one given, or
+/// outside.
 #[test]
 fn alphabets(rt: HostRuntime) -> Result<(), Fail> {
     let p = name(b"p")?;

@@ -37,7 +37,8 @@ pub(crate) fn walk(
 ) -> Result<usize, FormFault>
     requires shallow { depth ≤ 257 }
     requires few { number ≤ 512 }
-    ensures walked { Walked number (nodes_below depth (binders scope.now) (form_of expr.now)) result }
+    ensures walked { Walked number
+        (nodes_below depth (binders scope.now) (form_of expr.now)) result }
     ensures spelled { OnOk result (IsSpelled (form_of expr.now)) }
     ensures room { IfOk result (λ next. next ≤ 512) }
 {
@@ -62,7 +63,9 @@ pub(crate) fn walk(
 fn walk_one(operand: &Expr, depth: usize, scope: &Scope, number: usize) -> Result<usize, FormFault>
     requires shallow { depth ≤ 257 }
     requires few { number ≤ 512 }
-    ensures walked { Walked number (operator_node depth (binders scope.now) ∷ nodes_below (suc depth) (binders scope.now) (form_of operand.now)) result }
+    ensures walked { Walked number
+        (operator_node depth (binders scope.now)
+        ∷ nodes_below (suc depth) (binders scope.now) (form_of operand.now)) result }
     ensures spelled { OnOk result (IsSpelled (form_of operand.now)) }
     ensures room { IfOk result (λ next. (depth < 257) × (next ≤ 512)) }
 {
@@ -83,7 +86,11 @@ fn walk_inside(
 ) -> Result<usize, FormFault>
     requires shallow { depth ≤ 257 }
     requires few { number ≤ 512 }
-    ensures walked { Walked number (quantifier_node depth (binders scope.now) parameter.now ∷ nodes_below (suc depth) (record { is_all = is_all; parameter = parameter.now } ∷ binders scope.now) (form_of body.now)) result }
+    ensures walked { Walked number
+        (quantifier_node depth (binders scope.now) parameter.now
+        ∷ nodes_below (suc depth)
+        (record { is_all = is_all; parameter = parameter.now } ∷ binders scope.now)
+        (form_of body.now)) result }
     ensures spelled { OnOk result (IsName parameter.now × IsSpelled (form_of body.now)) }
     ensures room { IfOk result (λ next. next ≤ 512) }
 {
@@ -133,7 +140,8 @@ fn operator_fault(depth: usize, number: usize) -> Option<u8>
 fn quantifier_fault(parameter: &Name, depth: usize, scope: &Scope, number: usize) -> Option<u8>
     requires shallow { depth ≤ 257 }
     requires few { number ≤ 512 }
-    ensures value { result ≡ fault_at number (quantifier_node depth (binders scope.now) parameter.now) }
+    ensures value { result
+        ≡ fault_at number (quantifier_node depth (binders scope.now) parameter.now) }
     ensures within { IfNone result ((depth < 257) × (number < 512)) }
 {
     if number == 512 {

@@ -1,7 +1,7 @@
 //! The program `ixm`: the words after its name, and the real devices.
 //!
-//! Nothing is written to standard error. The program ends with the status of `ix_manage::manage`, or
-//! with 9 where there is no memory for the words.
+//! Nothing is written to standard error. The program ends with the status of `ix_manage::manage`,
+//! or with 9 where there is no memory for the words.
 #![tactic(auto)]
 
 use ix_manage::manage;

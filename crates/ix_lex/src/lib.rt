@@ -119,7 +119,8 @@ fn word_len(bytes: &[u8]) -> usize
 /// The kind and the length of the token that a text begins with, if it begins with one.
 fn first_token(first: u8, after: &[u8]) -> Option<(TokenKind, usize)>
     requires { is_blank first ≡ false }
-    ensures { MatchOption result (BeginsNothing first after.now) (λ found. FirstToken found.0 found.1 (first ∷ after.now)) }
+    ensures { MatchOption result (BeginsNothing first after.now)
+        (λ found. FirstToken found.0 found.1 (first ∷ after.now)) }
 {
     if is_word_byte(first) {
         Some((TokenKind::Word, 1 + word_len(after)))

@@ -6,7 +6,8 @@
 //! the decimal number that it is, and `first_fault` the first line that isn't in a grammar.
 #![tactic(auto)]
 
-ghost use Rattle.std.specs.Prelude.{◌≡◌, ◌+◌, ◌-◌, ◌<◌, ◌≤◌, ◌↔◌, ℕ, [], length, take, IsNone, IfNone, IfSome};
+ghost use Rattle.std.specs.Prelude.{◌≡◌, ◌+◌, ◌-◌, ◌<◌, ◌≤◌, ◌↔◌, ℕ, [], length, take, IsNone};
+ghost use Rattle.std.specs.Prelude.{IfNone, IfSome};
 ghost use Rattle.std.specs.Borrow.{sem};
 ghost use Rattle.ix_lines.specs.Feeding.{unfinished, skipping, completes, holds_after, Feeds};
 
@@ -120,7 +121,8 @@ impl Lines {
     /// Where the piece goes on with a line that isn't skipped, or None where all of it is skipped.
     fn resume(&mut self, piece: &[u8]) -> Option<usize>
         ensures some { IfSome result (λ place. ResumesAt self.old piece.now place self.new) }
-        ensures none { IfNone result (self.old ≡ skipping × HasNoEnd piece.now × (self.new ≡ skipping)) }
+        ensures none { IfNone result
+            (self.old ≡ skipping × HasNoEnd piece.now × (self.new ≡ skipping)) }
     {
         if !self.skipping {
             return Some(0);

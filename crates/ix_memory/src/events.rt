@@ -1,5 +1,6 @@
 //! The events that a site gives.
-ghost use Rattle.std.specs.Prelude.{◌≡◌, ◌≤◌, ◌<◌, ◌+◌, ◌-◌, ◌^◌, ◌++◌, [], ◌∷◌, ℕ, length, take, drop, IfOk, OnOk};
+ghost use Rattle.std.specs.Prelude.{◌≡◌, ◌≤◌, ◌<◌, ◌+◌, ◌-◌, ◌^◌, ◌++◌, [], ◌∷◌, ℕ, length, take};
+ghost use Rattle.std.specs.Prelude.{drop, IfOk, OnOk};
 ghost use Rattle.ix_outside.specs.Contents.{piece_of};
 ghost use Rattle.ix_outside.specs.Event.{FitsBuffer};
 ghost use Rattle.ix_memory.specs.inside.EventsState.{IsKept, AreEventsKept, events_of};
@@ -43,7 +44,8 @@ impl Model for Events {
     } };
 
     // Each event has its bytes, and no more events were given whole than there are.
-    ghost invariant = { λ s. AreEventsKept (length s.bytes.items) s.pieces.items × (s.at ≤ length s.pieces.items) };
+    ghost invariant = { λ s. AreEventsKept (length s.bytes.items) s.pieces.items
+        × (s.at ≤ length s.pieces.items) };
 }
 
 impl Events {
@@ -86,7 +88,8 @@ impl Events {
             ≡ next_event (length buf.old) self.old.last self.old.coming }
         ensures coming { self.new.coming ≡ then_coming (length buf.old) self.old.coming }
         ensures given { self.new.given
-            ≡ self.old.given ++ record { event = result; bytes = piece_of result.kind buf.new } ∷ [] }
+            ≡ self.old.given
+            ++ record { event = result; bytes = piece_of result.kind buf.new } ∷ [] }
         ensures last { self.new.last ≡ self.old.last }
         ensures spare { self.old.spare ≤ self.new.spare + 1 }
         ensures fits { FitsBuffer (length buf.old) result }
@@ -107,7 +110,8 @@ fn add_piece(
     requires kept { AreEventsKept (length bytes.old.items) pieces.old.items }
     requires come { CanCome (record { event = event; bytes = text.now }) }
     ensures events { OnOk result (events_of bytes.new.items pieces.new.items
-        ≡ events_of bytes.old.items pieces.old.items ++ record { event = event; bytes = text.now } ∷ []) }
+        ≡ events_of bytes.old.items pieces.old.items
+        ++ record { event = event; bytes = text.now } ∷ []) }
     ensures kept { OnOk result (AreEventsKept (length bytes.new.items) pieces.new.items) }
 {
     let start = bytes.len();
@@ -125,9 +129,11 @@ fn take_piece(pieces: &mut Vec<Piece>, at: &mut usize, last: u64, room: usize) -
     requires room { 0 < room }
     requires kept { AreEventsKept (2 ^ 64 - 1) pieces.old.items }
     ensures piece { result ≡ next_piece room last (drop at.old pieces.old.items) }
-    ensures coming { drop at.new pieces.new.items ≡ then_pieces room (drop at.old pieces.old.items) }
+    ensures coming { drop at.new pieces.new.items
+        ≡ then_pieces room (drop at.old pieces.old.items) }
     ensures at { at.new ≤ length pieces.new.items }
-    ensures kept { (count : ℕ) → AreEventsKept count pieces.old.items → AreEventsKept count pieces.new.items }
+    ensures kept { (count : ℕ) → AreEventsKept count pieces.old.items
+        → AreEventsKept count pieces.new.items }
 {
     if *at == pieces.len() {
         return end_piece(last);
@@ -146,7 +152,8 @@ fn take_piece(pieces: &mut Vec<Piece>, at: &mut usize, last: u64, room: usize) -
 }
 
 fn end_piece(moment: u64) -> Piece
-    ensures { result ≡ record { event = record { conn = 0; moment = moment; kind = EventKind.End }; start = 0 } }
+    ensures { result
+        ≡ record { event = record { conn = 0; moment = moment; kind = EventKind.End }; start = 0 } }
 {
     Piece {
         event: Event {
@@ -174,7 +181,10 @@ fn rest_piece(piece: Piece, count: usize, room: usize) -> Piece
     requires room { room < count }
     requires within { piece.start + count ≤ 2 ^ 64 - 1 }
     ensures { result
-        ≡ record { event = record piece.event { kind = EventKind.Bytes (count - room) }; start = piece.start + room } }
+        ≡ record {
+          event = record piece.event { kind = EventKind.Bytes (count - room) };
+          start = piece.start + room;
+        } }
 {
     Piece {
         event: Event {
@@ -188,7 +198,8 @@ fn rest_piece(piece: Piece, count: usize, room: usize) -> Piece
 fn copy_front(bytes: &[u8], piece: Piece, buf: &mut [u8])
     requires kept { IsKept (length bytes.now) piece }
     requires fits { FitsBuffer (length buf.old) piece.event }
-    ensures { piece_of piece.event.kind buf.new ≡ piece_of piece.event.kind (drop piece.start bytes.now) }
+    ensures { piece_of piece.event.kind buf.new
+        ≡ piece_of piece.event.kind (drop piece.start bytes.now) }
 {
     if let EventKind::Bytes(count) = piece.event.kind {
         copy_text(bytes, piece.start, count, buf);

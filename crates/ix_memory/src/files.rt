@@ -1,5 +1,6 @@
 //! Files in memory.
-ghost use Rattle.std.specs.Prelude.{◌≡◌, ◌≤◌, ◌<◌, ◌↔◌, ℕ, List, length, map, IfOk, IsErrOf, IsTrue, string_bytes, Some, MatchOption, true, ◌⊎◌};
+ghost use Rattle.std.specs.Prelude.{◌≡◌, ◌≤◌, ◌<◌, ◌↔◌, ℕ, List, length, map, IfOk, IsErrOf};
+ghost use Rattle.std.specs.Prelude.{IsTrue, string_bytes, Some, MatchOption, true, ◌⊎◌};
 ghost use Rattle.ix_outside.specs.Files.{HasFile, HasLonger, Lists};
 ghost use Rattle.ix_outside.specs.FilesState.{OnlyFaults};
 ghost use Rattle.ix_memory.specs.Calls.{next_call, one_more};
@@ -56,10 +57,13 @@ impl Files for MemoryFiles {
     fn load(&mut self, alloc: Global, name: &str, limit: usize) -> Result<Vec<u8>, LoadFault>
         ensures bytes { IfOk result (λ bytes. HasFile (Some self.old.files) name.now bytes.items) }
         ensures within { IfOk result (λ bytes. length bytes.items ≤ limit) }
-        ensures too_long { IsErrOf result LoadFault.TooLong → HasLonger (Some self.old.files) name.now limit }
+        ensures too_long { IsErrOf result LoadFault.TooLong
+            → HasLonger (Some self.old.files) name.now limit }
         ensures exactly { (result ≡ Err LoadFault.Failed) ↔ FailsToLoad self.old name.now }
-        ensures counted { IsErrOf result LoadFault.Failed → self.new.faults ≡ one_more self.old.faults }
-        ensures not_counted { (result ≡ Err LoadFault.Failed → ⊥) → self.new.faults ≡ self.old.faults }
+        ensures counted { IsErrOf result LoadFault.Failed
+            → self.new.faults ≡ one_more self.old.faults }
+        ensures not_counted { (result ≡ Err LoadFault.Failed → ⊥)
+            → self.new.faults ≡ self.old.faults }
         ensures calls { self.new.calls ≡ next_call self.old.calls }
         ensures rest { OnlyFaults (state_of self.old) (state_of self.new) }
     {
@@ -81,7 +85,8 @@ fn loaded(
 ) -> Result<Vec<u8>, LoadFault>
     ensures bytes { IfOk result (λ bytes. Lists (listing_of files.now) name.now bytes.items) }
     ensures within { IfOk result (λ bytes. length bytes.items ≤ limit) }
-    ensures too_long { IsErrOf result LoadFault.TooLong → HasLonger (Some (listing_of files.now)) name.now limit }
+    ensures too_long { IsErrOf result LoadFault.TooLong
+        → HasLonger (Some (listing_of files.now)) name.now limit }
     ensures failed { result ≡ Err LoadFault.Failed
         → (is_told ≡ true) ⊎ IsAbsent (listing_of files.now) name.now }
     ensures told { is_told ≡ true → result ≡ Err LoadFault.Failed }

@@ -1,7 +1,8 @@
 //! Devices in memory: files, a sink and a site whose calls fail exactly where they are told to.
 //!
-//! The calls of each object are numbered from 0 in the order in which they are made; a failing call counts too. An
-//! object takes all its memory when it is made, so no later call wants any but the bytes that `load` gives away.
+//! The calls of each object are numbered from 0 in the order in which they are made; a failing call
+//! counts too. An object takes all its memory when it is made, so no later call wants any but the
+//! bytes that `load` gives away.
 #![tactic(auto)]
 
 mod calls;

@@ -1,5 +1,6 @@
 //! Pushes and copies for which there is room.
-ghost use Rattle.std.specs.Prelude.{◌≡◌, ◌<◌, ◌≤◌, ◌+◌, ◌++◌, [], ◌∷◌, length, take, drop, vec_len, vec_capacity};
+ghost use Rattle.std.specs.Prelude.{◌≡◌, ◌<◌, ◌≤◌, ◌+◌, ◌++◌, [], ◌∷◌, length, take, drop, vec_len};
+ghost use Rattle.std.specs.Prelude.{vec_capacity};
 
 /// Puts an item behind the others, which takes no memory.
 pub(crate) fn put<T: Copy>(items: &mut Vec<T>, item: T)

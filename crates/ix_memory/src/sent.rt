@@ -77,7 +77,8 @@ impl Sent {
 
     pub(crate) fn at(&self, index: usize) -> (u8, &[u8])
         requires { index < length self.now.sends.sent }
-        ensures { slice_get self.now.sends.sent index ≡ Some (record { conn = result.0; bytes = result.1.now }) }
+        ensures { slice_get self.now.sends.sent index
+            ≡ Some (record { conn = result.0; bytes = result.1.now }) }
     {
         let pair = self.pairs[index];
         (pair.conn, text(&self.bytes, pair.span))

@@ -1,5 +1,6 @@
 //! A sink in memory.
-ghost use Rattle.std.specs.Prelude.{◌≡◌, ◌≤◌, ◌++◌, [], length, not, is_ok, IfOk, OnOk, OnErr, Some};
+ghost use Rattle.std.specs.Prelude.{◌≡◌, ◌≤◌, ◌++◌, [], length, not, is_ok, IfOk, OnOk, OnErr};
+ghost use Rattle.std.specs.Prelude.{Some};
 ghost use Rattle.std.specs.Io.KnownBytes.{append_known};
 ghost use Rattle.ix_outside.specs.Counts.{Rose};
 ghost use Rattle.ix_outside.specs.Sink.{AppendsPart};
@@ -27,7 +28,8 @@ impl Model for MemorySink {
 
     ghost Value = { MemorySinkState };
 
-    ghost view = { λ s. record { bytes = s.bytes.items; room = s.room; calls = s.calls; faults = s.faults } };
+    ghost view = { λ s.
+        record { bytes = s.bytes.items; room = s.room; calls = s.calls; faults = s.faults } };
 
     // There is memory for the whole room.
     ghost invariant = { λ s. (vec_len s.bytes ≤ s.room) × (s.room ≤ vec_capacity s.bytes) };
@@ -65,14 +67,18 @@ impl Sink for MemorySink {
     /// Puts the bytes out. It fails exactly where it is told to, or where there would be more bytes
     /// than the room; then none of its bytes go out.
     fn put(&mut self, bytes: &[u8]) -> Result<(), Failed>
-        ensures whole { OnOk result (Some self.new.bytes ≡ append_known (Some self.old.bytes) bytes.now) }
-        ensures part { OnErr result (AppendsPart (Some self.old.bytes) bytes.now (Some self.new.bytes)) }
+        ensures whole { OnOk result
+            (Some self.new.bytes ≡ append_known (Some self.old.bytes) bytes.now) }
+        ensures part { OnErr result
+            (AppendsPart (Some self.old.bytes) bytes.now (Some self.new.bytes)) }
         ensures failed { OnErr result (Rose self.old.faults self.new.faults) }
         ensures exactly { is_ok result ≡ not (fails_to_put self.old (length bytes.now)) }
         ensures ok { OnOk result (self.new
-            ≡ record self.old { bytes = self.old.bytes ++ bytes.now; calls = next_call self.old.calls }) }
+            ≡ record self.old
+            { bytes = self.old.bytes ++ bytes.now; calls = next_call self.old.calls }) }
         ensures err { OnErr result (self.new
-            ≡ record self.old { calls = next_call self.old.calls; faults = one_more self.old.faults }) }
+            ≡ record self.old
+            { calls = next_call self.old.calls; faults = one_more self.old.faults }) }
 
         ensures rest { OnlyPuts (state_of self.old) (state_of self.new) }
     {

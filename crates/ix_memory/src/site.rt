@@ -1,5 +1,7 @@
 //! A site in memory.
-ghost use Rattle.std.specs.Prelude.{◌≡◌, ◌≤◌, ◌<◌, ◌+◌, ◌-◌, ◌*◌, ◌&&◌, ◌++◌, [], ◌∷◌, length as list_length, nat_le, true, false, min, length, take, drop, not, is_ok, slice_get, Some, IfOk, OnOk, OnErr};
+ghost use Rattle.std.specs.Prelude.{◌≡◌, ◌≤◌, ◌<◌, ◌+◌, ◌-◌, ◌*◌, ◌&&◌, ◌++◌, [], ◌∷◌};
+ghost use Rattle.std.specs.Prelude.{length as list_length, nat_le, true, false, min, length, take};
+ghost use Rattle.std.specs.Prelude.{drop, not, is_ok, slice_get, Some, IfOk, OnOk, OnErr};
 ghost use Rattle.ix_outside.specs.Contents.{piece_of, with_pair, Listens, Gives, SendsBytes};
 ghost use Rattle.ix_outside.specs.Counts.{Rose};
 ghost use Rattle.ix_outside.specs.Crashes.{OneCall, LeavesTheSame, LeavesBy, Settles};
@@ -12,7 +14,8 @@ ghost use Rattle.ix_memory.specs.Plan.{fails_at, is_full};
 ghost use Rattle.ix_memory.specs.inside.SentState.{with_heard};
 ghost use Rattle.ix_memory.specs.inside.MemorySiteState.{fresh_site, state_of, crashes_of, called};
 ghost use Rattle.ix_memory.specs.inside.MemorySiteState.{wire_failed, disk_failed, send_failed};
-ghost use Rattle.ix_memory.specs.inside.MemorySiteState.{half_sent, half_written, read_into, written};
+ghost use Rattle.ix_memory.specs.inside.MemorySiteState.{half_sent, half_written, read_into};
+ghost use Rattle.ix_memory.specs.inside.MemorySiteState.{written};
 ghost use Rattle.ix_memory.specs.inside.CanCome.{CanAllCome, events_beside};
 ghost use Rattle.ix_memory.specs.declared.past.Effect.TheVariants.{Kept, Wrote, Cut};
 ghost use Rattle.ix_memory.specs.declared.past.Effect.TheVariants.{Synced, Attached};
@@ -79,7 +82,8 @@ impl Model for MemorySite {
       counts = record { disk = s.disk; wire = s.wire; send = s.send };
     } };
 
-    ghost invariant = { λ s. HasRoom (room_of s.plan) s.sent.spare_bytes s.sent.spare_records s.events.spare
+    ghost invariant = { λ s.
+        HasRoom (room_of s.plan) s.sent.spare_bytes s.sent.spare_records s.events.spare
         (vec_capacity s.image - vec_len s.image) };
 }
 
@@ -96,7 +100,8 @@ impl MemorySite {
         fuse: Option<u64>,
     ) -> Result<MemorySite, AllocError>
         requires { CanAllCome (events_beside events.items) }
-        ensures { IfOk result (λ s. s ≡ fresh_site image.items (events_beside events.items) room fail.items fuse) }
+        ensures { IfOk result
+            (λ s. s ≡ fresh_site image.items (events_beside events.items) room fail.items fuse) }
     {
         image.reserve(room)?;
         let records = room / LEAST_COST;
@@ -132,7 +137,8 @@ impl MemorySite {
     /// The connection and the bytes of a send; of one that failed, the first half of its bytes.
     pub fn sent_at(&self, index: usize) -> (u8, &[u8])
         requires { index < length self.now.sends.sent }
-        ensures { slice_get self.now.sends.sent index ≡ Some (record { conn = result.0; bytes = result.1.now }) }
+        ensures { slice_get self.now.sends.sent index
+            ≡ Some (record { conn = result.0; bytes = result.1.now }) }
     {
         self.sent.at(index)
     }
@@ -196,11 +202,13 @@ impl Site for MemorySite {
     fn next(&mut self, buf: &mut [u8]) -> Result<Event, WireFailed>
         requires { 0 < length buf.old }
         ensures exactly { is_ok result ≡ not (fails_at self.old.plan 16) }
-        ensures next { IfOk result (λ event. record { event = event; bytes = piece_of event.kind buf.new }
+        ensures next { IfOk result
+            (λ event. record { event = event; bytes = piece_of event.kind buf.new }
             ≡ next_event (length buf.old) self.old.last self.old.coming) }
         ensures ok { IfOk result (λ event. self.new ≡ record (called 16 Kept self.old) {
           coming = then_coming (length buf.old) self.old.coming;
-          given = self.old.given ++ record { event = event; bytes = piece_of event.kind buf.new } ∷ [];
+          given = self.old.given
+              ++ record { event = event; bytes = piece_of event.kind buf.new } ∷ [];
         }) }
         ensures err { OnErr result (self.new ≡ wire_failed (called 16 Kept self.old)) }
 
@@ -232,7 +240,8 @@ impl Site for MemorySite {
             ≡ record (called (16 + length bytes.now) Kept self.old) {
               sends = with_pair conn bytes.now self.old.sends;
             }) }
-        ensures err { OnErr result (self.new ≡ send_failed (half_sent (is_full self.old.plan (16 + length bytes.now))
+        ensures err { OnErr result
+            (self.new ≡ send_failed (half_sent (is_full self.old.plan (16 + length bytes.now))
             conn bytes.now (called (16 + length bytes.now) Kept self.old))) }
 
         ensures failed { OnErr result (Rose self.old.counts.send self.new.counts.send) }
@@ -330,7 +339,8 @@ impl Site for MemorySite {
         ensures exactly { is_ok result ≡ not (fails_at self.old.plan 16) }
         ensures count { IfOk result
             (λ count. count ≡ min (length buf.old) (length self.old.image - at)) }
-        ensures read { IfOk result (λ count. take count buf.new ≡ take count (drop at self.old.image)) }
+        ensures read { IfOk result
+            (λ count. take count buf.new ≡ take count (drop at self.old.image)) }
         ensures behind { IfOk result (λ count. drop count buf.new ≡ drop count buf.old) }
         ensures ok { OnOk result (self.new ≡ read_into (length buf.old) self.old) }
         ensures err { OnErr result (self.new ≡ disk_failed (read_into (length buf.old) self.old)) }
@@ -364,12 +374,14 @@ impl Site for MemorySite {
     fn write_at(&mut self, at: u64, bytes: &[u8]) -> Result<(), DiskFailed>
         requires { self.old.attached ≡ true }
         ensures exactly { is_ok result
-            ≡ (not (fails_at self.old.plan (16 + length bytes.now)) && nat_le at (length self.old.image)) }
+            ≡ (not (fails_at self.old.plan (16 + length bytes.now))
+            && nat_le at (length self.old.image)) }
         ensures ok { OnOk result (self.new
             ≡ record (called (16 + length bytes.now) (Wrote at (length bytes.now)) self.old) {
               image = written at bytes.now self.old.image;
             }) }
-        ensures err { OnErr result (self.new ≡ disk_failed (half_written (is_full self.old.plan (16 + length bytes.now))
+        ensures err { OnErr result
+            (self.new ≡ disk_failed (half_written (is_full self.old.plan (16 + length bytes.now))
             at bytes.now self.old)) }
 
         ensures failed { OnErr result (Rose self.old.counts.disk self.new.counts.disk) }
@@ -405,7 +417,8 @@ impl Site for MemorySite {
     /// The file is cut, unless it is shorter than that; a failed one changes nothing. It costs 16.
     fn cut(&mut self, length: u64) -> Result<(), DiskFailed>
         requires { self.old.attached ≡ true }
-        ensures exactly { is_ok result ≡ (not (fails_at self.old.plan 16) && nat_le length (list_length self.old.image)) }
+        ensures exactly { is_ok result
+            ≡ (not (fails_at self.old.plan 16) && nat_le length (list_length self.old.image)) }
         ensures ok { OnOk result (self.new ≡ record (called 16 (Cut length) self.old) {
           image = take length self.old.image;
         }) }

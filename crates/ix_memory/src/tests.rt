@@ -7,8 +7,8 @@ use ix_outside::{DiskFailed, Event, EventKind, Files, LoadFault, Sink, Site};
 use std::alloc::{AllocError, Global};
 use std::test::Fail;
 
-/// What loads from the file `a` of three bytes, of which the calls of these numbers are to fail, answered: the length of
-/// what was loaded.
+/// What loads from the file `a` of three bytes, of which the calls of these numbers are to fail,
+/// answered: the length of what was loaded.
 fn loads(
     alloc: Global,
     fail: &[u64],
@@ -129,8 +129,8 @@ fn site(
     )
 }
 
-/// Takes so many events through a buffer of four bytes, and notes each with the first byte of the buffer; a failed call is
-/// noted as an end of connection 64.
+/// Takes so many events through a buffer of four bytes, and notes each with the first byte of the
+/// buffer; a failed call is noted as an end of connection 64.
 fn take_events(
     site: &mut MemorySite,
     count: usize,
@@ -171,8 +171,8 @@ fn a_long_piece_comes_as_several_events(rt: HostRuntime) -> Result<(), Fail> {
     Ok(())
 }
 
-/// Which of three sends of five bytes on connection 9 a site took, how many bytes it then has of each, and how many calls it
-/// counts.
+/// Which of three sends of five bytes on connection 9 a site took, how many bytes it then has of
+/// each, and how many calls it counts.
 #[derive(Drop)]
 struct Sending {
     answers: Vec<bool>,

@@ -1,4 +1,5 @@
-//! The outside of the program as traits: files, a sink of bytes, and a site with its wire and its disk.
+//! The outside of the program as traits: files, a sink of bytes, and a site with its wire and its
+//! disk.
 //!
 //! Each trait has one ghost member, `state`, which is what a proof may know of an object: what it
 //! tells of its contents, if it tells them, its counts of faults, and the other objects that it was

@@ -1,11 +1,13 @@
 //! The wire and the disk of a running manager.
-ghost use Rattle.std.specs.Prelude.{◌≡◌, ◌≤◌, ◌<◌, ◌-◌, min, true, false, length, length as list_length};
+ghost use Rattle.std.specs.Prelude.{◌≡◌, ◌≤◌, ◌<◌, ◌-◌, min, true, false, length};
+ghost use Rattle.std.specs.Prelude.{length as list_length};
 ghost use Rattle.std.specs.Prelude.{take, drop, is_ok, IfOk, OnOk, OnErr};
 ghost use Rattle.ix_outside.specs.Contents.{Listens, Gives, SendsBytes};
 ghost use Rattle.ix_outside.specs.Counts.{Rose};
 ghost use Rattle.ix_outside.specs.Crashes.{AreLawful, Crashes, OneCall, nothing_left};
 ghost use Rattle.ix_outside.specs.Crashes.{LeavesBy, LeavesTheSame, Settles};
-ghost use Rattle.ix_outside.specs.Disk.{Attaches, Cuts, MakesFile, MaybeCut, OfFile, Stays, Torn, Writes};
+ghost use Rattle.ix_outside.specs.Disk.{Attaches, Cuts, MakesFile, MaybeCut, OfFile, Stays, Torn};
+ghost use Rattle.ix_outside.specs.Disk.{Writes};
 ghost use Rattle.ix_outside.specs.Event.{FitsBuffer};
 ghost use Rattle.ix_outside.specs.SiteState.{SiteState, OnlyDisk, OnlyWire, OnlySend};
 

@@ -64,7 +64,8 @@ impl Operand {
         at: usize,
         param: Name,
     ) -> Result<Operand, AllocError>
-        ensures { IfOk result (λ x. meaning_of x ≡ spec.quantified quantifier at param (meaning_of self)) }
+        ensures { IfOk result
+            (λ x. meaning_of x ≡ spec.quantified quantifier at param (meaning_of self)) }
     {
         let Operand { expr, mut places } = self;
         places.insert(0, at)?;
@@ -85,7 +86,8 @@ impl Operand {
         at: usize,
         right: Operand,
     ) -> Result<Operand, AllocError>
-        ensures { IfOk result (λ x. meaning_of x ≡ spec.joined operator at (meaning_of self) (meaning_of right)) }
+        ensures { IfOk result
+            (λ x. meaning_of x ≡ spec.joined operator at (meaning_of self) (meaning_of right)) }
     {
         let Operand { expr, mut places } = self;
         let Operand {

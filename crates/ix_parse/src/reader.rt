@@ -1,6 +1,7 @@
 //! The reader of operands: a stack machine that takes one token after the other.
 
-ghost use Rattle.std.specs.Prelude.{◌≡◌, ℕ, ◌≤◌, ◌<◌, true, false, length, List, Some, IfOk, IsSome, option_map};
+ghost use Rattle.std.specs.Prelude.{◌≡◌, ℕ, ◌≤◌, ◌<◌, true, false, length, List, Some, IfOk};
+ghost use Rattle.std.specs.Prelude.{IsSome, option_map};
 ghost use Rattle.ix_parse.specs.Symbols as spec;
 ghost use Rattle.ix_parse.specs.inside.StackMachine as machine;
 ghost use Rattle.ix_parse.specs.inside.Judged as judging;
@@ -60,7 +61,8 @@ impl Reader {
         sign: Sign<'_>,
         param_next: bool,
     ) -> Option<Fault>
-        ensures { result ≡ judging.judged (config_of self.now) nodes (symbol_at at sign.entry) param_next }
+        ensures { result
+            ≡ judging.judged (config_of self.now) nodes (symbol_at at sign.entry) param_next }
     {
         if self.wants_operand() && is_reserved_word(sign, param_next) {
             Some(Fault::Reserved)
@@ -96,7 +98,8 @@ impl Reader {
 
     /// Whether some text goes on with the token.
     fn may_come(&self, sign: Sign<'_>) -> bool
-        ensures { (at : ℕ) → result ≡ judging.may_come (config_of self.now) (symbol_at at sign.entry) }
+        ensures { (at : ℕ)
+            → result ≡ judging.may_come (config_of self.now) (symbol_at at sign.entry) }
     {
         let in_group = groups(self.stack.as_slice()) > 0;
         match &self.mode {

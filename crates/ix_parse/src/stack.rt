@@ -1,9 +1,12 @@
-//! What is open while a text is read: parentheses, prefixes, quantifiers, and operators with their left operands.
+//! What is open while a text is read: parentheses, prefixes, quantifiers, and operators with their
+//! left operands.
 
-ghost use Rattle.std.specs.Prelude.{◌≡◌, ◌≤◌, List, ◌++◌, ◌∷◌, [], false, IfOk, MatchOption, count_by, length, ◌-◌, slice_get};
+ghost use Rattle.std.specs.Prelude.{◌≡◌, ◌≤◌, List, ◌++◌, ◌∷◌, [], false, IfOk, MatchOption};
+ghost use Rattle.std.specs.Prelude.{count_by, length, ◌-◌, slice_get};
 ghost use Rattle.ix_parse.specs.Symbols as spec;
 ghost use Rattle.ix_parse.specs.inside.StackMachine as machine;
-ghost use Rattle.ix_parse.specs.inside.Stack.{stack_of, is_prefix_inmost, is_left_inmost, entry_of, is_counted};
+ghost use Rattle.ix_parse.specs.inside.Stack.{stack_of, is_prefix_inmost, is_left_inmost, entry_of};
+ghost use Rattle.ix_parse.specs.inside.Stack.{is_counted};
 ghost use Rattle.ix_parse.specs.inside.Operands.{meaning_of};
 
 use crate::operand::Operand;
@@ -74,8 +77,10 @@ fn binds_inmost(stack: &[Entry], lowest: u8) -> bool
 
 fn pop_left(stack: &mut Vec<Entry>, lowest: u8) -> Option<Left>
     ensures { MatchOption result
-        ((stack.new.items ≡ stack.old.items) × (is_left_inmost lowest (stack_of stack.old.items) ≡ false))
-        (λ left. (stack.old.items ≡ stack.new.items ++ Entry.Left left ∷ []) × (lowest ≤ spec.level left.operator)) }
+        ((stack.new.items ≡ stack.old.items)
+        × (is_left_inmost lowest (stack_of stack.old.items) ≡ false))
+        (λ left. (stack.old.items ≡ stack.new.items ++ Entry.Left left ∷ [])
+        × (lowest ≤ spec.level left.operator)) }
 {
     if !binds_inmost(stack.as_slice(), lowest) {
         return None;
@@ -89,7 +94,10 @@ fn pop_left(stack: &mut Vec<Entry>, lowest: u8) -> Option<Left>
 }
 
 fn with_taking(alloc: Global, taking: Taking, operand: Operand) -> Result<Operand, AllocError>
-    ensures { IfOk result (λ x. (s : List machine.Entry) → machine.closed (entry_of (Entry.Taking taking) ∷ s) (meaning_of operand) ≡ machine.closed s (meaning_of x)) }
+    ensures { IfOk result
+        (λ x. (s : List machine.Entry)
+        → machine.closed (entry_of (Entry.Taking taking) ∷ s) (meaning_of operand)
+        ≡ machine.closed s (meaning_of x)) }
 {
     match taking {
         Taking::Sign(at, prefix) => operand.prefixed(alloc, prefix, at),
@@ -123,7 +131,8 @@ pub(crate) fn reduced(
     lowest: u8,
     operand: Operand,
 ) -> Result<Operand, AllocError>
-    ensures { IfOk result (λ x. machine.reduced lowest (stack_of stack.old.items) (meaning_of operand)
+    ensures { IfOk result
+        (λ x. machine.reduced lowest (stack_of stack.old.items) (meaning_of operand)
         ≡ machine.held (stack_of stack.new.items) (meaning_of x)) }
 {
     let mut operand = operand;

@@ -1,6 +1,7 @@
 //! The steps of the reader, by what was read last. Each takes a token that may come.
 
-ghost use Rattle.std.specs.Prelude.{◌≡◌, ℕ, ◌≤◌, true, [], length, List, Some, IfOk, IsSome, option_map};
+ghost use Rattle.std.specs.Prelude.{◌≡◌, ℕ, ◌≤◌, true, [], length, List, Some, IfOk, IsSome};
+ghost use Rattle.std.specs.Prelude.{option_map};
 ghost use Rattle.ix_values.specs.Texts.{IsValue};
 ghost use Rattle.ix_parse.specs.Symbols as spec;
 ghost use Rattle.ix_parse.specs.inside.StackMachine as machine;
@@ -25,7 +26,9 @@ use std::alloc::{AllocError, Global};
 fn step_wanted(stack: Vec<Entry>, at: usize, sign: Sign<'_>) -> Result<Reader, AllocError>
     requires may { IsSome (machine.step_wanted (stack_of stack.items) (symbol_at at sign)) }
     requires readable { IsReadable (symbol_at at sign) }
-    ensures { IfOk result (λ r. machine.step_wanted (stack_of stack.items) (symbol_at at sign.entry) ≡ Some (config_of r)) }
+    ensures { IfOk result
+        (λ r. machine.step_wanted (stack_of stack.items) (symbol_at at sign.entry)
+        ≡ Some (config_of r)) }
 {
     let mut stack = stack;
     match sign {
@@ -57,7 +60,9 @@ fn step_wanted(stack: Vec<Entry>, at: usize, sign: Sign<'_>) -> Result<Reader, A
 fn word_mode(at: usize, word: &[u8]) -> Mode
     requires begins { judging.begins_operand (spec.class_of word.now) ≡ true }
     requires readable { IsValue word.now }
-    ensures { (s : List machine.Entry) → machine.step_word s at word.now (spec.class_of word.now) ≡ Some (machine.config s (mode_of result)) }
+    ensures { (s : List machine.Entry)
+        → machine.step_word s at word.now (spec.class_of word.now)
+        ≡ Some (machine.config s (mode_of result)) }
 {
     match class_of(word) {
         WordClass::Quantifies(quantifier) => Mode::QuantifierRead(at, quantifier),
@@ -75,9 +80,12 @@ fn step_name(
     at: usize,
     sign: Sign<'_>,
 ) -> Result<Reader, AllocError>
-    requires may { IsSome (machine.step_name (stack_of stack.items) name_at name (symbol_at at sign)) }
+    requires may { IsSome
+        (machine.step_name (stack_of stack.items) name_at name (symbol_at at sign)) }
     requires named { spec.class_of name ≡ Names }
-    ensures { IfOk result (λ r. machine.step_name (stack_of stack.items) name_at name (symbol_at at sign.entry) ≡ Some (config_of r)) }
+    ensures { IfOk result
+        (λ r. machine.step_name (stack_of stack.items) name_at name (symbol_at at sign.entry)
+        ≡ Some (config_of r)) }
 {
     let mut stack = stack;
     match sign {
@@ -109,8 +117,12 @@ fn step_operand(
     at: usize,
     sign: Sign<'_>,
 ) -> Result<Reader, AllocError>
-    requires { IsSome (machine.step_operand (stack_of stack.items) (meaning_of operand) (symbol_at at sign)) }
-    ensures { IfOk result (λ r. machine.step_operand (stack_of stack.items) (meaning_of operand) (symbol_at at sign.entry) ≡ Some (config_of r)) }
+    requires { IsSome
+        (machine.step_operand (stack_of stack.items) (meaning_of operand) (symbol_at at sign)) }
+    ensures { IfOk result
+        (λ r.
+        machine.step_operand (stack_of stack.items) (meaning_of operand) (symbol_at at sign.entry)
+        ≡ Some (config_of r)) }
 {
     match sign {
         Sign::Closing => leave(alloc, stack, operand),
@@ -131,7 +143,10 @@ fn join(
     at: usize,
     operator: Operator,
 ) -> Result<Reader, AllocError>
-    ensures { IfOk result (λ r. machine.step_operand (stack_of stack.items) (meaning_of operand) (spec.between at operator) ≡ Some (config_of r)) }
+    ensures { IfOk result
+        (λ r.
+        machine.step_operand (stack_of stack.items) (meaning_of operand) (spec.between at operator)
+        ≡ Some (config_of r)) }
 {
     let mut stack = stack;
     let operand = reduced(alloc, &mut stack, level(operator), operand)?;
@@ -148,8 +163,11 @@ fn join(
 
 /// A closing parenthesis behind an operand in a group.
 fn leave(alloc: Global, stack: Vec<Entry>, operand: Operand) -> Result<Reader, AllocError>
-    requires { IsSome (machine.step_operand (stack_of stack.items) (meaning_of operand) spec.closing) }
-    ensures { IfOk result (λ r. machine.step_operand (stack_of stack.items) (meaning_of operand) spec.closing ≡ Some (config_of r)) }
+    requires { IsSome
+        (machine.step_operand (stack_of stack.items) (meaning_of operand) spec.closing) }
+    ensures { IfOk result
+        (λ r. machine.step_operand (stack_of stack.items) (meaning_of operand) spec.closing
+        ≡ Some (config_of r)) }
 {
     let mut stack = stack;
     let inner = reduced(alloc, &mut stack, 1, operand)?;
@@ -175,9 +193,14 @@ fn step_argument(
     at: usize,
     sign: Sign<'_>,
 ) -> Result<Reader, AllocError>
-    requires may { IsSome (machine.with_argument (stack_of stack.items) name_at name args.items (spec.argument_of (symbol_at at sign))) }
+    requires may { IsSome
+        (machine.with_argument (stack_of stack.items) name_at name args.items
+        (spec.argument_of (symbol_at at sign))) }
     requires readable { IsReadable (symbol_at at sign) }
-    ensures { IfOk result (λ r. machine.with_argument (stack_of stack.items) name_at name args.items (spec.argument_of (symbol_at at sign.entry)) ≡ Some (config_of r)) }
+    ensures { IfOk result
+        (λ r.
+        machine.with_argument (stack_of stack.items) name_at name args.items
+        (spec.argument_of (symbol_at at sign.entry)) ≡ Some (config_of r)) }
 {
     let mut args = args;
     match sign {
@@ -212,10 +235,14 @@ fn step_behind_argument(
     at: usize,
     sign: Sign<'_>,
 ) -> Result<Reader, AllocError>
-    requires may { IsSome (machine.step_argument (stack_of stack.items) name_at name args.items (symbol_at at sign)) }
+    requires may { IsSome
+        (machine.step_argument (stack_of stack.items) name_at name args.items (symbol_at at sign)) }
     requires named { spec.class_of name ≡ Names }
     requires few { length args.items ≤ 4 }
-    ensures { IfOk result (λ r. machine.step_argument (stack_of stack.items) name_at name args.items (symbol_at at sign.entry) ≡ Some (config_of r)) }
+    ensures { IfOk result
+        (λ r.
+        machine.step_argument (stack_of stack.items) name_at name args.items
+        (symbol_at at sign.entry) ≡ Some (config_of r)) }
 {
     let mut stack = stack;
     match sign {
@@ -247,9 +274,13 @@ fn step_quantifier(
     at: usize,
     sign: Sign<'_>,
 ) -> Result<Reader, AllocError>
-    requires may { IsSome (machine.step_quantifier (stack_of stack.items) word_at quantifier (symbol_at at sign)) }
+    requires may { IsSome
+        (machine.step_quantifier (stack_of stack.items) word_at quantifier (symbol_at at sign)) }
     requires readable { IsReadable (symbol_at at sign) }
-    ensures { IfOk result (λ r. machine.step_quantifier (stack_of stack.items) word_at quantifier (symbol_at at sign.entry) ≡ Some (config_of r)) }
+    ensures { IfOk result
+        (λ r.
+        machine.step_quantifier (stack_of stack.items) word_at quantifier (symbol_at at sign.entry)
+        ≡ Some (config_of r)) }
 {
     let mut stack = stack;
     match sign {
@@ -279,7 +310,8 @@ pub(crate) fn step(
     requires may { IsSome (machine.step (config_of reader) (symbol_at at sign)) }
     requires sound { IsSound (mode_of reader.mode) }
     requires readable { IsReadable (symbol_at at sign) }
-    ensures { IfOk result (λ r. machine.step (config_of reader) (symbol_at at sign.entry) ≡ Some (config_of r)) }
+    ensures { IfOk result
+        (λ r. machine.step (config_of reader) (symbol_at at sign.entry) ≡ Some (config_of r)) }
 {
     let Reader { stack, mode } = reader;
     match mode {
@@ -324,7 +356,9 @@ fn whole_operand(
     stack: Vec<Entry>,
     operand: Operand,
 ) -> Result<Option<Operand>, AllocError>
-    ensures { IfOk result (λ x. option_map meaning_of x ≡ machine.joined_all (Some (machine.held (stack_of stack.items) (meaning_of operand)))) }
+    ensures { IfOk result
+        (λ x. option_map meaning_of x
+        ≡ machine.joined_all (Some (machine.held (stack_of stack.items) (meaning_of operand)))) }
 {
     let mut stack = stack;
     let whole = reduced(alloc, &mut stack, 1, operand)?;

@@ -1,6 +1,7 @@
 //! The reader's loop over the tokens of a text.
 
-ghost use Rattle.std.specs.Prelude.{◌≡◌, ℕ, ◌≤◌, length, IsSome, MatchResult, None, Some, ◌+◌, if◌then◌else◌};
+ghost use Rattle.std.specs.Prelude.{◌≡◌, ℕ, ◌≤◌, length, IsSome, MatchResult, None, Some, ◌+◌};
+ghost use Rattle.std.specs.Prelude.{if◌then◌else◌};
 ghost use Rattle.ix_lex.specs.inside.Items.{plain_token};
 ghost use Rattle.ix_parse.specs.Symbols.{symbol_of};
 ghost use Rattle.ix_parse.specs.inside.StackMachine as machine;
@@ -41,13 +42,16 @@ fn take(
     token: &Token<'_>,
     param_next: bool,
 ) -> Result<Reading, TextFault>
-    requires may { judging.judged (config_of reading.reader) reading.nodes (symbol_of (plain_token token.now)) param_next ≡ None
+    requires may { judging.judged (config_of reading.reader) reading.nodes
+        (symbol_of (plain_token token.now)) param_next ≡ None
         → IsSome (machine.step (config_of reading.reader) (symbol_of (plain_token token.now))) }
-    requires readable { judging.judged (config_of reading.reader) reading.nodes (symbol_of (plain_token token.now)) param_next ≡ None
+    requires readable { judging.judged (config_of reading.reader) reading.nodes
+        (symbol_of (plain_token token.now)) param_next ≡ None
         → IsReadable (symbol_of (plain_token token.now)) }
     requires sound { IsSound (mode_of reading.reader.mode) }
     requires few { reading.nodes ≤ 512 }
-    ensures { IsTaken (config_of reading.reader) reading.nodes (plain_token token.now) param_next result }
+    ensures { IsTaken (config_of reading.reader) reading.nodes
+        (plain_token token.now) param_next result }
 {
     let Reading { reader, nodes } = reading;
     let at = token.start;

@@ -3,7 +3,8 @@ use ix_expr::Expr;
 use std::alloc::AllocError;
 use std::test::Fail;
 
-// 0 and the number of nodes of an expression, the code and the place of a fault, or None for want of memory.
+// 0 and the number of nodes of an expression, the code and the place of a fault, or None for want
+// of memory.
 fn outcome(alloc: Global, text: &[u8]) -> Option<(u8, usize)> {
     match read(alloc, text) {
         Ok(expression) => Some((0, expression.nodes())),

@@ -8,7 +8,8 @@ ghost use Rattle.ix_outside.specs.SiteState.{OnlyWire};
 ghost use Rattle.ix_outside.specs.Crashes.{nothing_left};
 ghost use Rattle.ix_outside.specs.lemmas.Untold.{untold_is_lawful};
 ghost use Rattle.ix_real.specs.inside.Piece.{IsServed};
-ghost use Rattle.ix_real.specs.inside.Untold.{untold_site, with_disk_fault, with_wire_fault, with_send_fault};
+ghost use Rattle.ix_real.specs.inside.Untold.{untold_site, with_disk_fault, with_wire_fault};
+ghost use Rattle.ix_real.specs.inside.Untold.{with_send_fault};
 
 use crate::faults::count_fault;
 use crate::{journal, wire};
@@ -58,7 +59,8 @@ impl<'a, R> Model for RealSite<'a, R> {
 impl<'a, R> RealSite<'a, R> {
     /// Nothing is listened to and no file is attached yet, and no call failed.
     pub fn new(rt: &'a R) -> Self
-        ensures { result ≡ record { counts = record { disk = 0; wire = 0; send = 0 }; attached = false } }
+        ensures { result
+            ≡ record { counts = record { disk = 0; wire = 0; send = 0 }; attached = false } }
     {
         RealSite {
             rt,
@@ -157,7 +159,8 @@ impl<R: rt::Files<File = File> + Net + Clock> Site for RealSite<'_, R> {
         ensures contents { Gives buf.new result
             (untold_site self.old).contents (untold_site self.new).contents }
         ensures now { LeavesTheSame nothing_left.now nothing_left.now }
-        ensures call { OneCall (untold_site self.old) (untold_site self.new) nothing_left nothing_left }
+        ensures call { OneCall (untold_site self.old)
+            (untold_site self.new) nothing_left nothing_left }
         ensures rest { OnlyWire (untold_site self.old) (untold_site self.new) }
     {
         let Some(mut stream) = self.take_stream() else {

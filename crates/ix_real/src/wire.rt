@@ -32,7 +32,8 @@ fn broke_off(error: &io::Error) -> bool {
 /// that fails is its end too. No byte is lost.
 pub(crate) fn receive<S: Read>(stream: &mut S, buf: &mut [u8]) -> EventKind
     ensures piece { IsPiece (length buf.old) result }
-    ensures bytes { Consumes (S.remaining stream.old) (S.remaining stream.new) (piece_of result buf.new) }
+    ensures bytes { Consumes (S.remaining stream.old) (S.remaining stream.new)
+        (piece_of result buf.new) }
 {
     for _ in 0..u64::MAX {
         match stream.read(buf) {

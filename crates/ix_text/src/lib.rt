@@ -1,7 +1,8 @@
 //! The canonical text of an expression.
 #![tactic(auto)]
 
-ghost use Rattle.std.specs.Prelude.{◌≡◌, ◌∷◌, ◌++◌, [], ◌<◌, nat_lt, nat_le, IfOk, OnOk, length, vec_len};
+ghost use Rattle.std.specs.Prelude.{◌≡◌, ◌∷◌, ◌++◌, [], ◌<◌, nat_lt, nat_le, IfOk, OnOk, length};
+ghost use Rattle.std.specs.Prelude.{vec_len};
 ghost use Rattle.ix_expr.specs.CanonicalText as spec;
 ghost use Rattle.ix_expr.specs.inside.FormOf.{form_of};
 
@@ -24,7 +25,8 @@ pub fn text(alloc: Global, expression: &Expression) -> Result<Vec<u8>, AllocErro
 
 #[cycle(writer)]
 fn write(out: &mut Vec<u8>, expr: &Expr) -> Result<(), AllocError>
-    ensures { OnOk result (out.new.items ≡ out.old.items ++ spec.canonical_text (form_of expr.now)) }
+    ensures { OnOk result
+        (out.new.items ≡ out.old.items ++ spec.canonical_text (form_of expr.now)) }
 {
     match expr {
         Expr::Atom(atom) => write_atom(out, atom),
@@ -60,7 +62,12 @@ fn write(out: &mut Vec<u8>, expr: &Expr) -> Result<(), AllocError>
 
 #[cycle(writer)]
 fn write_prefix(out: &mut Vec<u8>, operator: u8, operand: &Expr) -> Result<(), AllocError>
-    ensures { OnOk result (out.new.items ≡ out.old.items ++ (operator ∷ spec.operand_text (spec.binding (form_of operand.now), spec.canonical_text (form_of operand.now)))) }
+    ensures { OnOk result
+        (out.new.items
+        ≡ out.old.items
+        ++ (operator
+        ∷ spec.operand_text
+        (spec.binding (form_of operand.now), spec.canonical_text (form_of operand.now)))) }
 {
     out.push(operator)?;
     write_operand(out, operand, is_binary(operand))
@@ -68,7 +75,11 @@ fn write_prefix(out: &mut Vec<u8>, operator: u8, operand: &Expr) -> Result<(), A
 
 #[cycle(writer)]
 fn write_left(out: &mut Vec<u8>, operand: &Expr, level: u8, operator: u8) -> Result<(), AllocError>
-    ensures { OnOk result (out.new.items ≡ out.old.items ++ (spec.enclosed (nat_lt (spec.binding (form_of operand.now)) level) (spec.canonical_text (form_of operand.now)) ++ (32 ∷ operator ∷ 32 ∷ []))) }
+    ensures { OnOk result
+        (out.new.items
+        ≡ out.old.items
+        ++ (spec.enclosed (nat_lt (spec.binding (form_of operand.now)) level)
+        (spec.canonical_text (form_of operand.now)) ++ (32 ∷ operator ∷ 32 ∷ []))) }
 {
     write_operand(out, operand, binding(operand) < level)?;
     out.extend_from_slice(&[b' ', operator, b' '])
@@ -81,7 +92,11 @@ fn write_quantifier(
     parameter: &Name,
     operand: &Expr,
 ) -> Result<(), AllocError>
-    ensures { OnOk result (out.new.items ≡ out.old.items ++ spec.quantifier_text word.now parameter.now (spec.binding (form_of operand.now), spec.canonical_text (form_of operand.now))) }
+    ensures { OnOk result
+        (out.new.items
+        ≡ out.old.items
+        ++ spec.quantifier_text word.now parameter.now
+        (spec.binding (form_of operand.now), spec.canonical_text (form_of operand.now))) }
 {
     out.extend_from_slice(word)?;
     out.extend_from_slice(b" $")?;
@@ -92,7 +107,9 @@ fn write_quantifier(
 
 #[cycle(writer)]
 fn write_operand(out: &mut Vec<u8>, operand: &Expr, is_enclosed: bool) -> Result<(), AllocError>
-    ensures { OnOk result (out.new.items ≡ out.old.items ++ spec.enclosed is_enclosed (spec.canonical_text (form_of operand.now))) }
+    ensures { OnOk result
+        (out.new.items
+        ≡ out.old.items ++ spec.enclosed is_enclosed (spec.canonical_text (form_of operand.now))) }
 {
     if is_enclosed {
         out.push(b'(')?;
@@ -136,7 +153,8 @@ fn write_atom(out: &mut Vec<u8>, atom: &Atom) -> Result<(), AllocError>
 }
 
 fn write_arguments(out: &mut Vec<u8>, first: &Arg, more: &[Arg]) -> Result<(), AllocError>
-    ensures { OnOk result (out.new.items ≡ out.old.items ++ spec.arguments_text (first.now ∷ more.now)) }
+    ensures { OnOk result
+        (out.new.items ≡ out.old.items ++ spec.arguments_text (first.now ∷ more.now)) }
 {
     out.push(b'(')?;
     write_argument(out, first)?;

@@ -2,7 +2,8 @@
 
 ghost use Rattle.std.specs.Prelude.{◌≡◌, map};
 ghost use Rattle.ix_tree.specs.Plain.{listed, or, and, couple, any, every, sync};
-ghost use Rattle.ix_tree.specs.PlainOf.{plain_pair, plain_bag, plain_map, plain_entry, plain_entries};
+ghost use Rattle.ix_tree.specs.PlainOf.{plain_pair, plain_bag, plain_map, plain_entry};
+ghost use Rattle.ix_tree.specs.PlainOf.{plain_entries};
 ghost use Rattle.ix_tree.specs.inside.PlainNode.{plain_node};
 ghost use Rattle.ix_tree.specs.Order.{tree_cmp, place};
 
@@ -132,7 +133,8 @@ impl PartialEq for Pair {
 
     ghost eq = { eq_by_cmp (on plain_pair tree_cmp) };
 
-    ghost laws = { partial_equiv_from_equiv (eq_by_cmp_equiv (on_total plain_pair tree_cmp-total)) };
+    ghost laws = { partial_equiv_from_equiv
+        (eq_by_cmp_equiv (on_total plain_pair tree_cmp-total)) };
 
     fn eq(&self, other: &Pair) -> bool {
         compare_pair(self, other) == Ordering::Equal
@@ -491,7 +493,8 @@ fn compare_knots(left: &[Knot], right: &[Knot]) -> Ordering
 
 #[cycle(compare)]
 fn compare_pairs(left: &[Pair], right: &[Pair]) -> Ordering
-    ensures { result ≡ tree_cmp (listed (map plain_pair left.now)) (listed (map plain_pair right.now)) }
+    ensures { result
+        ≡ tree_cmp (listed (map plain_pair left.now)) (listed (map plain_pair right.now)) }
 {
     for i in 0..left.len().min(right.len()) {
         let order = compare_pair(&left[i], &right[i]);
@@ -504,7 +507,8 @@ fn compare_pairs(left: &[Pair], right: &[Pair]) -> Ordering
 
 #[cycle(compare)]
 fn compare_bags(left: &[Bag], right: &[Bag]) -> Ordering
-    ensures { result ≡ tree_cmp (listed (map plain_bag left.now)) (listed (map plain_bag right.now)) }
+    ensures { result
+        ≡ tree_cmp (listed (map plain_bag left.now)) (listed (map plain_bag right.now)) }
 {
     for i in 0..left.len().min(right.len()) {
         let order = compare_bag(&left[i], &right[i]);
@@ -517,7 +521,8 @@ fn compare_bags(left: &[Bag], right: &[Bag]) -> Ordering
 
 #[cycle(compare)]
 fn compare_maps(left: &[Map], right: &[Map]) -> Ordering
-    ensures { result ≡ tree_cmp (listed (map plain_map left.now)) (listed (map plain_map right.now)) }
+    ensures { result
+        ≡ tree_cmp (listed (map plain_map left.now)) (listed (map plain_map right.now)) }
 {
     for i in 0..left.len().min(right.len()) {
         let order = compare_map(&left[i], &right[i]);

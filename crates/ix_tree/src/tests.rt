@@ -1,7 +1,8 @@
 //! Sizes of trees that were built by hand, worked out from what a tree is, and copies of them.
 
 ghost use Rattle.std.specs.Prelude.{◌≡◌, IfOk, [], ◌∷◌};
-ghost use Rattle.ix_tree.specs.Plain.{start, done, dead, seq, par, par_star, any, pair, bag, entry, none, more};
+ghost use Rattle.ix_tree.specs.Plain.{start, done, dead, seq, par, par_star, any, pair, bag, entry};
+ghost use Rattle.ix_tree.specs.Plain.{none, more};
 
 use super::*;
 use ix_values::Value;
@@ -52,7 +53,9 @@ fn one_begun(alloc: Global) -> Result<Knot, AllocError>
 /// `#(a - b)` after `a`, `a`.
 fn two_begun(alloc: Global) -> Result<Knot, AllocError>
     ensures { IfOk result (λ t. t
-        ≡ par_star (more (bag (more (seq done (more start none)) (more (seq done (more start none)) none))) none)) }
+        ≡ par_star
+        (more
+        (bag (more (seq done (more start none)) (more (seq done (more start none)) none))) none)) }
 {
     let mut items = Vec::new(alloc);
     items.push(half(alloc)?)?;

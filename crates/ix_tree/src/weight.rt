@@ -37,7 +37,8 @@ impl Weight for Pair {
 
     ghost weight = { λ p. size_of (plain_pair p) };
 
-    ghost equal_items_weigh_alike = { λ p q. equal_trees_weigh_alike (plain_pair p) (plain_pair q) };
+    ghost equal_items_weigh_alike = { λ p q.
+        equal_trees_weigh_alike (plain_pair p) (plain_pair q) };
 
     fn weight(&self) -> usize {
         self.size()

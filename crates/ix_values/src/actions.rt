@@ -3,7 +3,8 @@
 ghost use Rattle.std.specs.Prelude.{◌≡◌, ◌<◌, ◌≤◌, ◌↔◌, ◌++◌, IsTrue, refl, [], ◌∷◌, length, All};
 ghost use Rattle.std.specs.Ordering.{as_partial_cmp};
 ghost use Rattle.ix_values.specs.inside.ActionOrder.{action_eq, action_cmp};
-ghost use Rattle.ix_values.specs.lemmas.Order.{action_eq-partial, action_eq-equiv, action_eq-ties, action_cmp-partial, action_cmp-total};
+ghost use Rattle.ix_values.specs.lemmas.Order.{action_eq-partial, action_eq-equiv, action_eq-ties};
+ghost use Rattle.ix_values.specs.lemmas.Order.{action_cmp-partial, action_cmp-total};
 ghost use Rattle.ix_values.specs.inside.Padding.{padded};
 ghost use Rattle.ix_values.specs.inside.ActionOf.{action_of};
 ghost use Rattle.ix_values.specs.Texts.{IsAction, IsValue};
@@ -33,11 +34,14 @@ impl Model for Action {
 
     ghost view = { λ a. action_of a.name (take a.count a.values) };
 
-    ghost invariant = { λ a. IsPadded 4 (48 ∷ []) a.count a.values × IsAction (action_of a.name (take a.count a.values)) };
+    ghost invariant = { λ a. IsPadded 4 (48 ∷ []) a.count a.values
+        × IsAction (action_of a.name (take a.count a.values)) };
 
-    ghost inverse = { λ a. record { name = a.name; values = padded 4 (48 ∷ []) a.values; count = length a.values } };
+    ghost inverse = { λ a.
+        record { name = a.name; values = padded 4 (48 ∷ []) a.values; count = length a.values } };
 
-    ghost inverse_ok = { λ a h. λ i. record { name = a.name; values = sym h.0.filled i; count = h.0.counted i } };
+    ghost inverse_ok = { λ a h. λ i.
+        record { name = a.name; values = sym h.0.filled i; count = h.0.counted i } };
 }
 
 impl Action {

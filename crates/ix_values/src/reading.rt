@@ -1,6 +1,7 @@
 //! The reader of actions.
 
-ghost use Rattle.std.specs.Prelude.{◌≡◌, ◌<◌, ◌≤◌, ◌↔◌, IsTrue, false, length, take, slice_get, MatchOption, MatchResult};
+ghost use Rattle.std.specs.Prelude.{◌≡◌, ◌<◌, ◌≤◌, ◌↔◌, IsTrue, false, length, take, slice_get};
+ghost use Rattle.std.specs.Prelude.{MatchOption, MatchResult};
 ghost use Rattle.ix_values.specs.Faults.{IsActionText, IsFault};
 ghost use Rattle.ix_values.specs.PlainAction.{text_of};
 ghost use Rattle.ix_values.specs.inside.FirstWord as spec;

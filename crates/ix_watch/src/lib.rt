@@ -1,12 +1,14 @@
 //! The watches: which client, by its name, wants to know of which action.
 //!
-//! A watch is a pair of a name and an action, with what was last told of it and what holds now. The watches stand in
-//! the order in which they were first added.
+//! A watch is a pair of a name and an action, with what was last told of it and what holds now. The
+//! watches stand in the order in which they were first added.
 #![tactic(auto)]
 
-ghost use Rattle.std.specs.Prelude.{◌≡◌, ◌<◌, ◌≤◌, ◌↔◌, [], ◌∷◌, ◌++◌, false, length, is_some, slice_get, Some, IfSome, IfOk, IfErr, IsTrue, IsSomeAnd};
+ghost use Rattle.std.specs.Prelude.{◌≡◌, ◌<◌, ◌≤◌, ◌↔◌, [], ◌∷◌, ◌++◌, false, length, is_some};
+ghost use Rattle.std.specs.Prelude.{slice_get, Some, IfSome, IfOk, IfErr, IsTrue, IsSomeAnd};
 ghost use Rattle.std.specs.List.{position_or_len};
-ghost use Rattle.ix_watch.specs.inside.Watches.{is_of, is_watched, AreDistinct, without, marked, noted, told_to, changes_of};
+ghost use Rattle.ix_watch.specs.inside.Watches.{is_of, is_watched, AreDistinct, without, marked};
+ghost use Rattle.ix_watch.specs.inside.Watches.{noted, told_to, changes_of};
 ghost use Rattle.ix_watch.specs.inside.Added.{Adds};
 
 mod changes;
@@ -98,7 +100,8 @@ impl Watches {
 
     fn index_of(&self, name: &Name, action: &Action) -> Option<usize>
         ensures found { is_some result ≡ is_watched name.now action.now self.now }
-        ensures place { IfSome result (λ index. index ≡ position_or_len (is_of name.now action.now) self.now) }
+        ensures place { IfSome result
+            (λ index. index ≡ position_or_len (is_of name.now action.now) self.now) }
         ensures within { IfSome result (λ index. index < length self.now) }
         ensures distinct { AreDistinct self.now }
     {
@@ -119,7 +122,8 @@ impl Watches {
     /// The pair at an index below `len`.
     pub fn at(&self, index: usize) -> (&Name, &Action)
         requires { index < length self.now }
-        ensures { IsSomeAnd (slice_get self.now index) (λ watch. (result.0.now ≡ watch.name) × (result.1.now ≡ watch.action)) }
+        ensures { IsSomeAnd (slice_get self.now index)
+            (λ watch. (result.0.now ≡ watch.name) × (result.1.now ≡ watch.action)) }
     {
         let (pair, _) = self.entry(index);
         (&pair.name, &pair.action)
@@ -142,7 +146,8 @@ impl Watches {
     fn append(&mut self, pair: Pair, mark: Mark) -> Result<Added, WatchFault>
         requires new { is_watched pair.name pair.action self.old ≡ false }
         requires room { length self.old < 4096 }
-        ensures ok { IfOk result (λ added. (added ≡ Added.New) × (self.new ≡ self.old ++ watch_of (pair, mark) ∷ [])) }
+        ensures ok { IfOk result
+            (λ added. (added ≡ Added.New) × (self.new ≡ self.old ++ watch_of (pair, mark) ∷ [])) }
         ensures err { IfErr result (λ fault. (fault ≡ WatchFault.Memory) × (self.new ≡ self.old)) }
     {
         match self.marks.insert(pair, mark) {

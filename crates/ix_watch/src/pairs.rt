@@ -1,6 +1,7 @@
 //! Pairs of a name and an action, as keys of a map.
 ghost use Rattle.std.specs.Prelude.{◌≡◌};
-ghost use Rattle.ix_watch.specs.lemmas.Pairs.{pair_eq, pair_eq-partial, pair_eq-equiv, hash_input_of, hash_input_of-respects_eq};
+ghost use Rattle.ix_watch.specs.lemmas.Pairs.{pair_eq, pair_eq-partial, pair_eq-equiv};
+ghost use Rattle.ix_watch.specs.lemmas.Pairs.{hash_input_of, hash_input_of-respects_eq};
 
 use ix_values::{Action, Name};
 use std::hash::{Hash, Hasher};

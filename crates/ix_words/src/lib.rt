@@ -1,8 +1,13 @@
-//! Words over any item: cuts, splits, owners, parts, projections, and lists compared by their members.
-//! Each function here is a law: its contract is the statement, and its body is empty.
+//! Words over any item: cuts, splits, owners, parts, projections, and lists compared by their
+//! members. Each function here is a law: its contract is the statement, and its body is empty.
 #![tactic(auto)]
 
-ghost use Rattle.ix_words.specs.Laws.{PartsAppend, PartsGrow, PartsCover, ProjectionsByTest, ProjectionsGrow, JoinedGrow, SplitsClosed, NumberedClosed, OwnedClosed, ProjectedClosed, JoinedFronts, CutsAll, CutsGrow, SplitsAll, SplitsGrow, CanonStands, AscendingOnce, CanonByMembers, CanonAppend, CanonGrow, CanonEach, NumbersBelowTheLength, OwnersOfTheirItems, PiecesAreFilled};
+ghost use Rattle.ix_words.specs.Laws.{PartsAppend, PartsGrow, PartsCover, ProjectionsByTest};
+ghost use Rattle.ix_words.specs.Laws.{ProjectionsGrow, JoinedGrow, SplitsClosed, NumberedClosed};
+ghost use Rattle.ix_words.specs.Laws.{OwnedClosed, ProjectedClosed, JoinedFronts, CutsAll};
+ghost use Rattle.ix_words.specs.Laws.{CutsGrow, SplitsAll, SplitsGrow, CanonStands, AscendingOnce};
+ghost use Rattle.ix_words.specs.Laws.{CanonByMembers, CanonAppend, CanonGrow, CanonEach};
+ghost use Rattle.ix_words.specs.Laws.{NumbersBelowTheLength, OwnersOfTheirItems, PiecesAreFilled};
 
 /// The part of an appended word is the part of the first with that of the second behind it.
 pub fn parts_append<Owner, Item>()
