@@ -1,5 +1,5 @@
 -- The stack in memory and the machine's.
-use Rattle.std.proofs.Common.{◌≡◌, ℕ, suc, ◌+◌, ◌-◌, Bool, true, false, cond, List, [], ◌∷◌, ◌++◌, length, take, Option, Some, None, refl, sym, ap, ◌∙◌, arith, ◌≤◌, le-leb}
+use Rattle.std.proofs.Common.{◌≡◌, ℕ, suc, ◌+◌, ◌-◌, Bool, true, false, cond, List, [], ◌∷◌, ◌++◌, length, take, Some, None, refl, sym, ap, ◌∙◌, arith, ◌≤◌, le-leb}
 use Rattle.std.proofs.lemmas.List.{append-nil}
 use Rattle.std.specs.List.{slice_get, count_by, fold}
 use Rattle.ix_parse.specs.declared.stack.Entry.{Entry}
@@ -9,7 +9,6 @@ use Rattle.ix_parse.specs.Symbols.{Meaning, level, joined}
 use Rattle.ix_parse.specs.inside.Operands.{meaning_of}
 use Rattle.ix_parse.specs.inside.StackMachine as machine
 use Rattle.ix_parse.specs.inside.StackMachine.{group, sign, binder, left, closed, reduced, held, left_group, alone, levels, groups}
-use Rattle.std.specs.Prelude.{is_some}
 use Rattle.ix_parse.specs.inside.Stack.{taking_of, is_counted, entry_of, stack_onto, stack_of, is_prefix_inmost, is_left_inmost}
 
 -- the last entry is the inmost
@@ -123,9 +122,6 @@ left_group-popped s x es fs e y r is = ap (λ (h : machine.WithOperand). left_gr
 pub taking-no_group : (t : _) (s : List machine.Entry) (y : Meaning) → left_group (taking_of t ∷ s) y ≡ None
 taking-no_group (Sign at p) s y = refl
 taking-no_group (Binder at q p) s y = refl
-
-pub no_some : {A B : Type 0} (o : Option A) → is_some o ≡ true → o ≡ None → B
-no_some o some none = let h : is_some o ≡ false = ap is_some none in cc
 
 -- whether nothing is open
 alone-onto : (e : machine.Entry) (s : List machine.Entry) (es : List Entry) (y : Meaning) → alone (stack_onto (e ∷ s) es) y ≡ None

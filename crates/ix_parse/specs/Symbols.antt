@@ -113,8 +113,4 @@ named at w arguments = record { form = forms.atom (atom_of w arguments); places 
 abbrev pub argument_of : Symbol → Option Arg
 argument_of (word at v) = Some (Fixed v)
 argument_of (param p) = Some (Param p)
-argument_of opening = None
-argument_of closing = None
-argument_of comma = None
-argument_of (before at sign) = None
-argument_of (between at o) = None
+argument_of _ = None

@@ -1,11 +1,10 @@
-//! The steps of the reader, by what was read last. Each takes a token that may come.
+//! The steps of the reader, by what was read last. A token that can't come gives no reader.
 
-ghost use Rattle.std.specs.Prelude.{◌≡◌, ℕ, ◌≤◌, true, [], length, List, Some, IfOk, IsSome};
+ghost use Rattle.std.specs.Prelude.{◌≡◌, ℕ, ◌≤◌, true, [], length, List, Some, IfOk};
 ghost use Rattle.std.specs.Prelude.{option_map};
 ghost use Rattle.ix_values.specs.Texts.{IsValue};
 ghost use Rattle.ix_parse.specs.Symbols as spec;
 ghost use Rattle.ix_parse.specs.inside.StackMachine as machine;
-ghost use Rattle.ix_parse.specs.inside.Judged as judging;
 ghost use Rattle.ix_parse.specs.inside.Operands.{meaning_of};
 ghost use Rattle.ix_parse.specs.inside.Stack.{stack_of};
 ghost use Rattle.ix_parse.specs.inside.Views.{symbol_at};
@@ -23,52 +22,50 @@ use ix_values::{Name, Value};
 use std::alloc::{AllocError, Global};
 
 #[tactic(auto, using(crate::proofs::Stacks::pushed))]
-fn step_wanted(stack: Vec<Entry>, at: usize, sign: Sign<'_>) -> Result<Reader, AllocError>
-    requires may { IsSome (machine.step_wanted (stack_of stack.items) (symbol_at at sign)) }
-    requires readable { IsReadable (symbol_at at sign) }
-    ensures { IfOk result
-        (λ r. machine.step_wanted (stack_of stack.items) (symbol_at at sign.entry)
-        ≡ Some (config_of r)) }
+fn step_wanted(stack: Vec<Entry>, at: usize, sign: Sign<'_>) -> Result<Option<Reader>, AllocError>
+    requires { IsReadable (symbol_at at sign) }
+    ensures { IfOk result (λ r. option_map config_of r
+        ≡ machine.step_wanted (stack_of stack.items) (symbol_at at sign.entry)) }
 {
     let mut stack = stack;
     match sign {
-        Sign::Word(word) => {
-            let mode = word_mode(at, word);
-            Ok(Reader { stack, mode })
-        }
+        Sign::Word(word) => match word_mode(at, word) {
+            Some(mode) => Ok(Some(Reader { stack, mode })),
+            None => Ok(None),
+        },
         Sign::Opening => {
             stack.push(Entry::Group)?;
-            Ok(Reader {
-                stack,
-                mode: Mode::Wanted,
-            })
+            Ok(Some(wanting(stack)))
         }
         Sign::Before(prefix) => {
             stack.push(Entry::Taking(Taking::Sign(at, prefix)))?;
-            Ok(Reader {
-                stack,
-                mode: Mode::Wanted,
-            })
+            Ok(Some(wanting(stack)))
         }
-        Sign::Param(_) => unreachable!(),
-        Sign::Closing => unreachable!(),
-        Sign::Comma => unreachable!(),
-        Sign::Between(_) => unreachable!(),
+        _ => Ok(None),
     }
 }
 
-fn word_mode(at: usize, word: &[u8]) -> Mode
-    requires begins { judging.begins_operand (spec.class_of word.now) ≡ true }
-    requires readable { IsValue word.now }
+/// A reader that wants an operand.
+fn wanting(stack: Vec<Entry>) -> Reader
+    ensures { config_of result ≡ machine.config (stack_of stack.items) machine.wanted }
+{
+    Reader {
+        stack,
+        mode: Mode::Wanted,
+    }
+}
+
+fn word_mode(at: usize, word: &[u8]) -> Option<Mode>
+    requires { IsValue word.now }
     ensures { (s : List machine.Entry)
-        → machine.step_word s at word.now (spec.class_of word.now)
-        ≡ Some (machine.config s (mode_of result)) }
+        → option_map (λ mode. machine.config s (mode_of mode)) result
+        ≡ machine.step_word s at word.now (spec.class_of word.now) }
 {
     match class_of(word) {
-        WordClass::Quantifies(quantifier) => Mode::QuantifierRead(at, quantifier),
-        WordClass::Names => Mode::NameRead(at, Name::of_text(word)),
-        WordClass::Withheld => unreachable!(),
-        WordClass::Other => unreachable!(),
+        WordClass::Quantifies(quantifier) => Some(Mode::QuantifierRead(at, quantifier)),
+        WordClass::Names => Some(Mode::NameRead(at, Name::of_text(word))),
+        WordClass::Withheld => None,
+        WordClass::Other => None,
     }
 }
 
@@ -79,20 +76,17 @@ fn step_name(
     name: Name,
     at: usize,
     sign: Sign<'_>,
-) -> Result<Reader, AllocError>
-    requires may { IsSome
-        (machine.step_name (stack_of stack.items) name_at name (symbol_at at sign)) }
-    requires named { spec.class_of name ≡ Names }
-    ensures { IfOk result
-        (λ r. machine.step_name (stack_of stack.items) name_at name (symbol_at at sign.entry)
-        ≡ Some (config_of r)) }
+) -> Result<Option<Reader>, AllocError>
+    requires { spec.class_of name ≡ Names }
+    ensures { IfOk result (λ r. option_map config_of r
+        ≡ machine.step_name (stack_of stack.items) name_at name (symbol_at at sign.entry)) }
 {
     let mut stack = stack;
     match sign {
-        Sign::Opening => Ok(Reader {
+        Sign::Opening => Ok(Some(Reader {
             stack,
             mode: Mode::ArgumentWanted(name_at, name, Vec::new(alloc)),
-        }),
+        })),
         Sign::Closing => {
             let atom = Operand::atom(alloc, name_at, name, &[])?;
             let operand = closed(alloc, &mut stack, atom)?;
@@ -101,12 +95,9 @@ fn step_name(
         Sign::Between(operator) => {
             let atom = Operand::atom(alloc, name_at, name, &[])?;
             let operand = closed(alloc, &mut stack, atom)?;
-            join(alloc, stack, operand, at, operator)
+            Ok(Some(join(alloc, stack, operand, at, operator)?))
         }
-        Sign::Word(_) => unreachable!(),
-        Sign::Param(_) => unreachable!(),
-        Sign::Comma => unreachable!(),
-        Sign::Before(_) => unreachable!(),
+        _ => Ok(None),
     }
 }
 
@@ -116,22 +107,15 @@ fn step_operand(
     operand: Operand,
     at: usize,
     sign: Sign<'_>,
-) -> Result<Reader, AllocError>
-    requires { IsSome
-        (machine.step_operand (stack_of stack.items) (meaning_of operand) (symbol_at at sign)) }
-    ensures { IfOk result
-        (λ r.
-        machine.step_operand (stack_of stack.items) (meaning_of operand) (symbol_at at sign.entry)
-        ≡ Some (config_of r)) }
+) -> Result<Option<Reader>, AllocError>
+    ensures { IfOk result (λ r. option_map config_of r
+        ≡ machine.step_operand (stack_of stack.items) (meaning_of operand)
+        (symbol_at at sign.entry)) }
 {
     match sign {
         Sign::Closing => leave(alloc, stack, operand),
-        Sign::Between(operator) => join(alloc, stack, operand, at, operator),
-        Sign::Word(_) => unreachable!(),
-        Sign::Param(_) => unreachable!(),
-        Sign::Opening => unreachable!(),
-        Sign::Comma => unreachable!(),
-        Sign::Before(_) => unreachable!(),
+        Sign::Between(operator) => Ok(Some(join(alloc, stack, operand, at, operator)?)),
+        _ => Ok(None),
     }
 }
 
@@ -143,10 +127,9 @@ fn join(
     at: usize,
     operator: Operator,
 ) -> Result<Reader, AllocError>
-    ensures { IfOk result
-        (λ r.
-        machine.step_operand (stack_of stack.items) (meaning_of operand) (spec.between at operator)
-        ≡ Some (config_of r)) }
+    ensures { IfOk result (λ r. Some (config_of r)
+        ≡ machine.step_operand (stack_of stack.items) (meaning_of operand)
+        (spec.between at operator)) }
 {
     let mut stack = stack;
     let operand = reduced(alloc, &mut stack, level(operator), operand)?;
@@ -155,33 +138,35 @@ fn join(
         operator,
         operand,
     }))?;
-    Ok(Reader {
-        stack,
-        mode: Mode::Wanted,
-    })
+    Ok(wanting(stack))
 }
 
-/// A closing parenthesis behind an operand in a group.
-fn leave(alloc: Global, stack: Vec<Entry>, operand: Operand) -> Result<Reader, AllocError>
-    requires { IsSome
-        (machine.step_operand (stack_of stack.items) (meaning_of operand) spec.closing) }
-    ensures { IfOk result
-        (λ r. machine.step_operand (stack_of stack.items) (meaning_of operand) spec.closing
-        ≡ Some (config_of r)) }
+/// A closing parenthesis behind an operand, which leaves the group that is inmost.
+fn leave(alloc: Global, stack: Vec<Entry>, operand: Operand) -> Result<Option<Reader>, AllocError>
+    ensures { IfOk result (λ r. option_map config_of r
+        ≡ machine.step_operand (stack_of stack.items) (meaning_of operand) spec.closing) }
 {
     let mut stack = stack;
     let inner = reduced(alloc, &mut stack, 1, operand)?;
     match stack.pop() {
         Some(Entry::Group) => {
             let group = closed(alloc, &mut stack, inner)?;
-            Ok(Reader {
-                stack,
-                mode: Mode::OperandRead(group),
-            })
+            Ok(Some(behind(stack, group)))
         }
-        Some(Entry::Taking(_)) => unreachable!(),
-        Some(Entry::Left(_)) => unreachable!(),
-        None => unreachable!(),
+        Some(Entry::Taking(_)) => Ok(None),
+        Some(Entry::Left(_)) => Ok(None),
+        None => Ok(None),
+    }
+}
+
+/// A reader behind an operand.
+fn behind(stack: Vec<Entry>, operand: Operand) -> Reader
+    ensures { config_of result
+        ≡ machine.with_operand (machine.held (stack_of stack.items) (meaning_of operand)) }
+{
+    Reader {
+        stack,
+        mode: Mode::OperandRead(operand),
     }
 }
 
@@ -192,38 +177,23 @@ fn step_argument(
     args: Vec<Arg>,
     at: usize,
     sign: Sign<'_>,
-) -> Result<Reader, AllocError>
-    requires may { IsSome
-        (machine.with_argument (stack_of stack.items) name_at name args.items
-        (spec.argument_of (symbol_at at sign))) }
-    requires readable { IsReadable (symbol_at at sign) }
-    ensures { IfOk result
-        (λ r.
-        machine.with_argument (stack_of stack.items) name_at name args.items
-        (spec.argument_of (symbol_at at sign.entry)) ≡ Some (config_of r)) }
+) -> Result<Option<Reader>, AllocError>
+    requires { IsReadable (symbol_at at sign) }
+    ensures { IfOk result (λ r. option_map config_of r
+        ≡ machine.with_argument (stack_of stack.items) name_at name args.items
+        (spec.argument_of (symbol_at at sign.entry))) }
 {
     let mut args = args;
-    match sign {
-        Sign::Word(word) => {
-            args.push(Arg::Fixed(Value::of_text(word)))?;
-            Ok(Reader {
-                stack,
-                mode: Mode::ArgumentRead(name_at, name, args),
-            })
-        }
-        Sign::Param(param) => {
-            args.push(Arg::Param(Name::of_text(param)))?;
-            Ok(Reader {
-                stack,
-                mode: Mode::ArgumentRead(name_at, name, args),
-            })
-        }
-        Sign::Opening => unreachable!(),
-        Sign::Closing => unreachable!(),
-        Sign::Comma => unreachable!(),
-        Sign::Before(_) => unreachable!(),
-        Sign::Between(_) => unreachable!(),
-    }
+    let arg = match sign {
+        Sign::Word(word) => Arg::Fixed(Value::of_text(word)),
+        Sign::Param(param) => Arg::Param(Name::of_text(param)),
+        _ => return Ok(None),
+    };
+    args.push(arg)?;
+    Ok(Some(Reader {
+        stack,
+        mode: Mode::ArgumentRead(name_at, name, args),
+    }))
 }
 
 fn step_behind_argument(
@@ -232,37 +202,26 @@ fn step_behind_argument(
     name_at: usize,
     name: Name,
     args: Vec<Arg>,
-    at: usize,
     sign: Sign<'_>,
-) -> Result<Reader, AllocError>
-    requires may { IsSome
-        (machine.step_argument (stack_of stack.items) name_at name args.items (symbol_at at sign)) }
+) -> Result<Option<Reader>, AllocError>
     requires named { spec.class_of name ≡ Names }
     requires few { length args.items ≤ 4 }
-    ensures { IfOk result
-        (λ r.
-        machine.step_argument (stack_of stack.items) name_at name args.items
-        (symbol_at at sign.entry) ≡ Some (config_of r)) }
+    ensures { IfOk result (λ r. (at : ℕ) → option_map config_of r
+        ≡ machine.step_argument (stack_of stack.items) name_at name args.items
+        (symbol_at at sign.entry)) }
 {
     let mut stack = stack;
     match sign {
-        Sign::Comma => Ok(Reader {
+        Sign::Comma if args.len() < 4 => Ok(Some(Reader {
             stack,
             mode: Mode::ArgumentWanted(name_at, name, args),
-        }),
+        })),
         Sign::Closing => {
             let atom = Operand::atom(alloc, name_at, name, args.as_slice())?;
             let operand = closed(alloc, &mut stack, atom)?;
-            Ok(Reader {
-                stack,
-                mode: Mode::OperandRead(operand),
-            })
+            Ok(Some(behind(stack, operand)))
         }
-        Sign::Word(_) => unreachable!(),
-        Sign::Param(_) => unreachable!(),
-        Sign::Opening => unreachable!(),
-        Sign::Before(_) => unreachable!(),
-        Sign::Between(_) => unreachable!(),
+        _ => Ok(None),
     }
 }
 
@@ -273,45 +232,32 @@ fn step_quantifier(
     quantifier: Quantifier,
     at: usize,
     sign: Sign<'_>,
-) -> Result<Reader, AllocError>
-    requires may { IsSome
-        (machine.step_quantifier (stack_of stack.items) word_at quantifier (symbol_at at sign)) }
-    requires readable { IsReadable (symbol_at at sign) }
-    ensures { IfOk result
-        (λ r.
-        machine.step_quantifier (stack_of stack.items) word_at quantifier (symbol_at at sign.entry)
-        ≡ Some (config_of r)) }
+) -> Result<Option<Reader>, AllocError>
+    requires { IsReadable (symbol_at at sign) }
+    ensures { IfOk result (λ r. option_map config_of r
+        ≡ machine.step_quantifier (stack_of stack.items) word_at quantifier
+        (symbol_at at sign.entry)) }
 {
+    let Sign::Param(param) = sign else {
+        return Ok(None);
+    };
     let mut stack = stack;
-    match sign {
-        Sign::Param(param) => {
-            let taking = Taking::Binder(word_at, quantifier, Name::of_text(param));
-            stack.push(Entry::Taking(taking))?;
-            Ok(Reader {
-                stack,
-                mode: Mode::Wanted,
-            })
-        }
-        Sign::Word(_) => unreachable!(),
-        Sign::Opening => unreachable!(),
-        Sign::Closing => unreachable!(),
-        Sign::Comma => unreachable!(),
-        Sign::Before(_) => unreachable!(),
-        Sign::Between(_) => unreachable!(),
-    }
+    let taking = Taking::Binder(word_at, quantifier, Name::of_text(param));
+    stack.push(Entry::Taking(taking))?;
+    Ok(Some(wanting(stack)))
 }
 
+/// The reader behind the token, or None where the token can't come.
 pub(crate) fn step(
     alloc: Global,
     reader: Reader,
     at: usize,
     sign: Sign<'_>,
-) -> Result<Reader, AllocError>
-    requires may { IsSome (machine.step (config_of reader) (symbol_at at sign)) }
+) -> Result<Option<Reader>, AllocError>
     requires sound { IsSound (mode_of reader.mode) }
     requires readable { IsReadable (symbol_at at sign) }
-    ensures { IfOk result
-        (λ r. machine.step (config_of reader) (symbol_at at sign.entry) ≡ Some (config_of r)) }
+    ensures { IfOk result (λ r. option_map config_of r
+        ≡ machine.step (config_of reader) (symbol_at at sign.entry)) }
 {
     let Reader { stack, mode } = reader;
     match mode {
@@ -321,7 +267,7 @@ pub(crate) fn step(
             step_argument(stack, name_at, name, args, at, sign)
         }
         Mode::ArgumentRead(name_at, name, args) => {
-            step_behind_argument(alloc, stack, name_at, name, args, at, sign)
+            step_behind_argument(alloc, stack, name_at, name, args, sign)
         }
         Mode::QuantifierRead(word_at, quantifier) => {
             step_quantifier(stack, word_at, quantifier, at, sign)

@@ -61,10 +61,11 @@ fn take(
     }
     let more = with_node(nodes, is_node(reader.wants_operand(), sign));
     match step(alloc, reader, at, sign) {
-        Ok(reader) => Ok(Reading {
+        Ok(Some(reader)) => Ok(Reading {
             reader,
             nodes: more,
         }),
+        Ok(None) => Err(fault_at(Fault::Unexpected, at)),
         Err(_) => Err(TextFault::Memory),
     }
 }

@@ -5,7 +5,7 @@ use Rattle.ix_parse.specs.declared.reader.Mode.{Mode}
 use Rattle.ix_parse.specs.declared.reader.Mode.TheVariants.{Wanted, NameRead, ArgumentWanted, ArgumentRead, QuantifierRead, OperandRead}
 use Rattle.ix_parse.specs.declared.reader.Reader.{Reader}
 use Rattle.ix_parse.specs.declared.signs.WordClass.TheVariants.{Names}
-use Rattle.ix_parse.specs.Symbols.{Symbol, word, param, opening, closing, comma, before, between, class_of}
+use Rattle.ix_parse.specs.Symbols.{Symbol, word, param, class_of}
 use Rattle.ix_parse.specs.inside.StackMachine as machine
 use Rattle.ix_parse.specs.inside.StackMachine.{wanted, name_read, argument_wanted, argument_read, quantifier_read, operand_read}
 use Rattle.ix_parse.specs.inside.Operands.{meaning_of}
@@ -24,19 +24,13 @@ config_of r = record { stack = stack_of r.stack.items; mode = mode_of r.mode }
 
 -- the atom that is being read has a name and at most four arguments
 abbrev pub IsSound : machine.Mode → Type 0
-IsSound wanted = Unit {0}
 IsSound (name_read at w) = class_of w ≡ Names
 IsSound (argument_wanted at w args) = (class_of w ≡ Names) × (length args < 4)
 IsSound (argument_read at w args) = (class_of w ≡ Names) × (length args ≤ 4)
-IsSound (quantifier_read at q) = Unit {0}
-IsSound (operand_read x) = Unit {0}
+IsSound _ = Unit {0}
 
 -- a word is a value and a parameter has a name
 abbrev pub IsReadable : Symbol → Type 0
 IsReadable (word at w) = IsValue w
 IsReadable (param p) = IsName p
-IsReadable opening = Unit {0}
-IsReadable closing = Unit {0}
-IsReadable comma = Unit {0}
-IsReadable (before at p) = Unit {0}
-IsReadable (between at o) = Unit {0}
+IsReadable _ = Unit {0}

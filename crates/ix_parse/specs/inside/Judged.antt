@@ -10,11 +10,7 @@ use Rattle.ix_parse.specs.inside.StackMachine.{Mode, wanted, name_read, argument
 
 abbrev pub is_wanted : Mode → Bool
 is_wanted wanted = true
-is_wanted (name_read at w) = false
-is_wanted (argument_wanted at w args) = false
-is_wanted (argument_read at w args) = false
-is_wanted (quantifier_read at q) = false
-is_wanted (operand_read x) = false
+is_wanted _ = false
 
 -- a word that begins no operand, by whether a parameter is next
 abbrev pub begins_nothing : WordClass → Bool → Bool
@@ -25,30 +21,16 @@ begins_nothing Other param_next = false
 
 abbrev pub is_reserved_word : Symbol → Bool → Bool
 is_reserved_word (word at w) param_next = begins_nothing (class_of w) param_next
-is_reserved_word (param p) param_next = false
-is_reserved_word opening param_next = false
-is_reserved_word closing param_next = false
-is_reserved_word comma param_next = false
-is_reserved_word (before at p) param_next = false
-is_reserved_word (between at o) param_next = false
+is_reserved_word _ param_next = false
 
 abbrev pub is_comma : Symbol → Bool
-is_comma (word at w) = false
-is_comma (param p) = false
-is_comma opening = false
-is_comma closing = false
 is_comma comma = true
-is_comma (before at p) = false
-is_comma (between at o) = false
+is_comma _ = false
 
 -- four arguments were read
 abbrev pub has_four : Mode → Bool
-has_four wanted = false
-has_four (name_read at w) = false
-has_four (argument_wanted at w args) = false
 has_four (argument_read at w args) = nat_le 4 (length args)
-has_four (quantifier_read at q) = false
-has_four (operand_read x) = false
+has_four _ = false
 
 abbrev pub begins_operand : WordClass → Bool
 begins_operand (Quantifies q) = true
@@ -58,59 +40,36 @@ begins_operand Other = false
 
 abbrev pub may_begin : Symbol → Bool
 may_begin (word at w) = begins_operand (class_of w)
-may_begin (param p) = false
 may_begin opening = true
-may_begin closing = false
-may_begin comma = false
 may_begin (before at p) = true
-may_begin (between at o) = false
+may_begin _ = false
 
 -- behind an operand, by whether a group is open
 abbrev pub may_follow : Bool → Symbol → Bool
-may_follow open_group (word at w) = false
-may_follow open_group (param p) = false
-may_follow open_group opening = false
 may_follow open_group closing = open_group
-may_follow open_group comma = false
-may_follow open_group (before at p) = false
 may_follow open_group (between at o) = true
+may_follow open_group _ = false
 
 abbrev pub may_follow_name : Bool → Symbol → Bool
-may_follow_name open_group (word at w) = false
-may_follow_name open_group (param p) = false
 may_follow_name open_group opening = true
 may_follow_name open_group closing = open_group
-may_follow_name open_group comma = false
-may_follow_name open_group (before at p) = false
 may_follow_name open_group (between at o) = true
+may_follow_name open_group _ = false
 
 abbrev pub is_param : Symbol → Bool
-is_param (word at w) = false
 is_param (param p) = true
-is_param opening = false
-is_param closing = false
-is_param comma = false
-is_param (before at p) = false
-is_param (between at o) = false
+is_param _ = false
 
 abbrev pub is_argument : Symbol → Bool
 is_argument (word at w) = true
 is_argument (param p) = true
-is_argument opening = false
-is_argument closing = false
-is_argument comma = false
-is_argument (before at p) = false
-is_argument (between at o) = false
+is_argument _ = false
 
 -- behind so many arguments
 abbrev pub may_follow_argument : ℕ → Symbol → Bool
-may_follow_argument count (word at w) = false
-may_follow_argument count (param p) = false
-may_follow_argument count opening = false
 may_follow_argument count closing = true
 may_follow_argument count comma = nat_lt count 4
-may_follow_argument count (before at p) = false
-may_follow_argument count (between at o) = false
+may_follow_argument count _ = false
 
 -- whether the symbol may come, by what was read last and whether a group is open
 abbrev pub may_come_by : Bool → Mode → Symbol → Bool
@@ -127,36 +86,24 @@ may_come c t = may_come_by (nat_lt 0 (groups c.stack)) c.mode t
 abbrev pub is_long : Symbol → Bool
 is_long (word at w) = nat_lt 32 (length w)
 is_long (param p) = nat_lt 32 (length p)
-is_long opening = false
-is_long closing = false
-is_long comma = false
-is_long (before at p) = false
-is_long (between at o) = false
+is_long _ = false
 
 abbrev pub is_quantifier : WordClass → Bool
 is_quantifier (Quantifies q) = true
-is_quantifier Withheld = false
-is_quantifier Names = false
-is_quantifier Other = false
+is_quantifier _ = false
 
 abbrev pub opens_level : Symbol → Bool
 opens_level (word at w) = is_quantifier (class_of w)
-opens_level (param p) = false
 opens_level opening = true
-opens_level closing = false
-opens_level comma = false
 opens_level (before at p) = true
-opens_level (between at o) = false
+opens_level _ = false
 
 -- the symbol is a node's token, by whether an operand is wanted
 abbrev pub is_node : Bool → Symbol → Bool
 is_node wants (word at w) = wants
-is_node wants (param p) = false
-is_node wants opening = false
-is_node wants closing = false
-is_node wants comma = false
 is_node wants (before at p) = true
 is_node wants (between at o) = true
+is_node wants _ = false
 
 -- whether a fault is met at a symbol, after n nodes, by whether a parameter is next
 abbrev pub meets : Config → ℕ → Symbol → Bool → Fault → Bool

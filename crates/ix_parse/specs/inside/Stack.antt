@@ -27,18 +27,13 @@ abbrev pub stack_of : List Entry → List machine.Entry
 stack_of es = stack_onto [] es
 
 abbrev pub is_prefix_inmost : List machine.Entry → Bool
-is_prefix_inmost [] = false
-is_prefix_inmost (group ∷ s) = false
 is_prefix_inmost (sign at p ∷ s) = true
 is_prefix_inmost (binder at q p ∷ s) = true
-is_prefix_inmost (left at o x ∷ s) = false
+is_prefix_inmost _ = false
 
 abbrev pub is_left_inmost : ℕ → List machine.Entry → Bool
-is_left_inmost k [] = false
-is_left_inmost k (group ∷ s) = false
-is_left_inmost k (sign at p ∷ s) = false
-is_left_inmost k (binder at q p ∷ s) = false
 is_left_inmost k (left at o x ∷ s) = nat_le k (level o)
+is_left_inmost k _ = false
 
 -- groups are counted, prefixes and quantifiers if they are wanted
 abbrev pub is_counted : Bool → Entry → Bool

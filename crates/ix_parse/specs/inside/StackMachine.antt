@@ -68,11 +68,8 @@ with_operand h = config h.stack (operand_read h.operand)
 
 -- a parenthesis closes the group that is inmost
 abbrev pub left_group : List Entry → Meaning → Option Config
-left_group [] x = None
 left_group (group ∷ s) x = Some (with_operand (closed s x))
-left_group (sign at p ∷ s) x = None
-left_group (binder at q p ∷ s) x = None
-left_group (left at o y ∷ s) x = None
+left_group _ x = None
 
 -- an operator, with its left operand
 abbrev pub with_left : ℕ → Operator → WithOperand → Config
@@ -80,13 +77,9 @@ with_left at o h = config (left at o h.operand ∷ h.stack) wanted
 
 -- a symbol behind an operand
 abbrev pub step_operand : List Entry → Meaning → Symbol → Option Config
-step_operand s x (word at w) = None
-step_operand s x (param p) = None
-step_operand s x opening = None
 step_operand s x closing = left_group (reduced 1 s x).stack (reduced 1 s x).operand
-step_operand s x comma = None
-step_operand s x (before at p) = None
 step_operand s x (between at o) = Some (with_left at o (reduced (level o) s x))
+step_operand s x _ = None
 
 -- a word where an operand is wanted
 abbrev pub step_word : List Entry → ℕ → List ℕ → WordClass → Option Config
@@ -98,22 +91,16 @@ step_word s at w Other = None
 -- a symbol where an operand is wanted
 abbrev pub step_wanted : List Entry → Symbol → Option Config
 step_wanted s (word at w) = step_word s at w (class_of w)
-step_wanted s (param p) = None
 step_wanted s opening = Some (config (group ∷ s) wanted)
-step_wanted s closing = None
-step_wanted s comma = None
 step_wanted s (before at p) = Some (config (sign at p ∷ s) wanted)
-step_wanted s (between at o) = None
+step_wanted s _ = None
 
 -- a symbol behind the name of an atom
 abbrev pub step_name : List Entry → ℕ → List ℕ → Symbol → Option Config
-step_name s at w (word at' w') = None
-step_name s at w (param p) = None
 step_name s at w opening = Some (config s (argument_wanted at w []))
 step_name s at w closing = step_operand (closed s (named at w [])).stack (closed s (named at w [])).operand closing
-step_name s at w comma = None
-step_name s at w (before at' p) = None
 step_name s at w (between at' o) = step_operand (closed s (named at w [])).stack (closed s (named at w [])).operand (between at' o)
+step_name s at w _ = None
 
 -- an argument
 abbrev pub with_argument : List Entry → ℕ → List ℕ → List Arg → Option Arg → Option Config
@@ -122,23 +109,14 @@ with_argument s at w args (Some a) = Some (config s (argument_read at w (args ++
 
 -- a symbol behind an argument
 abbrev pub step_argument : List Entry → ℕ → List ℕ → List Arg → Symbol → Option Config
-step_argument s at w args (word at' w') = None
-step_argument s at w args (param p) = None
-step_argument s at w args opening = None
 step_argument s at w args closing = Some (with_operand (closed s (named at w args)))
 step_argument s at w args comma = if nat_lt (length args) 4 then Some (config s (argument_wanted at w args)) else None
-step_argument s at w args (before at' p) = None
-step_argument s at w args (between at' o) = None
+step_argument s at w args _ = None
 
 -- a symbol behind the word of a quantifier
 abbrev pub step_quantifier : List Entry → ℕ → Quantifier → Symbol → Option Config
-step_quantifier s at q (word at' w) = None
 step_quantifier s at q (param p) = Some (config (binder at q p ∷ s) wanted)
-step_quantifier s at q opening = None
-step_quantifier s at q closing = None
-step_quantifier s at q comma = None
-step_quantifier s at q (before at' p) = None
-step_quantifier s at q (between at' o) = None
+step_quantifier s at q _ = None
 
 abbrev pub step_by : List Entry → Mode → Symbol → Option Config
 step_by s wanted t = step_wanted s t
@@ -154,12 +132,9 @@ step c t = step_by c.stack c.mode t
 
 -- the operand that was read, with what is open
 abbrev pub settled_by : List Entry → Mode → Option WithOperand
-settled_by s wanted = None
 settled_by s (name_read at w) = Some (closed s (named at w []))
-settled_by s (argument_wanted at w args) = None
-settled_by s (argument_read at w args) = None
-settled_by s (quantifier_read at q) = None
 settled_by s (operand_read x) = Some (held s x)
+settled_by s _ = None
 
 abbrev pub settled : Config → Option WithOperand
 settled c = settled_by c.stack c.mode

@@ -4,4 +4,4 @@ use Rattle.ix_parse.proofs.step.word_mode.Goals as goal
 
 pub of_text-requires : goal.of_text-requires
 of_text-requires c =
-    record { begins = named-letter c.args.word.now (sym c.in-Names.ensures); word = c.requires.readable.word; short = c.requires.readable.short }
+    record { begins = named-letter c.args.word.now (sym c.in-Names.ensures); word = c.requires.word; short = c.requires.short }
