@@ -48,8 +48,8 @@ class Module:
         self.is_internal = self.short.split(".")[0] in ("inside", "lemmas")
         with open(path) as file:
             text = file.read()
-        comment = [line[2:].strip() for line in text.split("\n") if line.startswith("--")]
-        self.about = comment[0] if comment else ""
+        head = re.match(r"(?:--.*\n)*", text).group(0)
+        self.about = re.sub(r"(?<=[.]) .*", "", " ".join(line[2:].strip() for line in head.splitlines()))
         self.imports, self.exports, self.texts, self.makers = {}, {}, {}, {}
         for statement in re.split(r"(?m)^(?=\S)", without_comments(text, "--")):
             self.take(statement.rstrip())

@@ -5,7 +5,8 @@ use Rattle.ix_words.specs.Each.{Each}
 use Rattle.ix_words.specs.Canon.{Ascending}
 use Rattle.ix_values.specs.Order.{text_cmp}
 use Rattle.ix_values.specs.PlainAction.{PlainAction, Word}
-use Rattle.ix_expr.specs.Form.{PlainAtom, Form, atom, opt, seq, star, par, par_star, or, and, couple, any, every, sync, all}
+use Rattle.ix_expr.specs.Form.{PlainAtom, Form, atom, opt, seq, star, par, par_star, or, and}
+use Rattle.ix_expr.specs.Form.{couple, any, every, sync, all}
 use Rattle.ix_expr.specs.Environment.{Environment, Matches}
 use Rattle.ix_expr.specs.FormFaults.{Fits}
 use Rattle.ix_expr.specs.Meaning.{InAlphabet, IsComplete, IsPartial}
@@ -18,11 +19,13 @@ use Rattle.ix_can.specs.TreeOf.{is_final, tree_of}
 
 -- the test of matching is true exactly where the atom matches the action
 abbrev pub MatchTestsDecide : Type 0
-MatchTestsDecide = (x : PlainAtom) (e : Environment) (a : PlainAction) → (is_match x e a ≡ true) ↔ Matches x e a
+MatchTestsDecide = (x : PlainAtom) (e : Environment) (a : PlainAction)
+    → (is_match x e a ≡ true) ↔ Matches x e a
 
 -- the test of the alphabet is true exactly where the action is in the alphabet
 abbrev pub AlphabetTestsDecide : Type 0
-AlphabetTestsDecide = (x : Form) (e : Environment) (a : PlainAction) → (in_alphabet x e a ≡ true) ↔ InAlphabet x e a
+AlphabetTestsDecide = (x : Form) (e : Environment) (a : PlainAction)
+    → (in_alphabet x e a ≡ true) ↔ InAlphabet x e a
 
 -- the test of the empty word is true exactly where the empty word is complete
 abbrev pub EmptyTestsDecide : Type 0
@@ -48,8 +51,8 @@ EachAllNames (all p y) = EachAtomNames p y × EachAllNames y
 abbrev pub FittingExpressionsName : Type 0
 FittingExpressionsName = (x : Form) (e : Environment) → Fits x e → EachAllNames x
 
--- what the tree of a word tells: it isn't dead exactly where the word is partial, and it is final exactly where the
--- word is complete
+-- what the tree of a word tells: it isn't dead exactly where the word is partial, and it is final
+-- exactly where the word is complete
 pub record TreeTells (x : Form) (e : Environment) (w : Word) : Type 0 where
   pub partial : (is_dead (tree_of x e w) ≡ false) ↔ IsPartial x e w
   pub complete : (is_final x (tree_of x e w) ≡ true) ↔ IsComplete x e w
@@ -60,7 +63,8 @@ TreesTell = (x : Form) (e : Environment) (w : Word) → Fits x e → TreeTells x
 
 -- environments that agree on a word give the same tree
 abbrev pub AgreeingEnvironmentsGiveOneTree : Type 0
-AgreeingEnvironmentsGiveOneTree = (x : Form) (e f : Environment) (w : Word) → AgreeOn e f w → tree_of x e w ≡ tree_of x f w
+AgreeingEnvironmentsGiveOneTree = (x : Form) (e f : Environment) (w : Word) → AgreeOn e f w
+    → tree_of x e w ≡ tree_of x f w
 
 -- the tree of the empty word doesn't depend on the environment
 abbrev pub EmptyWordsHaveOneTree : Type 0
@@ -71,7 +75,8 @@ pub record EachOnce (G : Plain → Type 0) (xs : List Plain) : Type 0 where
   pub ascending : Ascending tree_cmp xs
   pub each : Each G xs
 
--- the entries ascend strictly by their values, so each value has one, and the tree of each has G and isn't the common one
+-- the entries ascend strictly by their values, so each value has one, and the tree of each has G
+-- and isn't the common one
 pub record ProperEntries (G : Plain → Type 0) (common : Plain) (entries : List Plain) : Type 0 where
   pub ascending : Ascending (λ x y. text_cmp (key x) (key y)) entries
   pub differ : Each (λ x. first_part x ≢ common) entries
@@ -82,22 +87,30 @@ abbrev pub IsRising : List Plain → Type 0
 IsRising [] = Unit {0}
 IsRising (x ∷ xs) = Each (λ y. is_gt (tree_cmp x y) ≡ false) xs × IsRising xs
 
--- in a tree of the expression all lists of alternatives ascend strictly, bags rise, and no entry has the common tree or,
--- in a map, the tree of the empty word
+-- in a tree of the expression all lists of alternatives ascend strictly, bags rise, and no entry
+-- has the common tree or, in a map, the tree of the empty word
 abbrev pub IsProper : Form → Plain → Type 0
 IsProper (atom x) t = Unit {0}
 IsProper (opt y) t = IsProper y (first_part t)
 IsProper (seq y z) t = IsProper y (first_part t) × EachOnce (IsProper z) (items_of (second_part t))
 IsProper (star y) t = EachOnce (IsProper y) (items_of (first_part t))
-IsProper (par y z) t = EachOnce (λ p. IsProper y (first_part p) × IsProper z (second_part p)) (items_of (first_part t))
-IsProper (par_star y) t = EachOnce (λ b. IsRising (items_of (first_part b)) × Each (IsProper y) (items_of (first_part b))) (items_of (first_part t))
+IsProper (par y z) t = EachOnce (λ p. IsProper y (first_part p) × IsProper z (second_part p))
+    (items_of (first_part t))
+IsProper (par_star y) t = EachOnce
+    (λ b. IsRising (items_of (first_part b)) × Each (IsProper y) (items_of (first_part b)))
+    (items_of (first_part t))
 IsProper (or y z) t = IsProper y (first_part t) × IsProper z (second_part t)
 IsProper (and y z) t = IsProper y (first_part t) × IsProper z (second_part t)
 IsProper (couple y z) t = IsProper y (first_part t) × IsProper z (second_part t)
-IsProper (any p y) t = IsProper y (first_part t) × ProperEntries (IsProper y) (first_part t) (items_of (second_part t))
-IsProper (every p y) t = IsProper y (first_part t) × ProperEntries (IsProper y) (first_part t) (items_of (second_part t))
-IsProper (sync p y) t = IsProper y (first_part t) × ProperEntries (IsProper y) (first_part t) (items_of (second_part t))
-IsProper (all p y) t = EachOnce (λ m. ProperEntries (IsProper y) (tree_of y [] []) (items_of (first_part m))) (items_of (first_part t))
+IsProper (any p y) t = IsProper y (first_part t)
+    × ProperEntries (IsProper y) (first_part t) (items_of (second_part t))
+IsProper (every p y) t = IsProper y (first_part t)
+    × ProperEntries (IsProper y) (first_part t) (items_of (second_part t))
+IsProper (sync p y) t = IsProper y (first_part t)
+    × ProperEntries (IsProper y) (first_part t) (items_of (second_part t))
+IsProper (all p y) t = EachOnce
+    (λ m. ProperEntries (IsProper y) (tree_of y [] []) (items_of (first_part m)))
+    (items_of (first_part t))
 
 -- the tree of every word is proper
 abbrev pub TreesAreProper : Type 0

@@ -3,7 +3,8 @@ use Rattle.std.specs.Prelude.{Bool, not, ◌&&◌, ◌||◌, List, [], ◌∷◌
 use Rattle.std.specs.List.{list_any}
 use Rattle.std.specs.Ordering.{is_eq, is_gt}
 use Rattle.ix_words.specs.Canon.{canon, when}
-use Rattle.ix_tree.specs.Plain.{Plain, dead, opt, seq, star, par, par_star, or, and, couple, any, every, sync, all}
+use Rattle.ix_tree.specs.Plain.{Plain, dead, opt, seq, star, par, par_star, or, and, couple, any}
+use Rattle.ix_tree.specs.Plain.{every, sync, all}
 use Rattle.ix_tree.specs.Order.{tree_cmp, first_part}
 use Rattle.ix_can.specs.Ways.{is_empty}
 pub use Rattle.ix_tree.specs.Plain.{is_dead, listed, items_of}
@@ -46,7 +47,8 @@ abbrev pub seq_node : Plain → List Plain → Plain
 seq_node x alternatives = dead_if (is_dead x && is_empty alternatives) (seq x (set_of alternatives))
 
 abbrev pub star_node : Bool → List Plain → Plain
-star_node again alternatives = dead_if (not again && is_empty alternatives) (star again (set_of alternatives))
+star_node again alternatives = dead_if (not again && is_empty alternatives)
+    (star again (set_of alternatives))
 
 abbrev pub par_node : List Plain → Plain
 par_node pairs = dead_if (is_empty pairs) (par (set_of pairs))
@@ -72,12 +74,14 @@ abbrev pub has_dead_entry : List Plain → Bool
 has_dead_entry entries = list_any (λ x. is_dead (first_part x)) entries
 
 abbrev pub every_node : Plain → List Plain → Plain
-every_node common entries = dead_if (is_dead common || has_dead_entry entries) (every common (set_of entries))
+every_node common entries = dead_if (is_dead common || has_dead_entry entries)
+    (every common (set_of entries))
 
 -- inside: each action is in the alphabet for some value
 abbrev pub sync_node : Bool → Plain → List Plain → Plain
 sync_node inside common entries =
-    dead_if (not inside || (is_dead common || has_dead_entry entries)) (sync common (set_of entries))
+    dead_if (not inside || (is_dead common || has_dead_entry entries))
+        (sync common (set_of entries))
 
 abbrev pub all_node : List Plain → Plain
 all_node maps = dead_if (is_empty maps) (all (set_of maps))

@@ -1,11 +1,13 @@
 -- The tests of matching and of the alphabet, as definitions that compute.
-use Rattle.std.specs.Prelude.{ℕ, Bool, true, false, ◌&&◌, ◌||◌, List, [], ◌∷◌, map, Option, Some, None}
+use Rattle.std.specs.Prelude.{ℕ, Bool, true, false, ◌&&◌, ◌||◌, List, [], ◌∷◌, map, Option, Some}
+use Rattle.std.specs.Prelude.{None}
 use Rattle.std.specs.List.{list_any}
 use Rattle.ix_values.specs.Order.{text_eq}
 use Rattle.ix_values.specs.PlainAction.{PlainAction}
 use Rattle.ix_expr.specs.declared.arg.Arg.{Arg}
 use Rattle.ix_expr.specs.declared.arg.Arg.TheVariants.{Fixed, Param}
-use Rattle.ix_expr.specs.Form.{PlainAtom, Form, atom, opt, seq, star, par, par_star, or, and, couple, any, every, sync, all}
+use Rattle.ix_expr.specs.Form.{PlainAtom, Form, atom, opt, seq, star, par, par_star, or, and}
+use Rattle.ix_expr.specs.Form.{couple, any, every, sync, all}
 use Rattle.ix_expr.specs.Environment.{Environment, value_in, bind}
 
 -- whether the value is there and is v
@@ -18,12 +20,14 @@ abbrev pub has_value : Environment → Arg → List ℕ → Bool
 has_value e (Fixed u) v = text_eq u v
 has_value e (Param p) v = is_value (value_in e p) v
 
--- whether there are as many arguments as values, and each argument's value is the value in its place
+-- whether there are as many arguments as values, and each argument's value is the value in its
+-- place
 abbrev pub have_values : Environment → List Arg → List (List ℕ) → Bool
 have_values e [] [] = true
 have_values e [] (v ∷ values) = false
 have_values e (argument ∷ arguments) [] = false
-have_values e (argument ∷ arguments) (v ∷ values) = has_value e argument v && have_values e arguments values
+have_values e (argument ∷ arguments) (v ∷ values) = has_value e argument v
+    && have_values e arguments values
 
 -- whether the atom matches the action
 abbrev pub is_match : PlainAtom → Environment → PlainAction → Bool
@@ -33,7 +37,8 @@ is_match x e a = text_eq x.name a.name && have_values e x.arguments a.values
 abbrev pub values_and_outside : PlainAction → List (Option (List ℕ))
 values_and_outside a = None ∷ map Some a.values
 
--- whether the action is in the alphabet; a quantifier's parameter is tried at the action's own values and outside
+-- whether the action is in the alphabet; a quantifier's parameter is tried at the action's own
+-- values and outside
 abbrev pub in_alphabet : Form → Environment → PlainAction → Bool
 in_alphabet (atom x) e a = is_match x e a
 in_alphabet (opt y) e a = in_alphabet y e a

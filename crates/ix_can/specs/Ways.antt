@@ -1,5 +1,6 @@
 -- All ways to cut a word into pieces, and to give its actions to owners.
-use Rattle.std.specs.Prelude.{ℕ, zero, suc, Bool, true, false, not, ◌==◌, List, [], ◌∷◌, ◌++◌, map, flat_map, filter, length}
+use Rattle.std.specs.Prelude.{ℕ, zero, suc, Bool, true, false, not, ◌==◌, List, [], ◌∷◌, ◌++◌, map}
+use Rattle.std.specs.Prelude.{flat_map, filter, length}
 use Rattle.std.specs.List.{list_any, list_all}
 use Rattle.ix_values.specs.PlainAction.{Word}
 use Rattle.ix_words.specs.Parts.{part}
@@ -31,7 +32,8 @@ numbers_below (suc n) = numbers_below n ++ n ∷ []
 -- every list of these choices that is as long as w
 abbrev pub lists_as_long : {A K : Type 0} → List K → List A → List (List K)
 lists_as_long choices [] = [] ∷ []
-lists_as_long choices (a ∷ w) = flat_map (λ owners. map (λ choice. choice ∷ owners) choices) (lists_as_long choices w)
+lists_as_long choices (a ∷ w) = flat_map (λ owners. map (λ choice. choice ∷ owners) choices)
+    (lists_as_long choices w)
 
 -- every way to give the actions of w owner numbers below its length
 abbrev pub numberings : {A : Type 0} → List A → List (List ℕ)
@@ -40,7 +42,8 @@ numberings w = lists_as_long (numbers_below (length w)) w
 -- the parts of the numbers below the length of w that aren't empty
 abbrev pub nonempty_parts : {A : Type 0} → List ℕ → List A → List (List A)
 nonempty_parts owners w =
-    filter (λ u. not (is_empty u)) (map (λ number. part (λ owner. number == owner) owners w) (numbers_below (length w)))
+    filter (λ u. not (is_empty u))
+        (map (λ number. part (λ owner. number == owner) owners w) (numbers_below (length w)))
 
 -- every way to give each action of w one of its own values as its owner
 abbrev pub ownings : Word → List (List (List ℕ))

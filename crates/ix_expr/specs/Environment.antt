@@ -29,8 +29,10 @@ abbrev pub HaveValues : Environment → List Arg → List (List ℕ) → Type 0
 HaveValues e [] [] = Unit {0}
 HaveValues e [] (v ∷ values) = ⊥
 HaveValues e (argument ∷ arguments) [] = ⊥
-HaveValues e (argument ∷ arguments) (v ∷ values) = HasValue e argument v × HaveValues e arguments values
+HaveValues e (argument ∷ arguments) (v ∷ values) = HasValue e argument v
+    × HaveValues e arguments values
 
--- the atom matches the action: the names agree, the counts agree, and each argument's value is the action's value there
+-- the atom matches the action: the names agree, the counts agree, and each argument's value is the
+-- action's value there
 abbrev pub Matches : PlainAtom → Environment → PlainAction → Type 0
 Matches x e a = (x.name ≡ a.name) × HaveValues e x.arguments a.values

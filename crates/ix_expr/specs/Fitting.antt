@@ -1,10 +1,13 @@
--- What an expression that fits an environment says of its operands, as statements over the definitions alone.
+-- What an expression that fits an environment says of its operands, as statements over the
+-- definitions alone.
 use Rattle.std.specs.Prelude.{◌≡◌, ℕ, ◌<◌, false, List, [], Option, length}
-use Rattle.ix_expr.specs.Form.{Form, atom, opt, seq, star, par, par_star, or, and, couple, any, every, sync, all}
+use Rattle.ix_expr.specs.Form.{Form, atom, opt, seq, star, par, par_star, or, and, couple, any}
+use Rattle.ix_expr.specs.Form.{every, sync, all}
 use Rattle.ix_expr.specs.Environment.{Environment, bind}
 use Rattle.ix_expr.specs.FormFaults.{IsWellFormed, Fits, is_bound, binders_of}
 
--- the environment has room for the parameter p, hasn't p, and the body fits it with p given any value or outside
+-- the environment has room for the parameter p, hasn't p, and the body fits it with p given any
+-- value or outside
 pub record FitsInside (p : List ℕ) (y : Form) (e : Environment) : Type 0 where
   pub room : length e < 8
   pub free : is_bound (binders_of e) p ≡ false

@@ -1,9 +1,13 @@
--- When an expression is well formed: the first fault in pre-order, and at one node the first of the table.
-use Rattle.std.specs.Prelude.{◌≡◌, ℕ, suc, ◌<◌, Bool, true, false, ◌&&◌, not, List, [], ◌∷◌, ◌++◌, map, length, Option, Some, None, if◌then◌else◌, ◌==◌, nat_le, slice_get, IsSomeAnd}
+-- When an expression is well formed: the first fault in pre-order, and at one node the first of the
+-- table.
+use Rattle.std.specs.Prelude.{◌≡◌, ℕ, suc, ◌<◌, Bool, true, false, ◌&&◌, not, List, [], ◌∷◌, ◌++◌}
+use Rattle.std.specs.Prelude.{map, length, Option, Some, None, if◌then◌else◌, ◌==◌, nat_le}
+use Rattle.std.specs.Prelude.{slice_get, IsSomeAnd}
 use Rattle.std.specs.List.{list_any, list_all}
 use Rattle.ix_expr.specs.declared.arg.Arg.{Arg}
 use Rattle.ix_expr.specs.declared.arg.Arg.TheVariants.{Fixed, Param}
-use Rattle.ix_expr.specs.Form.{PlainAtom, Form, atom, opt, seq, star, par, par_star, or, and, couple, any, every, sync, all}
+use Rattle.ix_expr.specs.Form.{PlainAtom, Form, atom, opt, seq, star, par, par_star, or, and}
+use Rattle.ix_expr.specs.Form.{couple, any, every, sync, all}
 use Rattle.ix_values.specs.Order.{text_eq}
 use Rattle.ix_expr.specs.Environment.{Environment}
 
@@ -18,7 +22,8 @@ pub data Head : Type 0 where
   quantifier_head : List ℕ → Head
   operator_head : Head
 
--- a node: its depth (the root has 1), the quantifiers around it, the inmost first, and what stands there
+-- a node: its depth (the root has 1), the quantifiers around it, the inmost first, and what stands
+-- there
 pub record Node : Type 0 where
   pub depth : ℕ
   pub around : List Binder
@@ -27,18 +32,30 @@ pub record Node : Type 0 where
 -- the nodes of an expression in pre-order: a node, then its left operand, then its right
 abbrev pub nodes_below : ℕ → List Binder → Form → List Node
 nodes_below d around (atom x) = record { depth = d; around = around; head = atom_head x } ∷ []
-nodes_below d around (opt y) = record { depth = d; around = around; head = operator_head } ∷ nodes_below (suc d) around y
-nodes_below d around (seq y z) = record { depth = d; around = around; head = operator_head } ∷ (nodes_below (suc d) around y ++ nodes_below (suc d) around z)
-nodes_below d around (star y) = record { depth = d; around = around; head = operator_head } ∷ nodes_below (suc d) around y
-nodes_below d around (par y z) = record { depth = d; around = around; head = operator_head } ∷ (nodes_below (suc d) around y ++ nodes_below (suc d) around z)
-nodes_below d around (par_star y) = record { depth = d; around = around; head = operator_head } ∷ nodes_below (suc d) around y
-nodes_below d around (or y z) = record { depth = d; around = around; head = operator_head } ∷ (nodes_below (suc d) around y ++ nodes_below (suc d) around z)
-nodes_below d around (and y z) = record { depth = d; around = around; head = operator_head } ∷ (nodes_below (suc d) around y ++ nodes_below (suc d) around z)
-nodes_below d around (couple y z) = record { depth = d; around = around; head = operator_head } ∷ (nodes_below (suc d) around y ++ nodes_below (suc d) around z)
-nodes_below d around (any p y) = record { depth = d; around = around; head = quantifier_head p } ∷ nodes_below (suc d) (record { is_all = false; parameter = p } ∷ around) y
-nodes_below d around (every p y) = record { depth = d; around = around; head = quantifier_head p } ∷ nodes_below (suc d) (record { is_all = false; parameter = p } ∷ around) y
-nodes_below d around (sync p y) = record { depth = d; around = around; head = quantifier_head p } ∷ nodes_below (suc d) (record { is_all = false; parameter = p } ∷ around) y
-nodes_below d around (all p y) = record { depth = d; around = around; head = quantifier_head p } ∷ nodes_below (suc d) (record { is_all = true; parameter = p } ∷ around) y
+nodes_below d around (opt y) = record { depth = d; around = around; head = operator_head }
+    ∷ nodes_below (suc d) around y
+nodes_below d around (seq y z) = record { depth = d; around = around; head = operator_head }
+    ∷ (nodes_below (suc d) around y ++ nodes_below (suc d) around z)
+nodes_below d around (star y) = record { depth = d; around = around; head = operator_head }
+    ∷ nodes_below (suc d) around y
+nodes_below d around (par y z) = record { depth = d; around = around; head = operator_head }
+    ∷ (nodes_below (suc d) around y ++ nodes_below (suc d) around z)
+nodes_below d around (par_star y) = record { depth = d; around = around; head = operator_head }
+    ∷ nodes_below (suc d) around y
+nodes_below d around (or y z) = record { depth = d; around = around; head = operator_head }
+    ∷ (nodes_below (suc d) around y ++ nodes_below (suc d) around z)
+nodes_below d around (and y z) = record { depth = d; around = around; head = operator_head }
+    ∷ (nodes_below (suc d) around y ++ nodes_below (suc d) around z)
+nodes_below d around (couple y z) = record { depth = d; around = around; head = operator_head }
+    ∷ (nodes_below (suc d) around y ++ nodes_below (suc d) around z)
+nodes_below d around (any p y) = record { depth = d; around = around; head = quantifier_head p }
+    ∷ nodes_below (suc d) (record { is_all = false; parameter = p } ∷ around) y
+nodes_below d around (every p y) = record { depth = d; around = around; head = quantifier_head p }
+    ∷ nodes_below (suc d) (record { is_all = false; parameter = p } ∷ around) y
+nodes_below d around (sync p y) = record { depth = d; around = around; head = quantifier_head p }
+    ∷ nodes_below (suc d) (record { is_all = false; parameter = p } ∷ around) y
+nodes_below d around (all p y) = record { depth = d; around = around; head = quantifier_head p }
+    ∷ nodes_below (suc d) (record { is_all = true; parameter = p } ∷ around) y
 
 -- whether one of the quantifiers binds the parameter
 abbrev pub is_bound : List Binder → List ℕ → Bool
@@ -78,7 +95,8 @@ is_unbound around operator_head = false
 
 -- an atom inside an `all` whose parameter it doesn't name
 abbrev pub misses_a_parameter : List Binder → Head → Bool
-misses_a_parameter around (atom_head x) = list_any (λ b. b.is_all && not (names_parameter b.parameter x)) around
+misses_a_parameter around (atom_head x) = list_any
+    (λ b. b.is_all && not (names_parameter b.parameter x)) around
 misses_a_parameter around (quantifier_head p) = false
 misses_a_parameter around operator_head = false
 
@@ -105,7 +123,8 @@ pub record HaveNoFault (nodes : List Node) : Type 0 where
 -- the node with this number is there and has the fault of this code, and no node before it has one
 pub record IsFirstFault (nodes : List Node) (code number : ℕ) : Type 0 where
   pub here : IsSomeAnd (slice_get nodes number) (λ node. fault_at number node ≡ Some code)
-  pub before : (k : ℕ) (node : Node) → k < number → slice_get nodes k ≡ Some node → fault_at k node ≡ None
+  pub before : (k : ℕ) (node : Node) → k < number → slice_get nodes k ≡ Some node
+      → fault_at k node ≡ None
 
 -- the nodes of a whole expression
 abbrev pub nodes_of : Form → List Node
@@ -115,7 +134,8 @@ nodes_of x = nodes_below 1 [] x
 abbrev pub IsWellFormed : Form → Type 0
 IsWellFormed x = HaveNoFault (nodes_of x)
 
--- the first form fault of the expression, by its code and the number of its node in pre-order from 0
+-- the first form fault of the expression, by its code and the number of its node in pre-order from
+-- 0
 abbrev pub IsFirstFormFault : Form → ℕ → ℕ → Type 0
 IsFirstFormFault x code number = IsFirstFault (nodes_of x) code number
 
@@ -123,8 +143,9 @@ IsFirstFormFault x code number = IsFirstFault (nodes_of x) code number
 abbrev pub binders_of : Environment → List Binder
 binders_of e = map (λ entry. record { is_all = false; parameter = entry.0 }) e
 
--- the expression fits the environment: with the environment's parameters around it no node has a fault,
--- so each free parameter is there, none is bound again, each atom under an `all` names its parameter,
--- and parameters with nested quantifiers are at most 8, nodes at most 512, depth at most 256
+-- the expression fits the environment: with the environment's parameters around it no node has a
+-- fault, so each free parameter is there, none is bound again, each atom under an `all` names its
+-- parameter, and parameters with nested quantifiers are at most 8, nodes at most 512, depth at most
+-- 256
 abbrev pub Fits : Form → Environment → Type 0
 Fits x e = HaveNoFault (nodes_below 1 (binders_of e) x)

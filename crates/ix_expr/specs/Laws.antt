@@ -5,7 +5,8 @@ use Rattle.ix_words.specs.Parts.{part, Projection}
 use Rattle.ix_values.specs.Order.{text_eq}
 use Rattle.ix_values.specs.PlainAction.{PlainAction, Word}
 use Rattle.ix_expr.specs.declared.arg.Arg.TheVariants.{Param}
-use Rattle.ix_expr.specs.Form.{Form, atom, opt, seq, star, par, par_star, or, and, couple, any, every, sync, all}
+use Rattle.ix_expr.specs.Form.{Form, atom, opt, seq, star, par, par_star, or, and, couple, any}
+use Rattle.ix_expr.specs.Form.{every, sync, all}
 use Rattle.ix_expr.specs.Environment.{Environment, value_in, bind, Matches}
 use Rattle.ix_expr.specs.FormFaults.{Fits}
 use Rattle.ix_expr.specs.Meaning.{InAlphabet, IsComplete, IsPartial}
@@ -47,8 +48,8 @@ pub record MeansTheSame (x : Form) (e f : Environment) (w : Word) : Type 0 where
   pub partial : IsPartial x e w ↔ IsPartial x f w
   pub alphabet : Each (λ a. InAlphabet x e a ↔ InAlphabet x f a) w
 
--- at an action whose value v no atom of the expression sees by p, each atom matches with p given v as
--- with p outside
+-- at an action whose value v no atom of the expression sees by p, each atom matches with p given v
+-- as with p outside
 abbrev pub UnseenValuesAreOutside : Type 0
 UnseenValuesAreOutside = (x : Form) (e : Environment) (p v : List ℕ) (a : PlainAction) →
     ¬ Sees x p v a → AtomsAgreeAt x (bind p (Some v) e) (bind p None e) a
@@ -71,11 +72,13 @@ EachAtomNames p (all q y) = (q ≢ p) × EachAtomNames p y
 
 -- a complete word is partial
 abbrev pub CompleteWordsArePartial : Type 0
-CompleteWordsArePartial = (x : Form) (e : Environment) (w : Word) → IsComplete x e w → IsPartial x e w
+CompleteWordsArePartial = (x : Form) (e : Environment) (w : Word) → IsComplete x e w
+    → IsPartial x e w
 
 -- each prefix of a partial word is partial
 abbrev pub PrefixesArePartial : Type 0
-PrefixesArePartial = (x : Form) (e : Environment) (u v : Word) → IsPartial x e (u ++ v) → IsPartial x e u
+PrefixesArePartial = (x : Form) (e : Environment) (u v : Word) → IsPartial x e (u ++ v)
+    → IsPartial x e u
 
 -- the empty word is partial
 abbrev pub TheEmptyWordIsPartial : Type 0
@@ -83,11 +86,13 @@ TheEmptyWordIsPartial = (x : Form) (e : Environment) → IsPartial x e []
 
 -- each action of a partial word is in the alphabet
 abbrev pub PartialWordsStayInTheAlphabet : Type 0
-PartialWordsStayInTheAlphabet = (x : Form) (e : Environment) (w : Word) → IsPartial x e w → Each (InAlphabet x e) w
+PartialWordsStayInTheAlphabet = (x : Form) (e : Environment) (w : Word) → IsPartial x e w
+    → Each (InAlphabet x e) w
 
 -- environments that agree on a word mean the same of it
 abbrev pub AgreeingEnvironmentsMeanTheSame : Type 0
-AgreeingEnvironmentsMeanTheSame = (x : Form) (e f : Environment) (w : Word) → AgreeOn e f w → MeansTheSame x e f w
+AgreeingEnvironmentsMeanTheSame = (x : Form) (e f : Environment) (w : Word) → AgreeOn e f w
+    → MeansTheSame x e f w
 
 -- environments under which the atoms of the expression match the same of a word's actions mean the
 -- same of it
@@ -95,10 +100,13 @@ abbrev pub AgreeingAtomsMeanTheSame : Type 0
 AgreeingAtomsMeanTheSame = (x : Form) (e f : Environment) (w : Word) →
     AtomsAgreeOn x e f w → MeansTheSame x e f w
 
--- in `all $p y`, where every atom of y names `$p`, an owner whose part is partial is a value of each action that it owns
+-- in `all $p y`, where every atom of y names `$p`, an owner whose part is partial is a value of
+-- each action that it owns
 abbrev pub OwnersAreValues : Type 0
-OwnersAreValues = (p : List ℕ) (y : Form) (e : Environment) (w : Word) (owners : List (List ℕ)) (v : List ℕ) → EachAtomNames p y →
-    IsPartial y (bind p (Some v) e) (part (text_eq v) owners w) → Each (λ a. Member v a.values) (part (text_eq v) owners w)
+OwnersAreValues = (p : List ℕ) (y : Form) (e : Environment) (w : Word) (owners : List (List ℕ))
+    (v : List ℕ) → EachAtomNames p y →
+    IsPartial y (bind p (Some v) e) (part (text_eq v) owners w)
+        → Each (λ a. Member v a.values) (part (text_eq v) owners w)
 
 -- no action of the word has the value v
 abbrev pub IsFresh : List ℕ → Word → Type 0
@@ -106,15 +114,18 @@ IsFresh v w = Each (λ a. ¬ Member v a.values) w
 
 -- a value that no action of the word has counts as any other such value
 abbrev pub FreshValuesAreAlike : Type 0
-FreshValuesAreAlike = (x : Form) (e : Environment) (p u v : List ℕ) (w : Word) → IsFresh u w → IsFresh v w → MeansTheSame x (bind p (Some u) e) (bind p (Some v) e) w
+FreshValuesAreAlike = (x : Form) (e : Environment) (p u v : List ℕ) (w : Word) → IsFresh u w
+    → IsFresh v w → MeansTheSame x (bind p (Some u) e) (bind p (Some v) e) w
 
 -- a value that no action of the word has counts as outside
 abbrev pub FreshValuesAreOutside : Type 0
-FreshValuesAreOutside = (x : Form) (e : Environment) (p v : List ℕ) (w : Word) → IsFresh v w → MeansTheSame x (bind p (Some v) e) (bind p None e) w
+FreshValuesAreOutside = (x : Form) (e : Environment) (p v : List ℕ) (w : Word) → IsFresh v w
+    → MeansTheSame x (bind p (Some v) e) (bind p None e) w
 
 -- in an `all $p y` that fits its environment, every atom of y names `$p`
 abbrev pub FittingAtomsNameTheirParameter : Type 0
-FittingAtomsNameTheirParameter = (p : List ℕ) (y : Form) (e : Environment) → Fits (all p y) e → EachAtomNames p y
+FittingAtomsNameTheirParameter = (p : List ℕ) (y : Form) (e : Environment) → Fits (all p y) e
+    → EachAtomNames p y
 
 -- owners of the actions of w, each a value of its action, whose parts all have Q
 pub record OwnedByValues (Q : List ℕ → Word → Type 0) (w : Word) : Type 0 where
@@ -129,7 +140,8 @@ pub record WithinTheValues (p : List ℕ) (y : Form) (e : Environment) (w : Word
 
 -- in `all $p y`, where every atom of y names `$p`, owners among each action's own values suffice
 abbrev pub OwnersAmongTheValues : Type 0
-OwnersAmongTheValues = (p : List ℕ) (y : Form) (e : Environment) (w : Word) → EachAtomNames p y → WithinTheValues p y e w
+OwnersAmongTheValues = (p : List ℕ) (y : Form) (e : Environment) (w : Word) → EachAtomNames p y
+    → WithinTheValues p y e w
 
 -- the action doesn't matter to the expression: it isn't in the alphabet, no word that ends with it
 -- is partial, and behind a word it adds nothing to the projection to the alphabet

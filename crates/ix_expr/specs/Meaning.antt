@@ -1,15 +1,17 @@
--- What expressions mean: the alphabet, the complete words and the partial words of an expression under an environment.
--- These are relations over whole words, by cases on the expression. No state, tree or function of the code is in them.
+-- What expressions mean: the alphabet, the complete words and the partial words of an expression
+-- under an environment. These are relations over whole words, by cases on the expression. No state,
+-- tree or function of the code is in them.
 use Rattle.std.specs.Prelude.{◌≡◌, ℕ, List, [], ◌∷◌, ◌⊎◌, Some}
 use Rattle.ix_words.specs.Each.{Each}
 use Rattle.ix_words.specs.Words.{Joined, Repeated, Split, Numbered, Owned, Projected}
 use Rattle.ix_values.specs.PlainAction.{PlainAction, Word}
-use Rattle.ix_expr.specs.Form.{PlainAtom, Form, atom, opt, seq, star, par, par_star, or, and, couple, any, every, sync, all}
+use Rattle.ix_expr.specs.Form.{PlainAtom, Form, atom, opt, seq, star, par, par_star, or, and}
+use Rattle.ix_expr.specs.Form.{couple, any, every, sync, all}
 use Rattle.ix_values.specs.Order.{text_eq}
 use Rattle.ix_expr.specs.Environment.{Environment, Matches, bind}
 
--- the action is in the alphabet: an atom's is what it matches, an operator's is the union of its operands',
--- a quantifier's is the union over all values of its parameter
+-- the action is in the alphabet: an atom's is what it matches, an operator's is the union of its
+-- operands', a quantifier's is the union over all values of its parameter
 abbrev pub InAlphabet : Form → Environment → PlainAction → Type 0
 InAlphabet (atom x) e a = Matches x e a
 InAlphabet (opt y) e a = InAlphabet y e a
@@ -47,7 +49,8 @@ IsComplete (any p y) e w = (v : List ℕ) × IsComplete y (bind p (Some v) e) w
 IsComplete (every p y) e w = (v : List ℕ) → IsComplete y (bind p (Some v) e) w
 IsComplete (sync p y) e w =
     Each (λ a. (v : List ℕ) × InAlphabet y (bind p (Some v) e) a) w
-    × ((v : List ℕ) → Projected (InAlphabet y (bind p (Some v) e)) (IsComplete y (bind p (Some v) e)) w)
+    × ((v : List ℕ)
+    → Projected (InAlphabet y (bind p (Some v) e)) (IsComplete y (bind p (Some v) e)) w)
 IsComplete (all p y) e w = Owned text_eq (λ v. IsComplete y (bind p (Some v) e)) w
 
 -- the word is partial in the expression under the environment
@@ -68,5 +71,6 @@ IsPartial (any p y) e w = (v : List ℕ) × IsPartial y (bind p (Some v) e) w
 IsPartial (every p y) e w = (v : List ℕ) → IsPartial y (bind p (Some v) e) w
 IsPartial (sync p y) e w =
     Each (λ a. (v : List ℕ) × InAlphabet y (bind p (Some v) e) a) w
-    × ((v : List ℕ) → Projected (InAlphabet y (bind p (Some v) e)) (IsPartial y (bind p (Some v) e)) w)
+    × ((v : List ℕ)
+    → Projected (InAlphabet y (bind p (Some v) e)) (IsPartial y (bind p (Some v) e)) w)
 IsPartial (all p y) e w = Owned text_eq (λ v. IsPartial y (bind p (Some v) e)) w

@@ -4,7 +4,8 @@ use Rattle.std.specs.List.{zip}
 use Rattle.ix_words.specs.Each.{Member}
 use Rattle.ix_values.specs.PlainAction.{PlainAction}
 use Rattle.ix_expr.specs.declared.arg.Arg.TheVariants.{Param}
-use Rattle.ix_expr.specs.Form.{PlainAtom, Form, atom, opt, seq, star, par, par_star, or, and, couple}
+use Rattle.ix_expr.specs.Form.{PlainAtom, Form, atom, opt, seq, star, par, par_star, or, and}
+use Rattle.ix_expr.specs.Form.{couple}
 use Rattle.ix_expr.specs.Form.{any, every, sync, all}
 
 -- by its parameter p the atom sees the value v of the action: it has the action's name and as many

@@ -3,7 +3,8 @@ use Rattle.std.specs.Prelude.{◌≡◌, ◌≤◌, false, length, All}
 use Rattle.ix_values.specs.Texts.{IsName, IsValue}
 use Rattle.ix_expr.specs.declared.arg.Arg.{Arg}
 use Rattle.ix_expr.specs.declared.arg.Arg.TheVariants.{Fixed, Param}
-use Rattle.ix_expr.specs.Form.{PlainAtom, Form, atom, opt, seq, star, par, par_star, or, and, couple, any, every, sync, all}
+use Rattle.ix_expr.specs.Form.{PlainAtom, Form, atom, opt, seq, star, par, par_star, or, and}
+use Rattle.ix_expr.specs.Form.{couple, any, every, sync, all}
 use Rattle.ix_expr.specs.Reserved.{is_reserved}
 
 -- a fixed argument is a value, a parameter has a name

@@ -1,8 +1,10 @@
 -- The bytes that tokens are made of.
-use Rattle.std.specs.Prelude.{ℕ, Bool, false, List, [], ◌∷◌, Option, Some, None, ◌||◌, ◌==◌, if◌then◌else◌}
+use Rattle.std.specs.Prelude.{ℕ, Bool, false, List, [], ◌∷◌, Option, Some, None, ◌||◌, ◌==◌}
+use Rattle.std.specs.Prelude.{if◌then◌else◌}
 use Rattle.std.specs.Char.{is_ascii_alphabetic, is_ascii_alphanumeric}
 use Rattle.ix_lex.specs.declared.TokenKind.{TokenKind}
-use Rattle.ix_lex.specs.declared.TokenKind.TheVariants.{Open, Close, Comma, Question, Star, Hash, Plus, Bar, Amp, At, Minus}
+use Rattle.ix_lex.specs.declared.TokenKind.TheVariants.{Open, Close, Comma, Question, Star, Hash}
+use Rattle.ix_lex.specs.declared.TokenKind.TheVariants.{Plus, Bar, Amp, At, Minus}
 
 -- a line's end or a space: what separates tokens and means nothing else
 abbrev pub is_blank : ℕ → Bool

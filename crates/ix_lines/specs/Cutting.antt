@@ -21,4 +21,5 @@ pub record IsCut (text : List ℕ) (parts : List (List ℕ)) (last : List ℕ) :
 abbrev pub CutAtEachEnd : Type 0
 CutAtEachEnd = (text : List ℕ)
     → IsCut text (cut text).ended (cut text).last
-    × ((parts : List (List ℕ)) (last : List ℕ) → IsCut text parts last → cut text ≡ record { ended = parts; last = last })
+    × ((parts : List (List ℕ)) (last : List ℕ) → IsCut text parts last
+    → cut text ≡ record { ended = parts; last = last })

@@ -1,5 +1,6 @@
 -- What a site tells of its connections, and what its calls make of what it tells.
-use Rattle.std.specs.Prelude.{◌≡◌, ◌⊎◌, ℕ, List, [], ◌∷◌, ◌++◌, length, take, Bool, true, Option, None, Result, Ok, Err, decimal}
+use Rattle.std.specs.Prelude.{◌≡◌, ◌⊎◌, ℕ, List, [], ◌∷◌, ◌++◌, length, take, Bool, true, Option}
+use Rattle.std.specs.Prelude.{None, Result, Ok, Err, decimal}
 use Rattle.std.specs.Io.KnownBytes.{append_known}
 use Rattle.std.specs.Option.{option_map}
 use Rattle.ix_outside.specs.Sink.{IsFront, AppendsPart}
@@ -17,15 +18,15 @@ pub record SentBytes : Type 0 where
   pub conn : ℕ
   pub bytes : List ℕ
 
--- a list of all sends, the places in it of those that answered Gone, counted from 0, and the names of the `listen`s that
--- answered Ok, in order
+-- a list of all sends, the places in it of those that answered Gone, counted from 0, and the names
+-- of the `listen`s that answered Ok, in order
 pub record Sends : Type 0 where
   pub sent : List SentBytes
   pub gone : List ℕ
   pub heard : List (List ℕ)
 
--- what a site tells: the events given, its sends, the text that they made, and whether one of them answered Gone, each where it tells
--- that
+-- what a site tells: the events given, its sends, the text that they made, and whether one of them
+-- answered Gone, each where it tells that
 pub record Contents : Type 0 where
   pub given : Option (List GivenEvent)
   pub sends : Option Sends
@@ -45,20 +46,26 @@ send_text conn bytes = decimal conn ++ 32 ∷ bytes
 -- with one more event behind those given
 abbrev pub with_event : Event → List ℕ → Contents → Contents
 with_event event bytes told =
-    record told { given = option_map (λ events. events ++ record { event = event; bytes = bytes } ∷ []) told.given }
+    record told
+        { given = option_map
+            (λ events. events ++ record { event = event; bytes = bytes } ∷ []) told.given }
 
 -- with one more name behind those heard
 abbrev pub with_name : List ℕ → Contents → Contents
 with_name name told =
-    record told { sends = option_map (λ (sends : Sends). record sends { heard = sends.heard ++ name ∷ [] }) told.sends }
+    record told
+        { sends = option_map
+            (λ (sends : Sends). record sends { heard = sends.heard ++ name ∷ [] }) told.sends }
 
 -- with one more pair behind those sent
 abbrev pub with_pair : ℕ → List ℕ → Sends → Sends
-with_pair conn bytes sends = record sends { sent = sends.sent ++ record { conn = conn; bytes = bytes } ∷ [] }
+with_pair conn bytes sends =
+    record sends { sent = sends.sent ++ record { conn = conn; bytes = bytes } ∷ [] }
 
 -- with the place of one more pair among those of the sends that answered Gone
 abbrev pub with_gone : ℕ → List ℕ → Sends → Sends
-with_gone conn bytes sends = record (with_pair conn bytes sends) { gone = sends.gone ++ length sends.sent ∷ [] }
+with_gone conn bytes sends =
+    record (with_pair conn bytes sends) { gone = sends.gone ++ length sends.sent ∷ [] }
 
 -- after a `listen` that answered Ok its name is heard; else nothing changed
 abbrev pub Listens : {T E : Type 0} → List ℕ → Result T E → Contents → Contents → Type 0
@@ -83,7 +90,8 @@ pub record SendsFront (conn : ℕ) (bytes : List ℕ) (old new : Option Sends) :
   pub is_front : IsFront front bytes
   pub sends : new ≡ option_map (with_gone conn front) old
 
--- what a send that answered Gone leaves: a front of it is sent; or the site tells its events or its sends no more
+-- what a send that answered Gone leaves: a front of it is sent; or the site tells its events or its
+-- sends no more
 pub record SendsPart (conn : ℕ) (bytes : List ℕ) (old new : Contents) : Type 0 where
   pub given : (new.given ≡ old.given) ⊎ (new.given ≡ None)
   pub sends : SendsFront conn bytes old.sends new.sends ⊎ (new.sends ≡ None)

@@ -5,7 +5,8 @@ use Rattle.std.specs.Prelude.{ℕ, ◌+◌, ◌-◌, ◌^◌, ◌≤◌, min}
 abbrev pub Rose : ℕ → ℕ → Type 0
 Rose before now = min (before + 1) (2 ^ 64 - 1) ≤ now
 
--- the counts of a site: failed calls of the disk, of the wire (`listen` and `next` alone), and of `send`
+-- the counts of a site: failed calls of the disk, of the wire (`listen` and `next` alone), and of
+-- `send`
 pub record Counts : Type 0 where
   pub disk : ℕ
   pub wire : ℕ

@@ -28,11 +28,14 @@ nothing_left = record { now = λ image. ⊥; left = λ t image. ⊥; left_since 
 pub record AreLawful (site : SiteState) (crashes : Crashes) : Type 0 where
   pub file : OfFile crashes.now site.disk
   pub left_now : (image : List ℕ) → crashes.left site.tick image ↔ crashes.now image
-  pub left_earlier : (t u : ℕ) (image : List ℕ) → t ≤ u → crashes.left u image → crashes.left t image
-  pub since_now : (sends : Sends) → site.contents.sends ≡ Some sends → (image : List ℕ) (sent : List SentBytes)
+  pub left_earlier : (t u : ℕ) (image : List ℕ) → t ≤ u → crashes.left u image
+      → crashes.left t image
+  pub since_now : (sends : Sends) → site.contents.sends ≡ Some sends
+      → (image : List ℕ) (sent : List SentBytes)
       → crashes.left_since site.tick (record { image = image; sent = sent })
       ↔ (crashes.now image × (sent ≡ sends.sent))
-  pub since_earlier : (t u : ℕ) (left : Left) → t ≤ u → crashes.left_since u left → crashes.left_since t left
+  pub since_earlier : (t u : ℕ) (left : Left) → t ≤ u → crashes.left_since u left
+      → crashes.left_since t left
   pub since_left : (t : ℕ) (left : Left) → crashes.left_since t left → crashes.left t left.image
   pub left_since : (sends : Sends) → site.contents.sends ≡ Some sends → (t : ℕ) (image : List ℕ)
       → crashes.left t image
@@ -69,9 +72,11 @@ IsSentByThen before after sent = (sent ≡ before) ⊎ HasFrontOfLast before aft
 pub record OneCall (old new : SiteState) (was is : Crashes) : Type 0 where
   pub passes : Passes old new was is
   pub images : (image : List ℕ) → is.left old.tick image → was.now image ⊎ is.now image
-  pub sent : (before after : Sends) → old.contents.sends ≡ Some before → new.contents.sends ≡ Some after
+  pub sent : (before after : Sends) → old.contents.sends ≡ Some before
+      → new.contents.sends ≡ Some after
       → (left : Left) → is.left_since old.tick left → IsSentByThen before.sent after.sent left.sent
-  pub moments : (before after : Sends) → old.contents.sends ≡ Some before → new.contents.sends ≡ Some after
+  pub moments : (before after : Sends) → old.contents.sends ≡ Some before
+      → new.contents.sends ≡ Some after
       → (left : Left) → is.now left.image → IsSentByThen before.sent after.sent left.sent
       → is.left_since old.tick left
 
@@ -84,12 +89,15 @@ abbrev pub LeavesNoMore : (List ℕ → Type 0) → (List ℕ → Type 0) → Ty
 LeavesNoMore was is = (image : List ℕ) → is image → was image
 
 -- each image that may be left is one that might have been before, after this step
-abbrev pub LeavesAtMost : (List ℕ → List ℕ → Type 0) → (List ℕ → Type 0) → (List ℕ → Type 0) → Type 0
-LeavesAtMost Step was is = (image : List ℕ) → is image → (before : List ℕ) × was before × Step before image
+abbrev pub LeavesAtMost : (List ℕ → List ℕ → Type 0) → (List ℕ → Type 0) → (List ℕ → Type 0)
+    → Type 0
+LeavesAtMost Step was is = (image : List ℕ) → is image
+    → (before : List ℕ) × was before × Step before image
 
 -- just these images may be left: the ones that might have been before, after this step
 abbrev pub LeavesJust : (List ℕ → List ℕ → Type 0) → (List ℕ → Type 0) → (List ℕ → Type 0) → Type 0
-LeavesJust Step was is = (image : List ℕ) → is image ↔ ((before : List ℕ) × was before × Step before image)
+LeavesJust Step was is = (image : List ℕ)
+    → is image ↔ ((before : List ℕ) × was before × Step before image)
 
 -- where the disk is told, just its file may be left
 abbrev pub LeavesTheFile : Option Disk → (List ℕ → Type 0) → Type 0
@@ -102,6 +110,7 @@ LeavesBy Step (Ok done) was is = LeavesJust Step was is
 LeavesBy Step (Err fault) was is = LeavesAtMost Step was is
 
 -- after a sync, or an attach, just the file may be left; one that failed adds nothing
-abbrev pub Settles : {T E : Type 0} → Result T E → Option Disk → (List ℕ → Type 0) → (List ℕ → Type 0) → Type 0
+abbrev pub Settles : {T E : Type 0} → Result T E → Option Disk → (List ℕ → Type 0)
+    → (List ℕ → Type 0) → Type 0
 Settles (Ok done) disk was is = LeavesTheFile disk is
 Settles (Err fault) disk was is = LeavesNoMore was is

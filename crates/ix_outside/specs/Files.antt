@@ -19,4 +19,5 @@ HasFile (Some files) name bytes = Lists files name bytes
 -- where files are told, the file of this name has more bytes than the limit
 abbrev pub HasLonger : Option Listing → List ℕ → ℕ → Type 0
 HasLonger None name limit = ⊤
-HasLonger (Some files) name limit = (bytes : List ℕ) × Lists files name bytes × (limit < length bytes)
+HasLonger (Some files) name limit = (bytes : List ℕ) × Lists files name bytes
+    × (limit < length bytes)

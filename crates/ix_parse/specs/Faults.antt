@@ -1,5 +1,6 @@
 -- The faults of a text, and which is the first.
-use Rattle.std.specs.Prelude.{◌≡◌, ℕ, suc, ◌<◌, ◌≤◌, List, [], ◌∷◌, ◌++◌, length, map, slice_get, Some}
+use Rattle.std.specs.Prelude.{◌≡◌, ℕ, suc, ◌<◌, ◌≤◌, List, [], ◌∷◌, ◌++◌, length, map, slice_get}
+use Rattle.std.specs.Prelude.{Some}
 use Rattle.ix_lex.specs.Lexing.{PlainToken, Piece, token, bad_byte, Pieces}
 use Rattle.ix_expr.specs.Form.{Form}
 use Rattle.ix_expr.specs.FormFaults.{IsWellFormed, IsFirstFormFault}
@@ -7,7 +8,8 @@ use Rattle.ix_parse.specs.declared.faults.Fault.{Fault}
 use Rattle.ix_parse.specs.declared.faults.Fault.TheVariants as faults
 use Rattle.ix_parse.specs.declared.signs.Quantifier.{Quantifier}
 use Rattle.ix_parse.specs.declared.signs.WordClass.TheVariants.{Quantifies, Withheld}
-use Rattle.ix_parse.specs.Symbols.{Symbol, word, param, opening, closing, comma, before, between, symbol_of, class_of, Meaning}
+use Rattle.ix_parse.specs.Symbols.{Symbol, word, param, opening, closing, comma, before, between}
+use Rattle.ix_parse.specs.Symbols.{symbol_of, class_of, Meaning}
 use Rattle.ix_parse.specs.Grammar.{Stands, CanGoOn, Wanted, AfterArgument}
 
 -- the order in which the faults that are met at one place are told
@@ -34,14 +36,17 @@ code_of faults.Ended = 4
 
 -- the next piece is a parameter
 pub data ParamNext : List Piece → Type 0 where
-  param_next : (t : PlainToken) (p : List ℕ) (rest : List Piece) → symbol_of t ≡ param p → ParamNext (token t ∷ rest)
+  param_next : (t : PlainToken) (p : List ℕ) (rest : List Piece) → symbol_of t ≡ param p
+      → ParamNext (token t ∷ rest)
 
 -- a word that begins nothing: `times`, or a quantifier's word with no parameter behind it
 pub data BeginsNoOperand : List ℕ → List Piece → Type 0 where
   withheld : (w : List ℕ) (rest : List Piece) → class_of w ≡ Withheld → BeginsNoOperand w rest
-  no_param : (w : List ℕ) (q : Quantifier) (rest : List Piece) → class_of w ≡ Quantifies q → ¬ ParamNext rest → BeginsNoOperand w rest
+  no_param : (w : List ℕ) (q : Quantifier) (rest : List Piece) → class_of w ≡ Quantifies q
+      → ¬ ParamNext rest → BeginsNoOperand w rest
 
--- the symbol opens a level in the place of an operand: a parenthesis, a prefix or a quantifier's word
+-- the symbol opens a level in the place of an operand: a parenthesis, a prefix or a quantifier's
+-- word
 abbrev pub OpensLevel : Symbol → Type 0
 OpensLevel (word at w) = (q : Quantifier) × (class_of w ≡ Quantifies q)
 OpensLevel (param p) = ⊥
@@ -64,8 +69,10 @@ IsNode ts (between at o) = Unit {0}
 -- of the symbols us, which stand behind ts, n are nodes' tokens
 pub data Nodes : List Symbol → List Symbol → ℕ → Type 0 where
   none : (ts : List Symbol) → Nodes ts [] 0
-  node : (ts us : List Symbol) (t : Symbol) (n : ℕ) → IsNode ts t → Nodes (ts ++ t ∷ []) us n → Nodes ts (t ∷ us) (suc n)
-  other : (ts us : List Symbol) (t : Symbol) (n : ℕ) → ¬ IsNode ts t → Nodes (ts ++ t ∷ []) us n → Nodes ts (t ∷ us) n
+  node : (ts us : List Symbol) (t : Symbol) (n : ℕ) → IsNode ts t → Nodes (ts ++ t ∷ []) us n
+      → Nodes ts (t ∷ us) (suc n)
+  other : (ts us : List Symbol) (t : Symbol) (n : ℕ) → ¬ IsNode ts t → Nodes (ts ++ t ∷ []) us n
+      → Nodes ts (t ∷ us) n
 
 -- the name of a word or a parameter is longer than 32 bytes
 abbrev pub IsLong : Symbol → Type 0
@@ -77,15 +84,22 @@ IsLong comma = ⊥
 IsLong (before at sign) = ⊥
 IsLong (between at o) = ⊥
 
--- the fault is met after the symbols ts, at the first of the pieces or, where there is none, at the end
+-- the fault is met after the symbols ts, at the first of the pieces or, where there is none, at the
+-- end
 pub data Met (ts : List Symbol) : List Piece → Fault → Type 0 where
   no_token : (at : ℕ) (rest : List Piece) → Met ts (bad_byte at ∷ rest) faults.NoToken
-  reserved : (t : PlainToken) (rest : List Piece) (at d : ℕ) (w : List ℕ) → symbol_of t ≡ word at w → Wanted d ts → BeginsNoOperand w rest → Met ts (token t ∷ rest) faults.Reserved
-  fifth_argument : (t : PlainToken) (rest : List Piece) → symbol_of t ≡ comma → AfterArgument 4 ts → Met ts (token t ∷ rest) faults.FifthArgument
-  unexpected : (t : PlainToken) (rest : List Piece) → ¬ CanGoOn (ts ++ symbol_of t ∷ []) → Met ts (token t ∷ rest) faults.Unexpected
-  long_name : (t : PlainToken) (rest : List Piece) → IsLong (symbol_of t) → Met ts (token t ∷ rest) faults.LongName
-  too_deep : (t : PlainToken) (rest : List Piece) → Wanted 64 ts → OpensLevel (symbol_of t) → Met ts (token t ∷ rest) faults.TooDeep
-  too_many_nodes : (t : PlainToken) (rest : List Piece) → Nodes [] ts 512 → IsNode ts (symbol_of t) → Met ts (token t ∷ rest) faults.TooManyNodes
+  reserved : (t : PlainToken) (rest : List Piece) (at d : ℕ) (w : List ℕ) → symbol_of t ≡ word at w
+      → Wanted d ts → BeginsNoOperand w rest → Met ts (token t ∷ rest) faults.Reserved
+  fifth_argument : (t : PlainToken) (rest : List Piece) → symbol_of t ≡ comma → AfterArgument 4 ts
+      → Met ts (token t ∷ rest) faults.FifthArgument
+  unexpected : (t : PlainToken) (rest : List Piece) → ¬ CanGoOn (ts ++ symbol_of t ∷ [])
+      → Met ts (token t ∷ rest) faults.Unexpected
+  long_name : (t : PlainToken) (rest : List Piece) → IsLong (symbol_of t)
+      → Met ts (token t ∷ rest) faults.LongName
+  too_deep : (t : PlainToken) (rest : List Piece) → Wanted 64 ts → OpensLevel (symbol_of t)
+      → Met ts (token t ∷ rest) faults.TooDeep
+  too_many_nodes : (t : PlainToken) (rest : List Piece) → Nodes [] ts 512 → IsNode ts (symbol_of t)
+      → Met ts (token t ∷ rest) faults.TooManyNodes
   ended : ((x : Meaning) → ¬ Stands 1 ts x) → Met ts [] faults.Ended
 
 -- the symbols of tokens
@@ -94,7 +108,8 @@ symbols_of tokens = map symbol_of tokens
 
 -- no fault is met in the pieces before the place n
 abbrev pub NothingMet : ℕ → List Piece → Type 0
-NothingMet n pieces = (before : List PlainToken) (after : List Piece) (fault : Fault) → pieces ≡ map token before ++ after → length before < n → ¬ Met (symbols_of before) after fault
+NothingMet n pieces = (before : List PlainToken) (after : List Piece) (fault : Fault)
+    → pieces ≡ map token before ++ after → length before < n → ¬ Met (symbols_of before) after fault
 
 -- where the first of the pieces starts, or the end of the text
 abbrev pub place_of : List Piece → ℕ → ℕ
@@ -102,7 +117,8 @@ place_of [] end = end
 place_of (token t ∷ _) end = t.start
 place_of (bad_byte at ∷ _) end = at
 
--- the first syntax fault of the pieces of a text of this length: nothing is met before its place, and nothing of a lower order at it
+-- the first syntax fault of the pieces of a text of this length: nothing is met before its place,
+-- and nothing of a lower order at it
 pub record IsFirstSyntaxFault (pieces : List Piece) (end code at : ℕ) : Type 0 where
   pub before : List PlainToken
   pub after : List Piece
@@ -110,7 +126,8 @@ pub record IsFirstSyntaxFault (pieces : List Piece) (end code at : ℕ) : Type 0
   pub split : pieces ≡ map token before ++ after
   pub met : Met (symbols_of before) after fault
   pub nothing_before : NothingMet (length before) pieces
-  pub nothing_lower : (other : Fault) → order_of other < order_of fault → ¬ Met (symbols_of before) after other
+  pub nothing_lower : (other : Fault) → order_of other < order_of fault
+      → ¬ Met (symbols_of before) after other
   pub code_is : code ≡ code_of fault
   pub place_is : at ≡ place_of after end
 
@@ -133,6 +150,9 @@ pub data IsFirstFault (text : List ℕ) : ℕ → ℕ → Type 0 where
   -- the length of the text
   too_long : 16384 < length text → IsFirstFault text 1 16384
   -- a syntax fault
-  syntax_fault : (pieces : List Piece) (code at : ℕ) → length text ≤ 16384 → Pieces 0 text pieces → IsFirstSyntaxFault pieces (length text) code at → IsFirstFault text code at
+  syntax_fault : (pieces : List Piece) (code at : ℕ) → length text ≤ 16384 → Pieces 0 text pieces
+      → IsFirstSyntaxFault pieces (length text) code at → IsFirstFault text code at
   -- a form fault, at the start of its node's token
-  form_fault : (x : Meaning) (code number at : ℕ) → HasMeaning text x → IsFirstFormFault x.form code number → slice_get x.places number ≡ Some at → IsFirstFault text code at
+  form_fault : (x : Meaning) (code number at : ℕ) → HasMeaning text x
+      → IsFirstFormFault x.form code number → slice_get x.places number ≡ Some at
+      → IsFirstFault text code at

@@ -1,5 +1,6 @@
 -- Tokens as the grammar sees them, and what operators and words mean.
-use Rattle.std.specs.Prelude.{ℕ, List, [], ◌∷◌, ◌++◌, Option, Some, None, drop, codes, if◌then◌else◌}
+use Rattle.std.specs.Prelude.{ℕ, List, [], ◌∷◌, ◌++◌, Option, Some, None, drop, codes}
+use Rattle.std.specs.Prelude.{if◌then◌else◌}
 use Rattle.ix_lex.specs.declared.TokenKind.{TokenKind}
 use Rattle.ix_lex.specs.declared.TokenKind.TheVariants as kinds
 use Rattle.ix_lex.specs.Lexing.{PlainToken}
@@ -48,7 +49,8 @@ symbol_by kinds.Minus at bytes = between at operators.Seq
 abbrev pub symbol_of : PlainToken → Symbol
 symbol_of t = symbol_by t.kind t.start t.bytes
 
--- what a word is in the place of an operand: a quantifier's word, `times`, the name of an atom, or none of these
+-- what a word is in the place of an operand: a quantifier's word, `times`, the name of an atom, or
+-- none of these
 unfoldable pub class_of : List ℕ → WordClass
 class_of w =
     if text_eq w (codes "any") then Quantifies quantifiers.Any
@@ -67,7 +69,8 @@ level operators.Couple = 3
 level operators.Par = 4
 level operators.Seq = 5
 
--- what an expression's text means: its form, and where each node's token starts, the nodes in pre-order
+-- what an expression's text means: its form, and where each node's token starts, the nodes in
+-- pre-order
 pub record Meaning : Type 0 where
   pub form : Form
   pub places : List ℕ

@@ -4,7 +4,8 @@ use Rattle.std.specs.declared.cmp.Ordering.{Ordering}
 use Rattle.std.specs.declared.cmp.Ordering.TheVariants.{Equal}
 use Rattle.std.specs.Ordering.{nat_cmp, ordering_then}
 use Rattle.ix_values.specs.Order.{text_cmp}
-use Rattle.ix_tree.specs.Plain.{Plain, dead, start, done, opt, seq, star, par, par_star, or, and, couple, any, every, sync, all, pair, bag, map, entry, none, more}
+use Rattle.ix_tree.specs.Plain.{Plain, dead, start, done, opt, seq, star, par, par_star, or, and}
+use Rattle.ix_tree.specs.Plain.{couple, any, every, sync, all, pair, bag, map, entry, none, more}
 
 -- the place of a form; the empty list stands before every other
 abbrev pub place : Plain → ℕ
@@ -104,30 +105,40 @@ second_part start = none
 second_part done = none
 second_part none = none
 
--- by form, then by what stands beside the trees, then as the first parts compare, then as the second do
+-- by form, then by what stands beside the trees, then as the first parts compare, then as the
+-- second do
 abbrev pub in_turn : Plain → Plain → Ordering → Ordering → Ordering
 in_turn x y first second =
-    ordering_then (nat_cmp (place x) (place y)) (ordering_then (text_cmp (key x) (key y)) (ordering_then first second))
+    ordering_then (nat_cmp (place x) (place y))
+        (ordering_then (text_cmp (key x) (key y)) (ordering_then first second))
 
--- the order; a proper prefix of a list stands before the longer list, since the empty list stands before any other
+-- the order; a proper prefix of a list stands before the longer list, since the empty list stands
+-- before any other
 abbrev pub tree_cmp : Plain → Plain → Ordering
 tree_cmp (opt empty x) y = in_turn (opt empty x) y (tree_cmp x (first_part y)) Equal
-tree_cmp (seq x xs) y = in_turn (seq x xs) y (tree_cmp x (first_part y)) (tree_cmp xs (second_part y))
+tree_cmp (seq x xs) y = in_turn (seq x xs) y (tree_cmp x (first_part y))
+    (tree_cmp xs (second_part y))
 tree_cmp (star again xs) y = in_turn (star again xs) y (tree_cmp xs (first_part y)) Equal
 tree_cmp (par pairs) y = in_turn (par pairs) y (tree_cmp pairs (first_part y)) Equal
 tree_cmp (par_star bags) y = in_turn (par_star bags) y (tree_cmp bags (first_part y)) Equal
 tree_cmp (or x z) y = in_turn (or x z) y (tree_cmp x (first_part y)) (tree_cmp z (second_part y))
 tree_cmp (and x z) y = in_turn (and x z) y (tree_cmp x (first_part y)) (tree_cmp z (second_part y))
-tree_cmp (couple x z) y = in_turn (couple x z) y (tree_cmp x (first_part y)) (tree_cmp z (second_part y))
-tree_cmp (any common entries) y = in_turn (any common entries) y (tree_cmp common (first_part y)) (tree_cmp entries (second_part y))
-tree_cmp (every common entries) y = in_turn (every common entries) y (tree_cmp common (first_part y)) (tree_cmp entries (second_part y))
-tree_cmp (sync common entries) y = in_turn (sync common entries) y (tree_cmp common (first_part y)) (tree_cmp entries (second_part y))
+tree_cmp (couple x z) y = in_turn (couple x z) y (tree_cmp x (first_part y))
+    (tree_cmp z (second_part y))
+tree_cmp (any common entries) y = in_turn (any common entries) y (tree_cmp common (first_part y))
+    (tree_cmp entries (second_part y))
+tree_cmp (every common entries) y = in_turn (every common entries) y
+    (tree_cmp common (first_part y)) (tree_cmp entries (second_part y))
+tree_cmp (sync common entries) y = in_turn (sync common entries) y (tree_cmp common (first_part y))
+    (tree_cmp entries (second_part y))
 tree_cmp (all maps) y = in_turn (all maps) y (tree_cmp maps (first_part y)) Equal
-tree_cmp (pair x z) y = in_turn (pair x z) y (tree_cmp x (first_part y)) (tree_cmp z (second_part y))
+tree_cmp (pair x z) y = in_turn (pair x z) y (tree_cmp x (first_part y))
+    (tree_cmp z (second_part y))
 tree_cmp (bag xs) y = in_turn (bag xs) y (tree_cmp xs (first_part y)) Equal
 tree_cmp (map entries) y = in_turn (map entries) y (tree_cmp entries (first_part y)) Equal
 tree_cmp (entry v x) y = in_turn (entry v x) y (tree_cmp x (first_part y)) Equal
-tree_cmp (more x xs) y = in_turn (more x xs) y (tree_cmp x (first_part y)) (tree_cmp xs (second_part y))
+tree_cmp (more x xs) y = in_turn (more x xs) y (tree_cmp x (first_part y))
+    (tree_cmp xs (second_part y))
 tree_cmp dead y = in_turn dead y Equal Equal
 tree_cmp start y = in_turn start y Equal Equal
 tree_cmp done y = in_turn done y Equal Equal

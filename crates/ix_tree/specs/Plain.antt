@@ -1,4 +1,5 @@
--- State trees as contracts see them: plain data of the same forms, with no pointers in it; and lists as parts.
+-- State trees as contracts see them: plain data of the same forms, with no pointers in it; and
+-- lists as parts.
 use Rattle.std.specs.Prelude.{ℕ, Bool, true, false, List, [], ◌∷◌}
 
 -- a tree, or a part of one: a pair, a bag, a map, an entry, or a list of trees or parts

@@ -1,8 +1,10 @@
 -- Size, the number of nodes that a tree counts as.
 use Rattle.std.specs.Prelude.{ℕ, ◌+◌}
-use Rattle.ix_tree.specs.Plain.{Plain, dead, start, done, opt, seq, star, par, par_star, or, and, couple, any, every, sync, all, pair, bag, map, entry, none, more}
+use Rattle.ix_tree.specs.Plain.{Plain, dead, start, done, opt, seq, star, par, par_star, or, and}
+use Rattle.ix_tree.specs.Plain.{couple, any, every, sync, all, pair, bag, map, entry, none, more}
 
--- a node counts 1 and its parts; a pair, a bag, a map and an entry count 1 and their trees; a list counts its items
+-- a node counts 1 and its parts; a pair, a bag, a map and an entry count 1 and their trees; a list
+-- counts its items
 abbrev pub size_of : Plain → ℕ
 size_of dead = 1
 size_of start = 1

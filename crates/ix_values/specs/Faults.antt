@@ -1,5 +1,6 @@
 -- Why a text isn't an action's: the place and the code.
-use Rattle.std.specs.Prelude.{◌≡◌, ℕ, ◌≤◌, ◌⊎◌, Some, List, [], ◌∷◌, ◌++◌, length, take, slice_get, IsTrue, IsSomeAnd}
+use Rattle.std.specs.Prelude.{◌≡◌, ℕ, ◌≤◌, ◌⊎◌, Some, List, [], ◌∷◌, ◌++◌, length, take, slice_get}
+use Rattle.std.specs.Prelude.{IsTrue, IsSomeAnd}
 use Rattle.ix_values.specs.Bytes.{is_word_byte}
 use Rattle.ix_values.specs.PlainAction.{PlainAction, text_of}
 use Rattle.ix_values.specs.Texts.{IsName, IsValue, IsAction}
@@ -40,7 +41,8 @@ pub record EndsInFourthValue (text : List ℕ) : Type 0 where
 
 -- too long: a name or value of 32 bytes, and a word byte behind it
 abbrev pub IsTooLong : List ℕ → ℕ → Type 0
-IsTooLong text at = EndsInLongest (take at text) × IsSomeAnd (slice_get text at) (λ byte. IsTrue (is_word_byte byte))
+IsTooLong text at = EndsInLongest (take at text)
+    × IsSomeAnd (slice_get text at) (λ byte. IsTrue (is_word_byte byte))
 
 -- too many arguments: a fourth value, and `,` behind it
 abbrev pub IsTooMany : List ℕ → ℕ → Type 0

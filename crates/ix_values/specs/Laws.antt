@@ -5,4 +5,5 @@ use Rattle.ix_values.specs.Texts.{IsAction}
 
 -- two actions with one text are the same action
 abbrev pub TextsTellActionsApart : Type 0
-TextsTellActionsApart = (x y : PlainAction) → IsAction x → IsAction y → text_of x ≡ text_of y → x ≡ y
+TextsTellActionsApart = (x y : PlainAction) → IsAction x → IsAction y → text_of x ≡ text_of y
+    → x ≡ y

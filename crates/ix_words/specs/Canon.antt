@@ -1,4 +1,5 @@
--- Lists compared by their members alone: one strictly ascending list stands for all lists with the same members.
+-- Lists compared by their members alone: one strictly ascending list stands for all lists with the
+-- same members.
 use Rattle.std.specs.Prelude.{◌≡◌, Bool, cond, List, [], ◌∷◌, ◌++◌, map, flat_map}
 use Rattle.std.specs.Cmp.{IsTotalOrder}
 use Rattle.std.specs.declared.cmp.Ordering.{Ordering}
@@ -13,7 +14,8 @@ pub record IsStrictOrder {A : Type 0} (compare : A → A → Ordering) : Type 0 
 -- each item is below all later ones
 pub data Ascending {A : Type 0} (compare : A → A → Ordering) : List A → Type 0 where
   ascending_end : Ascending compare []
-  below : {a : A} {w : List A} → Each (λ b. compare a b ≡ Less) w → Ascending compare w → Ascending compare (a ∷ w)
+  below : {a : A} {w : List A} → Each (λ b. compare a b ≡ Less) w → Ascending compare w
+      → Ascending compare (a ∷ w)
 
 -- the same items are in u and in v
 pub record SameMembers {A : Type 0} (u v : List A) : Type 0 where

@@ -14,4 +14,5 @@ pub data Member {A : Type 0} (a : A) : List A → Type 0 where
 -- there are as many owners as items, and each owner has G with its item
 pub data EachPair {K A : Type 0} (G : K → A → Type 0) : List K → List A → Type 0 where
   no_pair : EachPair G [] []
-  pair : {owner : K} {a : A} {owners : List K} {w : List A} → G owner a → EachPair G owners w → EachPair G (owner ∷ owners) (a ∷ w)
+  pair : {owner : K} {a : A} {owners : List K} {w : List A} → G owner a → EachPair G owners w
+      → EachPair G (owner ∷ owners) (a ∷ w)

@@ -32,13 +32,15 @@ pub record Numbered {A : Type 0} (Q : List A → Type 0) (w : List A) : Type 0 w
   pub each_has : Each (λ owner. Q (part (λ other. owner == other) owners w)) owners
 
 -- w has owner values; for every value v, used or not, the part of v has Q v
-pub record Owned {A V : Type 0} (same : V → V → Bool) (Q : V → List A → Type 0) (w : List A) : Type 0 where
+pub record Owned {A V : Type 0} (same : V → V → Bool) (Q : V → List A → Type 0)
+    (w : List A) : Type 0 where
   pub owners : List V
   pub as_long : length owners ≡ length w
   pub each_has : (v : V) → Q v (part (same v) owners w)
 
 -- the projection of w to the items that are in has Q
-pub record Projected {A : Type 0} (In : A → Type 0) (Q : List A → Type 0) (w : List A) : Type 0 where
+pub record Projected {A : Type 0} (In : A → Type 0) (Q : List A → Type 0)
+    (w : List A) : Type 0 where
   pub rest : List A
   pub projection : Projection In w rest
   pub rest_has : Q rest
