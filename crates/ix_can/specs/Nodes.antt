@@ -81,7 +81,7 @@ every_node common entries = dead_if (is_dead common || has_dead_entry entries)
 abbrev pub sync_node : Bool → Plain → List Plain → Plain
 sync_node inside common entries =
     dead_if (not inside || (is_dead common || has_dead_entry entries))
-        (sync common (set_of entries))
+    (sync common (set_of entries))
 
 abbrev pub all_node : List Plain → Plain
 all_node maps = dead_if (is_empty maps) (all (set_of maps))

@@ -70,7 +70,7 @@ entries_of common tree values = flat_map
 abbrev pub live_map : Plain → (List ℕ → Plain) → List (List ℕ) → List Plain
 live_map initial tree owners =
     when (list_all (λ v. is_live (tree v)) owners)
-        (map_of (set_of (entries_of initial tree owners)) ∷ [])
+    (map_of (set_of (entries_of initial tree owners)) ∷ [])
 
 -- the tree of the word w under the environment e
 abbrev pub tree_of : Form → Environment → Word → Plain
@@ -83,12 +83,12 @@ tree_of (star y) e w =
     star_node (is_concatenation (λ u. is_final y (tree_of y e u)) w)
     (flat_map
     (λ c. when (not (is_empty c.1) && is_concatenation (λ u. is_final y (tree_of y e u)) c.0)
-        (live (tree_of y e c.1))) (cuts w))
+    (live (tree_of y e c.1))) (cuts w))
 tree_of (par y z) e w = par_node
     (flat_map (λ s. live_pair (tree_of y e s.0) (tree_of z e s.1)) (splits w))
 tree_of (par_star y) e w =
     par_star_node
-        (flat_map (λ owners. live_bag (map (tree_of y e) (nonempty_parts owners w))) (numberings w))
+    (flat_map (λ owners. live_bag (map (tree_of y e) (nonempty_parts owners w))) (numberings w))
 tree_of (or y z) e w = or_node (tree_of y e w) (tree_of z e w)
 tree_of (and y z) e w = and_node (tree_of y e w) (tree_of z e w)
 tree_of (couple y z) e w =
@@ -102,17 +102,17 @@ tree_of (every p y) e w =
     (entries_of (tree_of y (bind p None e) w) (λ v. tree_of y (bind p (Some v) e) w) (values_of w))
 tree_of (sync p y) e w =
     sync_node
-        (list_all (λ a. list_any (λ v. in_alphabet y (bind p v e) a) (values_and_outside a)) w)
+    (list_all (λ a. list_any (λ v. in_alphabet y (bind p v e) a) (values_and_outside a)) w)
     (tree_of y (bind p None e) (filter (in_alphabet y (bind p None e)) w))
     (entries_of (tree_of y (bind p None e) (filter (in_alphabet y (bind p None e)) w))
     (λ v. tree_of y (bind p (Some v) e) (filter (in_alphabet y (bind p (Some v) e)) w))
     (values_of w))
 tree_of (all p y) e w =
     all_node
-        (flat_map
-            (λ owners. live_map (tree_of y e [])
-                (λ v. tree_of y (bind p (Some v) e) (part (text_eq v) owners w)) owners)
-            (ownings w))
+    (flat_map
+    (λ owners. live_map (tree_of y e [])
+    (λ v. tree_of y (bind p (Some v) e) (part (text_eq v) owners w)) owners)
+    (ownings w))
 
 -- the Size of the tree of a word of the whole expression
 abbrev pub tree_size : Form → Word → ℕ

@@ -43,7 +43,7 @@ numberings w = lists_as_long (numbers_below (length w)) w
 abbrev pub nonempty_parts : {A : Type 0} → List ℕ → List A → List (List A)
 nonempty_parts owners w =
     filter (λ u. not (is_empty u))
-        (map (λ number. part (λ owner. number == owner) owners w) (numbers_below (length w)))
+    (map (λ number. part (λ owner. number == owner) owners w) (numbers_below (length w)))
 
 -- every way to give each action of w one of its own values as its owner
 abbrev pub ownings : Word → List (List (List ℕ))

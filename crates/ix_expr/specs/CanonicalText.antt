@@ -51,7 +51,7 @@ atom_text x = x.name ++ arguments_text x.arguments
 abbrev pub binary_text : ℕ → ℕ → (ℕ × List ℕ) → (ℕ × List ℕ) → List ℕ
 binary_text level operator left right =
     enclosed (nat_lt left.0 level) left.1 ++ (32 ∷ operator ∷ 32 ∷ [])
-        ++ enclosed (nat_le right.0 level) right.1
+    ++ enclosed (nat_le right.0 level) right.1
 
 -- the operand of a prefix, in parentheses where it is binary
 abbrev pub operand_text : (ℕ × List ℕ) → List ℕ

@@ -106,7 +106,7 @@ abbrev pub OwnersAreValues : Type 0
 OwnersAreValues = (p : List ℕ) (y : Form) (e : Environment) (w : Word) (owners : List (List ℕ))
     (v : List ℕ) → EachAtomNames p y →
     IsPartial y (bind p (Some v) e) (part (text_eq v) owners w)
-        → Each (λ a. Member v a.values) (part (text_eq v) owners w)
+    → Each (λ a. Member v a.values) (part (text_eq v) owners w)
 
 -- no action of the word has the value v
 abbrev pub IsFresh : List ℕ → Word → Type 0

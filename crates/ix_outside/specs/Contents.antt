@@ -46,16 +46,18 @@ send_text conn bytes = decimal conn ++ 32 ∷ bytes
 -- with one more event behind those given
 abbrev pub with_event : Event → List ℕ → Contents → Contents
 with_event event bytes told =
-    record told
-        { given = option_map
-            (λ events. events ++ record { event = event; bytes = bytes } ∷ []) told.given }
+    record told {
+      given = option_map
+          (λ events. events ++ record { event = event; bytes = bytes } ∷ []) told.given;
+    }
 
 -- with one more name behind those heard
 abbrev pub with_name : List ℕ → Contents → Contents
 with_name name told =
-    record told
-        { sends = option_map
-            (λ (sends : Sends). record sends { heard = sends.heard ++ name ∷ [] }) told.sends }
+    record told {
+      sends = option_map
+          (λ (sends : Sends). record sends { heard = sends.heard ++ name ∷ [] }) told.sends;
+    }
 
 -- with one more pair behind those sent
 abbrev pub with_pair : ℕ → List ℕ → Sends → Sends

@@ -110,7 +110,7 @@ second_part none = none
 abbrev pub in_turn : Plain → Plain → Ordering → Ordering → Ordering
 in_turn x y first second =
     ordering_then (nat_cmp (place x) (place y))
-        (ordering_then (text_cmp (key x) (key y)) (ordering_then first second))
+    (ordering_then (text_cmp (key x) (key y)) (ordering_then first second))
 
 -- the order; a proper prefix of a list stands before the longer list, since the empty list stands
 -- before any other

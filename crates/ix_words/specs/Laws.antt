@@ -35,7 +35,7 @@ abbrev pub ProjectionsGrow : Type 0 → Type 0
 ProjectionsGrow A = (test : A → Bool) (w u : List A) (a : A)
     → Projection (λ b. IsTrue (test b)) (w ++ a ∷ []) u
     ↔ ((rest : List A) × Projection (λ b. IsTrue (test b)) w rest
-        × (u ≡ rest ++ cond (test a) (a ∷ []) []))
+    × (u ≡ rest ++ cond (test a) (a ∷ []) []))
 
 -- one more piece stands behind the others
 abbrev pub JoinedGrow : Type 0 → Type 0
@@ -84,7 +84,7 @@ abbrev pub SplitsAll : Type 0 → Type 0
 SplitsAll A = (w : List A) (p : List A × List A)
     → Member p (splits w)
     ↔ ((marks : List Bool) × (length marks ≡ length w) × (part (λ mark. mark) marks w ≡ p.0)
-        × (part not marks w ≡ p.1))
+    × (part not marks w ≡ p.1))
 
 -- the splits of w and one more item: those of w with the item behind the left or behind the right
 -- part
