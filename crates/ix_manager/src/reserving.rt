@@ -33,7 +33,7 @@ impl Machine {
         }
         self.slot = Slot::Free;
         self.pending = None;
-        match prepare(&mut self.engine, alloc, &action) {
+        match prepare(alloc, &mut self.engine, &action) {
             Ok(next) => {
                 let ticket = self.ticket;
                 let deadline = deadline_of(self.moment, lease);
@@ -108,7 +108,7 @@ fn open_deadline(slot: &Slot, moment: u64) -> Option<u64>
 }
 
 /// Takes the memory to commit the action too, so that a confirm needs none.
-fn prepare(engine: &mut Engine, alloc: Global, action: &Action) -> Result<Next, Reply>
+fn prepare(alloc: Global, engine: &mut Engine, action: &Action) -> Result<Next, Reply>
     ensures prepared { IfOk result (λ next. IsPrepared engine.new action.now next) }
     ensures permitted { OnOk result (Allows engine.old action.now) }
     ensures refused { IfErr result (λ reply. Refuses engine.old action.now reply) }

@@ -19,7 +19,7 @@ impl Machine {
     pub(crate) fn watch(&mut self, alloc: Global, name: Name, action: Action) -> Reply
         ensures { Does self.old (request.watch name action) result self.new }
     {
-        match add_watch(&self.engine, &mut self.watches, alloc, name, action) {
+        match add_watch(alloc, &self.engine, &mut self.watches, name, action) {
             Ok(told) => Reply::Watching(told),
             Err(WatchFault::Full) => refused(WATCHES_FULL),
             Err(WatchFault::Memory) => refused(MEMORY),
@@ -41,7 +41,7 @@ impl Machine {
     pub(crate) fn poll(&mut self, alloc: Global, name: Name) -> Answer
         ensures { PollAnswers self.old name result self.new }
     {
-        match refresh(&self.engine, &mut self.watches, alloc, &name) {
+        match refresh(alloc, &self.engine, &mut self.watches, &name) {
             Ok(()) => Answer::Poll(name),
             Err(_) => Answer::One(refused(MEMORY)),
         }
@@ -52,9 +52,9 @@ impl Machine {
 /// whether it is permitted. Where the pair isn't there and the watches are full, or memory runs
 /// out, they are as before.
 fn add_watch(
+    alloc: Global,
     engine: &Engine,
     watches: &mut Watches,
-    alloc: Global,
     name: Name,
     action: Action,
 ) -> Result<bool, WatchFault>
@@ -76,9 +76,9 @@ fn add_watch(
 /// Notes for each watch of the name whether its action is permitted. Where memory runs out some
 /// aren't noted; nothing else changes.
 fn refresh(
+    alloc: Global,
     engine: &Engine,
     watches: &mut Watches,
-    alloc: Global,
     name: &Name,
 ) -> Result<(), AllocError>
     ensures kept { map watch_of watches.new ≡ map watch_of watches.old }
