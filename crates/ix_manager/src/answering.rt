@@ -14,7 +14,7 @@ ghost use Rattle.ix_proto.specs.declared.request.Request.TheVariants.{Confirm};
 
 use crate::journaled::Journaled;
 use crate::machine::Answer;
-use crate::refusals::{DISK, LINE_TOO_LONG, refused};
+use crate::refusals::{Refusal, refused};
 use crate::sending::{send_changes, send_reply};
 use crate::{Go, Stop};
 use ix_lines::{FedKind, Lines};
@@ -125,7 +125,7 @@ fn answer_fed<S: Site>(
             Err(stop) => Err(stop),
         },
         FedKind::TooLong => {
-            send_reply(site, conn, gone, &refused(LINE_TOO_LONG));
+            send_reply(site, conn, gone, &refused(Refusal::LineTooLong));
             Ok(Some(Go::More))
         }
         FedKind::More => Ok(None),
@@ -150,7 +150,12 @@ fn answer_line<S: Site>(
     match Request::read(line) {
         Ok(request) => answer_request(alloc, journaled, conn, gone, &request, site),
         Err(fault) => {
-            send_reply(site, conn, gone, &refused(fault.code));
+            send_reply(
+                site,
+                conn,
+                gone,
+                &refused(Refusal::NoRequest { code: fault.code }),
+            );
             Ok(Go::More)
         }
     }
@@ -216,7 +221,7 @@ fn answer_confirm<S: Site>(
             Ok(Go::More)
         }
         Err(stop) => {
-            send_reply(site, conn, gone, &refused(DISK));
+            send_reply(site, conn, gone, &refused(Refusal::Disk));
             Err(stop)
         }
     }

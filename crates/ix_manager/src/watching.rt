@@ -7,7 +7,7 @@ ghost use Rattle.ix_manager.specs.inside.Does.{Does, PollAnswers, IsNoted, Watch
 ghost use Rattle.ix_manager.specs.Machine.{HasNoWatch};
 
 use crate::machine::{Answer, Machine};
-use crate::refusals::{MEMORY, NO_SUCH_WATCH, WATCHES_FULL, refused};
+use crate::refusals::{Refusal, refused};
 use ix_engine::Engine;
 use ix_proto::Reply;
 use ix_values::{Action, Name};
@@ -21,8 +21,8 @@ impl Machine {
     {
         match add_watch(alloc, &self.engine, &mut self.watches, name, action) {
             Ok(told) => Reply::Watching(told),
-            Err(WatchFault::Full) => refused(WATCHES_FULL),
-            Err(WatchFault::Memory) => refused(MEMORY),
+            Err(WatchFault::Full) => refused(Refusal::TooManyWatches),
+            Err(WatchFault::Memory) => refused(Refusal::Memory),
         }
     }
 
@@ -33,7 +33,7 @@ impl Machine {
         if self.watches.remove(name, action) {
             Reply::Dropped
         } else {
-            refused(NO_SUCH_WATCH)
+            refused(Refusal::NoSuchWatch)
         }
     }
 
@@ -43,7 +43,7 @@ impl Machine {
     {
         match refresh(alloc, &self.engine, &mut self.watches, &name) {
             Ok(()) => Answer::Poll(name),
-            Err(_) => Answer::One(refused(MEMORY)),
+            Err(_) => Answer::One(refused(Refusal::Memory)),
         }
     }
 }
