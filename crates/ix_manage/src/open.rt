@@ -1,5 +1,6 @@
 //! How a run begins with its journal.
 ghost use Rattle.std.specs.Prelude.{◌≡◌, ◌≤◌, true, false, IfOk, IfErr, OnOk};
+ghost use Rattle.ix_cli.specs.Commands.{most_nodes};
 ghost use Rattle.ix_outside.specs.SiteState.{OnlyDisk};
 ghost use Rattle.ix_manage.specs.inside.Leaves.{FailedWhere, IsNoLoss};
 ghost use Rattle.ix_manage.specs.inside.Opening.{StartsOver, StopsUnstarted};
@@ -21,7 +22,7 @@ pub(crate) fn open<S: Site>(
     limit: usize,
 ) -> Result<Manager, Stop>
     requires least { 1 ≤ limit }
-    requires most { limit ≤ 1000000 }
+    requires most { limit ≤ most_nodes }
     requires attached { (S.state site.old).attached ≡ false }
 
     ensures starts { IfOk result (StartsOver expression limit journal.now

@@ -1,5 +1,6 @@
 //! One replay, up to the last line that a refusal puts.
 ghost use Rattle.std.specs.Prelude.{◌≡◌, ◌≤◌, List, IfErr, true, false};
+ghost use Rattle.ix_cli.specs.Commands.{most_nodes, most_turns};
 ghost use Rattle.ix_outside.specs.Contents.{GivenEvent};
 ghost use Rattle.ix_outside.specs.FilesState.{OnlyFaults};
 ghost use Rattle.ix_outside.specs.SinkState.{OnlyPuts};
@@ -34,8 +35,8 @@ pub(crate) fn replay<F: Files, S: Site, K: Sink>(
     out: &mut K,
 ) -> Result<(), Stop>
     requires least { 1 ≤ names.limit }
-    requires most { names.limit ≤ 1000000 }
-    requires turns { names.turns ≤ 1000000000 }
+    requires most { names.limit ≤ most_nodes }
+    requires turns { names.turns ≤ most_turns }
     requires attached { (S.state site.old).attached ≡ false }
 
     ensures leaves { Leaves
@@ -74,8 +75,8 @@ fn play<S: Site, K: Sink>(
     out: &mut K,
 ) -> Result<(), Stop>
     requires least { 1 ≤ names.limit }
-    requires most { names.limit ≤ 1000000 }
-    requires turns { names.turns ≤ 1000000000 }
+    requires most { names.limit ≤ most_nodes }
+    requires turns { names.turns ≤ most_turns }
     requires events { (events : List GivenEvent) × HasEvents script.bytes.now events }
     requires attached { (S.state site.old).attached ≡ false }
 
@@ -104,7 +105,7 @@ fn run_script<S: Site, K: Sink>(
     site: &mut S,
     out: &mut K,
 ) -> Result<(), Stop>
-    requires turns { turns ≤ 1000000000 }
+    requires turns { turns ≤ most_turns }
     requires manager { IsStarted manager.old }
     requires attached { (S.state site.old).attached ≡ true }
     requires fits { FitsSite manager.old (S.state site.old) (S.crashes site.old) }

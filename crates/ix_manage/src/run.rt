@@ -1,5 +1,6 @@
 //! One run of the program, up to the last line that a refusal puts.
 ghost use Rattle.std.specs.Prelude.{◌≡◌, ◌≤◌, ℕ, List, None, IfErr, false, map, string_bytes};
+ghost use Rattle.ix_cli.specs.Commands.{most_nodes};
 ghost use Rattle.ix_cli.specs.Words.{Names};
 ghost use Rattle.ix_cli.specs.inside.Jobs.{job_of};
 ghost use Rattle.ix_outside.specs.FilesState.{OnlyFaults};
@@ -157,7 +158,7 @@ fn run_trace<F: Files, K: Sink>(
     out: &mut K,
 ) -> Result<(), Stop>
     requires least { 1 ≤ names.limit }
-    requires most { names.limit ≤ 1000000 }
+    requires most { names.limit ≤ most_nodes }
 
     ensures leaves { Leaves
         (TraceEnds (F.state files.old).contents names.entry)

@@ -1,5 +1,6 @@
 //! One serve, up to the last line that a refusal puts.
 ghost use Rattle.std.specs.Prelude.{◌≡◌, ◌≤◌, IfErr, true, false};
+ghost use Rattle.ix_cli.specs.Commands.{most_nodes, most_turns};
 ghost use Rattle.ix_outside.specs.FilesState.{OnlyFaults};
 ghost use Rattle.ix_outside.specs.SinkState.{OnlyPuts};
 ghost use Rattle.ix_manager.specs.inside.OverSite.{FitsSite};
@@ -32,8 +33,8 @@ pub(crate) fn serve<F: Files, S: Site, K: Sink>(
     out: &mut K,
 ) -> Result<(), Stop>
     requires least { 1 ≤ names.limit }
-    requires most { names.limit ≤ 1000000 }
-    requires turns { names.turns ≤ 1000000000 }
+    requires most { names.limit ≤ most_nodes }
+    requires turns { names.turns ≤ most_turns }
     requires attached { (S.state site.old).attached ≡ false }
 
     ensures leaves { Leaves
@@ -62,8 +63,8 @@ fn begin<S: Site, K: Sink>(
     out: &mut K,
 ) -> Result<(), Stop>
     requires least { 1 ≤ names.limit }
-    requires most { names.limit ≤ 1000000 }
-    requires turns { names.turns ≤ 1000000000 }
+    requires most { names.limit ≤ most_nodes }
+    requires turns { names.turns ≤ most_turns }
     requires attached { (S.state site.old).attached ≡ false }
 
     ensures leaves { Leaves
@@ -90,7 +91,7 @@ fn take_connections<S: Site, K: Sink>(
     site: &mut S,
     out: &mut K,
 ) -> Result<(), Stop>
-    requires turns { names.turns ≤ 1000000000 }
+    requires turns { names.turns ≤ most_turns }
     requires manager { IsStarted manager.old }
     requires attached { (S.state site.old).attached ≡ true }
     requires fits { FitsSite manager.old (S.state site.old) (S.crashes site.old) }

@@ -1,5 +1,6 @@
 //! Takes the events of a site one by one.
 ghost use Rattle.std.specs.Prelude.{◌≡◌, ◌^◌, ◌<◌, ◌≤◌, true, false, length, IfErr};
+ghost use Rattle.ix_cli.specs.Commands.{most_turns};
 ghost use Rattle.ix_manager.specs.inside.OverSite.{FitsSite};
 ghost use Rattle.ix_manage.specs.inside.Leaves.{FailedWhere, IsNoLoss};
 ghost use Rattle.ix_manage.specs.inside.ServeProgress.{OnlyServed, ServesTo, ServesTurn};
@@ -19,7 +20,7 @@ pub(crate) fn serve_events<S: Site>(
     turns: u64,
     site: &mut S,
 ) -> Result<(), Stop>
-    requires turns { turns ≤ 1000000000 }
+    requires turns { turns ≤ most_turns }
     requires manager { IsStarted manager.old }
     requires attached { (S.state site.old).attached ≡ true }
     requires fits { FitsSite manager.old (S.state site.old) (S.crashes site.old) }

@@ -1,5 +1,6 @@
 //! The engines that a trace and a work begin with.
 ghost use Rattle.std.specs.Prelude.{◌≡◌, ◌≤◌, [], IfOk, IfErr, IsErrOf, OnOk};
+ghost use Rattle.ix_cli.specs.Commands.{most_nodes};
 ghost use Rattle.ix_can.specs.TreeOf.{tree_size};
 ghost use Rattle.ix_generate.specs.Workload.{examinations};
 ghost use Rattle.ix_parse.specs.Faults.{StandsFor};
@@ -24,7 +25,7 @@ pub(crate) fn start<F: Files>(
     limit: usize,
 ) -> Result<Engine, Refusal>
     requires least { 1 ≤ limit }
-    requires most { limit ≤ 1000000 }
+    requires most { limit ≤ most_nodes }
 
     ensures starts { IfOk result
         (λ engine. Starts (F.state files.old).contents name.now limit engine.form) }
@@ -46,7 +47,7 @@ pub(crate) fn start<F: Files>(
 /// The engine that a work begins with.
 pub(crate) fn start_workload(alloc: Global, limit: usize) -> Result<Engine, Refusal>
     requires least { 1 ≤ limit }
-    requires most { limit ≤ 1000000 }
+    requires most { limit ≤ most_nodes }
 
     ensures stands { IfOk result (λ engine. StandsFor examinations engine.form) }
     ensures small { IfOk result (λ engine. tree_size engine.form [] ≤ limit) }
@@ -62,7 +63,7 @@ pub(crate) fn start_workload(alloc: Global, limit: usize) -> Result<Engine, Refu
 
 fn engine_of(alloc: Global, expression: Expression, limit: usize) -> Result<Engine, Refusal>
     requires least { 1 ≤ limit }
-    requires most { limit ≤ 1000000 }
+    requires most { limit ≤ most_nodes }
 
     ensures form { IfOk result (λ engine. engine.form ≡ expression) }
     ensures small { OnOk result (tree_size expression [] ≤ limit) }

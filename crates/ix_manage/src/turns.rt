@@ -1,5 +1,6 @@
 //! Takes the events of a script one by one.
 ghost use Rattle.std.specs.Prelude.{◌≡◌, ◌≤◌, true, length, IfErr};
+ghost use Rattle.ix_cli.specs.Commands.{most_turns};
 ghost use Rattle.ix_manage.specs.inside.Leaves.{FailedWhere, IsNoLoss};
 ghost use Rattle.ix_manage.specs.inside.ReplayProgress.{FitsDisk, IsAtStart, IsBetween};
 ghost use Rattle.ix_manage.specs.inside.ReplayProgress.{OnlyPlays, TakesEvents, TakesTurn, between, player};
@@ -20,7 +21,7 @@ pub(crate) fn take_events<S: Site, K: Sink>(
     turns: u64,
     site: &mut ScriptSite<'_, S, K>,
 ) -> Result<(), Stop>
-    requires turns { turns ≤ 1000000000 }
+    requires turns { turns ≤ most_turns }
     requires manager { IsStarted manager.old }
     requires player { IsAtStart (player S.state K.state site.old) }
     requires attached { (S.state site.old.site.now).attached ≡ true }

@@ -1,8 +1,9 @@
 //! One run of `work`, up to the last line that a refusal puts.
 ghost use Rattle.std.specs.Prelude.{◌≡◌, ◌≤◌, [], IfOk, IfErr};
+ghost use Rattle.ix_cli.specs.Commands.{most_asks, most_nodes};
 ghost use Rattle.ix_outside.specs.SinkState.{OnlyPuts};
 ghost use Rattle.ix_manage.specs.inside.Leaves.{IsNoFailure, IsNoLoss, Leaves};
-ghost use Rattle.ix_manage.specs.inside.Working.{AsksNext, Sums, WorkEnds};
+ghost use Rattle.ix_manage.specs.inside.Working.{AsksNext, IsBounded, Sums, WorkEnds};
 
 use crate::job::WorkWords;
 use crate::refusal::{Refusal, append};
@@ -26,12 +27,10 @@ struct Summary {
 
 impl Summary {
     ghost use Rattle.ix_manage.specs.Work.{work_line};
+    ghost use Rattle.ix_manage.specs.inside.Working.{IsBounded};
 
     fn line(self) -> ArrayVec<u8, 64>
-        requires asked { self.asked ≤ 1000000 }
-        requires granted { self.granted ≤ 1000000 }
-        requires refused { self.refused ≤ 1000000 }
-        requires nodes { self.nodes ≤ 1000000 }
+        requires { IsBounded self }
         ensures { result.items ≡ work_line self.asked self.granted self.refused self.nodes }
     {
         let mut line = ArrayVec::new();
@@ -51,8 +50,8 @@ impl Summary {
 /// Makes the asks of the workload, and puts the line that sums them up.
 pub(crate) fn work<K: Sink>(alloc: Global, names: WorkWords, out: &mut K) -> Result<(), Stop>
     requires least { 1 ≤ names.limit }
-    requires most { names.limit ≤ 1000000 }
-    requires count { names.count ≤ 1000000 }
+    requires most { names.limit ≤ most_nodes }
+    requires count { names.count ≤ most_asks }
 
     ensures leaves { Leaves (WorkEnds names) (K.state out.old) (K.state out.new) result }
     ensures lost { IfErr result IsNoLoss }
@@ -75,16 +74,13 @@ pub(crate) fn work<K: Sink>(alloc: Global, names: WorkWords, out: &mut K) -> Res
 
 /// Makes the asks, of an engine whose history is empty.
 fn ask_all(alloc: Global, engine: &mut Engine, names: WorkWords) -> Result<Summary, AllocError>
-    requires most { names.limit ≤ 1000000 }
-    requires count { names.count ≤ 1000000 }
+    requires most { names.limit ≤ most_nodes }
+    requires count { names.count ≤ most_asks }
     requires limit { engine.old.limit ≡ names.limit }
     requires empty { engine.old.history ≡ [] }
 
     ensures sums { IfOk result (Sums engine.old.form names) }
-    ensures asked { IfOk result (λ summary. summary.asked ≤ 1000000) }
-    ensures granted { IfOk result (λ summary. summary.granted ≤ 1000000) }
-    ensures refused { IfOk result (λ summary. summary.refused ≤ 1000000) }
-    ensures nodes { IfOk result (λ summary. summary.nodes ≤ 1000000) }
+    ensures bounded { IfOk result IsBounded }
 {
     let mut workload = Workload::new(names.seed);
     let mut granted = 0;

@@ -6,6 +6,7 @@ pub mod Does
 pub mod OverSite
 pub mod Recovering
 pub mod Ready
+pub mod Refused
 pub mod Saving
 pub mod Serving
 pub mod StartAnswers

@@ -14,7 +14,7 @@ ghost use Rattle.ix_proto.specs.declared.request.Request.TheVariants.{Confirm};
 
 use crate::journaled::Journaled;
 use crate::machine::Answer;
-use crate::refusals::{DISK, LINE_TOO_LONG, refused};
+use crate::refusals::{Refusal, refused};
 use crate::sending::{send_changes, send_reply};
 use crate::{Go, Stop};
 use ix_lines::{FedKind, Lines};
@@ -40,9 +40,9 @@ pub(crate) struct Taken {
 /// Takes a piece to its end, or through the line that ends the run, and answers each item that it
 /// completes.
 pub(crate) fn take_piece<S: Site>(
+    alloc: Global,
     journaled: &mut Journaled,
     lines: &mut Lines,
-    alloc: Global,
     gone: &mut bool,
     piece: Piece<'_>,
     site: &mut S,
@@ -65,7 +65,7 @@ pub(crate) fn take_piece<S: Site>(
     let mut rest = piece.bytes;
     'items: loop {
         let piece = Piece { conn, bytes: rest };
-        match take_item(journaled, lines, alloc, gone, piece, site) {
+        match take_item(alloc, journaled, lines, gone, piece, site) {
             Ok(Some(taken)) => {
                 if let Go::Stopped = taken.go {
                     return Ok(Go::Stopped);
@@ -80,9 +80,9 @@ pub(crate) fn take_piece<S: Site>(
 
 /// Takes a piece through the first item that it completes, which is answered, or to its end.
 fn take_item<S: Site>(
+    alloc: Global,
     journaled: &mut Journaled,
     lines: &mut Lines,
-    alloc: Global,
     gone: &mut bool,
     piece: Piece<'_>,
     site: &mut S,
@@ -97,7 +97,7 @@ fn take_item<S: Site>(
 {
     let fed = lines.feed(piece.bytes);
     let used = fed.used;
-    match answer_fed(journaled, alloc, piece.conn, gone, fed.kind, site) {
+    match answer_fed(alloc, journaled, piece.conn, gone, fed.kind, site) {
         Ok(Some(go)) => Ok(Some(Taken { used, go })),
         Ok(None) => Ok(None),
         Err(stop) => Err(stop),
@@ -105,8 +105,8 @@ fn take_item<S: Site>(
 }
 
 fn answer_fed<S: Site>(
-    journaled: &mut Journaled,
     alloc: Global,
+    journaled: &mut Journaled,
     conn: u8,
     gone: &mut bool,
     kind: FedKind<'_>,
@@ -120,12 +120,12 @@ fn answer_fed<S: Site>(
         (S.crashes site.old) (S.crashes site.new) }
 {
     match kind {
-        FedKind::Line(line) => match answer_line(journaled, alloc, conn, gone, line, site) {
+        FedKind::Line(line) => match answer_line(alloc, journaled, conn, gone, line, site) {
             Ok(go) => Ok(Some(go)),
             Err(stop) => Err(stop),
         },
         FedKind::TooLong => {
-            send_reply(site, conn, gone, &refused(LINE_TOO_LONG));
+            send_reply(site, conn, gone, &refused(Refusal::LineTooLong));
             Ok(Some(Go::More))
         }
         FedKind::More => Ok(None),
@@ -133,8 +133,8 @@ fn answer_fed<S: Site>(
 }
 
 fn answer_line<S: Site>(
-    journaled: &mut Journaled,
     alloc: Global,
+    journaled: &mut Journaled,
     conn: u8,
     gone: &mut bool,
     line: &[u8],
@@ -148,17 +148,22 @@ fn answer_line<S: Site>(
         (S.crashes site.old) (S.crashes site.new) }
 {
     match Request::read(line) {
-        Ok(request) => answer_request(journaled, alloc, conn, gone, &request, site),
+        Ok(request) => answer_request(alloc, journaled, conn, gone, &request, site),
         Err(fault) => {
-            send_reply(site, conn, gone, &refused(fault.code));
+            send_reply(
+                site,
+                conn,
+                gone,
+                &refused(Refusal::NoRequest { code: fault.code }),
+            );
             Ok(Go::More)
         }
     }
 }
 
 fn answer_request<S: Site>(
-    journaled: &mut Journaled,
     alloc: Global,
+    journaled: &mut Journaled,
     conn: u8,
     gone: &mut bool,
     request: &Request<'_>,
@@ -216,7 +221,7 @@ fn answer_confirm<S: Site>(
             Ok(Go::More)
         }
         Err(stop) => {
-            send_reply(site, conn, gone, &refused(DISK));
+            send_reply(site, conn, gone, &refused(Refusal::Disk));
             Err(stop)
         }
     }

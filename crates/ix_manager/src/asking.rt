@@ -4,7 +4,7 @@ ghost use Rattle.ix_proto.specs.Requests as request;
 ghost use Rattle.ix_manager.specs.inside.Does.{Does};
 
 use crate::machine::Machine;
-use crate::refusals::{NO_SUCH_ENTRY, refused};
+use crate::refusals::{Refusal, refused};
 use ix_proto::Reply;
 use ix_values::Action;
 
@@ -31,11 +31,11 @@ impl Machine {
         ensures { Does self.now (request.log number) result self.now }
     {
         let Some(index) = number.checked_sub(1) else {
-            return refused(NO_SUCH_ENTRY);
+            return refused(Refusal::NoSuchEntry);
         };
         match self.engine.history().get(index as usize) {
             Some(action) => Reply::Entry(number, *action),
-            None => refused(NO_SUCH_ENTRY),
+            None => refused(Refusal::NoSuchEntry),
         }
     }
 }

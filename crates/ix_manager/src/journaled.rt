@@ -5,7 +5,7 @@ ghost use Rattle.ix_manager.specs.inside.Saving.{FitsJournal, ConfirmsOver};
 
 use crate::Stop;
 use crate::machine::Machine;
-use crate::refusals::{EXPIRED, NO_SUCH_TICKET, refused};
+use crate::refusals::{Refusal, refused};
 use ix_lease::Take;
 use ix_outside::Site;
 use ix_proto::Reply;
@@ -30,8 +30,8 @@ impl Journaled {
     {
         let action = match self.machine.reserved(ticket) {
             Take::Taken(action) => action,
-            Take::Expired => return Ok(refused(EXPIRED)),
-            Take::NoSuch => return Ok(refused(NO_SUCH_TICKET)),
+            Take::Expired => return Ok(refused(Refusal::Expired)),
+            Take::NoSuch => return Ok(refused(Refusal::NoSuchTicket)),
         };
         match self.store.append(site, &action) {
             Ok(()) => Ok(self.machine.commit()),

@@ -205,7 +205,7 @@ impl Manager {
         let mut gone = self.marks[index];
         let lines = &mut self.lines[index];
         let piece = Piece { conn, bytes };
-        let outcome = take_piece(&mut self.journaled, lines, alloc, &mut gone, piece, site);
+        let outcome = take_piece(alloc, &mut self.journaled, lines, &mut gone, piece, site);
         self.marks[index] = gone;
         self.ended = match outcome {
             Ok(Go::More) => false,

@@ -1,37 +1,59 @@
 //! The refusals of requests.
 
 ghost use Rattle.std.specs.Prelude.{◌≡◌};
+ghost use Rattle.ix_manager.specs.inside.Refused.{reply_of};
 
 use ix_proto::Reply;
 
-/// A line has more bytes than it may.
-pub(crate) const LINE_TOO_LONG: u8 = 10;
-/// A reservation is open up to a deadline.
-pub(crate) const BUSY: u8 = 20;
-/// The action may not come next.
-pub(crate) const NOT_PERMITTED: u8 = 21;
-/// The Size of the extended history's tree is above the limit.
-pub(crate) const LARGE: u8 = 22;
-/// The history has as many actions as it may.
-pub(crate) const FULL: u8 = 23;
-/// No reservation has the ticket.
-pub(crate) const NO_SUCH_TICKET: u8 = 30;
-/// The reservation of the ticket isn't open any more.
-pub(crate) const EXPIRED: u8 = 31;
-/// There are as many watches as there may be.
-pub(crate) const WATCHES_FULL: u8 = 40;
-/// The pair isn't watched.
-pub(crate) const NO_SUCH_WATCH: u8 = 41;
-/// The history has no such entry.
-pub(crate) const NO_SUCH_ENTRY: u8 = 42;
-/// Memory ran out.
-pub(crate) const MEMORY: u8 = 90;
-/// The disk failed.
-pub(crate) const DISK: u8 = 91;
+/// Why a request is refused.
+#[derive(Clone, Copy, Debug, PartialEq, Eq)]
+pub(crate) enum Refusal {
+    /// The line is no request; the code tells its fault.
+    NoRequest { code: u8 },
+    /// A line has more bytes than it may.
+    LineTooLong,
+    /// A reservation is open up to a deadline.
+    Busy { deadline: u64 },
+    /// The action may not come next.
+    NotPermitted,
+    /// The Size of the extended history's tree is above the limit.
+    Large { limit: u64 },
+    /// The history has as many actions as it may.
+    Full,
+    /// No reservation has the ticket.
+    NoSuchTicket,
+    /// The reservation of the ticket isn't open any more.
+    Expired,
+    /// There are as many watches as there may be.
+    TooManyWatches,
+    /// The pair isn't watched.
+    NoSuchWatch,
+    /// The history has no such entry.
+    NoSuchEntry,
+    /// Memory ran out.
+    Memory,
+    /// The disk failed.
+    Disk,
+}
 
-/// A refusal that has no number.
-pub(crate) fn refused(code: u8) -> Reply
-    ensures { result ≡ Reply.Refused code 0 }
+/// The reply that tells a refusal: its code, and its number, which is 0 where it has none.
+pub(crate) fn refused(refusal: Refusal) -> Reply
+    ensures { result ≡ reply_of refusal }
 {
-    Reply::Refused { code, number: 0 }
+    let (code, number) = match refusal {
+        Refusal::NoRequest { code } => (code, 0),
+        Refusal::LineTooLong => (10, 0),
+        Refusal::Busy { deadline } => (20, deadline),
+        Refusal::NotPermitted => (21, 0),
+        Refusal::Large { limit } => (22, limit),
+        Refusal::Full => (23, 0),
+        Refusal::NoSuchTicket => (30, 0),
+        Refusal::Expired => (31, 0),
+        Refusal::TooManyWatches => (40, 0),
+        Refusal::NoSuchWatch => (41, 0),
+        Refusal::NoSuchEntry => (42, 0),
+        Refusal::Memory => (90, 0),
+        Refusal::Disk => (91, 0),
+    };
+    Reply::Refused { code, number }
 }

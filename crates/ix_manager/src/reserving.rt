@@ -12,7 +12,7 @@ ghost use Rattle.ix_manager.specs.inside.Does.{Does};
 ghost use Rattle.ix_manager.specs.inside.Saving.{Finds, Commits};
 
 use crate::machine::Machine;
-use crate::refusals::{BUSY, EXPIRED, FULL, LARGE, MEMORY, NO_SUCH_TICKET, NOT_PERMITTED, refused};
+use crate::refusals::{Refusal, refused};
 use ix_engine::{Engine, Next, PrepareFault};
 use ix_lease::{Slot, Take, deadline_of};
 use ix_proto::Reply;
@@ -26,14 +26,11 @@ impl Machine {
         ensures { Does self.old (request.ask action lease) result self.new }
     {
         if let Some(deadline) = open_deadline(&self.slot, self.moment) {
-            return Reply::Refused {
-                code: BUSY,
-                number: deadline,
-            };
+            return refused(Refusal::Busy { deadline });
         }
         self.slot = Slot::Free;
         self.pending = None;
-        match prepare(&mut self.engine, alloc, &action) {
+        match prepare(alloc, &mut self.engine, &action) {
             Ok(next) => {
                 let ticket = self.ticket;
                 let deadline = deadline_of(self.moment, lease);
@@ -85,8 +82,8 @@ impl Machine {
                 self.pending = None;
                 Reply::Cancelled(ticket)
             }
-            Take::Expired => refused(EXPIRED),
-            Take::NoSuch => refused(NO_SUCH_TICKET),
+            Take::Expired => refused(Refusal::Expired),
+            Take::NoSuch => refused(Refusal::NoSuchTicket),
         }
     }
 }
@@ -108,7 +105,7 @@ fn open_deadline(slot: &Slot, moment: u64) -> Option<u64>
 }
 
 /// Takes the memory to commit the action too, so that a confirm needs none.
-fn prepare(engine: &mut Engine, alloc: Global, action: &Action) -> Result<Next, Reply>
+fn prepare(alloc: Global, engine: &mut Engine, action: &Action) -> Result<Next, Reply>
     ensures prepared { IfOk result (λ next. IsPrepared engine.new action.now next) }
     ensures permitted { OnOk result (Allows engine.old action.now) }
     ensures refused { IfErr result (λ reply. Refuses engine.old action.now reply) }
@@ -118,23 +115,22 @@ fn prepare(engine: &mut Engine, alloc: Global, action: &Action) -> Result<Next, 
 {
     let next = match engine.prepare(alloc, action) {
         Ok(next) => next,
-        Err(PrepareFault::NotPartial) => return Err(refused(NOT_PERMITTED)),
-        Err(PrepareFault::Full) => return Err(refused(FULL)),
+        Err(PrepareFault::NotPartial) => return Err(refused(Refusal::NotPermitted)),
+        Err(PrepareFault::Full) => return Err(refused(Refusal::Full)),
         Err(PrepareFault::Over { limit }) => {
-            return Err(Reply::Refused {
-                code: LARGE,
-                number: limit as u64,
-            });
+            return Err(refused(Refusal::Large {
+                limit: limit as u64,
+            }));
         }
         Err(PrepareFault::Memory) => {
             // Memory runs out only for what may come next, in a history with room.
             prove!(engine.may(action));
             prove!(engine.history().len() <= 1_000_000);
-            return Err(refused(MEMORY));
+            return Err(refused(Refusal::Memory));
         }
     };
     match engine.reserve_one() {
         Ok(()) => Ok(next),
-        Err(_) => Err(refused(MEMORY)),
+        Err(_) => Err(refused(Refusal::Memory)),
     }
 }

@@ -7,7 +7,7 @@ ghost use Rattle.ix_manager.specs.inside.Does.{Does, PollAnswers, IsNoted, Watch
 ghost use Rattle.ix_manager.specs.Machine.{HasNoWatch};
 
 use crate::machine::{Answer, Machine};
-use crate::refusals::{MEMORY, NO_SUCH_WATCH, WATCHES_FULL, refused};
+use crate::refusals::{Refusal, refused};
 use ix_engine::Engine;
 use ix_proto::Reply;
 use ix_values::{Action, Name};
@@ -19,10 +19,10 @@ impl Machine {
     pub(crate) fn watch(&mut self, alloc: Global, name: Name, action: Action) -> Reply
         ensures { Does self.old (request.watch name action) result self.new }
     {
-        match add_watch(&self.engine, &mut self.watches, alloc, name, action) {
+        match add_watch(alloc, &self.engine, &mut self.watches, name, action) {
             Ok(told) => Reply::Watching(told),
-            Err(WatchFault::Full) => refused(WATCHES_FULL),
-            Err(WatchFault::Memory) => refused(MEMORY),
+            Err(WatchFault::Full) => refused(Refusal::TooManyWatches),
+            Err(WatchFault::Memory) => refused(Refusal::Memory),
         }
     }
 
@@ -33,7 +33,7 @@ impl Machine {
         if self.watches.remove(name, action) {
             Reply::Dropped
         } else {
-            refused(NO_SUCH_WATCH)
+            refused(Refusal::NoSuchWatch)
         }
     }
 
@@ -41,9 +41,9 @@ impl Machine {
     pub(crate) fn poll(&mut self, alloc: Global, name: Name) -> Answer
         ensures { PollAnswers self.old name result self.new }
     {
-        match refresh(&self.engine, &mut self.watches, alloc, &name) {
+        match refresh(alloc, &self.engine, &mut self.watches, &name) {
             Ok(()) => Answer::Poll(name),
-            Err(_) => Answer::One(refused(MEMORY)),
+            Err(_) => Answer::One(refused(Refusal::Memory)),
         }
     }
 }
@@ -52,9 +52,9 @@ impl Machine {
 /// whether it is permitted. Where the pair isn't there and the watches are full, or memory runs
 /// out, they are as before.
 fn add_watch(
+    alloc: Global,
     engine: &Engine,
     watches: &mut Watches,
-    alloc: Global,
     name: Name,
     action: Action,
 ) -> Result<bool, WatchFault>
@@ -76,9 +76,9 @@ fn add_watch(
 /// Notes for each watch of the name whether its action is permitted. Where memory runs out some
 /// aren't noted; nothing else changes.
 fn refresh(
+    alloc: Global,
     engine: &Engine,
     watches: &mut Watches,
-    alloc: Global,
     name: &Name,
 ) -> Result<(), AllocError>
     ensures kept { map watch_of watches.new ≡ map watch_of watches.old }

@@ -1,4 +1,4 @@
-use Rattle.std.proofs.Common.{◌∙◌, arith, refl, subst, sym}
+use Rattle.std.proofs.Common.{◌≡◌, ◌∙◌, arith, refl, subst, sym}
 use Rattle.ix_manage.specs.inside.Working.{StandsBehind}
 use Rattle.ix_manage.proofs.Working.{all_counted, begins_behind, then_granted, then_refused}
 use Rattle.ix_manage.proofs.work.ask_all.Goals as goal
@@ -43,13 +43,14 @@ loop-ask-preserved c =
       c.ask_next.ensures.limit ∙ at.2,
     )
 
-pub returns-clause-granted : goal.returns-clause-granted
-returns-clause-granted c =
-    let all = all_counted c.loop-ask.invariant.0.asked in
-    let granted = c.loop-ask.invariant.0.granted_is in
-    omega (arith, all, granted)
-
-pub returns-clause-refused : goal.returns-clause-refused
-returns-clause-refused c =
-    let all = all_counted c.loop-ask.invariant.0.asked in
-    omega (arith, all)
+pub returns-clause-bounded : goal.returns-clause-bounded
+returns-clause-bounded c =
+    let at = c.loop-ask.invariant in
+    let all = all_counted at.0.asked in
+    let granted = at.0.granted_is in
+    let same : c.loop-ask.engine.limit ≡ c.args.names.limit = at.2 ∙ c.requires.limit in record {
+      asked = c.requires.count;
+      granted = omega (arith, all, granted, c.requires.count);
+      refused = omega (arith, all, c.requires.count);
+      nodes = omega (arith, c.nodes.ensures.within, same, c.requires.most);
+    }

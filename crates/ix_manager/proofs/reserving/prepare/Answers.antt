@@ -21,7 +21,8 @@ pub returns-in-Err-Over-clause-refused : goal.returns-in-Err-Over-clause-refused
 returns-in-Err-Over-clause-refused c =
     let is : c.prepare.result ≡ Err (fault.Over c.in-Err-Over.limit) = cc in
     let facts = c.prepare.ensures.over c.in-Err-Over.limit is in
-    subst (λ limit. Refuses c.args.engine.now c.args.action.now (reply.Refused 22 limit)) (sym facts.0) (large facts.1 facts.2 facts.3)
+    subst (λ (r : Reply). Refuses c.args.engine.now c.args.action.now r) (sym c.refused-in-Err-Over.ensures)
+    (subst (λ limit. Refuses c.args.engine.now c.args.action.now (reply.Refused 22 limit)) (sym facts.0) (large facts.1 facts.2 facts.3))
 
 pub returns-in-Err-Memory-clause-refused : goal.returns-in-Err-Memory-clause-refused
 returns-in-Err-Memory-clause-refused c =
