@@ -1,4 +1,7 @@
-use Rattle.std.proofs.Common.{subst, refl}
+use Rattle.std.proofs.Common.{subst, sym, refl}
+use Rattle.ix_proto.specs.Requests as request
+use Rattle.ix_proto.specs.declared.reply.Reply.{Reply}
+use Rattle.ix_manager.specs.inside.Does.{Does}
 use Rattle.ix_manager.specs.inside.Ready.{IsOpenUpTo}
 use Rattle.ix_manager.specs.inside.Core.{Core}
 use Rattle.ix_manager.proofs.Stepping.{seen, busy_does, granted_does, refused_does}
@@ -6,8 +9,9 @@ use Rattle.ix_manager.proofs.machine.Machine.ask.Goals as goal
 
 pub returns-in-Some : goal.returns-in-Some
 returns-in-Some c =
-    busy_does c.args.self.now c.args.action c.args.lease c.in-Some.deadline
-    (subst (λ (core : Core). IsOpenUpTo core.state.slot core.state.moment c.in-Some.deadline) c.self.view_is c.in-Some.ensures.up_to)
+    subst (λ (r : Reply). Does c.args.self.now (request.ask c.args.action c.args.lease) r c.args.self.now) (sym c.refused.ensures)
+    (busy_does c.args.self.now c.args.action c.args.lease c.in-Some.deadline
+    (subst (λ (core : Core). IsOpenUpTo core.state.slot core.state.moment c.in-Some.deadline) c.self.view_is c.in-Some.ensures.up_to))
 
 pub returns-in-Ok : goal.returns-in-Ok
 returns-in-Ok c =
