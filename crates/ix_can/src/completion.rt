@@ -92,8 +92,10 @@ fn pair_completes(y: &Expr, z: &Expr, pair: &Pair) -> bool
 
 #[cycle(completes)]
 fn some_pair_completes(y: &Expr, z: &Expr, pairs: &[Pair]) -> bool
-    ensures { result ≡ list_any (λ p. is_final (form_of y.now) (first_part p) && is_final (form_of
-        z.now) (second_part p)) (items_of (listed (map plain_pair pairs.now))) }
+    ensures { result
+        ≡ list_any
+        (λ p. is_final (form_of y.now) (first_part p) && is_final (form_of z.now) (second_part p))
+        (items_of (listed (map plain_pair pairs.now))) }
 {
     for pair in pairs {
         if pair_completes(y, z, pair) {
@@ -118,8 +120,9 @@ fn some_bag_completes(y: &Expr, bags: &[Bag]) -> bool
 
 #[cycle(completes)]
 fn some_entry_completes(y: &Expr, entries: &[(Value, Knot)]) -> bool
-    ensures { result ≡ list_any (λ x. is_final (form_of y.now) (first_part x)) (items_of
-        (plain_entries entries.now)) }
+    ensures { result
+        ≡ list_any (λ x. is_final (form_of y.now) (first_part x))
+        (items_of (plain_entries entries.now)) }
 {
     for entry in entries {
         if completes(y, &entry.1) {
@@ -131,8 +134,9 @@ fn some_entry_completes(y: &Expr, entries: &[(Value, Knot)]) -> bool
 
 #[cycle(completes)]
 fn each_entry_completes(y: &Expr, entries: &[(Value, Knot)]) -> bool
-    ensures { result ≡ list_all (λ x. is_final (form_of y.now) (first_part x)) (items_of
-        (plain_entries entries.now)) }
+    ensures { result
+        ≡ list_all (λ x. is_final (form_of y.now) (first_part x))
+        (items_of (plain_entries entries.now)) }
 {
     for entry in entries {
         if !completes(y, &entry.1) {

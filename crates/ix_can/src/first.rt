@@ -78,7 +78,8 @@ fn begins_both(y: &Expr, z: &Expr, env: &Env, action: &Action) -> bool
 fn begins_couple(y: &Expr, z: &Expr, env: &Env, action: &Action) -> bool
     requires first { Fits (form_of y.now) env.now }
     requires second { Fits (form_of z.now) env.now }
-    requires inside { in_alphabet (couple (form_of y.now) (form_of z.now)) env.now action.now ≡ true }
+    requires inside { in_alphabet (couple (form_of y.now) (form_of z.now)) env.now action.now
+        ≡ true }
     ensures { result ≡ may_first (couple (form_of y.now) (form_of z.now)) env.now action.now }
 {
     begins_or_stays(true, y, env, action) && begins_or_stays(true, z, env, action)

@@ -1,6 +1,9 @@
 //! Laws of the tests and of trees, each the contract of a function with an empty body.
 
-ghost use Rattle.ix_can.specs.Laws.{MatchTestsDecide, AlphabetTestsDecide, EmptyTestsDecide, FittingExpressionsName, TreesTell, AgreeingEnvironmentsGiveOneTree, EmptyWordsHaveOneTree, TreesAreProper};
+ghost use Rattle.ix_can.specs.Laws.{MatchTestsDecide, AlphabetTestsDecide, EmptyTestsDecide};
+ghost use Rattle.ix_can.specs.Laws.{FittingExpressionsName, TreesTell};
+ghost use Rattle.ix_can.specs.Laws.{AgreeingEnvironmentsGiveOneTree, EmptyWordsHaveOneTree};
+ghost use Rattle.ix_can.specs.Laws.{TreesAreProper};
 
 /// The test of matching is true exactly where the atom matches the action.
 pub fn match_tests_decide()

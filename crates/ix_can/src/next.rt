@@ -1,6 +1,7 @@
 //! Whether an action may come next, from the tree of the word before it.
 
-ghost use Rattle.std.specs.Prelude.{◌≡◌, ◌↔◌, true, false, ◌∷◌, ◌++◌, ◌&&◌, ◌||◌, [], None, Some, map, IsTrue};
+ghost use Rattle.std.specs.Prelude.{◌≡◌, ◌↔◌, true, false, ◌∷◌, ◌++◌, ◌&&◌, ◌||◌, [], None, Some};
+ghost use Rattle.std.specs.Prelude.{map, IsTrue};
 ghost use Rattle.std.specs.List.{list_all, list_any};
 ghost use Rattle.ix_words.specs.Each.{Each};
 ghost use Rattle.ix_values.specs.PlainAction.{Word};
@@ -14,7 +15,8 @@ ghost use Rattle.ix_tree.specs.Order.{key, first_part, second_part};
 ghost use Rattle.ix_tree.specs.Plain.{listed, items_of};
 ghost use Rattle.ix_tree.specs.PlainOf.{plain_pair, plain_bag, plain_map, plain_entries};
 ghost use Rattle.ix_can.specs.declared.next.Outside.TheVariants.{Refused};
-ghost use Rattle.ix_can.specs.inside.CanAsk.{stays, may_or_stays, each_may_or_stays, may_own, CanAsk, AreProper, UnseenAnswer};
+ghost use Rattle.ix_can.specs.inside.CanAsk.{stays, may_or_stays, each_may_or_stays, may_own};
+ghost use Rattle.ix_can.specs.inside.CanAsk.{CanAsk, AreProper, UnseenAnswer};
 ghost use Rattle.ix_can.specs.Laws.{IsProper, IsRising, ProperEntries};
 ghost use Rattle.ix_can.specs.inside.May.{may, may_first, tree_at};
 ghost use Rattle.ix_can.specs.TreeOf.{tree_of};
@@ -110,8 +112,8 @@ fn begins_again(again: bool, y: &Expr, env: &Env, action: &Action) -> bool
 fn some_goes_on(y: &Expr, env: &Env, items: &[Knot], action: &Action) -> bool
     requires fits { Fits (form_of y.now) env.now }
     requires proper { Each (IsProper (form_of y.now)) (items_of (listed items.now)) }
-    ensures { result ≡ list_any (λ x. may (form_of y.now) env.now x action.now) (items_of (listed
-        items.now)) }
+    ensures { result
+        ≡ list_any (λ x. may (form_of y.now) env.now x action.now) (items_of (listed items.now)) }
 {
     for item in items {
         if goes_on(y, env, item, action) {
@@ -137,9 +139,11 @@ fn some_pair_goes_on(y: &Expr, z: &Expr, env: &Env, pairs: &[Pair], action: &Act
     requires right { Fits (form_of z.now) env.now }
     requires proper { Each (λ p. IsProper (form_of y.now) (first_part p) × IsProper (form_of z.now)
         (second_part p)) (items_of (listed (map plain_pair pairs.now))) }
-    ensures { result ≡ list_any (λ p. may (form_of y.now) env.now (first_part p) action.now || may
-        (form_of z.now) env.now (second_part p) action.now) (items_of (listed (map plain_pair
-        pairs.now))) }
+    ensures { result
+        ≡ list_any
+        (λ p. may (form_of y.now) env.now (first_part p) action.now
+        || may (form_of z.now) env.now (second_part p) action.now)
+        (items_of (listed (map plain_pair pairs.now))) }
 {
     for pair in pairs {
         if pair_goes_on(y, z, env, pair, action) {
@@ -153,8 +157,10 @@ fn some_pair_goes_on(y: &Expr, z: &Expr, env: &Env, pairs: &[Pair], action: &Act
 fn bag_goes_on(y: &Expr, env: &Env, bag: &Bag, action: &Action) -> bool
     requires fits { Fits (form_of y.now) env.now }
     requires proper { Each (IsProper (form_of y.now)) (items_of (listed bag.now.items.items)) }
-    ensures { result ≡ (may_first (form_of y.now) env.now action.now || list_any (λ x. may (form_of
-        y.now) env.now x action.now) (items_of (listed bag.now.items.items))) }
+    ensures { result
+        ≡ (may_first (form_of y.now) env.now action.now
+        || list_any (λ x. may (form_of y.now) env.now x action.now)
+        (items_of (listed bag.now.items.items))) }
 {
     begins(y, env, action) || some_goes_on(y, env, &bag.items, action)
 }
@@ -162,11 +168,15 @@ fn bag_goes_on(y: &Expr, env: &Env, bag: &Bag, action: &Action) -> bool
 #[cycle(goes_on)]
 fn some_bag_goes_on(y: &Expr, env: &Env, bags: &[Bag], action: &Action) -> bool
     requires fits { Fits (form_of y.now) env.now }
-    requires proper { Each (λ b. IsRising (items_of (first_part b)) × Each (IsProper (form_of
-        y.now)) (items_of (first_part b))) (items_of (listed (map plain_bag bags.now))) }
-    ensures { result ≡ list_any (λ b. may_first (form_of y.now) env.now action.now || list_any (λ x.
-        may (form_of y.now) env.now x action.now) (items_of (first_part b))) (items_of (listed (map
-        plain_bag bags.now))) }
+    requires proper { Each
+        (λ b. IsRising (items_of (first_part b))
+        × Each (IsProper (form_of y.now)) (items_of (first_part b)))
+        (items_of (listed (map plain_bag bags.now))) }
+    ensures { result
+        ≡ list_any
+        (λ b. may_first (form_of y.now) env.now action.now
+        || list_any (λ x. may (form_of y.now) env.now x action.now) (items_of (first_part b)))
+        (items_of (listed (map plain_bag bags.now))) }
 {
     for bag in bags {
         if bag_goes_on(y, env, bag, action) {
@@ -199,8 +209,9 @@ fn goes_on_at(
 ) -> bool
     requires fits { FitsInside body.parameter.now (form_of body.expr.now) env.now }
     requires proper { IsProper (form_of body.expr.now) state.now }
-    ensures { result ≡ may_or_stays (stays outside) (form_of body.entry.expr.now) (bind
-        body.entry.parameter.now value env.now) state.now action.now }
+    ensures { result
+        ≡ may_or_stays (stays outside) (form_of body.entry.expr.now)
+        (bind body.entry.parameter.now value env.now) state.now action.now }
 {
     let inside = env.with(*body.parameter, value);
     goes_on_or_stays(body.expr, outside, &inside, state, action)
@@ -209,11 +220,13 @@ fn goes_on_at(
 #[cycle(goes_on)]
 fn some_entry_goes_on(body: Body, env: &Env, entries: &[(Value, Knot)], action: &Action) -> bool
     requires fits { FitsInside body.parameter.now (form_of body.expr.now) env.now }
-    requires proper { Each (λ x. IsProper (form_of body.expr.now) (first_part x)) (items_of
-        (plain_entries entries.now)) }
-    ensures { result ≡ list_any (λ x. may (form_of body.entry.expr.now) (bind
-        body.entry.parameter.now (Some (key x)) env.now) (first_part x) action.now) (items_of
-        (plain_entries entries.now)) }
+    requires proper { Each (λ x. IsProper (form_of body.expr.now) (first_part x))
+        (items_of (plain_entries entries.now)) }
+    ensures { result
+        ≡ list_any
+        (λ x. may (form_of body.entry.expr.now)
+        (bind body.entry.parameter.now (Some (key x)) env.now) (first_part x) action.now)
+        (items_of (plain_entries entries.now)) }
 {
     for entry in entries {
         if goes_on_at(body, Outside::Refused, Some(entry.0), env, &entry.1, action) {
@@ -232,11 +245,13 @@ fn each_entry_goes_on(
     action: &Action,
 ) -> bool
     requires fits { FitsInside body.parameter.now (form_of body.expr.now) env.now }
-    requires proper { Each (λ x. IsProper (form_of body.expr.now) (first_part x)) (items_of
-        (plain_entries entries.now)) }
-    ensures { result ≡ list_all (λ x. may_or_stays (stays outside) (form_of body.entry.expr.now)
-        (bind body.entry.parameter.now (Some (key x)) env.now) (first_part x) action.now) (items_of
-        (plain_entries entries.now)) }
+    requires proper { Each (λ x. IsProper (form_of body.expr.now) (first_part x))
+        (items_of (plain_entries entries.now)) }
+    ensures { result
+        ≡ list_all
+        (λ x. may_or_stays (stays outside) (form_of body.entry.expr.now)
+        (bind body.entry.parameter.now (Some (key x)) env.now) (first_part x) action.now)
+        (items_of (plain_entries entries.now)) }
 {
     for entry in entries {
         if !goes_on_at(body, outside, Some(entry.0), env, &entry.1, action) {
@@ -261,9 +276,11 @@ fn some_own_goes_on(
     requires entries { AreProper (form_of body.expr.now) entries.now }
     requires unseen { UnseenAnswer false (stays Refused) (form_of body.expr.now) body.parameter.now
         env.now action.now common.now (items_of (plain_entries entries.now)) }
-    ensures { result ≡ list_any (λ v. may (form_of body.entry.expr.now) (bind
-        body.entry.parameter.now (Some v) env.now) (tree_at v common.now (items_of (plain_entries
-        entries.now))) action.now) action.now.values }
+    ensures { result
+        ≡ list_any
+        (λ v. may (form_of body.entry.expr.now) (bind body.entry.parameter.now (Some v) env.now)
+        (tree_at v common.now (items_of (plain_entries entries.now))) action.now)
+        action.now.values }
 {
     for value in action.values() {
         let state = state_at(entries, common, value);
@@ -292,9 +309,12 @@ fn each_own_goes_on(
     requires entries { AreProper (form_of body.expr.now) entries.now }
     requires unseen { UnseenAnswer true (stays outside) (form_of body.expr.now) body.parameter.now
         env.now action.now common.now (items_of (plain_entries entries.now)) }
-    ensures { result ≡ list_all (λ v. may_or_stays (stays outside) (form_of body.entry.expr.now)
-        (bind body.entry.parameter.now (Some v) env.now) (tree_at v common.now (items_of
-        (plain_entries entries.now))) action.now) action.now.values }
+    ensures { result
+        ≡ list_all
+        (λ v. may_or_stays (stays outside) (form_of body.entry.expr.now)
+        (bind body.entry.parameter.now (Some v) env.now)
+        (tree_at v common.now (items_of (plain_entries entries.now))) action.now)
+        action.now.values }
 {
     for value in action.values() {
         let state = state_at(entries, common, value);
@@ -319,12 +339,16 @@ fn some_goes_on_for(
     requires fits { FitsInside body.parameter.now (form_of body.expr.now) env.now }
     requires common { IsProper (form_of body.expr.now) common.now }
     requires entries { AreProper (form_of body.expr.now) entries.now }
-    ensures { result ≡ (may (form_of body.entry.expr.now) (bind body.entry.parameter.now None
-        env.now) common.now action.now
-        || (list_any (λ x. may (form_of body.entry.expr.now) (bind body.entry.parameter.now (Some
-        (key x)) env.now) (first_part x) action.now) (items_of (plain_entries entries.now))
-        || list_any (λ v. may (form_of body.entry.expr.now) (bind body.entry.parameter.now (Some v)
-        env.now) (tree_at v common.now (items_of (plain_entries entries.now))) action.now)
+    ensures { result
+        ≡ (may (form_of body.entry.expr.now)
+        (bind body.entry.parameter.now None env.now) common.now action.now
+        || (list_any
+        (λ x. may (form_of body.entry.expr.now)
+        (bind body.entry.parameter.now (Some (key x)) env.now) (first_part x) action.now)
+        (items_of (plain_entries entries.now))
+        || list_any
+        (λ v. may (form_of body.entry.expr.now) (bind body.entry.parameter.now (Some v) env.now)
+        (tree_at v common.now (items_of (plain_entries entries.now))) action.now)
         action.now.values)) }
 {
     goes_on_at(body, Outside::Refused, None, env, common, action)
@@ -346,7 +370,8 @@ fn each_goes_on_for(
     requires common { IsProper (form_of body.expr.now) common.now }
     requires entries { AreProper (form_of body.expr.now) entries.now }
     ensures { result ≡ each_may_or_stays (stays outside) (form_of body.entry.expr.now)
-        body.entry.parameter.now env.now action.now common.now (items_of (plain_entries entries.now)) }
+        body.entry.parameter.now env.now action.now common.now
+        (items_of (plain_entries entries.now)) }
 {
     goes_on_at(body, outside, None, env, common, action)
         && (each_entry_goes_on(body, outside, env, entries, action)
@@ -367,7 +392,8 @@ fn each_goes_on_or_stays(
     requires common { IsProper (form_of body.expr.now) common.now }
     requires entries { AreProper (form_of body.expr.now) entries.now }
     ensures { result ≡ each_may_or_stays true (form_of body.entry.expr.now)
-        body.entry.parameter.now env.now action.now common.now (items_of (plain_entries entries.now)) }
+        body.entry.parameter.now env.now action.now common.now
+        (items_of (plain_entries entries.now)) }
 {
     if in_alphabet(body.expr, &env.with(*body.parameter, None), action) {
         return each_goes_on_for(body, Outside::Stays, env, common, entries, action);
@@ -380,9 +406,10 @@ fn each_goes_on_or_stays(
 fn some_map_goes_on(body: Body, env: &Env, maps: &[Map], action: &Action) -> bool
     requires fits { FitsInside body.parameter.now (form_of body.expr.now) env.now }
     requires named { EachAtomNames body.parameter.now (form_of body.expr.now) }
-    requires proper { Each (λ m. ProperEntries (IsProper (form_of body.expr.now)) (tree_of (form_of
-        body.expr.now) [] []) (items_of (first_part m))) (items_of (listed (map plain_map
-        maps.now))) }
+    requires proper { Each
+        (λ m. ProperEntries (IsProper (form_of body.expr.now))
+        (tree_of (form_of body.expr.now) [] []) (items_of (first_part m)))
+        (items_of (listed (map plain_map maps.now))) }
     ensures { result ≡ list_any (λ m. list_any (λ v. may_own (form_of body.entry.expr.now)
         body.entry.parameter.now env.now action.now (items_of (first_part m)) v) action.now.values)
         (items_of (listed (map plain_map maps.now))) }

@@ -9,8 +9,8 @@ use Rattle.ix_can.specs.TreeOf.{tree_size}
 abbrev pub IsPermitted : Form → Word → PlainAction → Type 0
 IsPermitted x history a = IsPartial x [] (history ++ a ∷ [])
 
--- an action is allowed: it is permitted, there is room for it, and the Size of the tree of the extended history is within
--- the limit
+-- an action is allowed: it is permitted, there is room for it, and the Size of the tree of the
+-- extended history is within the limit
 pub record IsAllowed (x : Form) (limit : ℕ) (history : Word) (a : PlainAction) : Type 0 where
   pub permitted : IsPermitted x history a
   pub room : length history < 1000000

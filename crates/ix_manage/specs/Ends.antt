@@ -18,7 +18,8 @@ use Rattle.ix_manage.specs.Session.{Session, Takes}
 use Rattle.ix_manage.specs.Replay.{HasBadScript, Plays, ReadsEvents, ReplayEnds}
 use Rattle.ix_manage.specs.Serve.{OnWire, ServeEnds}
 use Rattle.ix_manage.specs.Work.{Works}
-use Rattle.ix_manage.specs.Trace.{fault_line, large_line, HasBadActions, HasBadText, ReadsActions, ReadsForm, Starts, StartsAbove, Traces}
+use Rattle.ix_manage.specs.Trace.{fault_line, large_line, HasBadActions, HasBadText, ReadsActions}
+use Rattle.ix_manage.specs.Trace.{ReadsForm, Starts, StartsAbove, Traces}
 
 -- the opening is of the expression, under the limit
 abbrev pub IsFrom : Form → ℕ → Opening → Type 0
@@ -99,7 +100,8 @@ pub data JobEnds (files : Option Listing) (disk : Option Disk)
       → Starts files expression limit x → ReadsEvents files script events
       → IsFrom x limit session.opening → Plays turns events session
       → ReplayEnds turns session status whole part
-      → JobEnds files disk (replay expression journal script limit turns) status whole part (Some session)
+      → JobEnds files disk (replay expression journal script limit turns) status whole part
+      (Some session)
   no_wire : {expression journal socket : List ℕ} {limit turns : ℕ} {x : Form} {status : ℕ}
       {whole part : List ℕ}
       → Starts files expression limit x
@@ -110,7 +112,8 @@ pub data JobEnds (files : Option Listing) (disk : Option Disk)
       → Starts files expression limit x
       → IsFrom x limit session.opening → Takes turns session
       → ServeEnds turns session status whole part
-      → JobEnds files disk (serve expression journal socket limit turns) status whole part (Some session)
+      → JobEnds files disk (serve expression journal socket limit turns) status whole part
+      (Some session)
   worked : {count seed limit status : ℕ} {whole part : List ℕ}
       → Works count seed limit status whole part
       → JobEnds files disk (work count seed limit) status whole part None

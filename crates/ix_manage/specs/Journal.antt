@@ -67,15 +67,16 @@ session_of opening None = record {
 session_of opening (Some session) = session
 
 -- The journal holds a session's history: its file does, and so does each image that a crash now may
--- leave; and each image that a crash since it was attached may have left keeps all that it held then,
--- and no others than the confirmed actions, in order, and a run can start from it again.
+-- leave; and each image that a crash since it was attached may have left keeps all that it held
+-- then, and no others than the confirmed actions, in order, and a run can start from it again.
 pub record HoldsHistory (least : ℕ) (session : Session) (opened : Opened) (is : Crashes)
     : Type 0 where
   pub ends : (image : List ℕ) → is.now image → EndsAs session.ending session.last.history image
   pub keeps : (image : List ℕ) → is.left opened.tick image
       → Keeps session.opening.form least (with_failed session.ending session.last.history) image
   pub reopens : (image : List ℕ) → is.left opened.tick image
-      → (kept : Word) × IsStartable (opening_of session.opening.form session.opening.limit kept) image
+      → (kept : Word)
+      × IsStartable (opening_of session.opening.form session.opening.limit kept) image
 
 -- a run from a file that is startable: the session is from what the file recovers, and is held
 pub record GoesOnFrom (opening : Opening) (session : Option Session) (opened : Opened)

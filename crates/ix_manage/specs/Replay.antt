@@ -11,13 +11,15 @@ use Rattle.ix_script.specs.Pieces.{pieces_of}
 use Rattle.ix_manage.specs.Session.{Session, SessionEnds, Takes, replay_text}
 
 -- the script of this name has these events, with whole pieces
-pub record ReadsEvents (files : Option Listing) (name : List ℕ) (events : List GivenEvent) : Type 0 where
+pub record ReadsEvents (files : Option Listing) (name : List ℕ)
+    (events : List GivenEvent) : Type 0 where
   pub bytes : List ℕ
   pub file : HasFile files name bytes
   pub short : length bytes ≤ 67108864
   pub has : HasEvents bytes events
 
--- the script of this name has this fault: its length, or that of its first line that isn't in the grammar
+-- the script of this name has this fault: its length, or that of its first line that isn't in the
+-- grammar
 pub data HasBadScript (files : Option Listing) (name : List ℕ) : ℕ → ℕ → Type 0 where
   too_long : HasLonger files name 67108864 → HasBadScript files name 34 67108864
   bad_line : {bytes : List ℕ} {code at : ℕ}

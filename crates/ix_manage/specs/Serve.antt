@@ -1,5 +1,6 @@
 -- What `serve` puts, and what it makes of its connections.
-use Rattle.std.specs.Prelude.{◌≡◌, ℕ, ◌<◌, List, [], ◌∷◌, ◌++◌, length, Bool, Option, None, Some, codes}
+use Rattle.std.specs.Prelude.{◌≡◌, ℕ, ◌<◌, List, [], ◌∷◌, ◌++◌, length, Bool, Option, None, Some}
+use Rattle.std.specs.Prelude.{codes}
 use Rattle.ix_outside.specs.Contents.{GivenEvent, Sends}
 use Rattle.ix_outside.specs.Counts.{Rose}
 use Rattle.ix_outside.specs.Crashes.{Crashes, Left}
@@ -23,7 +24,8 @@ pub data ServeEnds (turns : ℕ) (session : Session) : ℕ → List ℕ → List
       → ServeEnds turns session status whole part
   wire_failed : {status : ℕ} {whole part : List ℕ}
       → length session.taken < turns → MayGoOn session
-      → LastLine 6 (history_line session.opening.history) (line (codes "refused wire")) status whole part
+      → LastLine 6 (history_line session.opening.history)
+      (line (codes "refused wire")) status whole part
       → ServeEnds turns session status whole part
 
 -- with one more name behind those heard
@@ -47,7 +49,8 @@ pub record SendsReplies (socket : List ℕ) (session : Session) (old new : Sends
 
 -- A session's events are those that the site gave since, and its replies are what it sent since,
 -- each where the site tells it. Where the count of sends didn't rise, no send answered Gone.
-pub record ServesWire (socket : List ℕ) (session : Session) (before after : SiteState) (is : Crashes)
+pub record ServesWire (socket : List ℕ) (session : Session) (before after : SiteState)
+    (is : Crashes)
     : Type 0 where
   pub given : (old new : List GivenEvent) → before.contents.given ≡ Some old
       → after.contents.given ≡ Some new → new ≡ old ++ session.taken

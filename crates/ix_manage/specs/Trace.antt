@@ -10,9 +10,10 @@ use Rattle.ix_engine.specs.Allowed.{IsPermitted}
 use Rattle.ix_manage.specs.ActionLines.{HasActions, IsFirstActionFault, line}
 use Rattle.ix_manage.specs.Puts.{LastLine}
 
--- The lines for actions after a history, and the history after them, under a limit of Size. An action that isn't permitted
--- is answered `no`; any other `full` where the history has 1,000,000 actions, else `large` where
--- the Size of the tree of the history with it is above the limit, and else `yes`. A `yes` action joins the history.
+-- The lines for actions after a history, and the history after them, under a limit of Size. An
+-- action that isn't permitted is answered `no`; any other `full` where the history has 1,000,000
+-- actions, else `large` where the Size of the tree of the history with it is above the limit, and
+-- else `yes`. A `yes` action joins the history.
 pub data Answers (x : Form) (limit : ℕ) : Word → Word → List ℕ → Word → Type 0 where
   done : {history : Word} → Answers x limit history [] [] history
   no : {history actions after : Word} {action : PlainAction} {text : List ℕ}
@@ -24,11 +25,13 @@ pub data Answers (x : Form) (limit : ℕ) : Word → Word → List ℕ → Word 
       → Answers x limit history actions text after
       → Answers x limit history (action ∷ actions) (line (codes "full") ++ text) after
   large : {history actions after : Word} {action : PlainAction} {text : List ℕ}
-      → IsPermitted x history action → length history < 1000000 → limit < tree_size x (history ++ action ∷ [])
+      → IsPermitted x history action → length history < 1000000
+      → limit < tree_size x (history ++ action ∷ [])
       → Answers x limit history actions text after
       → Answers x limit history (action ∷ actions) (line (codes "large") ++ text) after
   yes : {history actions after : Word} {action : PlainAction} {text : List ℕ}
-      → IsPermitted x history action → length history < 1000000 → tree_size x (history ++ action ∷ []) ≤ limit
+      → IsPermitted x history action → length history < 1000000
+      → tree_size x (history ++ action ∷ []) ≤ limit
       → Answers x limit (history ++ action ∷ []) actions text after
       → Answers x limit history (action ∷ actions) (line (codes "yes") ++ text) after
 
@@ -68,7 +71,8 @@ pub data HasBadText (files : Option Listing) (name : List ℕ) : ℕ → ℕ →
       → HasFile files name text → IsFirstFault text code at
       → HasBadText files name code at
 
--- the actions file of this name has this fault: its length, or that of its first line that is no action's text
+-- the actions file of this name has this fault: its length, or that of its first line that is no
+-- action's text
 pub data HasBadActions (files : Option Listing) (name : List ℕ) : ℕ → ℕ → Type 0 where
   too_long : HasLonger files name 67108864 → HasBadActions files name 6 67108864
   bad_line : {bytes : List ℕ} {code at : ℕ}
@@ -77,15 +81,16 @@ pub data HasBadActions (files : Option Listing) (name : List ℕ) : ℕ → ℕ 
 
 -- the line that says which of the two files has a fault, and which
 abbrev pub fault_line : List ℕ → ℕ → ℕ → List ℕ
-fault_line file code at = line (codes "refused " ++ file ++ codes " " ++ decimal code ++ codes " at " ++ decimal at)
+fault_line file code at = line
+    (codes "refused " ++ file ++ codes " " ++ decimal code ++ codes " at " ++ decimal at)
 
 -- the line that says that the initial tree is above the limit
 abbrev pub large_line : ℕ → List ℕ
 large_line limit = line (codes "refused expression 14 large " ++ decimal limit)
 
--- What `trace` may put for a form, a limit and actions, by the status: the answers to all actions and
--- the last line; where memory ran out, the answers to a front of them and the line that says so;
--- where the put of an answer failed, the answers before it.
+-- What `trace` may put for a form, a limit and actions, by the status: the answers to all actions
+-- and the last line; where memory ran out, the answers to a front of them and the line that says
+-- so; where the put of an answer failed, the answers before it.
 pub data Traces (x : Form) (limit : ℕ) (actions : Word) : ℕ → List ℕ → List ℕ → Type 0 where
   answered : {history : Word} {text last : List ℕ} {status : ℕ} {whole part : List ℕ}
       → Answers x limit [] actions text history → Verdict x history last
@@ -95,7 +100,8 @@ pub data Traces (x : Form) (limit : ℕ) (actions : Word) : ℕ → List ℕ →
       → front ++ rest ≡ actions → Answers x limit [] front text history
       → LastLine 9 text (line (codes "refused memory")) status whole part
       → Traces x limit actions status whole part
-  lost_answer : {front history after : Word} {action : PlainAction} {whole part : List ℕ} (rest : Word)
+  lost_answer : {front history after : Word} {action : PlainAction} {whole part : List ℕ}
+      (rest : Word)
       → front ++ action ∷ rest ≡ actions → Answers x limit [] front whole history
       → Answers x limit history (action ∷ []) part after
       → Traces x limit actions 10 whole part

@@ -1,5 +1,6 @@
 -- A manager as contracts see it, and what one event makes of it.
-use Rattle.std.specs.Prelude.{◌≡◌, ℕ, ◌<◌, ◌≤◌, Bool, true, false, List, [], length, get_or, set, replicate}
+use Rattle.std.specs.Prelude.{◌≡◌, ℕ, ◌<◌, ◌≤◌, Bool, true, false, List, [], length, get_or, set}
+use Rattle.std.specs.Prelude.{replicate}
 use Rattle.ix_expr.specs.Form.{Form}
 use Rattle.ix_lines.specs.Items.{Item}
 use Rattle.ix_lines.specs.Feeding.{UnfinishedLine, unfinished, completes, holds_after}
@@ -46,23 +47,29 @@ has_ended going = false
 has_ended _ = true
 
 -- an event is taken, with the replies to each item that it completes
-pub record TakesEvent (old : ManagerState) (event : Event) (bytes : List ℕ) (answers : List (List Reply)) (new : ManagerState) (ending : Ending) : Type 0 where
+pub record TakesEvent (old : ManagerState) (event : Event) (bytes : List ℕ)
+    (answers : List (List Reply)) (new : ManagerState) (ending : Ending) : Type 0 where
   pub steps : Steps old.form old.limit (raised event.moment old.machine)
       (completed_by event.kind (held_at event.conn old.lines) bytes) answers new.machine ending
-  pub lines : ending ≡ going → new.lines ≡ set old.lines event.conn (held_after event.kind (held_at event.conn old.lines) bytes)
+  pub lines : ending ≡ going
+      → new.lines
+      ≡ set old.lines event.conn (held_after event.kind (held_at event.conn old.lines) bytes)
   pub ended : new.ended ≡ has_ended ending
   pub form : new.form ≡ old.form
   pub limit : new.limit ≡ old.limit
 
 -- its replies are sent on its connection, whose mark is as they left it
-pub record SendsReplies (old : ManagerState) (event : Event) (answers : List (List Reply)) (new : ManagerState) (before after : Contents) : Type 0 where
+pub record SendsReplies (old : ManagerState) (event : Event) (answers : List (List Reply))
+    (new : ManagerState) (before after : Contents) : Type 0 where
   pub marked : Bool
-  pub sends : SendsInOrder (λ reply. SendsWhole event.conn (reply_line reply)) (λ reply. SendsPart event.conn (reply_line reply))
+  pub sends : SendsInOrder (λ reply. SendsWhole event.conn (reply_line reply))
+      (λ reply. SendsPart event.conn (reply_line reply))
       (all_replies answers) (get_or old.marks event.conn false) before marked after
   pub marks : new.marks ≡ marks_after event.kind event.conn marked old.marks
 
 -- an event is taken by the machine, and its replies are sent
-pub record Handles (old : ManagerState) (event : Event) (bytes : List ℕ) (ending : Ending) (new : ManagerState) (before after : Contents) : Type 0 where
+pub record Handles (old : ManagerState) (event : Event) (bytes : List ℕ) (ending : Ending)
+    (new : ManagerState) (before after : Contents) : Type 0 where
   pub answers : List (List Reply)
   pub takes : TakesEvent old event bytes answers new ending
   pub sends : SendsReplies old event answers new before after

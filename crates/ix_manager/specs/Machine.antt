@@ -1,5 +1,6 @@
 -- The protocol machine: its state, and what each request answers and makes of it.
-use Rattle.std.specs.Prelude.{◌≡◌, ◌≢◌, ◌⊎◌, ℕ, ◌+◌, ◌-◌, ◌^◌, ◌<◌, min, Bool, true, false, not, List, [], ◌∷◌, ◌++◌, length}
+use Rattle.std.specs.Prelude.{◌≡◌, ◌≢◌, ◌⊎◌, ℕ, ◌+◌, ◌-◌, ◌^◌, ◌<◌, min, Bool, true, false, not}
+use Rattle.std.specs.Prelude.{List, [], ◌∷◌, ◌++◌, length}
 use Rattle.ix_words.specs.Each.{Each}
 use Rattle.ix_values.specs.PlainAction.{PlainAction, Word}
 use Rattle.ix_expr.specs.Form.{Form}
@@ -21,7 +22,8 @@ pub record MachineWatch : Type 0 where
   pub action : PlainAction
   pub told : Bool
 
--- the confirmed actions, the reservation, the watches, the greatest moment so far, and the next ticket
+-- the confirmed actions, the reservation, the watches, the greatest moment so far, and the next
+-- ticket
 pub record MachineState : Type 0 where
   pub history : Word
   pub slot : Slot
@@ -31,7 +33,8 @@ pub record MachineState : Type 0 where
 
 -- the state at the start, with what was recovered
 abbrev pub start_of : Word → MachineState
-start_of history = record { history = history; slot = slot.Free; watches = []; moment = 0; ticket = 1 }
+start_of history =
+    record { history = history; slot = slot.Free; watches = []; moment = 0; ticket = 1 }
 
 -- the confirmed actions as a word
 abbrev pub word_of : MachineState → Word
@@ -54,44 +57,53 @@ IsUnwatched name a watches = Each (λ watch. IsOf name a watch → ⊥) watches
 abbrev pub HasNoWatch : List ℕ → List MachineWatch → Type 0
 HasNoWatch name watches = Each (λ (watch : MachineWatch). watch.name ≢ name) watches
 
--- a poll of a name: each of its watches whose action's allowance isn't what was told, in order, and the watches with
--- this told
-pub data Polls (allowed : PlainAction → Type 0) (name : List ℕ) : List MachineWatch → List Reply → List MachineWatch → Type 0 where
+-- a poll of a name: each of its watches whose action's allowance isn't what was told, in order, and
+-- the watches with this told
+pub data Polls (allowed : PlainAction → Type 0) (name : List ℕ) : List MachineWatch → List Reply
+    → List MachineWatch → Type 0 where
   done : Polls allowed name [] [] []
   other : {watch : MachineWatch} {watches after : List MachineWatch} {changes : List Reply}
       → watch.name ≢ name → Polls allowed name watches changes after
       → Polls allowed name (watch ∷ watches) changes (watch ∷ after)
   same : {watch : MachineWatch} {watches after : List MachineWatch} {changes : List Reply}
-      → watch.name ≡ name → Tells (allowed watch.action) watch.told → Polls allowed name watches changes after
+      → watch.name ≡ name → Tells (allowed watch.action) watch.told
+      → Polls allowed name watches changes after
       → Polls allowed name (watch ∷ watches) changes (watch ∷ after)
   changed : {watch : MachineWatch} {watches after : List MachineWatch} {changes : List Reply}
-      → watch.name ≡ name → Tells (allowed watch.action) (not watch.told) → Polls allowed name watches changes after
+      → watch.name ≡ name → Tells (allowed watch.action) (not watch.told)
+      → Polls allowed name watches changes after
       → Polls allowed name (watch ∷ watches) (reply.Change (not watch.told) watch.action ∷ changes)
       (record watch { told = not watch.told } ∷ after)
 
--- The replies to a request and the state after it, for an expression and a limit of Size. Where memory ran out, an ask, a
--- watch or a poll answers 90 in place of what follows the last of its refusals.
-pub data Step (x : Form) (limit : ℕ) (s : MachineState) : PlainRequest → List Reply → MachineState → Type 0 where
+-- The replies to a request and the state after it, for an expression and a limit of Size. Where
+-- memory ran out, an ask, a watch or a poll answers 90 in place of what follows the last of its
+-- refusals.
+pub data Step (x : Form) (limit : ℕ) (s : MachineState) : PlainRequest → List Reply → MachineState
+    → Type 0 where
   busy : {a : PlainAction} {lease deadline : ℕ} (held : PlainAction) (ticket : ℕ)
       → s.slot ≡ slot.Held ticket held deadline → s.moment < deadline
       → Step x limit s (request.ask a lease) (refused.busy_until deadline ∷ []) s
   not_permitted : {a : PlainAction} {lease : ℕ}
       → (IsOpenAt s.slot s.moment → ⊥) → (IsPermitted x (word_of s) a → ⊥)
-      → Step x limit s (request.ask a lease) (refused.not_permitted ∷ []) (record s { slot = slot.Free })
+      → Step x limit s (request.ask a lease) (refused.not_permitted ∷ [])
+      (record s { slot = slot.Free })
   full : {a : PlainAction} {lease : ℕ}
       → (IsOpenAt s.slot s.moment → ⊥) → IsPermitted x (word_of s) a → length s.history ≡ 1000000
       → Step x limit s (request.ask a lease) (refused.full ∷ []) (record s { slot = slot.Free })
   large : {a : PlainAction} {lease : ℕ}
       → (IsOpenAt s.slot s.moment → ⊥) → IsPermitted x (word_of s) a → length s.history < 1000000
       → limit < tree_size x (word_of s ++ a ∷ [])
-      → Step x limit s (request.ask a lease) (refused.above limit ∷ []) (record s { slot = slot.Free })
+      → Step x limit s (request.ask a lease) (refused.above limit ∷ [])
+      (record s { slot = slot.Free })
   granted : {a : PlainAction} {lease : ℕ}
       → (IsOpenAt s.slot s.moment → ⊥) → IsAllowed x limit (word_of s) a
       → Step x limit s (request.ask a lease) (reply.Granted s.ticket ∷ [])
-      (record s { slot = slot.Held s.ticket a (min (s.moment + lease) (2 ^ 64 - 1)); ticket = s.ticket + 1 })
+      (record s
+      { slot = slot.Held s.ticket a (min (s.moment + lease) (2 ^ 64 - 1)); ticket = s.ticket + 1 })
   ask_memory : {a : PlainAction} {lease : ℕ}
       → (IsOpenAt s.slot s.moment → ⊥) → IsPermitted x (word_of s) a → length s.history < 1000000
-      → Step x limit s (request.ask a lease) (refused.no_memory ∷ []) (record s { slot = slot.Free })
+      → Step x limit s (request.ask a lease) (refused.no_memory ∷ [])
+      (record s { slot = slot.Free })
   confirmed : {ticket : ℕ} (a : PlainAction) (deadline : ℕ)
       → s.slot ≡ slot.Held ticket a deadline → s.moment < deadline
       → Step x limit s (request.confirm ticket) (reply.Confirmed (length s.history + 1) ∷ [])
@@ -104,7 +116,8 @@ pub data Step (x : Form) (limit : ℕ) (s : MachineState) : PlainRequest → Lis
       → Step x limit s (request.confirm ticket) (refused.no_such_ticket ∷ []) s
   cancelled : {ticket : ℕ} (a : PlainAction) (deadline : ℕ)
       → s.slot ≡ slot.Held ticket a deadline → s.moment < deadline
-      → Step x limit s (request.cancel ticket) (reply.Cancelled ticket ∷ []) (record s { slot = slot.Free })
+      → Step x limit s (request.cancel ticket) (reply.Cancelled ticket ∷ [])
+      (record s { slot = slot.Free })
   cancel_expired : {ticket : ℕ}
       → HasTicket s.slot ticket → (IsOpenAt s.slot s.moment → ⊥)
       → Step x limit s (request.cancel ticket) (refused.expired ∷ []) s
@@ -122,7 +135,8 @@ pub data Step (x : Form) (limit : ℕ) (s : MachineState) : PlainRequest → Lis
       → Tells (IsAllowed x limit (word_of s) a) told
       → Step x limit s (request.watch name a) (reply.Watching told ∷ [])
       (record s { watches = s.watches ++ record { name = name; action = a; told = told } ∷ [] })
-  watches_again : {name : List ℕ} {a : PlainAction} {told : Bool} (before behind : List MachineWatch) (watch : MachineWatch)
+  watches_again : {name : List ℕ} {a : PlainAction} {told : Bool}
+      (before behind : List MachineWatch) (watch : MachineWatch)
       → s.watches ≡ before ++ watch ∷ behind → IsOf name a watch
       → Tells (IsAllowed x limit (word_of s) a) told
       → Step x limit s (request.watch name a) (reply.Watching told ∷ [])
@@ -130,15 +144,18 @@ pub data Step (x : Form) (limit : ℕ) (s : MachineState) : PlainRequest → Lis
   watch_memory : {name : List ℕ} {a : PlainAction}
       → (IsUnwatched name a s.watches → length s.watches < 4096)
       → Step x limit s (request.watch name a) (refused.no_memory ∷ []) s
-  dropped : {name : List ℕ} {a : PlainAction} (before behind : List MachineWatch) (watch : MachineWatch)
+  dropped : {name : List ℕ} {a : PlainAction} (before behind : List MachineWatch)
+      (watch : MachineWatch)
       → s.watches ≡ before ++ watch ∷ behind → IsOf name a watch
-      → Step x limit s (request.drop_watch name a) (reply.Dropped ∷ []) (record s { watches = before ++ behind })
+      → Step x limit s (request.drop_watch name a) (reply.Dropped ∷ [])
+      (record s { watches = before ++ behind })
   drop_no_such : {name : List ℕ} {a : PlainAction}
       → IsUnwatched name a s.watches
       → Step x limit s (request.drop_watch name a) (refused.no_such_watch ∷ []) s
   polled : {name : List ℕ} {changes : List Reply} {after : List MachineWatch}
       → Polls (IsAllowed x limit (word_of s)) name s.watches changes after
-      → Step x limit s (request.poll name) (reply.Changes (length changes) ∷ changes) (record s { watches = after })
+      → Step x limit s (request.poll name) (reply.Changes (length changes) ∷ changes)
+      (record s { watches = after })
   poll_memory : {name : List ℕ}
       → (HasNoWatch name s.watches → ⊥)
       → Step x limit s (request.poll name) (refused.no_memory ∷ []) s

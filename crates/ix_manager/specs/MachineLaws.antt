@@ -12,7 +12,8 @@ use Rattle.ix_proto.specs.declared.reply.Reply.TheVariants as reply
 use Rattle.ix_manager.specs.Refusals as refused
 use Rattle.ix_manager.specs.Machine.{MachineState, MachineWatch, Step, Tells}
 
--- a confirm with the ticket of the open reservation is confirmed: its action joins the history, and the slot is free
+-- a confirm with the ticket of the open reservation is confirmed: its action joins the history, and
+-- the slot is free
 abbrev pub OpenTicketsAreConfirmed : Type 0
 OpenTicketsAreConfirmed =
     (x : Form) (limit : ℕ) (s : MachineState) (ticket deadline : ℕ) (a : PlainAction)
@@ -43,10 +44,12 @@ HasChanged allowed name watch = (watch.name ≡ name) × Tells (allowed watch.ac
 abbrev pub change_of : MachineWatch → Reply
 change_of watch = reply.Change (not watch.told) watch.action
 
--- unless memory runs out, a poll tells exactly the watches of its name that changed, in order, behind their number
+-- unless memory runs out, a poll tells exactly the watches of its name that changed, in order,
+-- behind their number
 abbrev pub PollsTellWhatChanged : Type 0
 PollsTellWhatChanged =
-    (x : Form) (limit : ℕ) (s : MachineState) (name : List ℕ) (replies : List Reply) (after : MachineState)
+    (x : Form) (limit : ℕ) (s : MachineState) (name : List ℕ) (replies : List Reply)
+    (after : MachineState)
     → Step x limit s (request.poll name) replies after → replies ≢ refused.no_memory ∷ []
     → (changed : List MachineWatch)
     × Projection (HasChanged (IsAllowed x limit s.history) name) s.watches changed

@@ -1,4 +1,5 @@
--- The refusals of requests that were read, by name: the code of each, and its number where it tells one.
+-- The refusals of requests that were read, by name: the code of each, and its number where it tells
+-- one.
 use Rattle.std.specs.Prelude.{ℕ}
 use Rattle.ix_proto.specs.declared.reply.Reply.{Reply}
 use Rattle.ix_proto.specs.declared.reply.Reply.TheVariants.{Refused}

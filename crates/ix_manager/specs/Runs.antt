@@ -43,8 +43,10 @@ ending_of _ = going
 -- and the run ends.
 pub data ItemStep (x : Form) (limit : ℕ) (s : MachineState)
     : Item → List Reply → MachineState → Ending → Type 0 where
-  requested : {bytes : List ℕ} (request : PlainRequest) {replies : List Reply} {after : MachineState}
-      → IsRequest request → words_of bytes ≡ request_words request → Step x limit s request replies after
+  requested : {bytes : List ℕ}
+      (request : PlainRequest) {replies : List Reply} {after : MachineState}
+      → IsRequest request → words_of bytes ≡ request_words request
+      → Step x limit s request replies after
       → ItemStep x limit s (line bytes) replies after (ending_of request)
   refused : {bytes : List ℕ} {code : ℕ}
       → IsRequestFault (words_of bytes) code
@@ -83,9 +85,12 @@ with_piece End text bytes = text
 abbrev pub text_behind : ℕ → List ℕ → List GivenEvent → List ℕ
 text_behind conn text [] = text
 text_behind conn text (given ∷ events) =
-    text_behind conn (if given.event.conn == conn then with_piece given.event.kind text given.bytes else text) events
+    text_behind conn
+    (if given.event.conn == conn then with_piece given.event.kind text given.bytes else text)
+    events
 
--- the items that an event completes: those of the connection's text with its bytes, less those of the text before it
+-- the items that an event completes: those of the connection's text with its bytes, less those of
+-- the text before it
 pub record Completes (text : List ℕ) (given : GivenEvent) (completed : List Item) : Type 0 where
   pub items_are : items (text ++ given.bytes) ≡ items text ++ completed
 

@@ -1,5 +1,6 @@
 -- What replies make of what is sent.
-use Rattle.std.specs.Prelude.{◌≡◌, ℕ, Bool, true, false, List, [], ◌∷◌, ◌++◌, replicate, get_or, set}
+use Rattle.std.specs.Prelude.{◌≡◌, ℕ, Bool, true, false, List, [], ◌∷◌, ◌++◌, replicate, get_or}
+use Rattle.std.specs.Prelude.{set}
 use Rattle.std.specs.List.{flat_map}
 use Rattle.ix_outside.specs.Contents.{GivenEvent, Sends, with_pair, with_gone, send_text}
 use Rattle.ix_outside.specs.Sink.{IsFront}
@@ -16,9 +17,10 @@ reply_line reply = reply_text reply ++ 10 ∷ []
 abbrev pub all_replies : List (List Reply) → List Reply
 all_replies answers = flat_map (λ replies. replies) answers
 
--- Replies sent in order on a connection that is marked as gone or not. On a marked one nothing is sent. Else each is sent
--- whole, or only a front of it, and then the connection is marked.
-pub data SendsInOrder {S : Type 0} (whole front : Reply → S → S → Type 0) : List Reply → Bool → S → Bool → S → Type 0 where
+-- Replies sent in order on a connection that is marked as gone or not. On a marked one nothing is
+-- sent. Else each is sent whole, or only a front of it, and then the connection is marked.
+pub data SendsInOrder {S : Type 0} (whole front : Reply → S → S → Type 0) : List Reply → Bool → S
+    → Bool → S → Type 0 where
   done : {marked : Bool} {s : S} → SendsInOrder whole front [] marked s marked s
   silent : {reply : Reply} {replies : List Reply} {s after : S}
       → SendsInOrder whole front replies true s true after
@@ -54,14 +56,15 @@ PairsFront conn reply old new = (front : List ℕ) × IsFront front (reply_line 
 abbrev pub unmarked : List Bool
 unmarked = replicate 64 false
 
--- the marks after an event whose replies left its connection marked or not: closing a connection takes its mark
+-- the marks after an event whose replies left its connection marked or not: closing a connection
+-- takes its mark
 abbrev pub marks_after : EventKind → ℕ → Bool → List Bool → List Bool
 marks_after (Bytes n) conn marked marks = set marks conn marked
 marks_after Closed conn marked marks = set marks conn false
 marks_after End conn marked marks = set marks conn marked
 
--- What the replies of a run make of the sends, from those that were there before: each reply one pair, in order, but none
--- on a marked connection; and which replies the pairs carry.
+-- What the replies of a run make of the sends, from those that were there before: each reply one
+-- pair, in order, but none on a marked connection; and which replies the pairs carry.
 pub data Wire (before : Sends) : List GivenEvent → List (List (List Reply)) → List Bool
     → SentReplies → Type 0 where
   begin : Wire before [] [] unmarked (record { sends = before; replies = [] })
@@ -71,7 +74,8 @@ pub data Wire (before : Sends) : List GivenEvent → List (List (List Reply)) �
       → Wire before events answers marks s
       → SendsInOrder (PairsWhole given.event.conn) (PairsFront given.event.conn) (all_replies last)
       (get_or marks given.event.conn false) s marked after
-      → Wire before (events ++ given ∷ []) (answers ++ last ∷ []) (marks_after given.event.kind given.event.conn marked marks) after
+      → Wire before (events ++ given ∷ []) (answers ++ last ∷ [])
+      (marks_after given.event.kind given.event.conn marked marks) after
 
 -- the text of an event's replies: for each the connection's number, a space and its line
 abbrev pub replies_text : ℕ → List Reply → List ℕ
@@ -79,5 +83,6 @@ replies_text conn replies = flat_map (λ reply. send_text conn (reply_line reply
 
 -- the text of a run's replies
 abbrev pub run_text : List GivenEvent → List (List (List Reply)) → List ℕ
-run_text (given ∷ events) (answers ∷ more) = replies_text given.event.conn (all_replies answers) ++ run_text events more
+run_text (given ∷ events) (answers ∷ more) = replies_text given.event.conn (all_replies answers)
+    ++ run_text events more
 run_text _ _ = []

@@ -1,5 +1,6 @@
 -- Which calls of a site fail.
-use Rattle.std.specs.Prelude.{ℕ, ◌-◌, nat_lt, nat_le, ◌||◌, if◌then◌else◌, Bool, false, Option, None, Some, is_none}
+use Rattle.std.specs.Prelude.{ℕ, ◌-◌, nat_lt, nat_le, ◌||◌, if◌then◌else◌, Bool, false, Option}
+use Rattle.std.specs.Prelude.{None, Some, is_none}
 use Rattle.ix_memory.specs.Calls.{is_told, next_call}
 use Rattle.ix_memory.specs.PlanState.{PlanState}
 
@@ -19,8 +20,10 @@ is_full plan cost = is_none (room_left_behind cost plan.left)
 
 -- the next call fails: its number is one of those, the fuse is spent, or the room is passed
 abbrev pub fails_at : PlanState → ℕ → Bool
-fails_at plan cost = is_told plan.calls || is_spent_by plan.fuse plan.calls.number || is_full plan cost
+fails_at plan cost = is_told plan.calls || is_spent_by plan.fuse plan.calls.number
+    || is_full plan cost
 
 -- after one more call
 abbrev pub plan_after : PlanState → ℕ → PlanState
-plan_after plan cost = record plan { calls = next_call plan.calls; left = room_left_behind cost plan.left }
+plan_after plan cost =
+    record plan { calls = next_call plan.calls; left = room_left_behind cost plan.left }

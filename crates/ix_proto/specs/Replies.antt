@@ -1,12 +1,16 @@
 -- The replies and their texts, without the byte 10 that ends a line.
-use Rattle.std.specs.Prelude.{◌≡◌, ℕ, ◌<◌, ◌^◌, ◌==◌, ◌||◌, Bool, true, false, if◌then◌else◌, Option, Some, None, IsSome, List, [], ◌∷◌, ◌++◌, codes}
+use Rattle.std.specs.Prelude.{◌≡◌, ℕ, ◌<◌, ◌^◌, ◌==◌, ◌||◌, Bool, true, false, if◌then◌else◌}
+use Rattle.std.specs.Prelude.{Option, Some, None, IsSome, List, [], ◌∷◌, ◌++◌, codes}
 use Rattle.std.specs.Fmt.{decimal}
 use Rattle.ix_values.specs.PlainAction.{text_of}
 use Rattle.ix_values.specs.Texts.{IsAction}
 use Rattle.ix_proto.specs.declared.reply.Reply.{Reply}
-use Rattle.ix_proto.specs.declared.reply.Reply.TheVariants.{Granted, Confirmed, Cancelled, May, Watching, Dropped, Changes, Change, Status, Entry, Stopping, Refused}
+use Rattle.ix_proto.specs.declared.reply.Reply.TheVariants.{Granted, Confirmed, Cancelled, May}
+use Rattle.ix_proto.specs.declared.reply.Reply.TheVariants.{Watching, Dropped, Changes, Change}
+use Rattle.ix_proto.specs.declared.reply.Reply.TheVariants.{Status, Entry, Stopping, Refused}
 
--- the text of a code of a refusal, which ends in a number where `has_number`; there is none for any other code
+-- the text of a code of a refusal, which ends in a number where `has_number`; there is none for any
+-- other code
 abbrev pub refusal_text : ℕ → Option (List ℕ)
 refusal_text code =
     if code == 10 then Some (codes "line too long") else
@@ -57,18 +61,21 @@ reply_text Dropped = codes "dropped"
 reply_text (Changes count) = codes "changes " ++ decimal count
 reply_text (Change answer action) = yes_or_no answer ++ 32 ∷ text_of action
 reply_text (Status complete count nodes) =
-    codes "status " ++ (complete_or_partial complete ++ 32 ∷ (decimal count ++ 32 ∷ (codes "nodes " ++ decimal nodes)))
+    codes "status "
+    ++ (complete_or_partial complete
+    ++ 32 ∷ (decimal count ++ 32 ∷ (codes "nodes " ++ decimal nodes)))
 reply_text (Entry place action) = codes "entry " ++ (decimal place ++ 32 ∷ text_of action)
 reply_text Stopping = codes "stopping"
-reply_text (Refused code number) = codes "refused " ++ (decimal code ++ 32 ∷ with_number (has_number code) (refusal_text code) number)
+reply_text (Refused code number) = codes "refused "
+    ++ (decimal code ++ 32 ∷ with_number (has_number code) (refusal_text code) number)
 
 -- the code is one of the table, and the number is 0 where its text has none
 pub record IsRefusal (code number : ℕ) : Type 0 where
   pub listed : IsSome (refusal_text code)
   pub zero_else : has_number code ≡ false → number ≡ 0
 
--- the numbers are at most 18446744073709551615, or 4294967295 for the count of changes, the actions are some, and a
--- refusal can be told
+-- the numbers are at most 18446744073709551615, or 4294967295 for the count of changes, the actions
+-- are some, and a refusal can be told
 abbrev pub IsReply : Reply → Type 0
 IsReply (Granted ticket) = ticket < 2 ^ 64
 IsReply (Confirmed count) = count < 2 ^ 64

@@ -5,7 +5,8 @@ use Rattle.ix_values.specs.Texts.{IsName}
 use Rattle.ix_lines.specs.Numbers.{IsNumber}
 use Rattle.ix_proto.specs.Requests.{IsLease}
 use Rattle.ix_proto.specs.declared.request.Verb.{Verb}
-use Rattle.ix_proto.specs.declared.request.Verb.TheVariants.{Ask, Confirm, Cancel, May, Watch, Drop, Poll, Status, Log, Stop}
+use Rattle.ix_proto.specs.declared.request.Verb.TheVariants.{Ask, Confirm, Cancel, May, Watch, Drop}
+use Rattle.ix_proto.specs.declared.request.Verb.TheVariants.{Poll, Status, Log, Stop}
 
 -- what a word behind the first one has to be
 pub data Part : Type 0 where
@@ -65,13 +66,15 @@ IsPartFault a_lease word code =
 
 -- word by word from the left, the first that isn't what it has to be
 abbrev pub IsFirstFault : List Part → List (List ℕ) → ℕ → Type 0
-IsFirstFault (part ∷ parts) (word ∷ words) code = IsPartFault part word code ⊎ (IsPart part word × IsFirstFault parts words code)
+IsFirstFault (part ∷ parts) (word ∷ words) code = IsPartFault part word code
+    ⊎ (IsPart part word × IsFirstFault parts words code)
 IsFirstFault _ _ code = ⊥
 
 -- 15 where there are more words or fewer, and else the first fault of a word
 abbrev pub IsFaultBehind : List Part → List (List ℕ) → ℕ → Type 0
 IsFaultBehind parts words code =
-    ((length words ≢ length parts) × (code ≡ 15)) ⊎ ((length words ≡ length parts) × IsFirstFault parts words code)
+    ((length words ≢ length parts) × (code ≡ 15))
+    ⊎ ((length words ≡ length parts) × IsFirstFault parts words code)
 
 -- 11 where the first word isn't one of the ten, and else the fault of what stands behind it
 abbrev pub IsRequestFault : List (List ℕ) → ℕ → Type 0

@@ -35,7 +35,8 @@ pub record IsLease (lease : ℕ) : Type 0 where
   pub low : 1 ≤ lease
   pub high : lease ≤ 86400000
 
--- the names and actions of a request are some, its lease is one, and its numbers are at most 18446744073709551615
+-- the names and actions of a request are some, its lease is one, and its numbers are at most
+-- 18446744073709551615
 abbrev pub IsRequest : PlainRequest → Type 0
 IsRequest (ask action lease) = IsAction action × IsLease lease
 IsRequest (confirm ticket) = ticket < 2 ^ 64

@@ -1,6 +1,7 @@
 //! Replies, and their printer.
 
-ghost use Rattle.std.specs.Prelude.{ℕ, List, Some, ◌≡◌, ◌+◌, ◌<◌, ◌≤◌, ◌^◌, [], ◌∷◌, ◌++◌, IsSome, codes, length};
+ghost use Rattle.std.specs.Prelude.{ℕ, List, Some, ◌≡◌, ◌+◌, ◌<◌, ◌≤◌, ◌^◌, [], ◌∷◌, ◌++◌, IsSome};
+ghost use Rattle.std.specs.Prelude.{codes, length};
 ghost use Rattle.std.specs.Fmt.{decimal};
 ghost use Rattle.std.specs.Option.{option_copied};
 ghost use Rattle.arrayvec.specs.ArrayVec.{array_vec_len};
@@ -127,7 +128,10 @@ fn write_change(out: &mut ArrayVec<u8, 256>, answer: bool, action: &Action)
 
 fn write_status(out: &mut ArrayVec<u8, 256>, complete: bool, length: u64, nodes: u64)
     requires { out.old.items ≡ [] }
-    ensures text { out.new.items ≡ codes "status " ++ (spec.complete_or_partial complete ++ 32 ∷ (decimal length ++ 32 ∷ (codes "nodes " ++ decimal nodes))) }
+    ensures text { out.new.items
+        ≡ codes "status "
+        ++ (spec.complete_or_partial complete
+        ++ 32 ∷ (decimal length ++ 32 ∷ (codes "nodes " ++ decimal nodes))) }
     ensures short { array_vec_len out.new ≤ 80 }
     ensures fits { (length < 2 ^ 64) × (nodes < 2 ^ 64) }
 {
@@ -153,7 +157,10 @@ fn write_entry(out: &mut ArrayVec<u8, 256>, place: u64, action: &Action)
 
 fn write_refusal(out: &mut ArrayVec<u8, 256>, code: u8, number: u64)
     requires { out.old.items ≡ [] }
-    ensures text { out.new.items ≡ codes "refused " ++ (decimal code ++ 32 ∷ spec.with_number (spec.has_number code) (spec.refusal_text code) number) }
+    ensures text { out.new.items
+        ≡ codes "refused "
+        ++ (decimal code
+        ++ 32 ∷ spec.with_number (spec.has_number code) (spec.refusal_text code) number) }
     ensures short { array_vec_len out.new ≤ 80 }
     ensures fits { (code < 2 ^ 8) × (number < 2 ^ 64) }
 {
@@ -165,7 +172,8 @@ fn write_refusal(out: &mut ArrayVec<u8, 256>, code: u8, number: u64)
 
 fn append_refusal(out: &mut ArrayVec<u8, 256>, code: u8, number: u64)
     requires room { array_vec_len out.old ≤ 36 }
-    ensures items { out.new.items ≡ out.old.items ++ spec.with_number (spec.has_number code) (spec.refusal_text code) number }
+    ensures items { out.new.items
+        ≡ out.old.items ++ spec.with_number (spec.has_number code) (spec.refusal_text code) number }
     ensures len { array_vec_len out.new ≤ array_vec_len out.old + 40 }
     ensures fits { number < 2 ^ 64 }
 {

@@ -1,11 +1,13 @@
 //! The reader of replies.
 
-ghost use Rattle.std.specs.Prelude.{◌≡◌, ◌≢◌, ℕ, ◌<◌, ◌^◌, Some, List, ◌∷◌, ◌++◌, MatchOption, Bool};
+ghost use Rattle.std.specs.Prelude.{◌≡◌, ◌≢◌, ℕ, ◌<◌, ◌^◌, Some, List, ◌∷◌, ◌++◌, MatchOption};
+ghost use Rattle.std.specs.Prelude.{Bool};
 ghost use Rattle.std.specs.Fmt.{decimal};
 ghost use Rattle.std.specs.Option.{option_copied};
 ghost use Rattle.ix_proto.specs.Replies.{IsReply, reply_text, yes_or_no, complete_or_partial};
 ghost use Rattle.ix_proto.specs.inside.ReplyTexts.{IsReplyText};
-ghost use Rattle.ix_proto.specs.inside.ReplyParts.{kind_word, StandsBehind, IsRefusalBehind, nodes_text};
+ghost use Rattle.ix_proto.specs.inside.ReplyParts.{kind_word, StandsBehind, IsRefusalBehind};
+ghost use Rattle.ix_proto.specs.inside.ReplyParts.{nodes_text};
 
 use crate::reply::{Reply, has_number, refusal_text};
 use ix_lines::{number_and, read_number, split_word};

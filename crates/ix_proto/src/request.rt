@@ -1,6 +1,7 @@
 //! The reader of requests.
 
-ghost use Rattle.std.specs.Prelude.{codes, ◌≡◌, ◌≢◌, ◌⊎◌, [], ◌∷◌, length, MatchOption, MatchResult, IsTrue};
+ghost use Rattle.std.specs.Prelude.{codes, ◌≡◌, ◌≢◌, ◌⊎◌, [], ◌∷◌, length, MatchOption};
+ghost use Rattle.std.specs.Prelude.{MatchResult, IsTrue};
 ghost use Rattle.std.specs.Fmt.{decimal};
 ghost use Rattle.std.specs.Option.{option_copied};
 ghost use Rattle.ix_values.specs.Faults.{IsActionText};
@@ -8,7 +9,9 @@ ghost use Rattle.ix_values.specs.Texts.{IsName};
 ghost use Rattle.ix_lines.specs.Numbers.{IsNumber};
 ghost use Rattle.ix_proto.specs.inside.Lends.{Reads};
 ghost use Rattle.ix_proto.specs.Requests.{IsLease};
-ghost use Rattle.ix_proto.specs.RequestFaults.{an_action, a_name, a_number, a_lease, verb_word, parts_of, IsPartFault, IsFaultBehind, IsRequestFault};
+ghost use Rattle.ix_proto.specs.RequestFaults.{an_action, a_name, a_number, a_lease, verb_word};
+ghost use Rattle.ix_proto.specs.RequestFaults.{parts_of, IsPartFault, IsFaultBehind};
+ghost use Rattle.ix_proto.specs.RequestFaults.{IsRequestFault};
 ghost use Rattle.ix_lines.specs.Words.{words_of};
 ghost use Rattle.ix_lines.specs.inside.WordsBehind.{words_behind};
 
@@ -76,7 +79,8 @@ impl<'a> Request<'a> {
 fn read_behind(verb: Verb, rest: Option<&[u8]>) -> Result<Request<'_>, RequestFault>
     ensures { MatchResult result
         (λ request. Reads (verb_word verb ∷ words_behind (option_copied rest.entry)) request)
-        (λ fault. IsFaultBehind (parts_of verb) (words_behind (option_copied rest.entry)) fault.code) }
+        (λ fault. IsFaultBehind (parts_of verb)
+        (words_behind (option_copied rest.entry)) fault.code) }
 {
     match verb {
         Verb::Ask => read_ask(rest),
@@ -115,7 +119,8 @@ fn read_verb(word: &[u8]) -> Option<Verb>
 fn read_ask(rest: Option<&[u8]>) -> Result<Request<'_>, RequestFault>
     ensures { MatchResult result
         (λ request. Reads (codes "ask" ∷ words_behind (option_copied rest.entry)) request)
-        (λ fault. IsFaultBehind (parts_of Verb.Ask) (words_behind (option_copied rest.entry)) fault.code) }
+        (λ fault. IsFaultBehind (parts_of Verb.Ask)
+        (words_behind (option_copied rest.entry)) fault.code) }
 {
     let (action, lease) = two_words(rest)?;
     let action = action_word(action)?;
@@ -126,7 +131,8 @@ fn read_ask(rest: Option<&[u8]>) -> Result<Request<'_>, RequestFault>
 fn read_confirm(rest: Option<&[u8]>) -> Result<Request<'_>, RequestFault>
     ensures { MatchResult result
         (λ request. Reads (codes "confirm" ∷ words_behind (option_copied rest.entry)) request)
-        (λ fault. IsFaultBehind (parts_of Verb.Confirm) (words_behind (option_copied rest.entry)) fault.code) }
+        (λ fault. IsFaultBehind (parts_of Verb.Confirm)
+        (words_behind (option_copied rest.entry)) fault.code) }
 {
     let word = one_word(rest)?;
     let number = number_word(word)?;
@@ -136,7 +142,8 @@ fn read_confirm(rest: Option<&[u8]>) -> Result<Request<'_>, RequestFault>
 fn read_cancel(rest: Option<&[u8]>) -> Result<Request<'_>, RequestFault>
     ensures { MatchResult result
         (λ request. Reads (codes "cancel" ∷ words_behind (option_copied rest.entry)) request)
-        (λ fault. IsFaultBehind (parts_of Verb.Cancel) (words_behind (option_copied rest.entry)) fault.code) }
+        (λ fault. IsFaultBehind (parts_of Verb.Cancel)
+        (words_behind (option_copied rest.entry)) fault.code) }
 {
     let word = one_word(rest)?;
     let number = number_word(word)?;
@@ -146,7 +153,8 @@ fn read_cancel(rest: Option<&[u8]>) -> Result<Request<'_>, RequestFault>
 fn read_log(rest: Option<&[u8]>) -> Result<Request<'_>, RequestFault>
     ensures { MatchResult result
         (λ request. Reads (codes "log" ∷ words_behind (option_copied rest.entry)) request)
-        (λ fault. IsFaultBehind (parts_of Verb.Log) (words_behind (option_copied rest.entry)) fault.code) }
+        (λ fault. IsFaultBehind (parts_of Verb.Log)
+        (words_behind (option_copied rest.entry)) fault.code) }
 {
     let word = one_word(rest)?;
     let number = number_word(word)?;
@@ -156,7 +164,8 @@ fn read_log(rest: Option<&[u8]>) -> Result<Request<'_>, RequestFault>
 fn read_may(rest: Option<&[u8]>) -> Result<Request<'_>, RequestFault>
     ensures { MatchResult result
         (λ request. Reads (codes "may" ∷ words_behind (option_copied rest.entry)) request)
-        (λ fault. IsFaultBehind (parts_of Verb.May) (words_behind (option_copied rest.entry)) fault.code) }
+        (λ fault. IsFaultBehind (parts_of Verb.May)
+        (words_behind (option_copied rest.entry)) fault.code) }
 {
     let word = one_word(rest)?;
     let action = action_word(word)?;
@@ -166,7 +175,8 @@ fn read_may(rest: Option<&[u8]>) -> Result<Request<'_>, RequestFault>
 fn read_poll(rest: Option<&[u8]>) -> Result<Request<'_>, RequestFault>
     ensures { MatchResult result
         (λ request. Reads (codes "poll" ∷ words_behind (option_copied rest.entry)) request)
-        (λ fault. IsFaultBehind (parts_of Verb.Poll) (words_behind (option_copied rest.entry)) fault.code) }
+        (λ fault. IsFaultBehind (parts_of Verb.Poll)
+        (words_behind (option_copied rest.entry)) fault.code) }
 {
     let word = one_word(rest)?;
     let name = name_word(word)?;
@@ -176,7 +186,8 @@ fn read_poll(rest: Option<&[u8]>) -> Result<Request<'_>, RequestFault>
 fn read_watch(rest: Option<&[u8]>) -> Result<Request<'_>, RequestFault>
     ensures { MatchResult result
         (λ request. Reads (codes "watch" ∷ words_behind (option_copied rest.entry)) request)
-        (λ fault. IsFaultBehind (parts_of Verb.Watch) (words_behind (option_copied rest.entry)) fault.code) }
+        (λ fault. IsFaultBehind (parts_of Verb.Watch)
+        (words_behind (option_copied rest.entry)) fault.code) }
 {
     let (name, action) = two_words(rest)?;
     let name = name_word(name)?;
@@ -187,7 +198,8 @@ fn read_watch(rest: Option<&[u8]>) -> Result<Request<'_>, RequestFault>
 fn read_drop(rest: Option<&[u8]>) -> Result<Request<'_>, RequestFault>
     ensures { MatchResult result
         (λ request. Reads (codes "drop" ∷ words_behind (option_copied rest.entry)) request)
-        (λ fault. IsFaultBehind (parts_of Verb.Drop) (words_behind (option_copied rest.entry)) fault.code) }
+        (λ fault. IsFaultBehind (parts_of Verb.Drop)
+        (words_behind (option_copied rest.entry)) fault.code) }
 {
     let (name, action) = two_words(rest)?;
     let name = name_word(name)?;
@@ -198,7 +210,8 @@ fn read_drop(rest: Option<&[u8]>) -> Result<Request<'_>, RequestFault>
 fn read_status(rest: Option<&[u8]>) -> Result<Request<'_>, RequestFault>
     ensures { MatchResult result
         (λ request. Reads (codes "status" ∷ words_behind (option_copied rest.entry)) request)
-        (λ fault. IsFaultBehind (parts_of Verb.Status) (words_behind (option_copied rest.entry)) fault.code) }
+        (λ fault. IsFaultBehind (parts_of Verb.Status)
+        (words_behind (option_copied rest.entry)) fault.code) }
 {
     no_words(rest)?;
     Ok(Request::Status)
@@ -207,7 +220,8 @@ fn read_status(rest: Option<&[u8]>) -> Result<Request<'_>, RequestFault>
 fn read_stop(rest: Option<&[u8]>) -> Result<Request<'_>, RequestFault>
     ensures { MatchResult result
         (λ request. Reads (codes "stop" ∷ words_behind (option_copied rest.entry)) request)
-        (λ fault. IsFaultBehind (parts_of Verb.Stop) (words_behind (option_copied rest.entry)) fault.code) }
+        (λ fault. IsFaultBehind (parts_of Verb.Stop)
+        (words_behind (option_copied rest.entry)) fault.code) }
 {
     no_words(rest)?;
     Ok(Request::Stop)

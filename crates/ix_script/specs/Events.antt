@@ -7,11 +7,16 @@ use Rattle.ix_script.specs.Grammar.{IsScriptLine}
 
 -- these bytes come on a connection
 abbrev pub bytes_event : ℕ → ℕ → List ℕ → GivenEvent
-bytes_event moment conn bytes = record { event = record { conn = conn; moment = moment; kind = Bytes (length bytes) }; bytes = bytes }
+bytes_event moment conn bytes =
+    record {
+      event = record { conn = conn; moment = moment; kind = Bytes (length bytes) };
+      bytes = bytes;
+    }
 
 -- a connection is closed
 abbrev pub closed_event : ℕ → ℕ → GivenEvent
-closed_event moment conn = record { event = record { conn = conn; moment = moment; kind = Closed }; bytes = [] }
+closed_event moment conn =
+    record { event = record { conn = conn; moment = moment; kind = Closed }; bytes = [] }
 
 -- the end
 abbrev pub end_event : ℕ → GivenEvent
@@ -34,12 +39,14 @@ abbrev pub line_event : ℕ → ℕ → List ℕ → GivenEvent
 line_event moment conn text =
     if is_close text then closed_event moment conn else bytes_event moment conn (text_bytes text)
 
--- the events of these lines, and behind them the end at the last line's moment, or at this one where there is no line
+-- the events of these lines, and behind them the end at the last line's moment, or at this one
+-- where there is no line
 abbrev pub AreEvents : ℕ → List (List ℕ) → List GivenEvent → Type 0
 AreEvents moment [] events = events ≡ end_event moment ∷ []
 AreEvents moment (line ∷ lines) events =
     (now : ℕ) × (conn : ℕ) × (text : List ℕ) × (later : List GivenEvent)
-    × IsScriptLine line now conn text × (events ≡ line_event now conn text ∷ later) × AreEvents now lines later
+    × IsScriptLine line now conn text × (events ≡ line_event now conn text ∷ later)
+    × AreEvents now lines later
 
 -- the script's events, with whole pieces
 abbrev pub HasEvents : List ℕ → List GivenEvent → Type 0

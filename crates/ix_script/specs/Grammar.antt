@@ -14,11 +14,14 @@ pub record IsScriptLine (line : List ℕ) (moment conn : ℕ) (text : List ℕ) 
 abbrev pub InGrammar : List ℕ → Type 0
 InGrammar line = (moment : ℕ) × (conn : ℕ) × (text : List ℕ) × IsScriptLine line moment conn text
 
--- 31 where no moment and a space come first, 32 where no connection and a space follow, 33 where the rest is `\` alone
+-- 31 where no moment and a space come first, 32 where no connection and a space follow, 33 where
+-- the rest is `\` alone
 pub data IsLineFault (line : List ℕ) : ℕ → Type 0 where
   no_moment : ¬ Begins (2 ^ 64) line → IsLineFault line 31
-  no_connection : {moment : ℕ} {behind : List ℕ} → BeginsWith (2 ^ 64) line moment behind → ¬ Begins 64 behind → IsLineFault line 32
-  no_text : {moment conn : ℕ} {behind : List ℕ} → BeginsWith (2 ^ 64) line moment behind → BeginsWith 64 behind conn (92 ∷ []) → IsLineFault line 33
+  no_connection : {moment : ℕ} {behind : List ℕ} → BeginsWith (2 ^ 64) line moment behind
+      → ¬ Begins 64 behind → IsLineFault line 32
+  no_text : {moment conn : ℕ} {behind : List ℕ} → BeginsWith (2 ^ 64) line moment behind
+      → BeginsWith 64 behind conn (92 ∷ []) → IsLineFault line 33
 
 -- a line's fault is told at its first byte
 abbrev pub IsFaultAtFront : List ℕ → ℕ → ℕ → Type 0
