@@ -120,7 +120,7 @@ pub(crate) fn load_script<F: Files>(
 
 /// The script of bytes that were loaded, each of whose lines is in the grammar.
 pub(crate) fn read_script(bytes: &[u8]) -> Result<Script<'_>, Refusal>
-    ensures same { IfOk result (λ script. script.bytes.now ≡ bytes.now) }
+    ensures same { IfOk result (λ script. script ≡ bytes.now) }
     ensures events { IfOk result
         (λ script. (events : List GivenEvent) × HasEvents bytes.now events) }
     ensures err { IfErr result (IsBadScript bytes.now) }

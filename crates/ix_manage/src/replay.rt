@@ -77,11 +77,11 @@ fn play<S: Site, K: Sink>(
     requires least { 1 ≤ names.limit }
     requires most { names.limit ≤ most_nodes }
     requires turns { names.turns ≤ most_turns }
-    requires events { (events : List GivenEvent) × HasEvents script.bytes.now events }
+    requires events { (events : List GivenEvent) × HasEvents script events }
     requires attached { (S.state site.old).attached ≡ false }
 
     ensures leaves { Leaves
-        (PlaysOver expression names.entry script.entry.bytes.now
+        (PlaysOver expression names.entry script.entry
         (S.state site.old) (S.state site.new) (S.crashes site.new))
         (K.state out.old) (K.state out.new) result }
     ensures lost { IfErr result IsNoLoss }
@@ -111,7 +111,7 @@ fn run_script<S: Site, K: Sink>(
     requires fits { FitsSite manager.old (S.state site.old) (S.crashes site.old) }
 
     ensures leaves { Leaves
-        (ReplaysOn (opening_of manager.old) turns script.entry.bytes.now manager.new.machine
+        (ReplaysOn (opening_of manager.old) turns script.entry manager.new.machine
         (between S.state S.crashes site.old site.new))
         (K.state out.old) (K.state out.new) result }
     ensures lost { IfErr result IsNoLoss }

@@ -1,6 +1,7 @@
 //! Takes the events of a script one by one.
 ghost use Rattle.std.specs.Prelude.{◌≡◌, ◌≤◌, true, length, IfErr};
 ghost use Rattle.ix_cli.specs.Commands.{most_turns};
+ghost use Rattle.ix_script.specs.inside.Site.{playing};
 ghost use Rattle.ix_manage.specs.inside.Leaves.{FailedWhere, IsNoLoss};
 ghost use Rattle.ix_manage.specs.inside.ReplayProgress.{FitsDisk, IsAtStart, IsBetween};
 ghost use Rattle.ix_manage.specs.inside.ReplayProgress.{OnlyPlays, TakesEvents, TakesTurn, between, player};
@@ -24,19 +25,19 @@ pub(crate) fn take_events<S: Site, K: Sink>(
     requires turns { turns ≤ most_turns }
     requires manager { IsStarted manager.old }
     requires player { IsAtStart (player S.state K.state site.old) }
-    requires attached { (S.state site.old.site.now).attached ≡ true }
-    requires fits { FitsDisk S.state S.crashes manager.old site.old.site.now }
+    requires attached { (S.state (playing site.old).site).attached ≡ true }
+    requires fits { FitsDisk S.state S.crashes manager.old (playing site.old).site }
 
     ensures leaves { TakesEvents turns manager.old (player S.state K.state site.old)
         manager.new (player S.state K.state site.new)
-        (between S.state S.crashes site.old.site.now site.new.site.now) result }
+        (between S.state S.crashes (playing site.old).site (playing site.new).site) result }
     ensures lost { IfErr result IsNoLoss }
     ensures failed { IfErr result
-        (FailedWhere (S.state site.old.site.now) (S.state site.new.site.now)) }
+        (FailedWhere (S.state (playing site.old).site) (S.state (playing site.new).site)) }
 
     ensures plays { OnlyPlays (player S.state K.state site.old) (player S.state K.state site.new) }
-    ensures same_sink { site.new.sink.ghost_name ≡ site.old.sink.ghost_name }
-    ensures same_site { site.new.site.ghost_name ≡ site.old.site.ghost_name }
+    ensures same_sink { (playing site.new).sink_loan ≡ (playing site.old).sink_loan }
+    ensures same_site { (playing site.new).site_loan ≡ (playing site.old).site_loan }
 {
     let mut buffer = [0; 4096];
     for _turn in 0..turns {
@@ -58,16 +59,16 @@ fn take_event<S: Site, K: Sink>(
 ) -> Turn
     requires buffer { length buffer.old ≡ 4096 }
     requires between { IsBetween manager.old (player S.state K.state site.old) }
-    requires attached { (S.state site.old.site.now).attached ≡ true }
-    requires fits { FitsDisk S.state S.crashes manager.old site.old.site.now }
+    requires attached { (S.state (playing site.old).site).attached ≡ true }
+    requires fits { FitsDisk S.state S.crashes manager.old (playing site.old).site }
 
     ensures turn { TakesTurn manager.old (player S.state K.state site.old)
         manager.new (player S.state K.state site.new)
-        (between S.state S.crashes site.old.site.now site.new.site.now) result }
+        (between S.state S.crashes (playing site.old).site (playing site.new).site) result }
 
     ensures plays { OnlyPlays (player S.state K.state site.old) (player S.state K.state site.new) }
-    ensures same_sink { site.new.sink.ghost_name ≡ site.old.sink.ghost_name }
-    ensures same_site { site.new.site.ghost_name ≡ site.old.site.ghost_name }
+    ensures same_sink { (playing site.new).sink_loan ≡ (playing site.old).sink_loan }
+    ensures same_site { (playing site.new).site_loan ≡ (playing site.old).site_loan }
 {
     let event = site.next_event(buffer);
     let go = manager.handle(alloc, event, piece(event.kind, buffer), site);

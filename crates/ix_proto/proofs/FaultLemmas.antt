@@ -1,4 +1,4 @@
--- No request's line has a fault.
+-- No request's line has a fault, and a line has at most one.
 use Rattle.std.proofs.Common.{◌≡◌, ℕ, ◌+◌, ◌<◌, ◌^◌, ◌==◌, inl, inr, if◌then◌else◌, List, [], ◌∷◌, length, get_or, suc, arith, refl, sym, ◌∙◌, ap, subst}
 use Rattle.std.specs.Fmt.{decimal}
 use Rattle.ix_values.specs.Faults.{IsActionText}
@@ -6,7 +6,7 @@ use Rattle.ix_values.specs.PlainAction.{PlainAction, text_of}
 use Rattle.ix_values.specs.Texts.{IsAction}
 use Rattle.ix_proto.specs.Requests.{ask, confirm, cancel, may, watch, drop_watch, poll, status, log, stop, IsLease}
 use Rattle.ix_proto.specs.RequestFaults.{Part, an_action, a_name, a_number, a_lease, IsPart, IsPartFault, IsFirstFault, IsFaultBehind, verb_word, parts_of, IsNumberText, IsLeaseText, IsRequestFault}
-use Rattle.ix_proto.specs.RequestLaws.{FaultsTellNoRequest}
+use Rattle.ix_proto.specs.RequestLaws.{FaultsTellNoRequest, RequestLinesHaveOneFault}
 use Rattle.ix_proto.specs.declared.request.Verb.{Verb}
 use Rattle.ix_proto.specs.declared.request.Verb.TheVariants as verb
 
@@ -97,3 +97,37 @@ faults_tell_no_request (poll name) code h f = no_fault verb.Poll _ code (h, tt) 
 faults_tell_no_request status code h f = no_fault verb.Status _ code tt f
 faults_tell_no_request (log place) code h f = no_fault verb.Log _ code (number_text place h, tt) f
 faults_tell_no_request stop code h f = no_fault verb.Stop _ code tt f
+
+one_part_fault : (part : Part) (word : List ℕ) (c d : ℕ) → IsPartFault part word c → IsPartFault part word d → c ≡ d
+one_part_fault an_action word c d f g = f.1 ∙ sym g.1
+one_part_fault a_name word c d f g = f.1 ∙ sym g.1
+one_part_fault a_number word c d f g = f.1 ∙ sym g.1
+one_part_fault a_lease word c d (inl f) (inl g) = f.1 ∙ sym g.1
+one_part_fault a_lease word c d (inl f) (inr g) = absurd (f.0 g.0)
+one_part_fault a_lease word c d (inr f) (inl g) = absurd (g.0 f.0)
+one_part_fault a_lease word c d (inr f) (inr g) = f.2 ∙ sym g.2
+
+one_first_fault : (parts : List Part) (words : List (List ℕ)) (c d : ℕ)
+    → IsFirstFault parts words c → IsFirstFault parts words d → c ≡ d
+one_first_fault [] words c d f g = absurd f
+one_first_fault (part ∷ parts) [] c d f g = absurd f
+one_first_fault (part ∷ parts) (word ∷ words) c d (inl f) (inl g) = one_part_fault part word c d f g
+one_first_fault (part ∷ parts) (word ∷ words) c d (inl f) (inr g) = absurd (no_part_fault part word c g.0 f)
+one_first_fault (part ∷ parts) (word ∷ words) c d (inr f) (inl g) = absurd (no_part_fault part word d f.0 g)
+one_first_fault (part ∷ parts) (word ∷ words) c d (inr f) (inr g) = one_first_fault parts words c d f.1 g.1
+
+one_fault_behind : (parts : List Part) (words : List (List ℕ)) (c d : ℕ)
+    → IsFaultBehind parts words c → IsFaultBehind parts words d → c ≡ d
+one_fault_behind parts words c d (inl f) (inl g) = f.1 ∙ sym g.1
+one_fault_behind parts words c d (inl f) (inr g) = absurd (f.0 g.0)
+one_fault_behind parts words c d (inr f) (inl g) = absurd (g.0 f.0)
+one_fault_behind parts words c d (inr f) (inr g) = one_first_fault parts words c d f.1 g.1
+
+pub request_lines_have_one_fault : RequestLinesHaveOneFault
+request_lines_have_one_fault [] c d f g = absurd f
+request_lines_have_one_fault (first ∷ words) c d (inl f) (inl g) = f.1 ∙ sym g.1
+request_lines_have_one_fault (first ∷ words) c d (inl f) (inr g) = absurd (f.0 g.0 g.1)
+request_lines_have_one_fault (first ∷ words) c d (inr f) (inl g) = absurd (g.0 f.0 f.1)
+request_lines_have_one_fault (first ∷ words) c d (inr f) (inr g) =
+    let same : f.0 ≡ g.0 = same_verb f.0 g.0 (sym f.1 ∙ g.1) in
+    one_fault_behind (parts_of g.0) words c d (subst (λ z. IsFaultBehind (parts_of z) words c) same f.2) g.2

@@ -38,8 +38,8 @@ impl<'a> Cursor<'a> {
     ghost use Rattle.ix_script.specs.inside.Progress.{events_of};
 
     pub(crate) fn new(script: Script<'a>) -> Cursor<'a>
-        ensures bytes { result.bytes.now ≡ script.entry.bytes.now }
-        ensures left { left_of result ≡ events_of script.entry.bytes.now }
+        ensures bytes { result.bytes.now ≡ script.entry }
+        ensures left { left_of result ≡ events_of script.entry }
     {
         Cursor {
             bytes: script.bytes,

@@ -11,6 +11,7 @@ use ix_outside::{DiskFailed, Event, Failed, Gone, History, Sink, Site, WireFaile
 
 /// A site that gives the events of a script. What it sends goes to the sink that it was lent: the
 /// connection's number, a space and the bytes. Its disk is that of the site that it was lent.
+/// Contracts see it through `playing`, as one record.
 #[derive(Drop)]
 pub struct ScriptSite<'a, S, K> {
     pub(crate) cursor: Cursor<'a>,
@@ -27,17 +28,17 @@ impl<'a, S: Site, K: Sink> ScriptSite<'a, S, K> {
     ghost use Rattle.ix_outside.specs.Contents.{piece_of};
     ghost use Rattle.ix_outside.specs.Event.{FitsBuffer};
     ghost use Rattle.ix_script.specs.inside.NextPiece.{IsNextPiece};
-    ghost use Rattle.ix_script.specs.inside.Site.{given_of};
+    ghost use Rattle.ix_script.specs.inside.Site.{playing};
 
     /// A site at the script's front.
     pub fn new(script: Script<'a>, site: &'a mut S, sink: &'a mut K) -> ScriptSite<'a, S, K>
-        ensures script { result.cursor.bytes.now ≡ script.entry.bytes.now }
-        ensures given { given_of result ≡ [] }
-        ensures site { result.site.now ≡ site.old }
-        ensures same_site { result.site.ghost_name ≡ site.entry.ghost_name }
-        ensures sink { result.sink.now ≡ sink.old }
-        ensures same_sink { result.sink.ghost_name ≡ sink.entry.ghost_name }
-        ensures sink_failed { result.sink_failed ≡ false }
+        ensures script { (playing result).script ≡ script.entry }
+        ensures given { (playing result).given ≡ [] }
+        ensures site { (playing result).site ≡ site.old }
+        ensures same_site { (playing result).site_loan ≡ site.entry.ghost_name }
+        ensures sink { (playing result).sink ≡ sink.old }
+        ensures same_sink { (playing result).sink_loan ≡ sink.entry.ghost_name }
+        ensures sink_failed { (playing result).sink_failed ≡ false }
     {
         ScriptSite {
             cursor: Cursor::new(script),
@@ -50,7 +51,7 @@ impl<'a, S: Site, K: Sink> ScriptSite<'a, S, K> {
 
     /// Whether a send answered Gone.
     pub fn sink_failed(&self) -> bool
-        ensures { result ≡ self.now.sink_failed }
+        ensures { result ≡ (playing self.now).sink_failed }
     {
         self.sink_failed
     }
@@ -60,12 +61,13 @@ impl<'a, S: Site, K: Sink> ScriptSite<'a, S, K> {
     pub fn next_event(&mut self, buf: &mut [u8]) -> Event
         requires { 0 < length buf.old }
         ensures fits { FitsBuffer (length buf.old) result }
-        ensures given { given_of self.new ≡ given_of self.old ++ record { event = result; bytes = piece_of result.kind buf.new } ∷ [] }
-        ensures next { IsNextPiece (length buf.old) self.old.cursor.bytes.now (given_of self.old) (record { event = result; bytes = piece_of result.kind buf.new }) }
-        ensures script { self.new.cursor.bytes ≡ self.old.cursor.bytes }
-        ensures site { self.new.site ≡ self.old.site }
-        ensures sink { self.new.sink ≡ self.old.sink }
-        ensures sink_failed { self.new.sink_failed ≡ self.old.sink_failed }
+        ensures given { (playing self.new).given ≡ (playing self.old).given
+            ++ record { event = result; bytes = piece_of result.kind buf.new } ∷ [] }
+        ensures next { IsNextPiece (length buf.old) (playing self.old).script
+            (playing self.old).given
+            (record { event = result; bytes = piece_of result.kind buf.new }) }
+        ensures rest { playing self.new
+            ≡ record (playing self.old) { given = (playing self.new).given } }
     {
         let room = buf.len();
         let event = self.cursor.next(buf);
@@ -85,36 +87,37 @@ impl<'a, S: Site, K: Sink> Site for ScriptSite<'a, S, K> {
     ghost use Rattle.ix_script.specs.inside.NextPiece.{IsNextPiece};
     ghost use Rattle.ix_script.specs.inside.WithoutSends.{without_sends};
     ghost use Rattle.ix_script.specs.lemmas.OtherDisk.{lawful_without_sends};
-    ghost use Rattle.ix_script.specs.inside.Site.{given_of};
+    ghost use Rattle.ix_script.specs.inside.Site.{playing};
 
     // The disk is that of the lent site, and its calls alone are ticks; the wire is the script, and
     // the sends are the sink's puts.
     ghost state = { λ it. record {
       counts = record {
-        disk = (S.state it.site.now).counts.disk;
+        disk = (S.state (playing it).site).counts.disk;
         wire = 0;
-        send = (K.state it.sink.now).faults;
+        send = (K.state (playing it).sink).faults;
       };
-      attached = (S.state it.site.now).attached;
-      tick = (S.state it.site.now).tick;
+      attached = (S.state (playing it).site).attached;
+      tick = (S.state (playing it).site).tick;
       contents = record {
-        given = Some (given_of it);
+        given = Some (playing it).given;
         sends = None;
-        text = (K.state it.sink.now).written;
-        lost = Some it.sink_failed;
+        text = (K.state (playing it).sink).written;
+        lost = Some (playing it).sink_failed;
       };
-      disk = (S.state it.site.now).disk;
-      held = reads it.cursor.bytes.now
-          (unused_wire (S.state it.site.now).counts.wire (S.state it.site.now).counts.send
-          (S.state it.site.now).contents
-          (lent it.site.ghost_name (S.state it.site.now).held
-          (lent it.sink.ghost_name (K.state it.sink.now).held free)));
+      disk = (S.state (playing it).site).disk;
+      held = reads (playing it).script
+          (unused_wire (S.state (playing it).site).counts.wire
+          (S.state (playing it).site).counts.send
+          (S.state (playing it).site).contents
+          (lent (playing it).site_loan (S.state (playing it).site).held
+          (lent (playing it).sink_loan (K.state (playing it).sink).held free)));
     } };
 
-    ghost crashes = { λ it. without_sends (S.crashes it.site.now) };
+    ghost crashes = { λ it. without_sends (S.crashes (playing it).site) };
 
-    ghost lawful = { λ it. lawful_without_sends (S.state it.site.now) _ (S.crashes it.site.now)
-        refl refl refl (S.lawful it.site.now) };
+    ghost lawful = { λ it. lawful_without_sends (S.state (playing it).site) _
+        (S.crashes (playing it).site) refl refl refl (S.lawful (playing it).site) };
 
     fn listen(&mut self, _name: &str) -> Result<(), WireFailed> {
         Ok(())
@@ -123,8 +126,9 @@ impl<'a, S: Site, K: Sink> Site for ScriptSite<'a, S, K> {
     /// The script's next event. Its bytes are as many as the buffer takes, or the last of a piece.
     fn next(&mut self, buf: &mut [u8]) -> Result<Event, WireFailed>
         requires { 0 < length buf.old }
-        ensures next { IfOk result (λ event. IsNextPiece (length buf.old) self.old.cursor.bytes.now
-            (given_of self.old) (record { event = event; bytes = piece_of event.kind buf.new })) }
+        ensures next { IfOk result (λ event. IsNextPiece (length buf.old)
+            (playing self.old).script (playing self.old).given
+            (record { event = event; bytes = piece_of event.kind buf.new })) }
 
         ensures event { IfOk result (FitsBuffer (length buf.old)) }
         ensures failed { OnErr result (Rose (⟦<Self as Site>⟧.state self.old).counts.wire

@@ -7,7 +7,7 @@ ghost use Rattle.ix_outside.specs.inside.NothingTold.{nothing_told};
 ghost use Rattle.ix_outside.specs.lemmas.Untold.{untold_is_lawful};
 ghost use Rattle.ix_script.specs.Events.{HasEvents};
 ghost use Rattle.ix_script.specs.Pieces.{pieces_of};
-ghost use Rattle.ix_script.specs.inside.Site.{given_of};
+ghost use Rattle.ix_script.specs.inside.Site.{playing};
 
 use super::*;
 use ix_outside::{DiskFailed, Event, EventKind, Failed, Gone, Sink, Site, WireFailed};
@@ -368,9 +368,10 @@ fn answer<S: Site>(site: &mut S)
 
 // Takes so many events with a buffer of four bytes, and lends the site to another behind each. They are the script's first pieces.
 fn take_events<S: Site, K: Sink>(site: &mut ScriptSite<'_, S, K>, count: usize)
-    requires { given_of site.old ≡ [] }
-    ensures given { (events : List GivenEvent) → HasEvents site.old.cursor.bytes.now events → given_of site.new ≡ pieces_of 4 count events }
-    ensures script { site.new.cursor.bytes.now ≡ site.old.cursor.bytes.now }
+    requires { (playing site.old).given ≡ [] }
+    ensures given { (events : List GivenEvent) → HasEvents (playing site.old).script events
+        → (playing site.new).given ≡ pieces_of 4 count events }
+    ensures script { (playing site.new).script ≡ (playing site.old).script }
 {
     let mut buf = [0; 4];
     for i in 0..count {

@@ -23,7 +23,7 @@ use Rattle.ix_manager.specs.inside.OverSite.{FitsSite}
 use Rattle.ix_manager.specs.inside.Saving.{SavesRun}
 use Rattle.ix_script.specs.Events.{HasEvents}
 use Rattle.ix_script.specs.inside.NextPiece.{IsNextPiece}
-use Rattle.ix_script.specs.inside.Site.{given_of}
+use Rattle.ix_script.specs.inside.Site.{playing}
 use Rattle.ix_script.specs.inside.WithoutSends.{without_sends}
 use Rattle.ix_script.specs.declared.site.ScriptSite.{ScriptSite}
 use Rattle.ix_manage.specs.Session.{IsNoEnd, Session, history_line}
@@ -62,11 +62,11 @@ pub record Player : Type 0 where
 
 abbrev pub player : {S K : Type 0} → (S → SiteState) → (K → SinkState) → ScriptSite S K → Player
 player site_state sink_state it = record {
-  script = it.cursor.bytes.now;
-  given = given_of it;
-  failed = it.sink_failed;
-  sink = sink_state it.sink.now;
-  site = site_state it.site.now;
+  script = (playing it).script;
+  given = (playing it).given;
+  failed = (playing it).sink_failed;
+  sink = sink_state (playing it).sink;
+  site = site_state (playing it).site;
 }
 
 -- what it tells

@@ -11,7 +11,7 @@ returns-in-Err-clause-leaves g c =
     let before = g.S.Site.state c.args.site.now in
     let after = g.S.Site.state c.open.new.site in
     leaves_on
-    (unstarted_plays c.args.expression c.args.names c.args.script.bytes.now before c.requires.events
+    (unstarted_plays c.args.expression c.args.names c.args.script before c.requires.events
     after (g.S.Site.crashes c.open.new.site))
     sink sink {T = ⊤} (Err c.in-Err.stop) (c.in-Err.ensures.stops sink)
 
@@ -24,7 +24,7 @@ returns-in-Ok-clause-leaves g c =
     let end = g.S.Site.state c.run_script.new.site in
     let r = g.S.Site.crashes c.run_script.new.site in
     leaves_on
-    (session_plays c.args.expression c.args.names c.args.script.bytes.now before c.requires.events
+    (session_plays c.args.expression c.args.names c.args.script before c.requires.events
     mid end q r c.in-Ok.manager c.in-Ok.ensures.starts c.run_script.ensures.site.opened
     c.run_script.new.manager.machine)
     (g.K.Sink.state c.args.out.now) (g.K.Sink.state c.run_script.new.out)

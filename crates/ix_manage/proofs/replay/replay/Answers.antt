@@ -72,7 +72,7 @@ returns-clause-leaves g c =
     leaves_on
     (λ status whole part session plays. plays files c.in-Ok.ensures.ok
     (λ events has. replay_reads files names.expression.now names.journal.now names.script.now names.limit names.turns
-    bytes c.in-Ok-read_script.script.bytes.now file load.ensures.short (read.same ∙ c.deref.ensures.value) events has))
+    bytes c.in-Ok-read_script.script file load.ensures.short (read.same ∙ c.deref.ensures.value) events has))
     (g.K.Sink.state c.args.out.now) (g.K.Sink.state c.play.new.out)
     c.play.result c.play.ensures.leaves
 

@@ -1,4 +1,5 @@
 use Rattle.std.proofs.Common.{refl, ap, rules, sym, subst, ◌∙◌}
+use Rattle.ix_script.specs.inside.Site.{playing}
 use Rattle.ix_manage.specs.Session.{history_line}
 use Rattle.ix_manage.specs.inside.ReplayProgress.{FitsDisk, between, player}
 use Rattle.ix_manage.specs.inside.Turns.{opening_of}
@@ -11,7 +12,7 @@ use Rattle.ix_manage.proofs.replay.run_script.Goals as goal
 pub returns-in-Err-clause-leaves : goal.returns-in-Err-clause-leaves
 returns-in-Err-clause-leaves g c =
     let site = c.args.site.now in (
-      history_lost c.args.manager.now c.requires.manager c.args.turns c.args.script.bytes.now
+      history_lost c.args.manager.now c.requires.manager c.args.turns c.args.script
           c.deref.result.now (g.K.Sink.state c.args.out.now) (g.K.Sink.state c.put.new.self) _ _
           (alone_lawful (g.S.Site.state site) (g.S.Site.crashes site) (g.met.S.Site.lawful site))
           (fits_again c.args.manager.now _ _ _ _ refl refl c.requires.fits)
@@ -31,16 +32,17 @@ returns-clause-leaves g c =
     let manager = c.args.manager.now in
     let start = g.K.Sink.state c.args.out.now in
     let first = c.new-all in
+    let at_first = playing first.result in
     let last = player g.S.Site.state g.K.Sink.state c.take_events.new.site in
-    let stretch = between g.S.Site.state g.S.Site.crashes first.result.site.now c.take_events.new.site.site.now in
+    let stretch = between g.S.Site.state g.S.Site.crashes at_first.site (playing c.take_events.new.site).site in
     let put = history_put manager.machine.history c.deref.result.now start
-    (g.K.Sink.state c.put.new.self) (g.K.Sink.state first.result.sink.now)
+    (g.K.Sink.state c.put.new.self) (g.K.Sink.state at_first.sink)
     (c.deref.ensures.0 ∙ c.history_line.ensures ∙ ap history_line c.history.ensures)
     c.in-Ok.ensures.whole c.in-Ok.ensures.rest (ap g.K.Sink.state first.ensures.sink) in
-    leaves_over g.S.Site.state g.S.Site.crashes (opening_of manager) c.args.turns c.args.script.bytes.now
+    leaves_over g.S.Site.state g.S.Site.crashes (opening_of manager) c.args.turns c.args.script
     c.take_events.new.manager.machine start c.take_events.result
     (leaves_on
-    (replays_on (opening_of manager) c.args.turns first.result.cursor.bytes.now
-    c.args.script.bytes.now first.ensures.script last.given c.take_events.new.manager.machine stretch)
+    (replays_on (opening_of manager) c.args.turns at_first.script
+    c.args.script first.ensures.script last.given c.take_events.new.manager.machine stretch)
     start last.sink c.take_events.result (c.take_events.ensures.leaves start put))
     first.ensures.site (search rules) (search rules)

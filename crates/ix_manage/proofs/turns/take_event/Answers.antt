@@ -1,7 +1,8 @@
-use Rattle.std.proofs.Common.{◌≡◌, length, refl, ap, sym, ◌∙◌, subst, arith, MutBor}
+use Rattle.std.proofs.Common.{length, refl, ap, sym, ◌∙◌, subst, arith}
 use Rattle.ix_outside.specs.SinkState.{SinkState}
 use Rattle.ix_manager.specs.inside.Saving.{SavesRun}
 use Rattle.ix_manager.proofs.AcknowledgedLemmas.{more_untold}
+use Rattle.ix_script.specs.inside.Site.{ScriptSiteState, playing}
 use Rattle.ix_script.specs.inside.WithoutSends.{without_sends}
 use Rattle.ix_manage.specs.inside.ReplayProgress.{FitsDisk, OnlyUsesDisk, between, disk_alone, player}
 use Rattle.ix_manage.specs.inside.Turns.{IsTurn}
@@ -13,8 +14,9 @@ use Rattle.ix_manage.proofs.turns.take_event.Goals as goal
 pub handle-go-requires-clause-fits : goal.handle-go-requires-clause-fits
 handle-go-requires-clause-fits g c =
     fits_again c.args.manager.now _ _ _ _ refl refl
-    (subst (λ (site : MutBor _). FitsDisk g.S.Site.state g.S.Site.crashes c.args.manager.now site.now)
-    (sym c.next_event-event.ensures.site) c.requires.fits)
+    (subst (FitsDisk g.S.Site.state g.S.Site.crashes c.args.manager.now)
+    (sym (ap (λ (s : ScriptSiteState _ _). s.site) c.next_event-event.ensures.rest))
+    c.requires.fits)
 
 pub returns-clause-turn : goal.returns-clause-turn
 returns-clause-turn g c =
@@ -22,8 +24,8 @@ returns-clause-turn g c =
     let go = c.handle-go in
     let over = go.ensures.handles in
     let now = player g.S.Site.state g.K.Sink.state go.new.site in
-    let site = next.new.self.site.now in
-    let last = go.new.site.site.now in
+    let site = (playing next.new.self).site in
+    let last = (playing go.new.site).site in
     let saves = event_saves c.args.manager.now go.new.self next.result c.piece.result.now go.result over.ending over.handles.answers
     (disk_alone (g.S.Site.state site)) (disk_alone (g.S.Site.state last))
     (without_sends (g.S.Site.crashes site)) (without_sends (g.S.Site.crashes last))
@@ -35,27 +37,28 @@ returns-clause-turn g c =
     (player g.S.Site.state g.K.Sink.state c.args.site.now)
     (player g.S.Site.state g.K.Sink.state next.new.self) now
     next.new.buf c.piece.result.now next.result over.ending c.turn_of.result
-    (between g.S.Site.state g.S.Site.crashes c.args.site.now.site.now last)
+    (between g.S.Site.state g.S.Site.crashes (playing c.args.site.now).site last)
     c.requires.buffer next.ensures.given
-    (ap (λ (sink : MutBor _). g.K.Sink.state sink.now) next.ensures.sink)
-    next.ensures.sink_failed c.piece.ensures next.ensures.fits next.auto.buf next.ensures.next
+    (ap (λ (s : ScriptSiteState _ _). g.K.Sink.state s.sink) next.ensures.rest)
+    (ap (λ (s : ScriptSiteState _ _). s.sink_failed) next.ensures.rest) c.piece.ensures next.ensures.fits next.auto.buf next.ensures.next
     over.handles go.ensures.tickets c.requires.between
     (subst (λ failed. IsTurn failed over.ending next.result.kind c.turn_of.result)
     c.sink_failed.ensures (c.turn_of.ensures over.ending over.answered))
     go.ensures.marks
-    (subst (λ (s : MutBor _). SavesRun over.ending c.args.manager.now go.new.self
-    (disk_alone (g.S.Site.state s.now)) (disk_alone (g.S.Site.state last))
-    (without_sends (g.S.Site.crashes s.now)) (without_sends (g.S.Site.crashes last)))
-    next.ensures.site saves)
+    (subst (λ s. SavesRun over.ending c.args.manager.now go.new.self
+    (disk_alone (g.S.Site.state s)) (disk_alone (g.S.Site.state last))
+    (without_sends (g.S.Site.crashes s)) (without_sends (g.S.Site.crashes last)))
+    (ap (λ (s : ScriptSiteState _ _). s.site) next.ensures.rest) saves)
 
 -- of the lent site only the disk is called
 pub returns-clause-plays : goal.returns-clause-plays
 returns-clause-plays g c =
     let next = c.next_event-event in
     let sent = c.handle-go.ensures.site in
-    let script : next.new.self.cursor.bytes.now ≡ c.args.site.now.cursor.bytes.now = cc (next.ensures.script) in
-    let sink = ap (λ (sink : MutBor _). g.K.Sink.state sink.now) next.ensures.sink in
-    let held = holds_same (g.S.Site.state next.new.self.site.now) (g.S.Site.state c.handle-go.new.site.site.now) sent.held in
+    let last = playing c.handle-go.new.site in
+    let script = ap (λ (s : ScriptSiteState _ _). s.script) next.ensures.rest in
+    let sink = ap (λ (s : ScriptSiteState _ _). g.K.Sink.state s.sink) next.ensures.rest in
+    let held = holds_same (g.S.Site.state (playing next.new.self).site) (g.S.Site.state last.site) sent.held in
     let faults = sent.send in
     let before = ap (λ (s : SinkState). s.faults) sink in record {
       script = held.0 ∙ script;
@@ -63,6 +66,7 @@ returns-clause-plays g c =
         faults = omega (arith, faults, before);
         held = held.1 ∙ ap (λ (s : SinkState). s.held) sink;
       };
-      site = subst (λ (s : MutBor _). OnlyUsesDisk (g.S.Site.state s.now) (g.S.Site.state c.handle-go.new.site.site.now))
-          next.ensures.site (site_used sent.held sent.disk sent.attached sent.opened);
+      site = subst (λ s. OnlyUsesDisk (g.S.Site.state s) (g.S.Site.state last.site))
+          (ap (λ (s : ScriptSiteState _ _). s.site) next.ensures.rest)
+          (site_used sent.held sent.disk sent.attached sent.opened);
     }

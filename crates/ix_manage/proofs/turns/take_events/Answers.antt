@@ -1,5 +1,6 @@
 use Rattle.std.proofs.Common.{length, refl, ap, subst, arith, ◌∙◌}
 use Rattle.ix_outside.proofs.Counting.{Rose-earlier}
+use Rattle.ix_script.specs.inside.Site.{playing}
 use Rattle.ix_manage.specs.Ends.{Ended}
 use Rattle.ix_manage.specs.declared.refusal.Refusal.TheVariants.{Disk, Turns}
 use Rattle.ix_manage.specs.declared.run.Stop.TheVariants.{Refused}
@@ -15,7 +16,7 @@ use Rattle.ix_manage.proofs.turns.take_events.Goals as goal
 pub loop-turn-init : goal.loop-turn-init
 loop-turn-init g c =
     let start = player g.S.Site.state g.K.Sink.state c.args.site.now in
-    let site = c.args.site.now.site.now in (
+    let site = (playing c.args.site.now).site in (
       stands_first c.args.manager.now start _ _ c.requires.manager c.requires.player
           (alone_lawful (g.S.Site.state site) (g.S.Site.crashes site) (g.met.S.Site.lawful site))
           c.requires.fits,
@@ -42,7 +43,7 @@ loop-turn-preserved g c =
     let at = c.loop-turn.invariant in
     let took = c.take_event.ensures.turn in
     let count = taken_count took in
-    let site = c.take_event.new.site.site.now in
+    let site = (playing c.take_event.new.site).site in
     let all = at.1 in (
       turn_more took at.0 (alone_lawful (g.S.Site.state site) (g.S.Site.crashes site) (g.met.S.Site.lawful site))
           c.in-More.is c.take_event.ensures.plays,
@@ -58,9 +59,9 @@ returns-in-Done-clause-leaves g c = λ start put.
     let took = c.take_event.ensures.turn in
     let count = taken_count took in
     let all = at.1 in
-    let site = c.take_event.new.site.site.now in
+    let site = (playing c.take_event.new.site).site in
     let now = player g.S.Site.state g.K.Sink.state c.take_event.new.site in
-    let stretch = between g.S.Site.state g.S.Site.crashes c.args.site.now.site.now site in
+    let stretch = between g.S.Site.state g.S.Site.crashes (playing c.args.site.now).site site in
     subst (λ script. Ended (ReplaysScript (opening_of c.args.manager.now) c.args.turns script now.given c.take_event.new.manager.machine stretch) 0 start now.sink)
     at.2.script
     (turn_done took at.0 (alone_lawful (g.S.Site.state site) (g.S.Site.crashes site) (g.met.S.Site.lawful site))
@@ -74,9 +75,9 @@ returns-in-Cut-clause-leaves g c = λ start put.
     let all = at.1 in
     let before = put.rest.faults in
     let so_far = at.2.puts.faults in
-    let site = c.take_event.new.site.site.now in
+    let site = (playing c.take_event.new.site).site in
     let now = player g.S.Site.state g.K.Sink.state c.take_event.new.site in
-    let stretch = between g.S.Site.state g.S.Site.crashes c.args.site.now.site.now site in
+    let stretch = between g.S.Site.state g.S.Site.crashes (playing c.args.site.now).site site in
     let cut = turn_cut took at.0 (alone_lawful (g.S.Site.state site) (g.S.Site.crashes site) (g.met.S.Site.lawful site))
     c.args.turns (omega (arith, count, all)) start put.put c.in-Cut.is (omega (arith, before, so_far)) in (
       subst (λ script. Ended (ReplaysScript (opening_of c.args.manager.now) c.args.turns script now.given c.take_event.new.manager.machine stretch) 10 start now.sink)
@@ -91,9 +92,9 @@ returns-in-Failed-clause-leaves g c = λ start put.
     let took = c.take_event.ensures.turn in
     let count = taken_count took in
     let all = at.1 in
-    let site = c.take_event.new.site.site.now in
+    let site = (playing c.take_event.new.site).site in
     let now = player g.S.Site.state g.K.Sink.state c.take_event.new.site in
-    let stretch = between g.S.Site.state g.S.Site.crashes c.args.site.now.site.now site in
+    let stretch = between g.S.Site.state g.S.Site.crashes (playing c.args.site.now).site site in
     let failed = turn_failed took at.0 (alone_lawful (g.S.Site.state site) (g.S.Site.crashes site) (g.met.S.Site.lawful site))
     c.args.turns (omega (arith, count, all)) start put.put c.in-Failed.is in
     subst (λ script. StopsAfter (ReplaysScript (opening_of c.args.manager.now) c.args.turns script now.given c.take_event.new.manager.machine stretch) start now.sink (Refused Disk))
@@ -110,7 +111,7 @@ returns-clause-leaves g c = λ start put.
     let at = c.loop-turn.invariant in
     let all = at.1 in
     let now = player g.S.Site.state g.K.Sink.state c.loop-turn.site in
-    let stretch = between g.S.Site.state g.S.Site.crashes c.args.site.now.site.now c.loop-turn.site.site.now in
+    let stretch = between g.S.Site.state g.S.Site.crashes (playing c.args.site.now).site (playing c.loop-turn.site).site in
     subst (λ script. StopsAfter (ReplaysScript (opening_of c.args.manager.now) c.args.turns script now.given c.loop-turn.manager.machine stretch) start now.sink (Refused Turns))
     at.2.script
     (out_of_turns_put at.0 c.args.turns (omega (arith, all)) start put.put)

@@ -1,4 +1,5 @@
 use Rattle.std.proofs.Common.{◌≡◌, length}
+use Rattle.ix_script.specs.inside.Site.{playing}
 use Rattle.ix_manage.specs.inside.ReplayProgress.{OnlyPlays, Stands, between, player}
 use Rattle.ix_manage.specs.inside.Turns.{opening_of}
 use Rattle.ix_manage.proofs.turns.take_events.Given as goal
@@ -9,8 +10,8 @@ invariant-loop-turn g l =
     let first = player g.S.Site.state g.K.Sink.state l.fn.site in
     let now = player g.S.Site.state g.K.Sink.state l.site in
     Stands (opening_of l.fn.manager) first.sink.written l.manager now
-    (between g.S.Site.state g.S.Site.crashes l.fn.site.site.now l.site.site.now)
+    (between g.S.Site.state g.S.Site.crashes (playing l.fn.site).site (playing l.site).site)
     × (length now.given ≡ l._turn)
     × OnlyPlays first now
-    × (l.site.sink.ghost_name ≡ l.fn.site.sink.ghost_name)
-    × (l.site.site.ghost_name ≡ l.fn.site.site.ghost_name)
+    × ((playing l.site).sink_loan ≡ (playing l.fn.site).sink_loan)
+    × ((playing l.site).site_loan ≡ (playing l.fn.site).site_loan)

@@ -2,9 +2,11 @@ use Rattle.std.proofs.Common.{◌≡◌, List}
 use Rattle.ix_outside.specs.Contents.{GivenEvent}
 use Rattle.ix_script.specs.Events.{HasEvents}
 use Rattle.ix_script.specs.Pieces.{pieces_of}
-use Rattle.ix_script.specs.inside.Site.{given_of}
+use Rattle.ix_script.specs.inside.Site.{playing}
 use Rattle.ix_script.proofs.tests.take_events.Given as goal
 
 abbrev pub invariant-loop-i : goal.invariant-loop-i
 invariant-loop-i g l =
-    ((events : List GivenEvent) → HasEvents l.fn.site.cursor.bytes.now events → given_of l.site ≡ pieces_of 4 l.i events) × (l.site.cursor.bytes.now ≡ l.fn.site.cursor.bytes.now)
+    ((events : List GivenEvent) → HasEvents (playing l.fn.site).script events
+    → (playing l.site).given ≡ pieces_of 4 l.i events)
+    × ((playing l.site).script ≡ (playing l.fn.site).script)
