@@ -1,6 +1,8 @@
 -- Bags with one more tree in its place, and the bags in which each tree in turn is taken out.
-use Rattle.std.proofs.Common.{◌≡◌, ℕ, zero, suc, ◌<◌, ◌≤◌, ◌+◌, Bool, true, false, List, [], ◌∷◌, ◌++◌, map, length, get_or, take, drop, refl, ap, ◌∙◌, arith, if◌then◌else◌}
-use Rattle.std.specs.List.{insert, remove}
+use Rattle.std.proofs.Common.{⊎_elim, ◌≡◌, ℕ, zero, suc, ◌<◌, ◌≤◌, ◌+◌, Bool, true, false, List, [], ◌∷◌, ◌++◌, map, length, get_or, take, drop, refl, sym, ap, ◌∙◌, subst, arith, if◌then◌else◌}
+use Rattle.std.proofs.lemmas.Bool.{cases_lt}
+use Rattle.std.specs.List.{AllWithin, insert, remove}
+use Rattle.std.specs.List.Sorted.{IsPartitionPoint}
 use Rattle.std.specs.Ordering.{is_gt}
 use Rattle.std.proofs.lemmas.List.{get_or-map, length-map}
 use Rattle.ix_tree.specs.Plain.{Plain, listed}
@@ -47,12 +49,6 @@ further x [] i d lt above = absurd (omega arith)
 further x (y ∷ ys) zero d lt above = rw above refl
 further x (y ∷ ys) (suc i) d lt above = ap (λ l. y ∷ l) (further x ys i d (omega arith) above)
 
--- x goes further than a tree that it is above
-pub place_further : (x : Plain) (ys : List Plain) (i : ℕ) (d : Plain) → i < length ys → is_gt (tree_cmp x (get_or ys i d)) ≡ true → placed_after x ys i ≡ placed_after x ys (i + 1)
-place_further x ys i d lt above =
-    let next : suc i ≡ i + 1 = omega arith in
-    further x ys i d lt above ∙ ap (placed_after x ys) next
-
 -- x stands before a tree that it isn't above
 pub place_found : (x : Plain) (ys : List Plain) (i : ℕ) (d : Plain) → i < length ys → is_gt (tree_cmp x (get_or ys i d)) ≡ false → placed_after x ys i ≡ insert ys i x
 place_found x [] i d lt above = absurd (omega arith)
@@ -63,6 +59,20 @@ place_found x (y ∷ ys) (suc i) d lt above = ap (λ l. y ∷ l) (place_found x 
 pub place_end : (x : Plain) (ys : List Plain) → placed_after x ys (length ys) ≡ insert ys (length ys) x
 place_end x [] = refl
 place_end x (y ∷ ys) = ap (λ l. y ∷ l) (place_end x ys)
+
+placed_upto : (x : Plain) (ys : List Plain) (i : ℕ) → i ≤ length ys → AllWithin (λ y. is_gt (tree_cmp x y) ≡ true) ys 0 i → put_in x ys ≡ placed_after x ys i
+placed_upto x ys zero le above = refl
+placed_upto x ys (suc i) le above =
+    placed_upto x ys i (omega arith) (λ k d low lt. above k d low (omega arith)) ∙ further x ys i x (omega arith) (above i x (omega arith) (omega arith))
+
+-- x stands behind the trees that it is above
+pub place_is : (x : Plain) (ys : List Plain) (i : ℕ) → i ≤ length ys → IsPartitionPoint (λ y. is_gt (tree_cmp x y) ≡ true) (λ y. is_gt (tree_cmp x y) ≡ false) ys i → put_in x ys ≡ insert ys i x
+place_is x ys i le point =
+    placed_upto x ys i le point.0
+    ∙ ⊎_elim (λ lt. place_found x ys i x lt (point.1 i x (omega arith) lt)) (λ ge. at_end (omega arith)) (cases_lt i (length ys))
+  where
+    at_end : i ≡ length ys → placed_after x ys i ≡ insert ys i x
+    at_end is = subst (λ n. placed_after x ys n ≡ insert ys n x) (sym is) (place_end x ys)
 
 -- Sizes
 

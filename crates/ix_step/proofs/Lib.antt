@@ -17,3 +17,4 @@ pub mod MovedIs
 pub mod Pruning
 pub mod Exits
 pub mod Repeats
+mod Rising

@@ -217,3 +217,8 @@ owner_made limit room initial v x z xs (Ok tree) same positive le small bound h 
     (h.0 ∙ same, omega (arith, ap size_of h.0, h.1))
 owner_made limit room initial v x z xs (Err fault) same positive le small bound h = λ old e.
     above_room limit room initial v x xs old positive le small (let lt : room < size_of z = h e in omega (arith, ap size_of same))
+
+-- the dead tree of a value that can't move, which puts no map into a list
+pub dead_owner : (limit : ℕ) (initial : Plain) (v : List ℕ) (x : Plain) (xs : List Plain) (r : Result Plain Unbuilt) → x ≡ dead → 1 ≤ limit → limit ≤ 1000000 → Makes limit dead r → MatchResult r (λ tree. (tree ≡ x) × (size_of tree ≤ 1000000)) (λ fault. (old : List Plain) → IsOver limit (listed (put_all (map_with initial v x xs) old)) fault)
+dead_owner limit initial v x xs (Ok tree) is positive bound h = (h.0 ∙ sym is, omega (arith, h.1, bound, ap size_of h.0))
+dead_owner limit initial v x xs (Err fault) is positive bound h = λ old e. absurd (let lt : limit < 1 = h e in omega arith)

@@ -292,3 +292,21 @@ moved_is (all p y) e (all_of maps) a f h =
     ap (λ u. dead_if (not (may (all p y) e (all_of maps) a)) (all_of (set_of (flat_map (maps_after p y e a u a.values) (items_of maps))))) (initial_is y [])
     ∙ ap (λ d. dead_if d (moved_node (all p y) e (all_of maps) a)) (all_died p y e a (fits-operands (all p y) e f) (items_of maps))
 moved_is _ e _ a f h = refl
+
+-- The one action
+
+-- where it may not come first its tree is dead
+pub begun_dead : (x : Form) (e : Environment) (a : PlainAction) → Fits x e → may_first x e a ≡ false → begun x e a ≡ dead
+begun_dead x e a f h = dead_is (begun x e a) (dead_here (is_dead (begun x e a)) (begins x e a f ∙ h))
+  where
+    dead_here : (b : Bool) → not b ≡ false → b ≡ true
+    dead_here true h = refl
+    dead_here false h = absurd (true≢false h)
+
+-- of a choice it is that of both sides
+pub begun_or : (y z : Form) (e : Environment) (a : PlainAction) → Fits (or y z) e → begun (or y z) e a ≡ pruned (or_of (begun y e a) (begun z e a))
+begun_or y z e a f =
+    ap (λ t. moved (or y z) e t a) (initial_is (or y z) [])
+    ∙ moved_is (or y z) e (or_of (initial_tree y) (initial_tree z)) a f refl
+    ∙ ap (λ t. pruned (or_of (moved y e t a) (moved z e (initial_tree z) a))) (sym (initial_is y []))
+    ∙ ap (λ t. pruned (or_of (begun y e a) (moved z e t a))) (sym (initial_is z []))

@@ -104,6 +104,7 @@ module _ {e : Environment} where
               small = omega (arith, member_size t (items_of (first_part b)) n, items_size (first_part b), first_size b, member_size b bs m, r.small);
             }),
         omega (arith, member_size b bs m, r.small),
+        (Each-member once.each m).0,
       ))
 
   pub run_begins : {y : Form} {t : Plain} → Ready (par_star y) e t → Ready y e (initial_tree y)

@@ -12,7 +12,7 @@ use Rattle.ix_tree.specs.lemmas.TreeOrder.{tree_order}
 use Rattle.ix_can.specs.Nodes.{is_live, put_in}
 use Rattle.ix_can.specs.inside.Moved.{moved, picks}
 use Rattle.ix_step.specs.inside.Makes.{put_all}
-use Rattle.ix_step.specs.inside.ParallelMoves.{pick_move}
+use Rattle.ix_step.specs.inside.ParallelMoves.{pick_move, IsRepeat}
 use Rattle.ix_step.proofs.BagsPut.{length-picks, get-picks}
 use Rattle.ix_step.proofs.Gathering.{lots_more}
 
@@ -45,7 +45,7 @@ remove_same (x ∷ y ∷ ys) zero d lt e = ap (λ z. z ∷ ys) (sym e)
 remove_same (x ∷ y ∷ ys) (suc i) d lt e = ap (λ l. x ∷ l) (remove_same (y ∷ ys) i d (omega arith) e)
 
 -- the bag of a tree that equals the one before it is in the list already
-pub picked_again : (y : Form) (e : Environment) (a : PlainAction) (items : List Plain) (before : ℕ) (t : Plain) (start old : List Plain) → before + 1 < length items → t ≡ get_or items before t → t ≡ get_or items (before + 1) t → old ≡ put_all (flat_map (pick_move y e a) (take (before + 1) (picks items))) start → put_all (pick_move y e a (t, remove items (before + 1))) old ≡ old
+picked_again : (y : Form) (e : Environment) (a : PlainAction) (items : List Plain) (before : ℕ) (t : Plain) (start old : List Plain) → before + 1 < length items → t ≡ get_or items before t → t ≡ get_or items (before + 1) t → old ≡ put_all (flat_map (pick_move y e a) (take (before + 1) (picks items))) start → put_all (pick_move y e a (t, remove items (before + 1))) old ≡ old
 picked_again y e a items before t start old lt first second so_far =
     let suc_is : suc before ≡ before + 1 = omega arith in
     let same : remove items before ≡ remove items (before + 1) =
@@ -60,3 +60,14 @@ picked_again y e a items before t start old lt first second so_far =
     ∙ ap (put_all (pick_move y e a (t, remove items before))) (sym put)
     ∙ put_again (is_live (moved y e t a)) (bag (listed (put_in (moved y e t a) (remove items before)))) (put_all (flat_map (pick_move y e a) (take before (picks items))) start)
     ∙ put
+
+-- so it adds nothing to the bags so far
+pub repeat_adds_none : (y : Form) (e : Environment) (a : PlainAction) (items : List Plain) (place : ℕ) (t : Plain) (start old : List Plain) → place < length items → t ≡ get_or items place t → IsRepeat items place → old ≡ put_all (flat_map (pick_move y e a) (take place (picks items))) start → old ≡ put_all (flat_map (pick_move y e a) (take (place + 1) (picks items))) start
+repeat_adds_none y e a items place t start old lt at repeat so_far =
+    let at_picks : (t, remove items place) ≡ get_or (picks items) place (t, remove items place) =
+    ap (λ u. (u, remove items place)) at ∙ sym (get-picks items place t (t, remove items place) lt) in
+    let again : put_all (pick_move y e a (t, remove items (repeat.0 + 1))) old ≡ old =
+    picked_again y e a items repeat.0 t start old (omega (arith, repeat.1)) (at ∙ sym (repeat.2 t)) (at ∙ ap (λ n. get_or items n t) repeat.1)
+    (so_far ∙ ap (λ n. put_all (flat_map (pick_move y e a) (take n (picks items))) start) repeat.1) in
+    lots_more (pick_move y e a) (picks items) place (t, remove items place) start old old (omega (arith, length-picks items)) at_picks so_far
+    (sym (ap (λ n. put_all (pick_move y e a (t, remove items n)) old) repeat.1 ∙ again))

@@ -10,18 +10,17 @@ ghost use Rattle.ix_can.specs.Tests.{in_alphabet};
 ghost use Rattle.ix_can.specs.TreeOf.{is_final as is_final_by};
 ghost use Rattle.ix_can.specs.inside.May.{may, moves_within};
 ghost use Rattle.ix_can.specs.inside.Moved.{moved, moved_inside};
-ghost use Rattle.ix_step.specs.inside.Initial.{initial_tree};
 ghost use Rattle.ix_step.specs.inside.Makes.{Makes, Collects};
 ghost use Rattle.ix_step.specs.inside.MovedNode.{moved_node};
-ghost use Rattle.ix_step.specs.inside.Moves.{live_moves, begun_again};
+ghost use Rattle.ix_step.specs.inside.Moves.{live_moves};
 ghost use Rattle.ix_step.specs.inside.Pruned.{passes, pruned};
 ghost use Rattle.ix_step.specs.inside.Ready.{Ready};
 
+use crate::beginning::advance_again;
 use crate::bodies::{Body, Reach};
 use crate::fault::Unbuilt;
-use crate::first::first_tree;
 use crate::maps::advance_all;
-use crate::nodes::{bounded, within, within_if_live};
+use crate::nodes::{bounded, dead_knot, within, within_if_live};
 use crate::one_step::Step;
 use crate::parallel::{advance_par, advance_par_star};
 use crate::quantifiers::{advance_sync, advance_values};
@@ -43,7 +42,7 @@ pub(crate) fn advance(step: Step, expr: &Expr, tree: &Knot) -> Result<Knot, Unbu
         step.entry.action.now) result }
 {
     if !passes(step, expr, tree) {
-        return within(step, Node::Dead);
+        return dead_knot(step);
     }
     advance_asked(step, expr, tree)
 }
@@ -124,7 +123,7 @@ fn advance_node(step: Step, expr: &Expr, tree: &Knot) -> Result<Knot, Unbuilt>
         (Expr::All(parameter, expr), Node::All(maps)) => {
             advance_all(step, Body { parameter, expr }, maps)
         }
-        _ => within(step, Node::Dead),
+        _ => dead_knot(step),
     }
 }
 
@@ -198,18 +197,4 @@ fn advance_each(step: Step, expr: &Expr, trees: &[Knot]) -> Result<AltSet<Knot>,
         put_live(&mut set, tree)?;
     }
     Ok(set)
-}
-
-/// The tree of a run that begins with the action, dead where no further run may begin.
-#[cycle(advance)]
-pub(crate) fn advance_again(step: Step, expr: &Expr, again: bool) -> Result<Knot, Unbuilt>
-    requires { Ready (form_of expr.now) step.env.now (initial_tree (form_of expr.now)) }
-    ensures { Makes step.entry.limit (begun_again again (form_of expr.now) step.entry.env.now
-        step.entry.action.now) result }
-{
-    if !again {
-        return within(step, Node::Dead);
-    }
-    let tree = first_tree(expr, step.alloc)?;
-    advance(step, expr, &tree)
 }

@@ -4,6 +4,7 @@ ghost use Rattle.std.specs.Prelude.{◌≡◌, ◌+◌, ◌<◌, ◌≤◌, [], 
 ghost use Rattle.ix_tree.specs.Plain.{bag, listed};
 ghost use Rattle.ix_tree.specs.PlainOf.{plain_bag};
 ghost use Rattle.ix_tree.specs.Size.{size_of};
+ghost use Rattle.ix_can.specs.Laws.{IsRising};
 ghost use Rattle.ix_can.specs.Nodes.{put_in};
 ghost use Rattle.ix_can.specs.inside.Moved.{bag_with};
 ghost use Rattle.ix_step.specs.inside.Makes.{Gathers};
@@ -16,15 +17,11 @@ use std::alloc::{AllocError, Global};
 
 /// The place that keeps the trees in ascending order: before the first that isn't below this one.
 fn place_of(tree: &Knot, others: &[Knot]) -> usize
+    requires { IsRising others.now }
     ensures within { result ≤ length others.now }
     ensures place { put_in tree.now others.now ≡ insert others.now result tree.now }
 {
-    for (place, other) in others.iter().enumerate() {
-        if !tree.cmp(other).is_gt() {
-            return place;
-        }
-    }
-    others.len()
+    others.partition_point(|other| tree.cmp(other).is_gt())
 }
 
 fn others_of(items: &[Knot], place: usize, alloc: Global) -> Result<Vec<Knot>, AllocError>
@@ -38,6 +35,7 @@ fn others_of(items: &[Knot], place: usize, alloc: Global) -> Result<Vec<Knot>, A
 
 fn put_bag(set: &mut AltSet<Bag>, tree: Knot, others: Vec<Knot>) -> Result<(), Unbuilt>
     requires small { size_of tree + size_of (listed others.items) ≤ 2000000 }
+    requires rising { IsRising others.items }
     requires within { size_of (listed (map plain_bag set.old.items)) ≤ set.old.budget }
     ensures gathers { Gathers set.old.budget (bag (listed (put_in tree others.items)) ∷ []) (map
         plain_bag set.old.items) (map plain_bag set.new.items) result }
@@ -62,6 +60,7 @@ pub(crate) fn put_moved(
 ) -> Result<(), Unbuilt>
     requires tree { size_of tree ≤ 1000000 }
     requires items { size_of (listed items.now) ≤ 1000000 }
+    requires rising { IsRising items.now }
     requires place { place < length items.now }
     requires within { size_of (listed (map plain_bag set.old.items)) ≤ set.old.budget }
     ensures gathers { Gathers set.old.budget (bag_with tree (remove items.now place)) (map plain_bag
@@ -85,6 +84,7 @@ pub(crate) fn put_more(
 ) -> Result<(), Unbuilt>
     requires more { size_of more.now ≤ 1000000 }
     requires items { size_of (listed items.now) ≤ 1000000 }
+    requires rising { IsRising items.now }
     requires within { size_of (listed (map plain_bag set.old.items)) ≤ set.old.budget }
     ensures gathers { Gathers set.old.budget (bag_with more.now items.now) (map plain_bag
         set.old.items) (map plain_bag set.new.items) result }

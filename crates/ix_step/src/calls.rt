@@ -21,7 +21,7 @@ use crate::first::first_tree;
 use crate::nodes::bounded;
 use crate::one_step::Step;
 use ix_expr::{Env, Expr};
-use ix_tree::{Knot, Tree};
+use ix_tree::{Knot, Node, Tree};
 use ix_values::Action;
 use std::alloc::Global;
 
@@ -84,11 +84,13 @@ fn moved_within(
     requires limit { limit ≤ 1000000 }
     ensures { Makes limit (moved (form_of expr.now) env.now tree.now action.now) result }
 {
+    let dead = Knot::new(alloc, Node::Dead)?;
     let step = Step {
         action,
         env,
         alloc,
         limit: at_least_one(limit),
+        dead: &dead,
     };
     let moved = advance_asked(step, expr, tree)?;
     bounded(moved, limit)

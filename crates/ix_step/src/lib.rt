@@ -3,6 +3,7 @@
 
 mod advance;
 mod bags;
+mod beginning;
 mod bodies;
 mod calls;
 mod entries;

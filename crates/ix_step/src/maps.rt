@@ -22,7 +22,7 @@ use crate::advance::advance;
 use crate::bodies::Body;
 use crate::fault::Unbuilt;
 use crate::first::first_tree;
-use crate::nodes::{within, within_if_live};
+use crate::nodes::{dead_knot, within_if_live};
 use crate::one_step::Step;
 use crate::sets::put as put_alternative;
 use ix_alts::AltSet;
@@ -113,16 +113,17 @@ fn advance_owner(
         body.entry.parameter.now (form_of body.entry.expr.now) step.entry.env.now
         step.entry.action.now first.now (plain_map state.now) value.now) old)) fault) }
 {
+    if !sees(body.expr, body.parameter, value, step.action) {
+        return dead_knot(step);
+    }
     let env = step.env.with(*body.parameter, Some(*value));
     let inside = Step {
         action: step.action,
         env: &env,
         alloc: step.alloc,
         limit: larger(step.limit, first.size()),
+        dead: step.dead,
     };
-    if !sees(body.expr, body.parameter, value, step.action) {
-        return within(inside, Node::Dead);
-    }
     advance(inside, body.expr, or_first(&state.entries, first, value))
 }
 

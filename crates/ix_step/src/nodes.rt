@@ -1,6 +1,7 @@
 //! The making of nodes within a limit.
 
 ghost use Rattle.std.specs.Prelude.{◌≡◌, ◌≤◌, ◌^◌};
+ghost use Rattle.ix_tree.specs.Plain.{dead};
 ghost use Rattle.ix_tree.specs.inside.PlainNode.{plain_node};
 ghost use Rattle.ix_tree.specs.Size.{size_of};
 ghost use Rattle.ix_step.specs.inside.Makes.{Makes};
@@ -15,10 +16,18 @@ pub(crate) fn within(step: Step, node: Node) -> Result<Knot, Unbuilt>
     requires { size_of (plain_node node) ≤ 2 ^ 32 }
     ensures { Makes step.entry.limit (plain_node node) result }
 {
-    if node.size() > step.limit {
+    let size = node.size();
+    if size > step.limit {
         return Err(Unbuilt::Over);
     }
-    Ok(Knot::new(step.alloc, node)?)
+    Ok(Knot::sized(step.alloc, node, size)?)
+}
+
+/// The dead tree.
+pub(crate) fn dead_knot(step: Step) -> Result<Knot, Unbuilt>
+    ensures { Makes step.entry.limit dead result }
+{
+    Ok(step.dead.share()?)
 }
 
 /// The knot of the node or, where none of its parts is live, the dead one.
@@ -27,7 +36,7 @@ pub(crate) fn within_if_live(step: Step, node: Node) -> Result<Knot, Unbuilt>
     ensures { Makes step.entry.limit (pruned (plain_node node)) result }
 {
     if has_died(&node) {
-        return within(step, Node::Dead);
+        return dead_knot(step);
     }
     within(step, node)
 }

@@ -1,18 +1,23 @@
 //! What each part of a step needs.
 
-ghost use Rattle.std.specs.Prelude.{◌≤◌};
+ghost use Rattle.std.specs.Prelude.{◌≡◌, ◌≤◌};
+ghost use Rattle.ix_tree.specs.Plain.{dead as dead_tree};
 
 use ix_expr::Env;
+use ix_tree::Knot;
 use ix_values::Action;
 use std::alloc::Global;
 
-/// The action that comes, the values of the parameters, and the largest Size of what is built.
+/// The action that comes, the values of the parameters, the largest Size of what is built, and the
+/// dead tree, which all dead parts share.
 #[derive(Clone, Copy)]
 pub(crate) struct Step<'a> {
     pub(crate) action: &'a Action,
     pub(crate) env: &'a Env,
     pub(crate) alloc: Global,
     pub(crate) limit: usize,
+    pub(crate) dead: &'a Knot,
+    ghost ends: { dead.now ≡ dead_tree },
     ghost positive: { 1 ≤ limit },
     ghost bounded: { limit ≤ 1000000 },
 }

@@ -1,24 +1,25 @@
 //! The moving of `+` and `#`: each alternative gives one more for each of its parts that can move.
 
-ghost use Rattle.std.specs.Prelude.{◌≡◌, ℕ, ◌+◌, ◌<◌, ◌≤◌, List, length, map, flat_map, take, remove, get_or, IsTrue};
+ghost use Rattle.std.specs.Prelude.{◌≡◌, ℕ, ◌<◌, ◌≤◌, length, map, flat_map, remove};
 ghost use Rattle.ix_words.specs.Each.{Each};
 ghost use Rattle.ix_expr.specs.inside.FormOf.{form_of};
 ghost use Rattle.ix_expr.specs.Form.{par, par_star};
-ghost use Rattle.ix_tree.specs.Plain.{Plain, listed, par as par_of, par_star as par_star_of};
+ghost use Rattle.ix_tree.specs.Plain.{listed, par as par_of, par_star as par_star_of};
 ghost use Rattle.ix_tree.specs.PlainOf.{plain_pair, plain_bag};
 ghost use Rattle.ix_tree.specs.Size.{size_of};
-ghost use Rattle.ix_can.specs.inside.Moved.{picks};
-ghost use Rattle.ix_step.specs.inside.Makes.{Makes, Collects, Gathers, put_all};
+ghost use Rattle.ix_can.specs.Laws.{IsRising};
+ghost use Rattle.ix_step.specs.inside.Makes.{Makes, Collects, Gathers};
 ghost use Rattle.ix_step.specs.inside.MovedNode.{moved_node};
 ghost use Rattle.ix_step.specs.inside.Moves.{begun};
-ghost use Rattle.ix_step.specs.inside.ParallelMoves.{pair_moves, pick_move, pick_moves, bag_moves, IsReadyPair, IsReadyBag};
+ghost use Rattle.ix_step.specs.inside.ParallelMoves.{pair_moves, pick_move, pick_moves, bag_moves, IsReadyPair, IsReadyBag, IsRepeat};
 ghost use Rattle.ix_step.specs.inside.Pruned.{pruned};
 ghost use Rattle.ix_step.specs.inside.Ready.{Ready};
 
-use crate::advance::{advance, advance_again};
+use crate::advance::advance;
 use crate::bags::{put_more, put_moved};
+use crate::beginning::advance_again;
 use crate::fault::Unbuilt;
-use crate::nodes::{within, within_if_live};
+use crate::nodes::{dead_knot, within_if_live};
 use crate::one_step::Step;
 use crate::pairs::put_pairs;
 use ix_alts::AltSet;
@@ -63,7 +64,7 @@ pub(crate) fn advance_par_star(step: Step, y: &Expr, bags: &[Bag]) -> Result<Kno
         result }
 {
     if bags.is_empty() {
-        return within(step, Node::Dead);
+        return dead_knot(step);
     }
     let first = advance_again(step, y, true)?;
     let set = advance_bags(step, y, &first, bags)?;
@@ -88,10 +89,12 @@ fn advance_bags(step: Step, y: &Expr, first: &Knot, bags: &[Bag]) -> Result<AltS
     Ok(set)
 }
 
-/// The bag of the trees gives one for each of them, with that one moved.
+/// The bag of the trees gives one for each of them, with that one moved. Of a run of equal trees
+/// one is moved: the others would give the same bag, which is in the set already.
 #[cycle(advance)]
 fn advance_picks(step: Step, y: &Expr, items: &[Knot], set: &mut AltSet<Bag>) -> Result<(), Unbuilt>
     requires ready { Each (Ready (form_of y.now) step.env.now) items.now }
+    requires rising { IsRising items.now }
     requires size { size_of (listed items.now) ≤ 1000000 }
     requires budget { set.old.budget ≡ step.limit }
     requires within { size_of (listed (map plain_bag set.old.items)) ≤ step.limit }
@@ -101,14 +104,18 @@ fn advance_picks(step: Step, y: &Expr, items: &[Knot], set: &mut AltSet<Bag>) ->
     ensures within { size_of (listed (map plain_bag set.new.items)) ≤ step.entry.limit }
     ensures budget { set.new.budget ≡ step.entry.limit }
 {
+    let mut end = 0;
     for (place, item) in items.iter().enumerate() {
+        if place < end {
+            continue;
+        }
         advance_pick(step, y, items, place, item, set)?;
+        end = run_end(items, place);
     }
     Ok(())
 }
 
-/// The bag with the tree at the place moved. A tree that equals the one before it would give the
-/// same bag, which is in the set already.
+/// The bag with the tree at the place moved.
 #[cycle(advance)]
 fn advance_pick(
     step: Step,
@@ -119,12 +126,9 @@ fn advance_pick(
     set: &mut AltSet<Bag>,
 ) -> Result<(), Unbuilt>
     requires ready { Ready (form_of y.now) step.env.now item.now }
+    requires rising { IsRising items.now }
     requires size { size_of (listed items.now) ≤ 1000000 }
     requires place { place < length items.now }
-    requires item { item.now ≡ get_or items.now place item.now }
-    requires so_far { (start : List Plain) × (map plain_bag set.old.items ≡ put_all (flat_map
-        (pick_move (form_of y.now) step.env.now step.action.now) (take place (picks items.now)))
-        start) }
     requires budget { set.old.budget ≡ step.limit }
     requires within { size_of (listed (map plain_bag set.old.items)) ≤ step.limit }
     ensures gathers { Gathers step.entry.limit (pick_move (form_of y.now) step.entry.env.now
@@ -133,21 +137,16 @@ fn advance_pick(
     ensures within { size_of (listed (map plain_bag set.new.items)) ≤ step.entry.limit }
     ensures budget { set.new.budget ≡ step.entry.limit }
 {
-    if is_repeat(items, place, item) {
-        return Ok(());
-    }
     let tree = advance(step, y, item)?;
     put_moved(set, tree, items, place, step.alloc)
 }
 
-/// Whether the tree equals the one before its place.
-fn is_repeat(items: &[Knot], place: usize, item: &Knot) -> bool
-    requires { place < length items.now }
-    ensures { IsTrue result → (before : ℕ) × (place ≡ before + 1) × (item.now ≡ get_or items.now
-        before item.now) }
+/// Where the trees equal to the one at the place end.
+fn run_end(items: &[Knot], place: usize) -> usize
+    requires rising { IsRising items.now }
+    requires place { place < length items.now }
+    ensures { (k : ℕ) → place < k → k < result → IsRepeat items.now k }
 {
-    if place == 0 {
-        return false;
-    }
-    items[place - 1] == *item
+    let first = &items[place];
+    items.partition_point(|item| !item.cmp(first).is_gt())
 }

@@ -174,6 +174,7 @@ fn advance_at(
         env: &env,
         alloc: step.alloc,
         limit: step.limit,
+        dead: step.dead,
     };
     match reach {
         Reach::All => advance(inside, body.expr, state),

@@ -112,6 +112,15 @@ impl Knot {
         ensures { IfOk result (λ k. k ≡ plain_node node) }
     {
         let size = node.size();
+        Knot::sized(alloc, node, size)
+    }
+
+    /// The knot of a node whose Size, at most 2^32, is known.
+    pub fn sized(alloc: Global, node: Node, size: usize) -> Result<Knot, AllocError>
+        requires size { size ≡ size_of (plain_node node) }
+        requires most { size ≤ 2 ^ 32 }
+        ensures { IfOk result (λ k. k ≡ plain_node node) }
+    {
         match Rc::new(alloc, node) {
             Ok(node) => Ok(Knot { size, node }),
             Err(_) => Err(AllocError),

@@ -1,5 +1,5 @@
 -- The parts of a step: what each asks of the next, and what it makes.
-use Rattle.std.proofs.Common.{◌<◌, ◌≡◌, ◌≤◌, ◌+◌, true, refl, sym, ap, ◌∙◌, subst, arith, [], ◌∷◌, ◌++◌, map, length, flat_map, take, drop, get_or, Some, None, true≢false}
+use Rattle.std.proofs.Common.{◌<◌, ◌≡◌, ◌≤◌, true, refl, sym, ap, ◌∙◌, subst, arith, [], ◌∷◌, ◌++◌, map, length, flat_map, take, drop, get_or, Some, None, true≢false}
 use Rattle.std.specs.List.{list_any, remove}
 use Rattle.std.specs.Map.{keys_of}
 use Rattle.std.proofs.lemmas.List.{length-map}
@@ -19,7 +19,7 @@ use Rattle.ix_tree.specs.Size.{size_of}
 use Rattle.ix_tree.specs.contracts.order.KnotPartialEq.TheImpl.{ghosts as tree_ghosts}
 use Rattle.ix_tree.proofs.PlainLists.{items_of-listed}
 use Rattle.ix_can.specs.Nodes.{live, put_in, set_of}
-use Rattle.ix_can.specs.Laws.{IsProper}
+use Rattle.ix_can.specs.Laws.{IsProper, IsRising}
 use Rattle.ix_can.specs.Tests.{in_alphabet}
 use Rattle.ix_can.specs.inside.May.{may, moves_within, tree_at}
 use Rattle.ix_can.specs.TreeOf.{is_final}
@@ -28,7 +28,7 @@ use Rattle.ix_step.specs.inside.EnterTrees.{entries_put}
 use Rattle.ix_step.specs.inside.Initial.{initial_tree}
 use Rattle.ix_step.specs.inside.Makes.{Makes, Gathers, put_all}
 use Rattle.ix_step.specs.inside.MapsAfter.{HoldsWell, begun_tree, map_after, maps_after}
-use Rattle.ix_step.specs.inside.Moves.{live_move, live_moves, begun_again, last_runs, second_parts}
+use Rattle.ix_step.specs.inside.Moves.{live_move, live_moves, begun, begun_again, last_runs, second_parts}
 use Rattle.ix_step.specs.inside.ParallelMoves.{pairs_of, pair_moves, pick_move, bag_moves, IsReadyPair, IsReadyBag}
 use Rattle.ix_step.specs.inside.Pruned.{pruned}
 use Rattle.ix_step.specs.inside.Ready.{Ready}
@@ -43,12 +43,12 @@ use Rattle.ix_step.proofs.Gathered.{live_over, size_all, any_of_set}
 use Rattle.ix_step.proofs.Gathering.{each_at, image_at, lot_over, lots_more, lots_end, set_is, front_of_set, live_in_set, left_over, right_over, first_over, made_set, picks_size, bag_put}
 use Rattle.ix_step.proofs.Limits.{moved_is_dead, same_alphabet}
 use Rattle.ix_step.proofs.Measure.{form_size}
-use Rattle.ix_step.proofs.MovedIs.{moved_is}
+use Rattle.ix_step.proofs.MovedIs.{moved_is, begun_dead, begun_or}
 use Rattle.ix_step.proofs.ParallelArms.{pairs_ready, pairs_small, bags_ready, run_begins}
 use Rattle.ix_step.proofs.Pruning.{passed, refused, same_passes, and_first_may, and_second_may, couple_first_may, couple_second_may, no_items, some_items, list_over, beside_over}
-use Rattle.ix_step.proofs.Repeats.{picked_again}
+use Rattle.ix_step.proofs.Repeats.{repeat_adds_none}
 use Rattle.ix_step.proofs.Quantifying.{any_ready, every_ready, sync_ready, any_each, every_common, every_each, sync_common, sync_each, value_ready, entries_touched, value_moves, at_ready}
-use Rattle.ix_step.proofs.Mapping.{begin_small, begin_ready, all_held, map_keys, start_ready, owner_made, copy_proper}
+use Rattle.ix_step.proofs.Mapping.{begin_small, begin_ready, all_held, map_keys, start_ready, owner_made, dead_owner, copy_proper}
 use Rattle.ix_step.proofs.OwnEntries.{GivesAll, common_stays, before_own, one_given, all_given, one_more_size}
 use Rattle.ix_step.proofs.SameTrees.{same_trees}
 use Rattle.ix_step.proofs.SeenValues.{item_among, entries_are}
@@ -60,20 +60,45 @@ pub advance::advance-returns-then-not-passes : goal.advance::advance-returns-the
 advance::advance-returns-then-not-passes t c =
     let x = form_of c.args.expr.now in
     let may_not = refused x c.args.step.env.now c.args.tree.now c.args.step.action.now (sym c.passes.ensures ∙ c.if-not-passes.true) in
-    subst (λ x. Makes c.args.step.limit x c.within.result)
-    (sym (moved_is_dead x c.args.step.env.now c.args.tree.now c.args.step.action.now may_not)) c.within.ensures
+    subst (λ x. Makes c.args.step.limit x c.dead_knot.result)
+    (sym (moved_is_dead x c.args.step.env.now c.args.tree.now c.args.step.action.now may_not)) c.dead_knot.ensures
 
 pub advance::advance_asked-returns : goal.advance::advance_asked-returns
 advance::advance_asked-returns t c =
     subst (λ x. Makes c.args.step.limit x c.advance_node.result)
     (sym (moved_is (form_of c.args.expr.now) c.args.step.env.now c.args.tree.now c.args.step.action.now c.requires.ready.fits c.requires.passes)) c.advance_node.ensures
 
-pub advance::advance_again-returns : goal.advance::advance_again-returns
-advance::advance_again-returns t c =
+pub beginning::advance_again-returns : goal.beginning::advance_again-returns
+beginning::advance_again-returns t c =
+    subst (λ p. Makes c.args.step.limit p c.advance_first.result)
+    (ap (λ b. begun_again b (form_of c.args.expr.now) c.args.step.env.now c.args.step.action.now) (sym c.if-not-again.false)) c.advance_first.ensures
+
+pub beginning::advance_first-advance_either-requires : goal.beginning::advance_first-advance_either-requires
+beginning::advance_first-advance_either-requires t c =
+    let is : form_of c.args.expr.now ≡ or (form_of c.deref.result.now) (form_of c.deref-in-Or.result.now) = ap form_of c.in-Or.is ∙ ap (λ v. or (form_of v) (form_of c.in-Or.z.value)) (sym c.deref.ensures) ∙ ap (λ v. or (form_of c.deref.result.now) (form_of v)) (sym c.deref-in-Or.ensures) in
+    let size = ap form_size is in
+    let ready = asked is refl (ap initial_tree is) c.requires in (
+      omega (arith, size),
+      (or_first ready, or_second ready),
+    )
+
+pub beginning::advance_first-returns-in-Or : goal.beginning::advance_first-returns-in-Or
+beginning::advance_first-returns-in-Or t c =
+    let is : form_of c.args.expr.now ≡ or (form_of c.deref.result.now) (form_of c.deref-in-Or.result.now) = ap form_of c.in-Or.is ∙ ap (λ v. or (form_of v) (form_of c.in-Or.z.value)) (sym c.deref.ensures) ∙ ap (λ v. or (form_of c.deref.result.now) (form_of v)) (sym c.deref-in-Or.ensures) in
+    subst (λ p. Makes c.args.step.limit p c.advance_either.result)
+    (sym (begun_or (form_of c.deref.result.now) (form_of c.deref-in-Or.result.now) c.args.step.env.now c.args.step.action.now (subst (λ x. Fits x c.args.step.env.now) is c.requires.fits))
+    ∙ ap (λ x. begun x c.args.step.env.now c.args.step.action.now) (sym is)) c.advance_either.ensures
+
+pub beginning::advance_whole-returns-then-is_refused : goal.beginning::advance_whole-returns-then-is_refused
+beginning::advance_whole-returns-then-is_refused t c =
+    subst (λ p. Makes c.args.step.limit p c.dead_knot.result)
+    (sym (begun_dead (form_of c.args.expr.now) c.args.step.env.now c.args.step.action.now c.requires.fits (c.is_refused.ensures c.if-is_refused.true))) c.dead_knot.ensures
+
+pub beginning::advance_whole-returns : goal.beginning::advance_whole-returns
+beginning::advance_whole-returns t c =
     let x = form_of c.args.expr.now in
     subst (λ p. Makes c.args.step.limit p c.advance.result)
-    (ap (λ p. moved x c.args.step.env.now p c.args.step.action.now) (c.in_ok-tree.ensures ∙ sym (initial_is x []))
-    ∙ ap (λ b. begun_again b x c.args.step.env.now c.args.step.action.now) (sym c.if-not-again.false)) c.advance.ensures
+    (ap (λ p. moved x c.args.step.env.now p c.args.step.action.now) (c.in_ok-tree.ensures ∙ sym (initial_is x []))) c.advance.ensures
 
 pub advance::advance_inside-advance_asked-requires : goal.advance::advance_inside-advance_asked-requires
 advance::advance_inside-advance_asked-requires t c =
@@ -375,8 +400,8 @@ parallel::advance_par-returns t c =
 
 pub parallel::advance_par_star-returns-then-is_empty : goal.parallel::advance_par_star-returns-then-is_empty
 parallel::advance_par_star-returns-then-is_empty t c =
-    subst (λ bags. Makes c.args.step.limit (pruned (par_star_of (set_of (flat_map (bag_moves (form_of c.args.y.now) c.args.step.env.now c.args.step.action.now) (items_of (listed (map plain_bag bags))))))) c.within.result)
-    (sym (no_items c.args.bags.now (sym c.is_empty.ensures ∙ c.if-is_empty.true))) c.within.ensures
+    subst (λ bags. Makes c.args.step.limit (pruned (par_star_of (set_of (flat_map (bag_moves (form_of c.args.y.now) c.args.step.env.now c.args.step.action.now) (items_of (listed (map plain_bag bags))))))) c.dead_knot.result)
+    (sym (no_items c.args.bags.now (sym c.is_empty.ensures ∙ c.if-is_empty.true))) c.dead_knot.ensures
 
 pub parallel::advance_par_star-advance_again-requires : goal.parallel::advance_par_star-advance_again-requires
 parallel::advance_par_star-advance_again-requires t c =
@@ -410,7 +435,10 @@ parallel::advance_bags-advance_picks-requires t c =
       omega arith,
       (
         subst (Each (Ready (form_of c.args.y.now) c.args.step.env.now)) (items_of-listed c.bag-item.result.items.items ∙ sym c.deref.ensures.value) ready.0,
-        (omega (arith, ap (λ l. size_of (listed l)) c.deref.ensures.value, ready.1), (c.loop-bag.invariant.budget, c.loop-bag.invariant.within)),
+        (
+          subst IsRising (items_of-listed c.bag-item.result.items.items ∙ sym c.deref.ensures.value) ready.2,
+          (omega (arith, ap (λ l. size_of (listed l)) c.deref.ensures.value, ready.1), (c.loop-bag.invariant.budget, c.loop-bag.invariant.within)),
+        ),
       ),
     )
 
@@ -424,6 +452,11 @@ pub parallel::advance_bags-put_more-requires-clause-items : goal.parallel::advan
 parallel::advance_bags-put_more-requires-clause-items t c =
     let ready = each_at {G = IsReadyBag (form_of c.args.y.now) c.args.step.env.now} (map plain_bag c.args.bags.now) c.loop-bag.bag-index (plain_bag c.bag-item.result) (omega (arith, length-map c.args.bags.now plain_bag, c.loop-bag-test.true)) (image_at plain_bag c.args.bags.now c.loop-bag.bag-index c.bag-item.result c.bag-item.is) c.requires.ready in
     omega (arith, ap (λ l. size_of (listed l)) c.deref-in-loop-bag.ensures.value, ready.1)
+
+pub parallel::advance_bags-put_more-requires-clause-rising : goal.parallel::advance_bags-put_more-requires-clause-rising
+parallel::advance_bags-put_more-requires-clause-rising t c =
+    let ready = each_at {G = IsReadyBag (form_of c.args.y.now) c.args.step.env.now} (map plain_bag c.args.bags.now) c.loop-bag.bag-index (plain_bag c.bag-item.result) (omega (arith, length-map c.args.bags.now plain_bag, c.loop-bag-test.true)) (image_at plain_bag c.args.bags.now c.loop-bag.bag-index c.bag-item.result c.bag-item.is) c.requires.ready in
+    subst IsRising (items_of-listed c.bag-item.result.items.items ∙ sym c.deref-in-loop-bag.ensures.value) ready.2
 
 pub parallel::advance_bags-returns-in_err-put_more : goal.parallel::advance_bags-returns-in_err-put_more
 parallel::advance_bags-returns-in_err-put_more t c =
@@ -443,12 +476,21 @@ parallel::advance_bags-loop-bag-preserved t c =
       budget = c.put_more.ensures.budget ∙ c.advance_picks.ensures.budget;
     }
 
+pub parallel::advance_picks-loop-place-init : goal.parallel::advance_picks-loop-place-init
+parallel::advance_picks-loop-place-init t c =
+    record {
+      items = refl;
+      within = c.requires.within;
+      budget = c.requires.budget;
+      run = λ k low high. absurd (omega arith);
+    }
+
 pub parallel::advance_picks-advance_pick-requires : goal.parallel::advance_picks-advance_pick-requires
 parallel::advance_picks-advance_pick-requires t c = (
   omega arith,
   (
     each_at c.args.items.now c.loop-place.place c.index-items-place.result (omega arith) c.index-items-place.is c.requires.ready,
-    (c.requires.size, (c.loop-place-test.true, (c.index-items-place.is, (((map plain_bag c.args.set.now.items), c.loop-place.invariant.items), (c.loop-place.invariant.budget, c.loop-place.invariant.within))))),
+    (c.requires.rising, (c.requires.size, (c.loop-place-test.true, (c.loop-place.invariant.budget, c.loop-place.invariant.within)))),
   ),
 )
 
@@ -467,6 +509,16 @@ parallel::advance_picks-loop-place-preserved t c =
       items = lots_more (pick_move (form_of c.args.y.now) c.args.step.env.now c.args.step.action.now) (picks c.args.items.now) c.loop-place.place (c.index-items-place.result, remove c.args.items.now c.loop-place.place) (map plain_bag c.args.set.now.items) (map plain_bag c.loop-place.set.items) (map plain_bag c.advance_pick.new.set.items) lt is c.loop-place.invariant.items c.in_ok-advance_pick.ensures.gathers;
       within = c.advance_pick.ensures.within;
       budget = c.advance_pick.ensures.budget;
+      run = λ k low high. c.run_end-end.ensures k (omega arith) high;
+    }
+
+pub parallel::advance_picks-loop-place-preserved-then-place-end : goal.parallel::advance_picks-loop-place-preserved-then-place-end
+parallel::advance_picks-loop-place-preserved-then-place-end t c =
+    record {
+      items = repeat_adds_none (form_of c.args.y.now) c.args.step.env.now c.args.step.action.now c.args.items.now c.loop-place.place c.index-items-place.result (map plain_bag c.args.set.now.items) (map plain_bag c.loop-place.set.items) (omega arith) c.index-items-place.is (c.loop-place.invariant.run c.loop-place.place (omega arith) (omega arith)) c.loop-place.invariant.items;
+      within = c.loop-place.invariant.within;
+      budget = c.loop-place.invariant.budget;
+      run = λ k low high. c.loop-place.invariant.run k (omega arith) high;
     }
 
 pub parallel::advance_picks-returns-clause-gathers : goal.parallel::advance_picks-returns-clause-gathers
@@ -474,15 +526,6 @@ parallel::advance_picks-returns-clause-gathers t c =
     let all : c.loop-place.place ≡ length (picks c.args.items.now) = omega (arith, length-picks c.args.items.now, c.loop-place-test.false, c.loop-place.auto.place-end) in
     lots_end (pick_move (form_of c.args.y.now) c.args.step.env.now c.args.step.action.now) (picks c.args.items.now) (map plain_bag c.args.set.now.items) (map plain_bag c.loop-place.set.items)
     (subst (λ n. (map plain_bag c.loop-place.set.items) ≡ put_all (flat_map (pick_move (form_of c.args.y.now) c.args.step.env.now c.args.step.action.now) (take n (picks c.args.items.now))) (map plain_bag c.args.set.now.items)) all c.loop-place.invariant.items)
-
-pub parallel::advance_pick-returns-then-is_repeat-clause-gathers : goal.parallel::advance_pick-returns-then-is_repeat-clause-gathers
-parallel::advance_pick-returns-then-is_repeat-clause-gathers t c =
-    let repeat = c.is_repeat.ensures c.if-is_repeat.true in
-    let at = ap (λ n. get_or c.args.items.now n c.args.item.now) repeat.1 in
-    let lt : repeat.0 + 1 < length c.args.items.now = omega (arith, c.requires.place, repeat.1) in
-    let so_far = c.requires.so_far.1 ∙ ap (λ n. put_all (flat_map (pick_move (form_of c.args.y.now) c.args.step.env.now c.args.step.action.now) (take n (picks c.args.items.now))) c.requires.so_far.0) repeat.1 in
-    sym (ap (λ n. put_all ((pick_move (form_of c.args.y.now) c.args.step.env.now c.args.step.action.now) (c.args.item.now, remove c.args.items.now n)) (map plain_bag c.args.set.now.items)) repeat.1
-    ∙ picked_again (form_of c.args.y.now) c.args.step.env.now c.args.step.action.now c.args.items.now repeat.0 c.args.item.now c.requires.so_far.0 (map plain_bag c.args.set.now.items) lt repeat.2 (c.requires.item ∙ at) so_far)
 
 pub parallel::advance_pick-advance-requires : goal.parallel::advance_pick-advance-requires
 parallel::advance_pick-advance-requires t c =
@@ -711,9 +754,7 @@ maps::advance_owner-returns-then-not-sees t c =
     let found = or_initial c.args.first.now (tree_at c.args.value.now dead (items_of (first_part (plain_map c.args.state.now)))) in
     let out = unseen_dead y p e c.args.step.action.now c.requires.ready.named c.args.value.now (λ s. true≢false (sym (c.sees.ensures.1 s) ∙ c.if-not-sees.true)) found in
     let same = sym (moved_is_dead y (bind p (Some c.args.value.now) e) found c.args.step.action.now out) in
-    owner_made c.args.step.limit c.larger.result c.args.first.now c.args.value.now (begun_tree p y e c.args.step.action.now c.args.first.now (plain_map c.args.state.now) c.args.value.now) dead (items_of (first_part (plain_map c.args.state.now))) c.within.result same
-    (omega (arith, c.larger.ensures.first, c.args.step.positive)) c.larger.ensures.first (omega (arith, c.larger.ensures.second, c.size.ensures.value))
-    (c.larger.ensures.bound 1000000 c.args.step.bounded (omega (arith, c.size.ensures.value, c.requires.ready.small))) c.within.ensures
+    dead_owner c.args.step.limit c.args.first.now c.args.value.now (begun_tree p y e c.args.step.action.now c.args.first.now (plain_map c.args.state.now) c.args.value.now) (items_of (first_part (plain_map c.args.state.now))) c.dead_knot.result (sym same) c.args.step.positive c.args.step.bounded c.dead_knot.ensures
 
 pub maps::advance_owner-returns : goal.maps::advance_owner-returns
 maps::advance_owner-returns t c =

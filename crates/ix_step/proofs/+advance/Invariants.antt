@@ -1,5 +1,5 @@
 -- Measures and invariants of the functions behind `step`.
-use Rattle.std.proofs.Common.{◌+◌, ◌*◌, ◌≡◌, ◌≤◌, [], map, take, drop, flat_map}
+use Rattle.std.proofs.Common.{◌+◌, ◌*◌, ◌≡◌, ◌≤◌, [], map, take, drop, flat_map, ℕ, ◌<◌}
 use Rattle.ix_expr.specs.inside.FormOf.{form_of}
 use Rattle.ix_values.specs.Order.{text_cmp}
 use Rattle.ix_entries.specs.inside.Entries.{IsProper}
@@ -12,7 +12,7 @@ use Rattle.ix_step.specs.inside.EnterTrees.{HoldTrees}
 use Rattle.ix_step.specs.inside.Makes.{put_all}
 use Rattle.ix_step.specs.inside.MapsAfter.{maps_after, map_after}
 use Rattle.ix_step.specs.inside.Moves.{live_move}
-use Rattle.ix_step.specs.inside.ParallelMoves.{pair_moves, bag_moves, pick_move}
+use Rattle.ix_step.specs.inside.ParallelMoves.{pair_moves, bag_moves, pick_move, IsRepeat}
 use Rattle.ix_step.specs.inside.ValueTrees.{tree_after}
 use Rattle.ix_step.specs.declared.bodies.Reach.TheVariants.{OwnAlphabet}
 use Rattle.ix_step.proofs.Measure.{form_size}
@@ -35,7 +35,7 @@ abbrev pub decreases-advance::advance_seq : goal.decreases-advance::advance_seq
 decreases-advance::advance_seq l = 8 * form_size (form_of l.y.now) + 8 * form_size (form_of l.z.now) + 4
 
 abbrev pub decreases-advance::advance_star : goal.decreases-advance::advance_star
-decreases-advance::advance_star l = 8 * form_size (form_of l.y.now) + 4
+decreases-advance::advance_star l = 8 * form_size (form_of l.y.now) + 6
 
 abbrev pub decreases-advance::advance_each : goal.decreases-advance::advance_each
 decreases-advance::advance_each l = 8 * form_size (form_of l.expr.now) + 3
@@ -48,8 +48,17 @@ invariant-advance::advance_each-loop-tree l = record {
   budget : l.set.budget ≡ l.step.limit;
 }
 
-abbrev pub decreases-advance::advance_again : goal.decreases-advance::advance_again
-decreases-advance::advance_again l = 8 * form_size (form_of l.expr.now) + 3
+abbrev pub decreases-beginning::advance_again : goal.decreases-beginning::advance_again
+decreases-beginning::advance_again l = 8 * form_size (form_of l.expr.now) + 5
+
+abbrev pub decreases-beginning::advance_first : goal.decreases-beginning::advance_first
+decreases-beginning::advance_first l = 8 * form_size (form_of l.expr.now) + 4
+
+abbrev pub decreases-beginning::advance_either : goal.decreases-beginning::advance_either
+decreases-beginning::advance_either l = 8 * form_size (form_of l.y.now) + 8 * form_size (form_of l.z.now) + 5
+
+abbrev pub decreases-beginning::advance_whole : goal.decreases-beginning::advance_whole
+decreases-beginning::advance_whole l = 8 * form_size (form_of l.expr.now) + 3
 
 abbrev pub decreases-parallel::advance_par : goal.decreases-parallel::advance_par
 decreases-parallel::advance_par l = 8 * form_size (form_of l.y.now) + 8 * form_size (form_of l.z.now) + 4
@@ -82,12 +91,14 @@ invariant-parallel::advance_bags-loop-bag l = record {
 abbrev pub decreases-parallel::advance_picks : goal.decreases-parallel::advance_picks
 decreases-parallel::advance_picks l = 8 * form_size (form_of l.y.now) + 4
 
--- the set holds the bags in which one of the trees so far is moved, within the limit
+-- the set holds the bags in which one of the trees so far is moved, within the limit, and up to the end each tree repeats
+-- the one before it
 abbrev pub invariant-parallel::advance_picks-loop-place : goal.invariant-parallel::advance_picks-loop-place
 invariant-parallel::advance_picks-loop-place l = record {
   items : map plain_bag l.set.items ≡ put_all (flat_map (pick_move (form_of l.y) l.step.env.now l.step.action.now) (take l.place (picks l.items))) (map plain_bag l.initial.set.items);
   within : size_of (listed (map plain_bag l.set.items)) ≤ l.step.limit;
   budget : l.set.budget ≡ l.step.limit;
+  run : (k : ℕ) → l.place ≤ k → k < l.end → IsRepeat l.items k;
 }
 
 abbrev pub decreases-parallel::advance_pick : goal.decreases-parallel::advance_pick

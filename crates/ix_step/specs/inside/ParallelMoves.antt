@@ -1,5 +1,5 @@
 -- The alternatives of `+` and of `#` after an action, and what is asked before their parts are moved.
-use Rattle.std.specs.Prelude.{◌≤◌, List, [], ◌∷◌, ◌++◌, flat_map}
+use Rattle.std.specs.Prelude.{◌≡◌, ℕ, ◌+◌, ◌≤◌, List, [], ◌∷◌, ◌++◌, flat_map, get_or}
 use Rattle.ix_words.specs.Each.{Each}
 use Rattle.ix_words.specs.Canon.{when}
 use Rattle.ix_values.specs.PlainAction.{PlainAction}
@@ -8,6 +8,7 @@ use Rattle.ix_expr.specs.Environment.{Environment}
 use Rattle.ix_tree.specs.Plain.{Plain, pair, items_of}
 use Rattle.ix_tree.specs.Order.{first_part, second_part}
 use Rattle.ix_tree.specs.Size.{size_of}
+use Rattle.ix_can.specs.Laws.{IsRising}
 use Rattle.ix_can.specs.Nodes.{is_live}
 use Rattle.ix_can.specs.inside.Moved.{moved, picks, bag_with}
 use Rattle.ix_step.specs.inside.Moves.{begun}
@@ -37,6 +38,10 @@ bag_moves y e a b = pick_moves y e a (items_of (first_part b)) ++ bag_with (begu
 abbrev pub IsReadyPair : Form → Form → Environment → Plain → Type 0
 IsReadyPair y z e p = Ready y e (first_part p) × Ready z e (second_part p)
 
--- each tree of the bag is ready, and the bag isn't too large
+-- each tree of the bag is ready, and the bag isn't too large and rises
 abbrev pub IsReadyBag : Form → Environment → Plain → Type 0
-IsReadyBag y e b = Each (Ready y e) (items_of (first_part b)) × (size_of b ≤ 1000000)
+IsReadyBag y e b = Each (Ready y e) (items_of (first_part b)) × (size_of b ≤ 1000000) × IsRising (items_of (first_part b))
+
+-- the tree at the place equals the one before it
+abbrev pub IsRepeat : List Plain → ℕ → Type 0
+IsRepeat trees place = (before : ℕ) × (place ≡ before + 1) × ((x : Plain) → get_or trees before x ≡ get_or trees place x)

@@ -1,25 +1,16 @@
-use Rattle.std.proofs.Common.{◌≡◌, ◌<◌, length, get_or, sym, ap, ◌∙◌, arith}
+use Rattle.std.proofs.Common.{rules}
+use Rattle.std.proofs.lemmas.List.Sorted.{IsPartitionPoint-from_clause}
 use Rattle.std.specs.Ordering.{is_gt}
 use Rattle.ix_tree.specs.Order.{tree_cmp}
-use Rattle.ix_step.proofs.BagsPut.{place_further, place_found}
+use Rattle.ix_step.proofs.BagsPut.{place_is}
+use Rattle.ix_step.proofs.Rising.{below_first}
 use Rattle.ix_step.proofs.bags.place_of.Goals as goal
 
-pub returns-then-not-is_gt-clause-place : goal.returns-then-not-is_gt-clause-place
-returns-then-not-is_gt-clause-place c =
-    let x = c.args.tree.now in
-    let ys = c.args.others.now in
-    let y = c.index-others-place.result in
-    let lt : c.loop-place.place < length ys = omega (arith, c.loop-place-test.true) in
-    let same : tree_cmp x (get_or ys c.loop-place.place y) ≡ c.cmp.result =
-    ap (tree_cmp x) (sym c.index-others-place.is) ∙ sym c.cmp.ensures in
-    c.loop-place.invariant ∙ place_found x ys c.loop-place.place y lt (ap is_gt same ∙ sym c.is_gt.ensures ∙ c.if-not-is_gt.true)
-
-pub loop-place-preserved : goal.loop-place-preserved
-loop-place-preserved c =
-    let x = c.args.tree.now in
-    let ys = c.args.others.now in
-    let y = c.index-others-place.result in
-    let lt : c.loop-place.place < length ys = omega (arith, c.loop-place-test.true) in
-    let same : tree_cmp x (get_or ys c.loop-place.place y) ≡ c.cmp.result =
-    ap (tree_cmp x) (sym c.index-others-place.is) ∙ sym c.cmp.ensures in
-    c.loop-place.invariant ∙ place_further x ys c.loop-place.place y lt (ap is_gt same ∙ sym c.is_gt.ensures ∙ c.if-not-is_gt.false)
+pub returns : goal.returns
+returns c =
+    let parted = below_first c.args.tree.now c.args.others.now c.requires in
+    let point = IsPartitionPoint-from_clause (λ y. is_gt (tree_cmp c.args.tree.now y)) _ _ c.partition_point.ensures.partitioned parted (λ a r q k. search rules) in
+    record {
+      within = c.partition_point.ensures.bound;
+      place = place_is c.args.tree.now c.args.others.now c.partition_point.result c.partition_point.ensures.bound point;
+    }

@@ -6,6 +6,7 @@ use Rattle.ix_tree.specs.Size.{size_of}
 use Rattle.ix_tree.specs.Order.{tree_cmp}
 use Rattle.ix_tree.specs.declared.node.Bag.{Bag}
 use Rattle.ix_tree.proofs.Alternatives.{weight_of-list}
+use Rattle.ix_can.specs.Laws.{IsRising}
 use Rattle.ix_can.specs.Nodes.{put_in}
 use Rattle.ix_step.specs.inside.Makes.{Gathers}
 use Rattle.ix_step.proofs.BagsPut.{size-put_in}
@@ -35,3 +36,6 @@ returns-in-Ok-clause-gathers c =
 
 pub returns-in-Ok-clause-within : goal.returns-in-Ok-clause-within
 returns-in-Ok-clause-within c = omega (arith, weight_of-list plain_bag c.put.new.set.items, c.put.ensures.within, c.put.ensures.budget)
+
+pub place_of-place-requires : goal.place_of-place-requires
+place_of-place-requires c = subst IsRising (sym c.as_slice.ensures.value) c.requires.rising

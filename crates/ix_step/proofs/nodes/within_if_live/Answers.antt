@@ -6,8 +6,8 @@ use Rattle.ix_step.proofs.nodes.within_if_live.Goals as goal
 
 pub returns-then-has_died : goal.returns-then-has_died
 returns-then-has_died c =
-    subst (λ b. Makes c.args.step.limit (dead_if b (plain_node c.args.node)) c.within.result) (sym c.if-has_died.true ∙ c.has_died.ensures) c.within.ensures
+    subst (λ b. Makes c.args.step.limit (dead_if b (plain_node c.args.node)) c.dead_knot.result) (sym c.if-has_died.true ∙ c.has_died.ensures) c.dead_knot.ensures
 
 pub returns : goal.returns
 returns c =
-    subst (λ b. Makes c.args.step.limit (dead_if b (plain_node c.args.node)) c.within-2.result) (sym c.if-has_died.false ∙ c.has_died.ensures) c.within-2.ensures
+    subst (λ b. Makes c.args.step.limit (dead_if b (plain_node c.args.node)) c.within.result) (sym c.if-has_died.false ∙ c.has_died.ensures) c.within.ensures

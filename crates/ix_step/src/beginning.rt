@@ -1,0 +1,93 @@
+//! The tree of one action, from that of the empty word.
+
+ghost use Rattle.std.specs.Prelude.{◌≡◌, false, IsTrue};
+ghost use Rattle.ix_expr.specs.FormFaults.{Fits};
+ghost use Rattle.ix_expr.specs.inside.FormOf.{form_of};
+ghost use Rattle.ix_tree.specs.Plain.{or as or_of};
+ghost use Rattle.ix_can.specs.inside.May.{may_first};
+ghost use Rattle.ix_step.specs.inside.Initial.{initial_tree};
+ghost use Rattle.ix_step.specs.inside.Makes.{Makes};
+ghost use Rattle.ix_step.specs.inside.Moves.{begun, begun_again};
+ghost use Rattle.ix_step.specs.inside.Pruned.{pruned};
+ghost use Rattle.ix_step.specs.inside.Ready.{Ready};
+
+use crate::advance::advance;
+use crate::fault::Unbuilt;
+use crate::first::first_tree;
+use crate::nodes::{dead_knot, within_if_live};
+use crate::one_step::Step;
+use ix_can::can_first;
+use ix_expr::Expr;
+use ix_tree::{Knot, Node};
+
+/// The tree of a run that begins with the action, dead where no further run may begin.
+#[cycle(advance)]
+pub(crate) fn advance_again(step: Step, expr: &Expr, again: bool) -> Result<Knot, Unbuilt>
+    requires { Ready (form_of expr.now) step.env.now (initial_tree (form_of expr.now)) }
+    ensures { Makes step.entry.limit (begun_again again (form_of expr.now) step.entry.env.now
+        step.entry.action.now) result }
+{
+    if !again {
+        return dead_knot(step);
+    }
+    advance_first(step, expr)
+}
+
+/// The tree of the one action, dead where it may not come first. Of a choice no more of the tree of
+/// the empty word is built than the sides with which the action may begin.
+#[cycle(advance)]
+fn advance_first(step: Step, expr: &Expr) -> Result<Knot, Unbuilt>
+    requires { Ready (form_of expr.now) step.env.now (initial_tree (form_of expr.now)) }
+    ensures { Makes step.entry.limit (begun (form_of expr.now) step.entry.env.now
+        step.entry.action.now) result }
+{
+    match expr {
+        Expr::Or(y, z) => advance_either(step, y, z),
+        _ => advance_whole(step, expr),
+    }
+}
+
+#[cycle(advance)]
+fn advance_either(step: Step, y: &Expr, z: &Expr) -> Result<Knot, Unbuilt>
+    requires first { Ready (form_of y.now) step.env.now (initial_tree (form_of y.now)) }
+    requires second { Ready (form_of z.now) step.env.now (initial_tree (form_of z.now)) }
+    ensures { Makes step.entry.limit (pruned (or_of (begun (form_of y.now) step.entry.env.now
+        step.entry.action.now) (begun (form_of z.now) step.entry.env.now step.entry.action.now)))
+        result }
+{
+    let left = advance_first(step, y)?;
+    let right = advance_first(step, z)?;
+    within_if_live(step, Node::Or(left, right))
+}
+
+/// The tree of the empty word, built whole and moved, unless the action is refused.
+#[cycle(advance)]
+fn advance_whole(step: Step, expr: &Expr) -> Result<Knot, Unbuilt>
+    requires { Ready (form_of expr.now) step.env.now (initial_tree (form_of expr.now)) }
+    ensures { Makes step.entry.limit (begun (form_of expr.now) step.entry.env.now
+        step.entry.action.now) result }
+{
+    if is_refused(step, expr) {
+        return dead_knot(step);
+    }
+    let tree = first_tree(expr, step.alloc)?;
+    advance(step, expr, &tree)
+}
+
+/// Whether the action may not come first, as far as it is asked: of a quantifier the answer costs
+/// about what its tree costs, and `&` and `@` are asked when they are moved.
+fn is_refused(step: Step, expr: &Expr) -> bool
+    requires { Fits (form_of expr.now) step.env.now }
+    ensures { IsTrue result → may_first (form_of expr.now) step.entry.env.now
+        step.entry.action.now ≡ false }
+{
+    match expr {
+        Expr::And(_, _)
+        | Expr::Couple(_, _)
+        | Expr::Any(_, _)
+        | Expr::Every(_, _)
+        | Expr::Sync(_, _)
+        | Expr::All(_, _) => false,
+        _ => !can_first(expr, step.env, step.action),
+    }
+}
