@@ -1,2 +1,3 @@
 mod Trees
 mod Permitting
+mod Histories

@@ -1,13 +1,27 @@
--- What is prepared is permitted, and what is refused for another cause than memory isn't.
-use Rattle.std.proofs.Common.{◌≡◌, ◌↔◌, ℕ, ◌<◌, ◌≤◌, length, [], IsTrue, OnOk, Ok, Err, refl, sym, true≢false, arith}
+-- What is prepared follows the engine and is permitted, and what is refused for another cause than memory isn't.
+use Rattle.std.proofs.Common.{◌≡◌, ◌↔◌, ℕ, ◌<◌, ◌≤◌, length, [], IsTrue, OnOk, Ok, Err, refl, sym, subst, true≢false, arith}
 use Rattle.std.specs.Prelude.{Result, is_ok}
 use Rattle.ix_values.specs.PlainAction.{PlainAction}
+use Rattle.ix_expr.specs.FormFaults.{Fits}
 use Rattle.ix_expr.specs.Meaning.{IsPartial}
+use Rattle.ix_tree.specs.Plain.{Plain}
+use Rattle.ix_tree.specs.Size.{size_of}
 use Rattle.ix_engine.specs.declared.next.Next.{Next}
 use Rattle.ix_engine.specs.declared.faults.PrepareFault.{PrepareFault}
 use Rattle.ix_engine.specs.declared.faults.PrepareFault.TheVariants.{NotPartial, Full, Over, Memory}
 use Rattle.ix_can.specs.TreeOf.{tree_size}
-use Rattle.ix_engine.specs.inside.Engine.{EngineState, Allows, extended}
+use Rattle.ix_engine.specs.inside.Engine.{EngineState, Allows, Follows, extended}
+use Rattle.ix_engine.specs.inside.Extending.{Extends}
+use Rattle.ix_engine.proofs.Trees.{partial_live}
+
+-- an extended history's tree, with the action
+pub follows : (s : EngineState) (a : PlainAction) (t : Plain) → Fits s.form [] → Extends s.form s.limit s.history a (Ok t) → Follows s a t
+follows s a t fits facts = record {
+  room = facts.1.room;
+  tree = facts.0;
+  live = partial_live s.form (extended s a) t fits facts.0 facts.1.permitted;
+  within = subst (λ (u : Plain). size_of u ≤ s.limit) (sym facts.0) facts.1.within;
+}
 
 module _ (s : EngineState) (a : PlainAction) where
   pub judged : (r : Result Next PrepareFault)

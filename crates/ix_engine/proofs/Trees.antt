@@ -1,6 +1,6 @@
 -- What the tree of an engine's history tells.
-use Rattle.std.proofs.Common.{◌≡◌, false, List, [], ◌∷◌, ◌++◌, sym, subst}
-use Rattle.ix_values.specs.PlainAction.{PlainAction, Word}
+use Rattle.std.proofs.Common.{◌≡◌, false, [], sym, subst}
+use Rattle.ix_values.specs.PlainAction.{Word}
 use Rattle.ix_expr.specs.Form.{Form}
 use Rattle.ix_expr.specs.FormFaults.{Fits}
 use Rattle.ix_expr.specs.Meaning.{IsPartial}

@@ -1,22 +1,22 @@
 //! The engine.
 
-ghost use Rattle.std.specs.Prelude.{◌≡◌, ◌<◌, ◌≤◌, ◌↔◌, ℕ, [], ◌∷◌, ◌++◌, length, IsTrue, IfOk, OnOk};
+ghost use Rattle.std.specs.Prelude.{◌≡◌, ◌<◌, ◌≤◌, ◌↔◌, ℕ, [], ◌∷◌, ◌++◌, length};
+ghost use Rattle.std.specs.Prelude.{IsTrue, IfOk, IfErr, OnOk};
 ghost use Rattle.ix_expr.specs.Meaning.{IsComplete};
 ghost use Rattle.ix_tree.specs.Size.{size_of};
 ghost use Rattle.ix_can.specs.TreeOf.{tree_of, tree_size};
 ghost use Rattle.ix_engine.specs.inside.Engine.{Allows, Permits, Follows, extended};
+ghost use Rattle.ix_engine.specs.inside.Extending.{AreAllowed, StopsAt};
 
-use crate::{Next, PrepareFault};
+use crate::extending::extend;
+use crate::{Next, PrepareFault, ResumeFault};
 use ix_can::{can, is_final};
 use ix_expr::{Env, Expression};
-use ix_step::{BuildFault, initial, step};
+use ix_step::{BuildFault, initial};
 use ix_tree::Tree;
 use ix_values::Action;
 use std::alloc::{AllocError, Global};
 use std::marker::Model;
-
-/// The most actions of a history.
-pub(crate) const MOST_ACTIONS: usize = 1_000_000;
 
 /// The confirmed actions of an expression, and the state tree of this history,
 /// which is always there.
@@ -81,6 +81,40 @@ impl Engine {
         }
     }
 
+    /// Takes a list of actions, the oldest first, as the history of an engine that has none. The
+    /// list itself is kept. Of the first action that `prepare` would refuse behind those in front
+    /// of it the number and the refusal are told; the engine and the list are dropped then.
+    pub fn resume(self, alloc: Global, actions: Vec<Action>) -> Result<Engine, ResumeFault>
+        requires new { self.history ≡ [] }
+        ensures history { IfOk result (λ s. s.history ≡ actions.items) }
+        ensures form { IfOk result (λ s. s.form ≡ self.form) }
+        ensures limit { IfOk result (λ s. s.limit ≡ self.limit) }
+        ensures allowed { OnOk result (AreAllowed self.form self.limit actions.items) }
+        ensures refused { IfErr result (λ fault. StopsAt self.form self.limit actions.items fault) }
+    {
+        let Engine {
+            expression,
+            history: _,
+            mut tree,
+            limit,
+        } = self;
+        for (index, action) in actions.iter().enumerate() {
+            match extend(alloc, expression.expr(), &tree, index, action, limit) {
+                Ok(next) => tree = next,
+                Err(why) => {
+                    let number = index as u64 + 1;
+                    return Err(ResumeFault { number, why });
+                }
+            }
+        }
+        Ok(Engine {
+            expression,
+            history: actions,
+            tree,
+            limit,
+        })
+    }
+
     /// Whether the history extended by the action is a partial word.
     pub fn may(&self, action: &Action) -> bool
         ensures { IsTrue result ↔ Permits self.now action.now }
@@ -137,20 +171,13 @@ impl Engine {
             × (self.now.limit < tree_size self.now.form (extended self.now action.now)) }
     {
         let expr = self.expression.expr();
-        let env = Env::new();
-        if !can(&self.tree, expr, &env, action) {
-            return Err(PrepareFault::NotPartial);
-        }
-        if self.history.len() == MOST_ACTIONS {
-            return Err(PrepareFault::Full);
-        }
-        match step(alloc, &self.tree, expr, &env, action, self.limit) {
+        let actions = self.history.len();
+        match extend(alloc, expr, &self.tree, actions, action, self.limit) {
             Ok(tree) => Ok(Next {
                 action: *action,
                 tree,
             }),
-            Err(BuildFault::Over { limit }) => Err(PrepareFault::Over { limit }),
-            Err(BuildFault::Memory) => Err(PrepareFault::Memory),
+            Err(fault) => Err(fault),
         }
     }
 

@@ -1,4 +1,4 @@
-//! Why an action isn't prepared.
+//! Why an action isn't prepared, and why a list of actions isn't taken as a history.
 
 /// Why an action isn't prepared. The first that applies is told.
 #[derive(Clone, Copy, Debug, PartialEq, Eq)]
@@ -11,4 +11,12 @@ pub enum PrepareFault {
     Over { limit: usize },
     /// Memory ran out.
     Memory,
+}
+
+/// Why a list of actions isn't taken as a history: the number, counted from 1, of the first action
+/// that isn't taken behind those in front of it, and why it isn't.
+#[derive(Clone, Copy, Debug, PartialEq, Eq)]
+pub struct ResumeFault {
+    pub number: u64,
+    pub why: PrepareFault,
 }

@@ -2,11 +2,12 @@
 #![tactic(auto)]
 
 mod engine;
+mod extending;
 mod faults;
 mod next;
 
 pub use engine::Engine;
-pub use faults::PrepareFault;
+pub use faults::{PrepareFault, ResumeFault};
 pub use next::Next;
 
 #[cfg(test)]

@@ -159,3 +159,52 @@ fn a_called_patient_is_busy_and_another_is_not(rt: HostRuntime) -> Result<(), Fa
     assert!(rt; answers_so(both, b"yny", 18, 2, false));
     Ok(())
 }
+
+/// What comes of a list of actions as the history of a new engine.
+#[derive(Clone, Copy, Debug, PartialEq, Eq)]
+enum Resumed {
+    Taken { nodes: usize, actions: usize },
+    Stopped(ResumeFault),
+}
+
+/// What a new engine of `*(a - b)` with a limit of 4 makes of these actions.
+fn resume(alloc: Global, texts: &[&[u8]]) -> Result<Resumed, Fail> {
+    let expression = Expression::new(repeated(alloc)?).map_err(|_| "not well formed")?;
+    let Ok(engine) = Engine::new(alloc, expression, 4) else {
+        return Err("no engine".into());
+    };
+    let mut actions = Vec::new(alloc);
+    for text in texts {
+        let action = action(text)?;
+        actions.push(action).map_err(|_| AllocError)?;
+    }
+    match engine.resume(alloc, actions) {
+        Ok(engine) => Ok(Resumed::Taken {
+            nodes: engine.nodes(),
+            actions: engine.history().len(),
+        }),
+        Err(fault) => Ok(Resumed::Stopped(fault)),
+    }
+}
+
+#[test]
+fn a_history_is_resumed_or_its_first_refusal_told(rt: HostRuntime) -> Result<(), Fail> {
+    let stopped = ResumeFault {
+        number: 3,
+        why: PrepareFault::NotPartial,
+    };
+    let cases: [(&[&[u8]], Resumed); 2] = [
+        (
+            &[b"a", b"b", b"a"],
+            Resumed::Taken {
+                nodes: 4,
+                actions: 3,
+            },
+        ),
+        (&[b"a", b"b", b"b", b"a"], Resumed::Stopped(stopped)),
+    ];
+    for (texts, then) in cases {
+        assert_eq!(rt; resume(rt.alloc(), texts)?, then, "{texts:?}");
+    }
+    Ok(())
+}

@@ -1,12 +1,20 @@
-use Rattle.std.proofs.Common.{rules}
-use Rattle.ix_engine.proofs.Trees.{tree_proper, partial_live}
+use Rattle.std.proofs.Common.{◌≡◌, length, Ok, rules, refl, subst, arith}
+use Rattle.ix_expr.specs.inside.FormOf.{form_of}
+use Rattle.ix_engine.specs.inside.Engine.{EngineState, Follows}
+use Rattle.ix_engine.proofs.Trees.{tree_proper}
+use Rattle.ix_engine.proofs.Histories.{of_history}
+use Rattle.ix_engine.proofs.Permitting.{follows}
 use Rattle.ix_engine.proofs.engine.Engine.prepare.Goals as goal
 
-pub can-requires-clause-proper : goal.can-requires-clause-proper
-can-requires-clause-proper c = search (rules, tree_proper)
-
-pub step-requires-clause-proper : goal.step-requires-clause-proper
-step-requires-clause-proper c = search (rules, tree_proper)
+pub extend-requires-clause-proper : goal.extend-requires-clause-proper
+extend-requires-clause-proper c = search (rules, tree_proper)
 
 pub returns-in-Ok-clause-follows : goal.returns-in-Ok-clause-follows
-returns-in-Ok-clause-follows c = search (rules, partial_live)
+returns-in-Ok-clause-follows c =
+    let i = c.self.inside in
+    let a = c.args.action.now in
+    let count : c.len-actions.result ≡ length i.history.items = omega (arith, i.history.ok.0, c.len-actions.ensures) in
+    subst (λ (s : EngineState). Follows s a c.in-Ok.tree) c.self.view_is
+    (follows _ a c.in-Ok.tree c.expr-expr.ensures.well_formed
+    (of_history i.expression (form_of c.expr-expr.result.now) i.limit i.limit i.history.items c.len-actions.result a i.tree (Ok c.in-Ok.tree)
+    c.expr-expr.ensures.value refl count c.self.invariant.0 c.in-Ok.ensures))

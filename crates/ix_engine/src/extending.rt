@@ -1,0 +1,54 @@
+//! The tree of a history with one more action.
+
+ghost use Rattle.std.specs.Prelude.{◌≡◌, ◌≤◌, [], length};
+ghost use Rattle.ix_values.specs.PlainAction.{Word};
+ghost use Rattle.ix_expr.specs.FormFaults.{Fits};
+ghost use Rattle.ix_expr.specs.inside.FormOf.{form_of};
+ghost use Rattle.ix_tree.specs.Size.{size_of};
+ghost use Rattle.ix_can.specs.Laws.{IsProper};
+ghost use Rattle.ix_can.specs.TreeOf.{tree_of};
+ghost use Rattle.ix_engine.specs.inside.Extending.{Extends};
+
+use crate::PrepareFault;
+use ix_can::can;
+use ix_expr::{Env, Expr};
+use ix_step::{BuildFault, step};
+use ix_tree::Tree;
+use ix_values::Action;
+use std::alloc::Global;
+
+/// The most actions of a history.
+pub(crate) const MOST_ACTIONS: usize = 1_000_000;
+
+/// The tree of a history with one more action behind it, where `tree` is that of the history, which
+/// has so many actions.
+pub(crate) fn extend(
+    alloc: Global,
+    expr: &Expr,
+    tree: &Tree,
+    actions: usize,
+    action: &Action,
+    limit: usize,
+) -> Result<Tree, PrepareFault>
+    requires fits { Fits (form_of expr.now) [] }
+    requires proper { IsProper (form_of expr.now) tree.now }
+    requires size { size_of tree.now ≤ 1000000 }
+    requires actions { actions ≤ MOST_ACTIONS }
+    requires limit { limit ≤ 1000000 }
+    ensures { (history : Word) → tree.now ≡ tree_of (form_of expr.now) [] history
+        → actions ≡ length history
+        → Extends (form_of expr.now) limit history action.now result }
+{
+    let env = Env::new();
+    if !can(tree, expr, &env, action) {
+        return Err(PrepareFault::NotPartial);
+    }
+    if actions == MOST_ACTIONS {
+        return Err(PrepareFault::Full);
+    }
+    match step(alloc, tree, expr, &env, action, limit) {
+        Ok(tree) => Ok(tree),
+        Err(BuildFault::Over { limit }) => Err(PrepareFault::Over { limit }),
+        Err(BuildFault::Memory) => Err(PrepareFault::Memory),
+    }
+}
