@@ -21,5 +21,8 @@ pub use files::MemoryFiles;
 pub use sink::MemorySink;
 pub use site::MemorySite;
 
+/// The most numbers that can be added to those of a site's calls that fail.
+pub const MOST_ADDED: usize = 64;
+
 #[cfg(test)]
 mod tests;

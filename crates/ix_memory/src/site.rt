@@ -11,6 +11,7 @@ ghost use Rattle.ix_outside.specs.Event.{FitsBuffer};
 ghost use Rattle.ix_outside.specs.SiteState.{OnlyDisk, OnlyWire, OnlySend};
 ghost use Rattle.ix_memory.specs.inside.NextEvent.{next_event, then_coming};
 ghost use Rattle.ix_memory.specs.Plan.{fails_at, is_full};
+ghost use Rattle.ix_memory.specs.inside.Adding.{with_failing};
 ghost use Rattle.ix_memory.specs.inside.SentState.{with_heard};
 ghost use Rattle.ix_memory.specs.inside.MemorySiteState.{fresh_site, state_of, crashes_of, called};
 ghost use Rattle.ix_memory.specs.inside.MemorySiteState.{wire_failed, disk_failed, send_failed};
@@ -22,10 +23,10 @@ ghost use Rattle.ix_memory.specs.declared.past.Effect.TheVariants.{Synced, Attac
 ghost use Rattle.ix_memory.specs.lemmas.Lawful.{memory_is_lawful};
 
 use crate::events::Events;
-use crate::image;
 use crate::past::{Effect, Past};
 use crate::plan::{Fate, Plan};
 use crate::sent::Sent;
+use crate::{MOST_ADDED, image};
 use ix_outside::{DiskFailed, Event, Gone, Site, WireFailed};
 use std::alloc::{AllocError, Global};
 use std::marker::Model;
@@ -106,7 +107,7 @@ impl MemorySite {
         image.reserve(room)?;
         let records = room / LEAST_COST;
         Ok(MemorySite {
-            plan: Plan::new(fail, fuse, room),
+            plan: Plan::new(alloc, fail, fuse, room)?,
             events: Events::new(alloc, &events, records)?,
             sent: Sent::new(alloc, room, records)?,
             image,
@@ -118,6 +119,15 @@ impl MemorySite {
             wire: 0,
             send: 0,
         })
+    }
+
+    /// Lets the call of this number fail too, whether it is still to come or not. At most
+    /// `MOST_ADDED` numbers can be added. It takes no memory, and is no call of the trait.
+    pub fn fail_next(&mut self, call: u64)
+        requires { self.old.plan.added < MOST_ADDED }
+        ensures { self.new ≡ record self.old { plan = with_failing call self.old.plan } }
+    {
+        self.plan.fail_next(call);
     }
 
     /// How many calls of the trait were made, up to 2^64 - 1.

@@ -21,7 +21,8 @@ const UNOPENED: &[u8] = b"\x7FIXJ1\x00\x05a - b\x00";
 
 /// A site with this file, whose calls of these numbers fail. Call 0 attached the file.
 fn site_with(alloc: Global, file: &[u8], fail: &[u64]) -> Result<MemorySite, Fail>
-    ensures { IfOk result (λ site. site.attached ≡ true) }
+    ensures attached { IfOk result (λ site. site.attached ≡ true) }
+    ensures added { IfOk result (λ site. site.plan.added ≡ 0) }
 {
     let file = file.to_vec(alloc)?;
     let fail = fail.to_vec(alloc)?;
@@ -55,11 +56,20 @@ struct Told {
 }
 
 /// Starts on a file with the text of an expression.
-fn start_on(alloc: Global, file: &[u8], text: &[u8], fail: &[u64]) -> Result<Told, Fail>
+fn start_on(alloc: Global, file: &[u8], text: &[u8]) -> Result<Told, Fail>
     requires { length text.now < 65536 }
 {
-    let mut site = site_with(alloc, file, fail)?;
-    let (word, text, at) = match Store::start(alloc, &mut site, text) {
+    let mut site = site_with(alloc, file, &[])?;
+    start_at(alloc, &mut site, text)
+}
+
+/// Starts on the file of a site.
+fn start_at(alloc: Global, site: &mut MemorySite, text: &[u8]) -> Result<Told, Fail>
+    requires attached { site.old.attached ≡ true }
+    requires short { length text.now < 65536 }
+    ensures { site.new.attached ≡ true }
+{
+    let (word, text, at) = match Store::start(alloc, site, text) {
         Ok((store, history)) => {
             let word = if store.has_failed() {
                 "failed"
@@ -103,7 +113,7 @@ fn files_that_are_opened(rt: HostRuntime) -> Result<(), Fail> {
         ),
     ];
     for (file, history, then) in cases {
-        let told = start_on(rt.alloc(), file, b"a - b", &[])?;
+        let told = start_on(rt.alloc(), file, b"a - b")?;
         assert_eq!(rt; told.word, "opened", "{file:?}");
         assert!(rt; told.text.as_slice() == history, "the history of {file:?}");
         assert!(rt; told.file.as_slice() == then, "the file from {file:?}");
@@ -114,20 +124,65 @@ fn files_that_are_opened(rt: HostRuntime) -> Result<(), Fail> {
 #[test]
 fn files_that_are_refused(rt: HostRuntime) -> Result<(), Fail> {
     // The file, the text handed in, the answer, the text kept, and the place of damage.
-    let cases: [(&[u8], &[u8], &str, &[u8], usize); 5] = [
+    let cases: [(&[u8], &[u8], &str, &[u8], usize); 4] = [
         (b"#!/bin/sh", b"a - b", "foreign", b"", 0),
         (ONE, b"a - c", "other", b"a - b", 0),
         (UNOPENED, b"a", "other", b"a - b", 0),
-        (&ONE[..16], b"a - b", "damaged", b"", 13),
         // Another text is told before damage.
         (&ONE[..16], b"a - c", "other", b"a - b", 0),
     ];
     for (file, text, word, kept, at) in cases {
-        let told = start_on(rt.alloc(), file, text, &[])?;
+        let told = start_on(rt.alloc(), file, text)?;
         assert_eq!(rt; told.word, word, "{file:?}");
         assert!(rt; told.text.as_slice() == kept, "the text kept by {file:?}");
         assert_eq!(rt; told.at, at, "{file:?}");
         assert!(rt; told.file.as_slice() == file, "the file from {file:?}");
+    }
+    Ok(())
+}
+
+#[test]
+fn each_front_of_a_journal(rt: HostRuntime) -> Result<(), Fail> {
+    for length in 0..18 {
+        let told = start_on(rt.alloc(), &ONE[..length], b"a - b")?;
+        let (word, at, history): (&str, usize, &[u8]) = match length {
+            0 | 1 => ("opened", 0, b""),
+            2..=12 => ("foreign", 0, b""),
+            13..=16 => ("damaged", 13, b""),
+            _ => ("opened", 0, b"a "),
+        };
+        assert_eq!(rt; told.word, word, "of length {length}");
+        assert_eq!(rt; told.at, at, "of length {length}");
+        assert!(rt; told.text.as_slice() == history, "of length {length}");
+    }
+    Ok(())
+}
+
+/// Starts on a file where the call of this number fails, and then once more. Gives what the last
+/// start told, which is the first one where it made fewer calls.
+fn start_again(alloc: Global, file: &[u8], call: u64) -> Result<Told, Fail> {
+    let mut site = site_with(alloc, file, &[])?;
+    site.fail_next(call);
+    let told = start_at(alloc, &mut site, b"a - b")?;
+    if site.calls() <= call {
+        return Ok(told);
+    }
+    if told.word != "disk" {
+        return Err("not refused".into());
+    }
+    start_at(alloc, &mut site, b"a - b")
+}
+
+#[test]
+fn a_start_that_failed_is_made_again(rt: HostRuntime) -> Result<(), Fail> {
+    // The file, and the history. A start makes 5, 8 and 11 calls.
+    let cases: [(&[u8], &[u8]); 3] = [(ONE, b"a "), (b"", b""), (UNOPENED, b"")];
+    for (file, history) in cases {
+        for call in 1..12 {
+            let told = start_again(rt.alloc(), file, call)?;
+            assert_eq!(rt; told.word, "opened", "call {call} of {file:?}");
+            assert!(rt; told.text.as_slice() == history, "call {call} of {file:?}");
+        }
     }
     Ok(())
 }
@@ -183,14 +238,14 @@ fn appended_actions_are_in_the_journal(rt: HostRuntime) -> Result<(), Fail> {
     let went = append_both(rt.alloc(), &mut site, &action(b"a")?, &action(b"b")?)?;
     assert_eq!(rt; went, Went::AppendedBoth);
     assert!(rt; site.image() == BOTH);
-    let told = start_on(rt.alloc(), site.image(), b"a - b", &[])?;
+    let told = start_on(rt.alloc(), site.image(), b"a - b")?;
     assert!(rt; told.text.as_slice() == b"a b ".as_slice());
     Ok(())
 }
 
 #[test]
 fn each_call_of_the_disk_fails_in_turn(rt: HostRuntime) -> Result<(), Fail> {
-    for file in [b"".as_slice(), UNOPENED, b"\x00IXJ", EMPTY] {
+    for file in [b"".as_slice(), b"\x00IXJ", EMPTY] {
         for number in 1..24 {
             let mut site = site_with(rt.alloc(), file, &[number])?;
             let went = append_both(rt.alloc(), &mut site, &action(b"a")?, &action(b"b")?)?;
@@ -211,7 +266,7 @@ fn each_call_of_the_disk_fails_in_turn(rt: HostRuntime) -> Result<(), Fail> {
                 }
                 Went::AppendedBoth => [b"a b ", b"a b "],
             };
-            let told = start_on(rt.alloc(), site.image(), b"a - b", &[])?;
+            let told = start_on(rt.alloc(), site.image(), b"a - b")?;
             assert_eq!(rt; told.word, "opened", "call {number}");
             assert!(rt; histories.contains(&told.text.as_slice()), "call {number}");
         }
