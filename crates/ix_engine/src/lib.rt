@@ -1,4 +1,5 @@
-//! The engine: the confirmed actions of one expression, and the one tree that tells what may come next.
+//! The engine: the confirmed actions of one expression, and the one tree that tells what may come
+//! next.
 #![tactic(auto)]
 
 mod engine;

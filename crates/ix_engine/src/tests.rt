@@ -39,8 +39,8 @@ struct Seen {
     is_complete: bool,
 }
 
-/// Asks for an action and confirms it where it is granted: `y`, `n` where it is not partial, `l` where it is too large, and
-/// `?` where `may` or `permitted` says something else.
+/// Asks for an action and confirms it where it is granted: `y`, `n` where it is not partial, `l`
+/// where it is too large, and `?` where `may` or `permitted` says something else.
 fn ask(alloc: Global, engine: &mut Engine, text: &[u8]) -> Result<u8, Fail> {
     let action = action(text)?;
     let may = engine.may(&action);

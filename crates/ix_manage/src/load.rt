@@ -9,7 +9,8 @@ ghost use Rattle.ix_outside.specs.Files.{HasFile};
 ghost use Rattle.ix_lines.specs.TextLines.{lines_of};
 ghost use Rattle.ix_outside.specs.Contents.{GivenEvent};
 ghost use Rattle.ix_script.specs.Events.{HasEvents};
-ghost use Rattle.ix_manage.specs.inside.Refusal.{IsBadScript, RefusesActions, RefusesExpression, RefusesScript, RefusesText};
+ghost use Rattle.ix_manage.specs.inside.Refusal.{IsBadScript, RefusesActions, RefusesExpression};
+ghost use Rattle.ix_manage.specs.inside.Refusal.{RefusesScript, RefusesText};
 ghost use Rattle.ix_manage.specs.Trace.{ReadsForm};
 
 use crate::actions::{ActionLines, MOST_BYTES as MOST_ACTIONS_BYTES};

@@ -4,7 +4,8 @@ ghost use Rattle.ix_cli.specs.Commands.{most_turns};
 ghost use Rattle.ix_script.specs.inside.Site.{playing};
 ghost use Rattle.ix_manage.specs.inside.Leaves.{FailedWhere, IsNoLoss};
 ghost use Rattle.ix_manage.specs.inside.ReplayProgress.{FitsDisk, IsAtStart, IsBetween};
-ghost use Rattle.ix_manage.specs.inside.ReplayProgress.{OnlyPlays, TakesEvents, TakesTurn, between, player};
+ghost use Rattle.ix_manage.specs.inside.ReplayProgress.{OnlyPlays, TakesEvents, TakesTurn, between};
+ghost use Rattle.ix_manage.specs.inside.ReplayProgress.{player};
 ghost use Rattle.ix_manage.specs.inside.Turns.{IsStarted};
 
 use crate::refusal::Refusal;

@@ -1,7 +1,9 @@
 //! Laws of the protocol machine's table and of its runs.
 ghost use Rattle.ix_manager.specs.ImageLaws.{KeptImagesAreStartable, RunsStayWithin};
-ghost use Rattle.ix_manager.specs.MachineLaws.{OnlySomeWantMemory, OpenTicketsAreConfirmed, PollsTellWhatChanged};
-ghost use Rattle.ix_manager.specs.RunLaws.{AnyCuttingGivesTheSameRun, CallsMakeARun, SentRepliesAreTheWire, UnmarkedRepliesAreTheText};
+ghost use Rattle.ix_manager.specs.MachineLaws.{OnlySomeWantMemory, OpenTicketsAreConfirmed};
+ghost use Rattle.ix_manager.specs.MachineLaws.{PollsTellWhatChanged};
+ghost use Rattle.ix_manager.specs.RunLaws.{AnyCuttingGivesTheSameRun, CallsMakeARun};
+ghost use Rattle.ix_manager.specs.RunLaws.{SentRepliesAreTheWire, UnmarkedRepliesAreTheText};
 
 /// A confirm with the ticket of the open reservation is confirmed: its action joins the history,
 /// and the slot is free.
@@ -14,8 +16,8 @@ pub fn only_some_want_memory()
     ensures { OnlySomeWantMemory }
 {}
 
-/// Unless memory runs out, a poll tells exactly the watches of its name for which whether the action
-/// is allowed isn't what was told, in order, behind their number.
+/// Unless memory runs out, a poll tells exactly the watches of its name for which whether the
+/// action is allowed isn't what was told, in order, behind their number.
 pub fn polls_tell_what_changed()
     ensures { PollsTellWhatChanged }
 {}

@@ -80,9 +80,12 @@ impl Machine {
     ) -> Result<Machine, BuildFault>
         requires least { 1 ≤ limit }
         requires most { limit ≤ 1000000 }
-        ensures starts { IfOk result (λ m. m ≡ record { form = expression; limit = limit; state = start_of []; noted = [] }) }
+        ensures starts { IfOk result
+            (λ m. m
+            ≡ record { form = expression; limit = limit; state = start_of []; noted = [] }) }
         ensures within { OnOk result (tree_size expression [] ≤ limit) }
-        ensures over { (l : ℕ) → result ≡ Err (BuildFault.Over l) → (l ≡ limit) × (limit < tree_size expression []) }
+        ensures over { (l : ℕ) → result ≡ Err (BuildFault.Over l)
+            → (l ≡ limit) × (limit < tree_size expression []) }
     {
         match Engine::new(alloc, expression, limit) {
             Ok(engine) => Ok(Machine {

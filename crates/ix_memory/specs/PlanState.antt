@@ -2,8 +2,8 @@
 use Rattle.std.specs.Prelude.{ℕ, List, Option, Some}
 use Rattle.ix_memory.specs.Calls.{CallList}
 
--- which calls fail by their number, how many of these numbers were added later, how many calls pass before all fail, and
--- the room that is left; no room once it was passed
+-- which calls fail by their number, how many of these numbers were added later, how many calls pass
+-- before all fail, and the room that is left; no room once it was passed
 pub record PlanState : Type 0 where
   pub calls : CallList
   pub added : ℕ

@@ -28,10 +28,12 @@ pub(crate) struct Cursor<'a> {
 }
 
 impl<'a> Cursor<'a> {
-    ghost use Rattle.std.specs.Prelude.{◌≤◌, ◌++◌, ◌∷◌, [], ℕ, min, Some, true, false, Bool, length, take, drop, MatchBool, MatchOption};
+    ghost use Rattle.std.specs.Prelude.{◌≤◌, ◌++◌, ◌∷◌, [], ℕ, min, Some, true, false, Bool};
+    ghost use Rattle.std.specs.Prelude.{length, take, drop, MatchBool, MatchOption};
     ghost use Rattle.ix_outside.specs.Contents.{piece_of};
     ghost use Rattle.ix_outside.specs.Event.{FitsBuffer};
-    ghost use Rattle.ix_script.specs.inside.Cursor.{open_bytes, later_events, left_of, IsBegun, IsBare};
+    ghost use Rattle.ix_script.specs.inside.Cursor.{open_bytes, later_events, left_of, IsBegun};
+    ghost use Rattle.ix_script.specs.inside.Cursor.{IsBare};
     ghost use Rattle.ix_script.specs.Events.{closed_event};
     ghost use Rattle.ix_script.specs.Pieces.{left_after};
     ghost use Rattle.ix_script.specs.inside.NextPiece.{next_piece};
@@ -55,7 +57,8 @@ impl<'a> Cursor<'a> {
     pub(crate) fn next(&mut self, buf: &mut [u8]) -> Event
         requires { 0 < length buf.old }
         ensures fits { FitsBuffer (length buf.old) result }
-        ensures next { next_piece (length buf.old) (left_of self.old) ≡ Some (record { event = result; bytes = piece_of result.kind buf.new }) }
+        ensures next { next_piece (length buf.old) (left_of self.old)
+            ≡ Some (record { event = result; bytes = piece_of result.kind buf.new }) }
         ensures left { left_of self.new ≡ left_after (length buf.old) (left_of self.old) }
         ensures bytes { self.new.bytes ≡ self.old.bytes }
     {
@@ -71,7 +74,8 @@ impl<'a> Cursor<'a> {
     /// Begins the next line where none is open. An event without bytes is answered at once, and
     /// None where bytes are to come.
     fn begin(&mut self) -> Option<Event>
-        ensures begun { MatchOption result (IsBegun self.old self.new) (λ event. IsBare self.old event self.new) }
+        ensures begun { MatchOption result (IsBegun self.old self.new)
+            (λ event. IsBare self.old event self.new) }
         ensures bytes { self.new.bytes ≡ self.old.bytes }
     {
         if !self.text.is_empty() || self.line_end {
@@ -107,7 +111,8 @@ impl<'a> Cursor<'a> {
         requires more { 0 < length self.old.rest.now }
         ensures begun { MatchBool result
             (IsBegun self.old self.new)
-            ((left_of self.old ≡ closed_event self.new.moment self.new.conn ∷ left_of self.new) × (open_bytes self.new ≡ [])) }
+            ((left_of self.old ≡ closed_event self.new.moment self.new.conn ∷ left_of self.new)
+            × (open_bytes self.new ≡ [])) }
         ensures bytes { self.new.bytes ≡ self.old.bytes }
     {
         let first = first_line(self.rest);

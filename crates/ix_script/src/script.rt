@@ -39,7 +39,8 @@ impl<'a> Script<'a> {
     /// The script of these bytes, which it keeps lent, or its first fault. Takes no memory.
     pub fn read(bytes: &'a [u8]) -> Result<Script<'a>, ScriptFault>
         ensures same { IfOk result (λ script. script ≡ bytes.now) }
-        ensures events { IfOk result (λ script. (events : List GivenEvent) × HasEvents bytes.now events) }
+        ensures events { IfOk result
+            (λ script. (events : List GivenEvent) × HasEvents bytes.now events) }
         ensures fault { IfErr result (λ fault. IsFirstScriptFault bytes.now fault.code fault.at) }
     {
         match first_fault::<ScriptLines>(bytes) {

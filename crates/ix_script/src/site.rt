@@ -20,7 +20,9 @@ pub struct ScriptSite<'a, S, K> {
     pub(crate) site: &'a mut S,
     pub(crate) sink: &'a mut K,
     pub(crate) sink_failed: bool,
-    ghost place: { left_by rooms.items (events_of cursor.bytes.now) ≡ left_of cursor } by { events_equal (left_by rooms.items (events_of cursor.bytes.now)) (left_of cursor) },
+    ghost place: { left_by rooms.items (events_of cursor.bytes.now)
+        ≡ left_of cursor } by { events_equal (left_by rooms.items (events_of cursor.bytes.now))
+            (left_of cursor) },
 }
 
 impl<'a, S: Site, K: Sink> ScriptSite<'a, S, K> {

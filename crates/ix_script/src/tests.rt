@@ -39,7 +39,8 @@ impl Sink for Page {
     }
 }
 
-// No connection and a file of seven bytes, which takes nothing: each call but those that only look fails.
+// No connection and a file of seven bytes, which takes nothing: each call but those that only look
+// fails.
 #[derive(Drop)]
 struct Idle {
     attached: bool,
@@ -366,7 +367,8 @@ fn answer<S: Site>(site: &mut S)
     let _ = site.send(0, b"yes\n");
 }
 
-// Takes so many events with a buffer of four bytes, and lends the site to another behind each. They are the script's first pieces.
+// Takes so many events with a buffer of four bytes, and lends the site to another behind each. They
+// are the script's first pieces.
 fn take_events<S: Site, K: Sink>(site: &mut ScriptSite<'_, S, K>, count: usize)
     requires { (playing site.old).given ≡ [] }
     ensures given { (events : List GivenEvent) → HasEvents (playing site.old).script events

@@ -32,9 +32,9 @@ use ix_tree::{Knot, Node};
 
 /// The moved tree, dead where the action may not come next.
 ///
-/// That is asked before the parts are moved only of an atom and of the forms of which each part must
-/// move: there a part may be above the limit while another is dead. A node of any other form is dead
-/// exactly where none of its moved parts is live.
+/// That is asked before the parts are moved only of an atom and of the forms of which each part
+/// must move: there a part may be above the limit while another is dead. A node of any other form
+/// is dead exactly where none of its moved parts is live.
 #[cycle(advance)]
 pub(crate) fn advance(step: Step, expr: &Expr, tree: &Knot) -> Result<Knot, Unbuilt>
     requires { Ready (form_of expr.now) step.env.now tree.now }
@@ -131,8 +131,8 @@ fn advance_node(step: Step, expr: &Expr, tree: &Knot) -> Result<Knot, Unbuilt>
 #[cycle(advance)]
 pub(crate) fn advance_inside(step: Step, expr: &Expr, tree: &Knot) -> Result<Knot, Unbuilt>
     requires ready { Ready (form_of expr.now) step.env.now tree.now }
-    requires may { moves_within (in_alphabet (form_of expr.now) step.env.now step.action.now) (may
-        (form_of expr.now) step.env.now tree.now step.action.now) ≡ true }
+    requires may { moves_within (in_alphabet (form_of expr.now) step.env.now step.action.now)
+        (may (form_of expr.now) step.env.now tree.now step.action.now) ≡ true }
     ensures { Makes step.entry.limit (moved_inside (in_alphabet (form_of expr.now)
         step.entry.env.now step.entry.action.now) (moved (form_of expr.now) step.entry.env.now
         tree.now step.entry.action.now) tree.now) result }
@@ -146,8 +146,8 @@ pub(crate) fn advance_inside(step: Step, expr: &Expr, tree: &Knot) -> Result<Kno
 /// Beside the moved alternatives for z stands one more where the first part is final: z may begin.
 #[cycle(advance)]
 fn advance_seq(step: Step, y: &Expr, z: &Expr, first: &Knot, rest: &[Knot]) -> Result<Knot, Unbuilt>
-    requires { Ready (seq (form_of y.now) (form_of z.now)) step.env.now (seq_of first.now (listed
-        rest.now)) }
+    requires { Ready (seq (form_of y.now) (form_of z.now)) step.env.now
+        (seq_of first.now (listed rest.now)) }
     ensures { Makes step.entry.limit (pruned (moved_node (seq (form_of y.now) (form_of z.now))
         step.entry.env.now (seq_of first.now (listed rest.now)) step.entry.action.now)) result }
 {

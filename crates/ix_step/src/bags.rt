@@ -37,8 +37,8 @@ fn put_bag(set: &mut AltSet<Bag>, tree: Knot, others: Vec<Knot>) -> Result<(), U
     requires small { size_of tree + size_of (listed others.items) ≤ 2000000 }
     requires rising { IsRising others.items }
     requires within { size_of (listed (map plain_bag set.old.items)) ≤ set.old.budget }
-    ensures gathers { Gathers set.old.budget (bag (listed (put_in tree others.items)) ∷ []) (map
-        plain_bag set.old.items) (map plain_bag set.new.items) result }
+    ensures gathers { Gathers set.old.budget (bag (listed (put_in tree others.items)) ∷ [])
+        (map plain_bag set.old.items) (map plain_bag set.new.items) result }
     ensures within { size_of (listed (map plain_bag set.new.items)) ≤ set.old.budget }
     ensures budget { set.new.budget ≡ set.old.budget }
 {

@@ -1,4 +1,5 @@
-//! The two calls: the tree of the empty word, and the step to the tree of a word with one more action.
+//! The two calls: the tree of the empty word, and the step to the tree of a word with one more
+//! action.
 
 ghost use Rattle.std.specs.Prelude.{◌≡◌, ◌≤◌, ◌++◌, ◌∷◌, [], true};
 ghost use Rattle.ix_values.specs.PlainAction.{Word};

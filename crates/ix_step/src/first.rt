@@ -57,8 +57,10 @@ fn first_seq(y: &Expr, z: &Expr, alloc: Global) -> Result<Knot, AllocError>
     requires first { size_of (initial_tree (form_of y.now)) ≤ 1000000 }
     requires second { accepts (form_of y.now) ≡ true → size_of (initial_tree (form_of z.now)) ≤
         1000000 }
-    ensures { IfOk result (λ t. t ≡ seq (initial_tree (form_of y.now)) (listed (when (accepts
-        (form_of y.now)) (initial_tree (form_of z.now) ∷ [])))) }
+    ensures { IfOk result
+        (λ t. t
+        ≡ seq (initial_tree (form_of y.now))
+        (listed (when (accepts (form_of y.now)) (initial_tree (form_of z.now) ∷ [])))) }
 {
     let first = first_tree(y, alloc)?;
     let mut rest = Vec::new(alloc);

@@ -1,4 +1,5 @@
-//! The tree of the empty word, and the step from the tree of a word to that of the word with one more action.
+//! The tree of the empty word, and the step from the tree of a word to that of the word with one
+//! more action.
 #![tactic(auto)]
 
 mod advance;

@@ -16,7 +16,8 @@ ghost use Rattle.ix_step.specs.inside.Makes.{Makes, Collects, Gathers, IsOver, p
 ghost use Rattle.ix_step.specs.inside.MovedNode.{moved_node};
 ghost use Rattle.ix_step.specs.inside.Pruned.{pruned};
 ghost use Rattle.ix_step.specs.inside.Ready.{Ready};
-ghost use Rattle.ix_step.specs.inside.MapsAfter.{HoldsWell, ReadyToBegin, begun_tree, map_after, maps_after, with_tree};
+ghost use Rattle.ix_step.specs.inside.MapsAfter.{HoldsWell, ReadyToBegin, begun_tree, map_after};
+ghost use Rattle.ix_step.specs.inside.MapsAfter.{maps_after, with_tree};
 
 use crate::advance::advance;
 use crate::bodies::Body;
@@ -35,11 +36,12 @@ use std::alloc::{AllocError, Global};
 
 #[cycle(advance)]
 pub(crate) fn advance_all(step: Step, body: Body, maps: &[Map]) -> Result<Knot, Unbuilt>
-    requires { Ready (all body.parameter.now (form_of body.expr.now)) step.env.now (all_of (listed
-        (map plain_map maps.now))) }
-    ensures { Makes step.entry.limit (pruned (moved_node (all body.entry.parameter.now (form_of
-        body.entry.expr.now)) step.entry.env.now (all_of (listed (map plain_map maps.now)))
-        step.entry.action.now)) result }
+    requires { Ready (all body.parameter.now (form_of body.expr.now)) step.env.now
+        (all_of (listed (map plain_map maps.now))) }
+    ensures { Makes step.entry.limit
+        (pruned
+        (moved_node (all body.entry.parameter.now (form_of body.entry.expr.now)) step.entry.env.now
+        (all_of (listed (map plain_map maps.now))) step.entry.action.now)) result }
 {
     let first = first_tree(body.expr, step.alloc)?;
     let set = advance_maps(step, body, &first, maps)?;
@@ -50,13 +52,14 @@ pub(crate) fn advance_all(step: Step, body: Body, maps: &[Map]) -> Result<Knot, 
 /// is the tree of the empty word.
 #[cycle(advance)]
 fn advance_maps(step: Step, body: Body, first: &Knot, maps: &[Map]) -> Result<AltSet<Map>, Unbuilt>
-    requires ready { ReadyToBegin body.parameter.now (form_of body.expr.now) step.env.now first.now }
+    requires ready { ReadyToBegin body.parameter.now
+        (form_of body.expr.now) step.env.now first.now }
     requires held { Each (HoldsWell (form_of body.expr.now) first.now) (map plain_map maps.now) }
     ensures { Collects (map plain_map) step.entry.limit
-        (flat_map (maps_after body.entry.parameter.now (form_of body.entry.expr.now)
-        step.entry.env.now step.entry.action.now first.now step.entry.action.now.values) (map
-        plain_map maps.now))
-        result }
+        (flat_map
+        (maps_after body.entry.parameter.now
+        (form_of body.entry.expr.now) step.entry.env.now step.entry.action.now first.now
+        step.entry.action.now.values) (map plain_map maps.now)) result }
 {
     let mut set = AltSet::new(step.alloc, step.limit);
     for state in maps {
@@ -73,7 +76,8 @@ fn advance_owners(
     state: &Map,
     set: &mut AltSet<Map>,
 ) -> Result<(), Unbuilt>
-    requires ready { ReadyToBegin body.parameter.now (form_of body.expr.now) step.env.now first.now }
+    requires ready { ReadyToBegin body.parameter.now
+        (form_of body.expr.now) step.env.now first.now }
     requires held { HoldsWell (form_of body.expr.now) first.now (plain_map state.now) }
     requires budget { set.old.budget ≡ step.limit }
     requires within { size_of (listed (map plain_map set.old.items)) ≤ step.limit }
@@ -91,10 +95,10 @@ fn advance_owners(
     Ok(())
 }
 
-/// A value that has no entry begins: it moves from the tree of the empty word. A value that the body
-/// doesn't see can't move, since each atom names the parameter. A moved tree that
-/// equals that one leaves no entry, so its Size must not count: it is built within the larger of
-/// the limit and that Size.
+/// A value that has no entry begins: it moves from the tree of the empty word. A value that the
+/// body doesn't see can't move, since each atom names the parameter. A moved tree that equals that
+/// one leaves no entry, so its Size must not count: it is built within the larger of the limit and
+/// that Size.
 #[cycle(advance)]
 fn advance_owner(
     step: Step,
@@ -103,15 +107,22 @@ fn advance_owner(
     state: &Map,
     value: &Value,
 ) -> Result<Knot, Unbuilt>
-    requires ready { ReadyToBegin body.parameter.now (form_of body.expr.now) step.env.now first.now }
+    requires ready { ReadyToBegin body.parameter.now
+        (form_of body.expr.now) step.env.now first.now }
     requires held { HoldsWell (form_of body.expr.now) first.now (plain_map state.now) }
     ensures { MatchResult result
-        (λ tree. (tree ≡ begun_tree body.entry.parameter.now (form_of body.entry.expr.now)
-        step.entry.env.now step.entry.action.now first.now (plain_map state.now) value.now) ×
-        (size_of tree ≤ 1000000))
-        (λ fault. (old : List Plain) → IsOver step.entry.limit (listed (put_all (map_after
-        body.entry.parameter.now (form_of body.entry.expr.now) step.entry.env.now
-        step.entry.action.now first.now (plain_map state.now) value.now) old)) fault) }
+        (λ tree.
+        (tree
+        ≡ begun_tree body.entry.parameter.now
+        (form_of body.entry.expr.now) step.entry.env.now step.entry.action.now first.now
+        (plain_map state.now) value.now) × (size_of tree ≤ 1000000))
+        (λ fault. (old : List Plain)
+        → IsOver step.entry.limit
+        (listed
+        (put_all
+        (map_after body.entry.parameter.now
+        (form_of body.entry.expr.now) step.entry.env.now step.entry.action.now first.now
+        (plain_map state.now) value.now) old)) fault) }
 {
     if !sees(body.expr, body.parameter, value, step.action) {
         return dead_knot(step);
@@ -138,8 +149,8 @@ fn larger(a: usize, b: usize) -> usize
 /// The state of the value, or the first tree where the value has no live one.
 fn or_first<'a>(entries: &'a [(Value, Knot)], first: &'a Knot, value: &Value) -> &'a Knot
     requires { KeysAscend text_cmp entries.now }
-    ensures { result.now ≡ or_initial first.now (tree_at value.now dead (items_of (plain_entries
-        entries.now))) }
+    ensures { result.now
+        ≡ or_initial first.now (tree_at value.now dead (items_of (plain_entries entries.now))) }
 {
     match state_of(entries, value) {
         Some(state) if !state.is_dead() => state,
@@ -159,8 +170,8 @@ fn put_owner(
     requires held { (y : Form) × HoldsWell y first.now (plain_map state.now) }
     requires small { size_of tree ≤ 1000000 }
     requires within { size_of (listed (map plain_map set.old.items)) ≤ set.old.budget }
-    ensures gathers { Gathers set.old.budget (map_with first.now value tree (items_of (first_part
-        (plain_map state.now))))
+    ensures gathers { Gathers set.old.budget
+        (map_with first.now value tree (items_of (first_part (plain_map state.now))))
         (map plain_map set.old.items) (map plain_map set.new.items) result }
     ensures within { size_of (listed (map plain_map set.new.items)) ≤ set.old.budget }
     ensures budget { set.new.budget ≡ set.old.budget }
@@ -180,8 +191,9 @@ fn map_beside(
     alloc: Global,
 ) -> Result<Map, AllocError>
     requires held { (y : Form) × HoldsWell y first.now (plain_map state.now) }
-    ensures { IfOk result (λ m. plain_map m ≡ with_tree first.now value tree (items_of (first_part
-        (plain_map state.now)))) }
+    ensures { IfOk result
+        (λ m. plain_map m
+        ≡ with_tree first.now value tree (items_of (first_part (plain_map state.now)))) }
 {
     let mut entries = share_entries(alloc, &state.entries)?;
     put(&mut entries, first, value, tree)?;

@@ -38,8 +38,8 @@ fn put_left(set: &mut AltSet<Pair>, first: Knot, right: &Knot) -> Result<(), Unb
     requires first { size_of first ≤ 1000000 }
     requires right { size_of right.now ≤ 1000000 }
     requires within { size_of (listed (map plain_pair set.old.items)) ≤ set.old.budget }
-    ensures gathers { Gathers set.old.budget (when (is_live first) (pair first right.now ∷ [])) (map
-        plain_pair set.old.items) (map plain_pair set.new.items) result }
+    ensures gathers { Gathers set.old.budget (when (is_live first) (pair first right.now ∷ []))
+        (map plain_pair set.old.items) (map plain_pair set.new.items) result }
     ensures within { size_of (listed (map plain_pair set.new.items)) ≤ set.old.budget }
     ensures budget { set.new.budget ≡ set.old.budget }
 {

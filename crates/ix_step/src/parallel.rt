@@ -11,7 +11,8 @@ ghost use Rattle.ix_can.specs.Laws.{IsRising};
 ghost use Rattle.ix_step.specs.inside.Makes.{Makes, Collects, Gathers};
 ghost use Rattle.ix_step.specs.inside.MovedNode.{moved_node};
 ghost use Rattle.ix_step.specs.inside.Moves.{begun};
-ghost use Rattle.ix_step.specs.inside.ParallelMoves.{pair_moves, pick_move, pick_moves, bag_moves, IsReadyPair, IsReadyBag, IsRepeat};
+ghost use Rattle.ix_step.specs.inside.ParallelMoves.{pair_moves, pick_move, pick_moves, bag_moves};
+ghost use Rattle.ix_step.specs.inside.ParallelMoves.{IsReadyPair, IsReadyBag, IsRepeat};
 ghost use Rattle.ix_step.specs.inside.Pruned.{pruned};
 ghost use Rattle.ix_step.specs.inside.Ready.{Ready};
 
@@ -28,8 +29,8 @@ use ix_tree::{Bag, Knot, Node, Pair};
 
 #[cycle(advance)]
 pub(crate) fn advance_par(step: Step, y: &Expr, z: &Expr, pairs: &[Pair]) -> Result<Knot, Unbuilt>
-    requires { Ready (par (form_of y.now) (form_of z.now)) step.env.now (par_of (listed (map
-        plain_pair pairs.now))) }
+    requires { Ready (par (form_of y.now) (form_of z.now)) step.env.now
+        (par_of (listed (map plain_pair pairs.now))) }
     ensures { Makes step.entry.limit (pruned (moved_node (par (form_of y.now) (form_of z.now))
         step.entry.env.now (par_of (listed (map plain_pair pairs.now))) step.entry.action.now))
         result }
@@ -44,7 +45,8 @@ fn advance_pairs(step: Step, y: &Expr, z: &Expr, pairs: &[Pair]) -> Result<AltSe
         pairs.now) }
     requires small { Each (λ p. size_of p ≤ 1000000) (map plain_pair pairs.now) }
     ensures { Collects (map plain_pair) step.entry.limit (flat_map (pair_moves (form_of y.now)
-        (form_of z.now) step.entry.env.now step.entry.action.now) (map plain_pair pairs.now)) result }
+        (form_of z.now) step.entry.env.now step.entry.action.now) (map plain_pair
+        pairs.now)) result }
 {
     let mut set = AltSet::new(step.alloc, step.limit);
     for pair in pairs {
@@ -131,9 +133,10 @@ fn advance_pick(
     requires place { place < length items.now }
     requires budget { set.old.budget ≡ step.limit }
     requires within { size_of (listed (map plain_bag set.old.items)) ≤ step.limit }
-    ensures gathers { Gathers step.entry.limit (pick_move (form_of y.now) step.entry.env.now
-        step.entry.action.now (item.now, remove items.now place)) (map plain_bag set.old.items) (map
-        plain_bag set.new.items) result }
+    ensures gathers { Gathers step.entry.limit
+        (pick_move (form_of y.now) step.entry.env.now step.entry.action.now
+        (item.now, remove items.now place)) (map plain_bag set.old.items)
+        (map plain_bag set.new.items) result }
     ensures within { size_of (listed (map plain_bag set.new.items)) ≤ step.entry.limit }
     ensures budget { set.new.budget ≡ step.entry.limit }
 {

@@ -13,7 +13,9 @@ ghost use Rattle.ix_can.specs.Tests.{in_alphabet};
 ghost use Rattle.ix_step.specs.declared.bodies.Reach.TheVariants.{OwnAlphabet};
 ghost use Rattle.ix_step.specs.inside.Makes.{Makes};
 ghost use Rattle.ix_step.specs.inside.MovedNode.{moved_node};
-ghost use Rattle.ix_step.specs.inside.ValueTrees.{ReadyInside, part_may, EachMay, moved_part, common_after, entries_after, MakesEntries, MakesParts, MakesOwn};
+ghost use Rattle.ix_step.specs.inside.ValueTrees.{ReadyInside, part_may, EachMay, moved_part};
+ghost use Rattle.ix_step.specs.inside.ValueTrees.{common_after, entries_after, MakesEntries};
+ghost use Rattle.ix_step.specs.inside.ValueTrees.{MakesParts, MakesOwn};
 
 use crate::advance::{advance, advance_asked, advance_inside};
 use crate::bodies::{Body, Reach};
@@ -88,8 +90,8 @@ fn advance_entries(
     Ok(built)
 }
 
-/// The moved tree of `sync`. Where outside isn't in the alphabet, the common state stays, and of the
-/// values only the action's own may move.
+/// The moved tree of `sync`. Where outside isn't in the alphabet, the common state stays, and of
+/// the values only the action's own may move.
 #[cycle(advance)]
 pub(crate) fn advance_sync(
     step: Step,
