@@ -153,7 +153,7 @@ fn advance_seq(step: Step, y: &Expr, z: &Expr, first: &Knot, rest: &[Knot]) -> R
 {
     let first = advance(step, y, first)?;
     let mut set = advance_each(step, z, rest)?;
-    put_first(&mut set, completes(y, &first), z, step.alloc)?;
+    put_first(step.alloc, &mut set, completes(y, &first), z)?;
     within_if_live(step, Node::Seq(first, set.into_items()))
 }
 

@@ -24,7 +24,7 @@ fn place_of(tree: &Knot, others: &[Knot]) -> usize
     others.partition_point(|other| tree.cmp(other).is_gt())
 }
 
-fn others_of(items: &[Knot], place: usize, alloc: Global) -> Result<Vec<Knot>, AllocError>
+fn others_of(alloc: Global, items: &[Knot], place: usize) -> Result<Vec<Knot>, AllocError>
     requires { place < length items.now }
     ensures { IfOk result (λ v. v.items ≡ remove items.now place) }
 {
@@ -52,11 +52,11 @@ fn put_bag(set: &mut AltSet<Bag>, tree: Knot, others: Vec<Knot>) -> Result<(), U
 
 /// The bag with the tree at the place moved. A dead tree gives no bag.
 pub(crate) fn put_moved(
+    alloc: Global,
     set: &mut AltSet<Bag>,
     tree: Knot,
     items: &[Knot],
     place: usize,
-    alloc: Global,
 ) -> Result<(), Unbuilt>
     requires tree { size_of tree ≤ 1000000 }
     requires items { size_of (listed items.now) ≤ 1000000 }
@@ -71,16 +71,16 @@ pub(crate) fn put_moved(
     if tree.is_dead() {
         return Ok(());
     }
-    let others = others_of(items, place, alloc)?;
+    let others = others_of(alloc, items, place)?;
     put_bag(set, tree, others)
 }
 
 /// The bag with one run more, whose tree is `more`. A dead tree gives no bag.
 pub(crate) fn put_more(
+    alloc: Global,
     set: &mut AltSet<Bag>,
     more: &Knot,
     items: &[Knot],
-    alloc: Global,
 ) -> Result<(), Unbuilt>
     requires more { size_of more.now ≤ 1000000 }
     requires items { size_of (listed items.now) ≤ 1000000 }

@@ -70,7 +70,7 @@ fn advance_whole(step: Step, expr: &Expr) -> Result<Knot, Unbuilt>
     if is_refused(step, expr) {
         return dead_knot(step);
     }
-    let tree = first_tree(expr, step.alloc)?;
+    let tree = first_tree(step.alloc, expr)?;
     advance(step, expr, &tree)
 }
 

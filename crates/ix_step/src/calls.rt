@@ -68,7 +68,7 @@ fn first_within(alloc: Global, expr: &Expr, limit: usize) -> Result<Knot, Unbuil
     requires { (e : Environment) × Fits (form_of expr.now) e }
     ensures { Makes limit (tree_of (form_of expr.now) [] []) result }
 {
-    let tree = first_tree(expr, alloc)?;
+    let tree = first_tree(alloc, expr)?;
     bounded(tree, limit)
 }
 

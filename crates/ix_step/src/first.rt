@@ -15,45 +15,45 @@ use std::alloc::{AllocError, Global};
 /// The tree of the empty word, whatever its Size. The flag of `?y` says that nothing has happened,
 /// and that of `*y` that a run may begin.
 #[cycle(first)]
-pub(crate) fn first_tree(expr: &Expr, alloc: Global) -> Result<Knot, AllocError>
+pub(crate) fn first_tree(alloc: Global, expr: &Expr) -> Result<Knot, AllocError>
     requires { size_of (initial_tree (form_of expr.now)) ≤ 1000000 }
     ensures { IfOk result (λ t. t ≡ initial_tree (form_of expr.now)) }
 {
     match expr {
         Expr::Atom(_) => Knot::new(alloc, Node::Start),
-        Expr::Opt(y) => Knot::new(alloc, Node::Opt(true, first_tree(y, alloc)?)),
-        Expr::Seq(y, z) => first_seq(y, z, alloc),
+        Expr::Opt(y) => Knot::new(alloc, Node::Opt(true, first_tree(alloc, y)?)),
+        Expr::Seq(y, z) => first_seq(alloc, y, z),
         Expr::Star(_) => Knot::new(alloc, Node::Star(true, Vec::new(alloc))),
-        Expr::Par(y, z) => one_pair(first_tree(y, alloc)?, first_tree(z, alloc)?, alloc),
+        Expr::Par(y, z) => one_pair(alloc, first_tree(alloc, y)?, first_tree(alloc, z)?),
         Expr::ParStar(_) => empty_bag(alloc),
         Expr::Or(y, z) => {
             Knot::new(
                 alloc,
-                Node::Or(first_tree(y, alloc)?, first_tree(z, alloc)?),
+                Node::Or(first_tree(alloc, y)?, first_tree(alloc, z)?),
             )
         }
         Expr::And(y, z) => {
             Knot::new(
                 alloc,
-                Node::And(first_tree(y, alloc)?, first_tree(z, alloc)?),
+                Node::And(first_tree(alloc, y)?, first_tree(alloc, z)?),
             )
         }
         Expr::Couple(y, z) => {
             Knot::new(
                 alloc,
-                Node::Couple(first_tree(y, alloc)?, first_tree(z, alloc)?),
+                Node::Couple(first_tree(alloc, y)?, first_tree(alloc, z)?),
             )
         }
-        Expr::Any(_, y) => Knot::new(alloc, Node::Any(first_tree(y, alloc)?, Vec::new(alloc))),
-        Expr::Every(_, y) => Knot::new(alloc, Node::Every(first_tree(y, alloc)?, Vec::new(alloc))),
-        Expr::Sync(_, y) => Knot::new(alloc, Node::Sync(first_tree(y, alloc)?, Vec::new(alloc))),
+        Expr::Any(_, y) => Knot::new(alloc, Node::Any(first_tree(alloc, y)?, Vec::new(alloc))),
+        Expr::Every(_, y) => Knot::new(alloc, Node::Every(first_tree(alloc, y)?, Vec::new(alloc))),
+        Expr::Sync(_, y) => Knot::new(alloc, Node::Sync(first_tree(alloc, y)?, Vec::new(alloc))),
         Expr::All(_, _) => empty_map(alloc),
     }
 }
 
 /// Where the empty word is complete in y, z may begin.
 #[cycle(first)]
-fn first_seq(y: &Expr, z: &Expr, alloc: Global) -> Result<Knot, AllocError>
+fn first_seq(alloc: Global, y: &Expr, z: &Expr) -> Result<Knot, AllocError>
     requires first { size_of (initial_tree (form_of y.now)) ≤ 1000000 }
     requires second { accepts (form_of y.now) ≡ true → size_of (initial_tree (form_of z.now)) ≤
         1000000 }
@@ -62,10 +62,10 @@ fn first_seq(y: &Expr, z: &Expr, alloc: Global) -> Result<Knot, AllocError>
         ≡ seq (initial_tree (form_of y.now))
         (listed (when (accepts (form_of y.now)) (initial_tree (form_of z.now) ∷ [])))) }
 {
-    let first = first_tree(y, alloc)?;
+    let first = first_tree(alloc, y)?;
     let mut rest = Vec::new(alloc);
     if is_complete(y) {
-        rest.push(first_tree(z, alloc)?)?;
+        rest.push(first_tree(alloc, z)?)?;
     }
     Knot::new(alloc, Node::Seq(first, rest))
 }
@@ -77,7 +77,7 @@ fn is_complete(expr: &Expr) -> bool
 }
 
 /// The one split of the empty word.
-fn one_pair(first: Knot, second: Knot, alloc: Global) -> Result<Knot, AllocError>
+fn one_pair(alloc: Global, first: Knot, second: Knot) -> Result<Knot, AllocError>
     requires first { size_of first ≤ 1000000 }
     requires second { size_of second ≤ 1000000 }
     ensures { IfOk result (λ t. t ≡ par (listed (pair first second ∷ []))) }

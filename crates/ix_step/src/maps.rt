@@ -43,7 +43,7 @@ pub(crate) fn advance_all(step: Step, body: Body, maps: &[Map]) -> Result<Knot, 
         (moved_node (all body.entry.parameter.now (form_of body.entry.expr.now)) step.entry.env.now
         (all_of (listed (map plain_map maps.now))) step.entry.action.now)) result }
 {
-    let first = first_tree(body.expr, step.alloc)?;
+    let first = first_tree(step.alloc, body.expr)?;
     let set = advance_maps(step, body, &first, maps)?;
     within_if_live(step, Node::All(set.into_items()))
 }
@@ -90,7 +90,7 @@ fn advance_owners(
 {
     for value in step.action.values() {
         let tree = advance_owner(step, body, first, state, value)?;
-        put_owner(set, first, state, *value, tree, step.alloc)?;
+        put_owner(step.alloc, set, first, state, *value, tree)?;
     }
     Ok(())
 }
@@ -160,12 +160,12 @@ fn or_first<'a>(entries: &'a [(Value, Knot)], first: &'a Knot, value: &Value) ->
 
 /// The map with the value's tree. A dead tree gives no map.
 fn put_owner(
+    alloc: Global,
     set: &mut AltSet<Map>,
     first: &Knot,
     state: &Map,
     value: Value,
     tree: Knot,
-    alloc: Global,
 ) -> Result<(), Unbuilt>
     requires held { (y : Form) × HoldsWell y first.now (plain_map state.now) }
     requires small { size_of tree ≤ 1000000 }
@@ -179,16 +179,16 @@ fn put_owner(
     if tree.is_dead() {
         return Ok(());
     }
-    let map = map_beside(state, first, value, tree, alloc)?;
+    let map = map_beside(alloc, state, first, value, tree)?;
     put_alternative(set, map)
 }
 
 fn map_beside(
+    alloc: Global,
     state: &Map,
     first: &Knot,
     value: Value,
     tree: Knot,
-    alloc: Global,
 ) -> Result<Map, AllocError>
     requires held { (y : Form) × HoldsWell y first.now (plain_map state.now) }
     ensures { IfOk result

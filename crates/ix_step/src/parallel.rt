@@ -86,7 +86,7 @@ fn advance_bags(step: Step, y: &Expr, first: &Knot, bags: &[Bag]) -> Result<AltS
     let mut set = AltSet::new(step.alloc, step.limit);
     for bag in bags {
         advance_picks(step, y, &bag.items, &mut set)?;
-        put_more(&mut set, first, &bag.items, step.alloc)?;
+        put_more(step.alloc, &mut set, first, &bag.items)?;
     }
     Ok(set)
 }
@@ -141,7 +141,7 @@ fn advance_pick(
     ensures budget { set.new.budget ≡ step.entry.limit }
 {
     let tree = advance(step, y, item)?;
-    put_moved(set, tree, items, place, step.alloc)
+    put_moved(step.alloc, set, tree, items, place)
 }
 
 /// Where the trees equal to the one at the place end.

@@ -45,10 +45,10 @@ pub(crate) fn put_live(set: &mut AltSet<Knot>, tree: Knot) -> Result<(), Unbuilt
 
 /// Where it begins, the tree of the empty word is one more alternative.
 pub(crate) fn put_first(
+    alloc: Global,
     set: &mut AltSet<Knot>,
     begins: bool,
     expr: &Expr,
-    alloc: Global,
 ) -> Result<(), Unbuilt>
     requires small { size_of (initial_tree (form_of expr.now)) ≤ 1000000 }
     requires within { size_of (listed set.old.items) ≤ set.old.budget }
@@ -60,5 +60,5 @@ pub(crate) fn put_first(
     if !begins {
         return Ok(());
     }
-    put(set, first_tree(expr, alloc)?)
+    put(set, first_tree(alloc, expr)?)
 }
