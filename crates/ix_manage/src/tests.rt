@@ -149,8 +149,8 @@ fn check_replay(
 const PATIENTS: &[u8] = b"all $p *(any $x (call($p,$x) - perform($p,$x)))";
 
 // Each patient has one examination at a time, and each examination one patient.
-const BOTH: &[u8] =
-    b"all $p *(any $x (call($p,$x) - perform($p,$x))) @ all $x *(any $p (call($p,$x) - perform($p,$x)))";
+const BOTH: &[u8] = b"all $p *(any $x (call($p,$x) - perform($p,$x))) \
+        @ all $x *(any $p (call($p,$x) - perform($p,$x)))";
 
 // The journal of `a - b` with the action `a`.
 const OF_A: &[u8] = b"\xA5IXJ1\x00\x05a - b\xA5\x00\x01a\x00";

@@ -8,13 +8,17 @@ fn requests_are_answered(rt: HostRuntime) -> Result<(), Fail> {
     let cases: [(&[u8], &[u8], &[u8]); 11] = [
         (
             PATIENTS,
-            b"10 0 ask call(p1,x1) 1000\n20 0 confirm 1\n25 0 status\n30 1 ask call(p1,x2) 1000\n40 1 ask call(p2,x1) 1000",
-            b"history 0\n0 granted 1\n0 confirmed 1\n0 status partial 1 nodes 10\n1 refused 21 not permitted\n1 granted 2\n",
+            b"10 0 ask call(p1,x1) 1000\n20 0 confirm 1\n25 0 status\n30 1 ask call(p1,x2) 1000\n\
+                40 1 ask call(p2,x1) 1000",
+            b"history 0\n0 granted 1\n0 confirmed 1\n0 status partial 1 nodes 10\n\
+                1 refused 21 not permitted\n1 granted 2\n",
         ),
         (
             BOTH,
-            b"10 0 ask call(p1,x1) 1000\n20 0 confirm 1\n25 0 status\n30 1 ask call(p2,x1) 1000\n40 1 ask call(p2,x2) 1000",
-            b"history 0\n0 granted 1\n0 confirmed 1\n0 status partial 1 nodes 21\n1 refused 21 not permitted\n1 granted 2\n",
+            b"10 0 ask call(p1,x1) 1000\n20 0 confirm 1\n25 0 status\n30 1 ask call(p2,x1) 1000\n\
+                40 1 ask call(p2,x2) 1000",
+            b"history 0\n0 granted 1\n0 confirmed 1\n0 status partial 1 nodes 21\n\
+                1 refused 21 not permitted\n1 granted 2\n",
         ),
         (
             b"a - b",
@@ -24,12 +28,15 @@ fn requests_are_answered(rt: HostRuntime) -> Result<(), Fail> {
         (
             b"a - b",
             b"100 0 ask a 50\n150 0 confirm 1\n150 0 confirm 1\n150 0 confirm 2",
-            b"history 0\n0 granted 1\n0 refused 31 expired\n0 refused 31 expired\n0 refused 30 no such ticket\n",
+            b"history 0\n0 granted 1\n0 refused 31 expired\n0 refused 31 expired\n\
+                0 refused 30 no such ticket\n",
         ),
         (
             b"a - b",
-            b"200 0 status\n100 0 ask a 10\n50 1 ask a 10\n210 0 confirm 1\n210 1 ask a 10\n210 0 confirm 1",
-            b"history 0\n0 status partial 0 nodes 2\n0 granted 1\n1 refused 20 busy until 210\n0 refused 31 expired\n1 granted 2\n0 refused 30 no such ticket\n",
+            b"200 0 status\n100 0 ask a 10\n50 1 ask a 10\n210 0 confirm 1\n210 1 ask a 10\n\
+                210 0 confirm 1",
+            b"history 0\n0 status partial 0 nodes 2\n0 granted 1\n1 refused 20 busy until 210\n\
+                0 refused 31 expired\n1 granted 2\n0 refused 30 no such ticket\n",
         ),
         (
             b"a - b",
@@ -38,8 +45,12 @@ fn requests_are_answered(rt: HostRuntime) -> Result<(), Fail> {
         ),
         (
             BOTH,
-            b"1 0 watch w call(p1,x1)\n1 0 watch w call(p1,x1)\n2 0 ask call(p1,x1) 9\n3 0 confirm 1\n4 1 poll w\n5 1 poll w\n6 1 drop w call(p1,x1)\n7 1 drop w call(p1,x1)\n8 1 poll w",
-            b"history 0\n0 watching yes\n0 watching yes\n0 granted 1\n0 confirmed 1\n1 changes 1\n1 no call(p1,x1)\n1 changes 0\n1 dropped\n1 refused 41 no such watch\n1 changes 0\n",
+            b"1 0 watch w call(p1,x1)\n1 0 watch w call(p1,x1)\n2 0 ask call(p1,x1) 9\n\
+                3 0 confirm 1\n4 1 poll w\n5 1 poll w\n6 1 drop w call(p1,x1)\n\
+                7 1 drop w call(p1,x1)\n8 1 poll w",
+            b"history 0\n0 watching yes\n0 watching yes\n0 granted 1\n0 confirmed 1\n1 changes 1\n\
+                1 no call(p1,x1)\n1 changes 0\n1 dropped\n1 refused 41 no such watch\n\
+                1 changes 0\n",
         ),
         (
             b"a",
@@ -49,7 +60,8 @@ fn requests_are_answered(rt: HostRuntime) -> Result<(), Fail> {
         (
             b"a",
             b"1 0 ask a 0\n1 0 ask  a 5\n1 0 confirm 01\n1 0 ask a( 5\n1 0 poll 9z\n1 0 ",
-            b"history 0\n0 refused 14 lease\n0 refused 15 words\n0 refused 13 number\n0 refused 12 action\n0 refused 16 name\n0 refused 11 word\n",
+            b"history 0\n0 refused 14 lease\n0 refused 15 words\n0 refused 13 number\n\
+                0 refused 12 action\n0 refused 16 name\n0 refused 11 word\n",
         ),
         (
             b"a",
@@ -87,7 +99,8 @@ fn replays_end(rt: HostRuntime) -> Result<(), Fail> {
             b"#(a - b)",
             b"1 0 ask a 5\n1 0 confirm 1\n1 0 ask a 5\n1 0 confirm 2\n1 0 ask a 5\n1 0 status",
             0,
-            b"history 0\n0 granted 1\n0 confirmed 1\n0 granted 2\n0 confirmed 2\n0 refused 22 large 8\n0 status partial 2 nodes 8\n",
+            b"history 0\n0 granted 1\n0 confirmed 1\n0 granted 2\n0 confirmed 2\n\
+                0 refused 22 large 8\n0 status partial 2 nodes 8\n",
         ),
         (&few, b"a - b", b"", 3, b"refused expression 14 large 1\n"),
         (
