@@ -25,7 +25,10 @@ fn boxed(alloc: Global, expr: Expr) -> Result<Box<Expr>, Fail> {
 
 /// `a - b`.
 fn expression(alloc: Global) -> Result<Expression, Fail> {
-    let expr = Expr::Seq(boxed(alloc, atom(b"a")?)?, boxed(alloc, atom(b"b")?)?);
+    formed(Expr::Seq(boxed(alloc, atom(b"a")?)?, boxed(alloc, atom(b"b")?)?))
+}
+
+fn formed(expr: Expr) -> Result<Expression, Fail> {
     Ok(Expression::new(expr).map_err(|_| "not well formed")?)
 }
 
@@ -83,8 +86,8 @@ fn sent_text(alloc: Global, site: &MemorySite) -> Result<Vec<u8>, Fail> {
     let mut text = Vec::new(alloc);
     for index in 0..site.sent_len() {
         let (conn, bytes) = site.sent_at(index);
-        text.push(b'0' + conn % 10).map_err(|_| AllocError)?;
-        text.push(b' ').map_err(|_| AllocError)?;
+        let conn = format!(in alloc; "{conn} ")?;
+        text.extend_from_slice(conn.as_bytes())?;
         text.extend_from_slice(bytes)?;
     }
     Ok(text)
@@ -99,15 +102,26 @@ struct Played {
     file: Vec<u8>,
 }
 
-/// Plays events over a site with this file whose calls of these numbers fail.
+/// Plays events of `a - b` over a site with this file whose calls of these numbers fail.
 fn play(alloc: Global, file: &[u8], fail: &[u64], events: &[Coming<'_>]) -> Result<Played, Fail> {
+    play_of(alloc, expression(alloc)?, file, fail, events)
+}
+
+/// The same of any expression.
+fn play_of(
+    alloc: Global,
+    expression: Expression,
+    file: &[u8],
+    fail: &[u64],
+    events: &[Coming<'_>],
+) -> Result<Played, Fail> {
     let fail = fail.to_vec(alloc)?;
     let file = file.to_vec(alloc)?;
     let mut site = MemorySite::new(alloc, file, Vec::new(alloc), 8192, fail, None)?;
     if site.attach("journal").is_err() {
         return Err("not attached".into());
     }
-    match Manager::start(alloc, &mut site, expression(alloc)?, 100) {
+    match Manager::start(alloc, &mut site, expression, 100) {
         Ok(mut manager) => {
             let went = hand_all(alloc, &mut manager, &mut site, events)?;
             Ok(Played {
@@ -217,6 +231,43 @@ fn confirms_are_in_the_journal(rt: HostRuntime) -> Result<(), Fail> {
         assert!(rt; played.file.as_slice() == then, "the file behind {text:?}");
         assert_eq!(rt; played.went.is_none(), !fail.is_empty(), "{text:?}");
     }
+    Ok(())
+}
+
+/// The same bytes on each connection, at moment 1.
+fn add_pieces<'a>(events: &mut Vec<Coming<'a>>, bytes: &'a [u8]) -> Result<(), AllocError> {
+    for conn in 0..64 {
+        events.push((conn, 1, bytes)).map_err(|_| AllocError)?;
+    }
+    Ok(())
+}
+
+/// A line that is sent on each connection, as `sent_text` has it.
+fn add_lines(alloc: Global, text: &mut Vec<u8>, line: &str) -> Result<(), AllocError> {
+    for conn in 0..64 {
+        let line = format!(in alloc; "{conn} {line}\n")?;
+        text.extend_from_slice(line.as_bytes())?;
+    }
+    Ok(())
+}
+
+#[test]
+fn a_long_line_is_refused_once_and_an_unfinished_one_is_dropped(
+    rt: HostRuntime,
+) -> Result<(), Fail> {
+    let alloc = rt.alloc();
+    let mut long = vec![in alloc; b'x'; 601]?;
+    long[600] = b'\n';
+    let mut events = Vec::new(alloc);
+    add_pieces(&mut events, &long)?;
+    add_pieces(&mut events, &long[..300])?;
+    add_pieces(&mut events, b"")?;
+    add_pieces(&mut events, b"may a\n")?;
+    let mut text = Vec::new(alloc);
+    add_lines(alloc, &mut text, "refused 10 line too long")?;
+    add_lines(alloc, &mut text, "yes")?;
+    let played = play_of(alloc, formed(atom(b"a")?)?, b"", &[], &events)?;
+    assert!(rt; played.text == text);
     Ok(())
 }
 

@@ -247,6 +247,26 @@ fn failed_calls_end_serves_but_for_sends(rt: HostRuntime) -> Result<(), Fail> {
     Ok(())
 }
 
+// The status of that serve where the call of this number fails.
+fn status_without(call: u64) -> u8 {
+    match call {
+        // The listen, and the three calls for an event.
+        9 | 10 | 12 | 18 => 6,
+        // The two sends, and the first number that no call has.
+        11 | 17 | 19 => 0,
+        _ => 5,
+    }
+}
+
+#[test]
+fn each_call_of_a_serve_fails_in_turn(rt: HostRuntime) -> Result<(), Fail> {
+    for call in 0..20 {
+        let served = serve_a(rt.alloc(), Some(call), None)?;
+        assert_eq!(rt; served.status, status_without(call), "call {call}");
+    }
+    Ok(())
+}
+
 // Whether a start from the journal that was left finds the action; or finds none, where no byte of
 // `confirmed` was sent.
 fn is_kept(alloc: Global, served: &Served) -> Result<bool, Fail> {
