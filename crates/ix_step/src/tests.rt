@@ -84,18 +84,25 @@ fn row(alloc: Global, expr: Expr, first: usize, second: usize) -> Result<bool, F
     )
 }
 
+/// `any $p ((a - b($p)) + #(a - c))`.
+fn nested(alloc: Global) -> Result<Expr, Fail> {
+    let given = atom(b"b", &[Arg::Param(name(b"p")?)])?;
+    let left = boxed(alloc, after_a(alloc, given)?)?;
+    let right = boxed(alloc, runs(alloc)?)?;
+    let body = boxed(alloc, Expr::Par(left, right))?;
+    Ok(Expr::Any(name(b"p")?, body))
+}
+
+/// `#(a - c)`.
+fn runs(alloc: Global) -> Result<Expr, Fail> {
+    let run = boxed(alloc, after_a(alloc, atom(b"c", &[])?)?)?;
+    Ok(Expr::ParStar(run))
+}
+
+// Before: the quantifier 1, the list of pairs 1, one pair 1, `a - b` 1 + 1, the runs 1 + 1. After: two
+// pairs, with `a - b` begun of 3 beside no run, and with no `a - b` beside one run of 3.
 #[test]
 fn trees_have_their_sizes_and_limits(rt: HostRuntime) -> Result<(), Fail> {
-    let alloc = rt.alloc();
-    let b = atom(b"b", &[])?;
-    assert!(rt; row(alloc, after_a(alloc, b)?, 2, 3)?);
-    let many = after_a(alloc, atom(b"b", &[])?)?;
-    assert!(rt; row(alloc, Expr::ParStar(boxed(alloc, many)?), 2, 5)?);
-    let left = boxed(alloc, after_a(alloc, atom(b"b", &[])?)?)?;
-    let right = boxed(alloc, after_a(alloc, atom(b"c", &[])?)?)?;
-    assert!(rt; row(alloc, Expr::Par(left, right), 6, 13)?);
-    let given = atom(b"b", &[Arg::Param(name(b"p")?)])?;
-    let some = boxed(alloc, after_a(alloc, given)?)?;
-    assert!(rt; row(alloc, Expr::Any(name(b"p")?, some), 3, 4)?);
+    assert!(rt; row(rt.alloc(), nested(rt.alloc())?, 7, 16)?);
     Ok(())
 }
