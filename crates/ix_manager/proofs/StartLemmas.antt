@@ -1,10 +1,14 @@
 -- What starting a manager answers and leaves.
-use Rattle.std.proofs.Common.{◌≡◌, ◌⊎◌, ℕ, ◌≤◌, List, [], length, Option, None, Some, inl, inr, refl, sym, ap, subst, arith}
+use Rattle.std.proofs.Common.{◌≡◌, ◌⊎◌, ℕ, ◌≤◌, List, [], length, Option, None, Some, inl, inr, refl, ap, subst, arith}
 use Rattle.ix_values.specs.PlainAction.{Word}
 use Rattle.ix_expr.specs.CanonicalText.{canonical_text}
 use Rattle.ix_expr.specs.Form.{Form}
 use Rattle.ix_expr.proofs.LawsOfMeaning.{empty-partial}
 use Rattle.ix_can.specs.TreeOf.{tree_size}
+use Rattle.ix_engine.specs.inside.Extending.{AreAllowed, IsRefused, StopsAt}
+use Rattle.ix_engine.specs.declared.faults.PrepareFault.{PrepareFault}
+use Rattle.ix_engine.specs.declared.faults.PrepareFault.TheVariants as prepare
+use Rattle.ix_engine.specs.declared.faults.ResumeFault.{ResumeFault}
 use Rattle.ix_journal.specs.Kinds as kind
 use Rattle.ix_journal.specs.Kinds.{IsUnfinished, IsReady, Kind}
 use Rattle.ix_journal.specs.Recovery as recovery
@@ -20,17 +24,13 @@ use Rattle.ix_store.specs.inside.Refusals.{Refuses}
 use Rattle.ix_store.specs.inside.Starting.{LeavesOnStart}
 use Rattle.ix_store.specs.declared.fault.OpenFault.{OpenFault}
 use Rattle.ix_store.specs.declared.fault.OpenFault.TheVariants as refused
-use Rattle.ix_manager.specs.declared.faults.StartFault.{StartFault}
-use Rattle.ix_manager.specs.declared.faults.StartFault.TheVariants as fault
 use Rattle.ix_manager.specs.Images as image
 use Rattle.ix_manager.specs.Images.{IsOwn, IsWithin, EachPrefixIsWithin, IsStartable}
 use Rattle.ix_manager.specs.Starts.{HasText}
 use Rattle.ix_manager.specs.inside.StartAnswers.{IsFault, StartLeaves}
 use Rattle.ix_manager.specs.Runs.{opening_of}
-use Rattle.ix_manager.specs.inside.Core.{Core}
-use Rattle.ix_manager.specs.inside.Recovering.{recovered, RefusesHistory}
-use Rattle.ix_manager.specs.inside.StartFaults.{open_fault_of}
-use Rattle.ix_manager.proofs.RecoverLemmas.{none_within}
+use Rattle.ix_manager.specs.inside.StartFaults.{open_fault_of, record_fault_of}
+use Rattle.ix_manager.proofs.RecoverLemmas.{none_within, each_within, no_word, heavy, longer}
 
 -- no call
 pub leaves_none : (x : Form) (limit : ℕ) (file : List ℕ) (site : SiteState) (crashes : Crashes) → AreLawful site crashes
@@ -79,6 +79,10 @@ new_recovers : (at text : List ℕ) → IsNew at text → Recovers at []
 new_recovers at text (inl unfinished) = recovery.unfinished at unfinished
 new_recovers at text (inr unopened) = recovery.unopened at text unopened
 
+-- the empty word
+initial_within : (x : Form) (limit : ℕ) → tree_size x [] ≤ limit → IsWithin x limit []
+initial_within x limit within = record { partial = empty-partial x []; size = within }
+
 -- of a start of the store
 pub leaves_store : (x : Form) (limit : ℕ) (file : List ℕ) (old new : SiteState) (was is : Crashes) → tree_size x [] ≤ limit
     → LeavesOnStart (canonical_text x) file old new was is → StartLeaves x limit file old new was is
@@ -88,7 +92,7 @@ leaves_store x limit file old new was is within leaves = record {
   refused = λ no. leaves.stays (λ fresh. no [] (record {
     own = image.new fresh;
     recovers = new_recovers file (canonical_text x) fresh;
-    within = none_within x limit (record { partial = empty-partial x []; size = within });
+    within = none_within x limit (initial_within x limit within);
   }));
 }
   where
@@ -122,32 +126,34 @@ few_recovered file h (recovery.unfinished _ _) = omega arith
 few_recovered file h (recovery.unopened _ _ _) = omega arith
 few_recovered file h (recovery.ready _ _ _ _ journal) = journal.closes.few
 
--- why the history wasn't taken
-pub history_fault : (x : Form) (limit : ℕ) (file : List ℕ) (h : Word) (why : StartFault) → Opens file (canonical_text x) h
-    → RefusesHistory x limit h why → IsFault x limit file why
-history_fault x limit file h (fault.Word number) opens facts = (h, (own_of x file h opens.own opens.recovers, opens.recovers), facts)
-history_fault x limit file h (fault.Heavy number l) opens facts =
-    (h, (own_of x file h opens.own opens.recovers, opens.recovers), facts.0, facts.1)
-history_fault x limit file h fault.Many opens facts = let few = few_recovered file h opens.recovers in absurd (omega arith)
-history_fault x limit file h fault.Memory opens facts = tt
-history_fault x limit file h (fault.Large l) opens facts = absurd facts
-history_fault x limit file h fault.Disk opens facts = absurd facts
-history_fault x limit file h fault.Foreign opens facts = absurd facts
-history_fault x limit file h (fault.Other kept) opens facts = absurd facts
-history_fault x limit file h (fault.Damaged at) opens facts = absurd facts
+-- why an engine of this expression and limit didn't take the history
+pub resume_fault : (x : Form) (limit : ℕ) (file : List ℕ) (h : Word) (stopped : ResumeFault) → tree_size x [] ≤ limit
+    → Opens file (canonical_text x) h → StopsAt x limit h stopped → IsFault x limit file (record_fault_of stopped.number stopped.why)
+resume_fault x limit file h stopped within opens at = told stopped.why at.refused
+  where
+    own : IsOwn x file × Recovers file h
+    own = (own_of x file h opens.own opens.recovers, opens.recovers)
 
--- a machine that was just made took the history, and the file can be started from
-pub recovered_starts : (x : Form) (limit : ℕ) (file : List ℕ) (h : Word) (old new : Core) → old ≡ recovered x limit []
-    → new ≡ recovered old.form old.limit h → EachPrefixIsWithin old.form old.limit h → Opens file (canonical_text x) h
-    → IsStartable (opening_of x limit new.state.history) file
-recovered_starts x limit file h old new first same within opens =
-    let history : new.state.history ≡ h = ap (λ (core : Core). core.state.history) same in
-    let each = subst (λ (core : Core). EachPrefixIsWithin core.form core.limit h) first within in
-    subst (λ (w : Word). IsStartable (opening_of x limit w) file) (sym history)
-    (record { own = own_of x file h opens.own opens.recovers; recovers = opens.recovers; within = each })
+    each : EachPrefixIsWithin x limit at.before
+    each = each_within x limit at.before (initial_within x limit within) at.allowed
 
--- or didn't, and the file can't be
-pub recovered_fault : (x : Form) (limit : ℕ) (file : List ℕ) (h : Word) (old : Core) (why : StartFault) → old ≡ recovered x limit []
-    → RefusesHistory old.form old.limit h why → Opens file (canonical_text x) h → IsFault x limit file why
-recovered_fault x limit file h old why first facts opens =
-    history_fault x limit file h why opens (subst (λ (core : Core). RefusesHistory core.form core.limit h why) first facts)
+    told : (why : PrepareFault) → IsRefused x limit at.before at.action why → IsFault x limit file (record_fault_of stopped.number why)
+    told prepare.NotPartial refused =
+        (h, own, no_word x limit h at.before at.action at.behind stopped.number at.parts at.number each refused)
+    told (prepare.Over l) refused =
+        (h, own, heavy x limit h at.before at.action at.behind stopped.number at.parts at.number each l refused, refused.0)
+    told prepare.Full refused =
+        let few = few_recovered file h opens.recovers in
+        let room = longer x limit h at.before at.action at.behind stopped.number at.parts at.number each in
+        let full = refused.1 in
+        absurd (omega (arith, few, room, full))
+    told prepare.Memory refused = tt
+
+-- it took the history, and the file can be started from
+pub resumed : (x : Form) (limit : ℕ) (file : List ℕ) (h : Word) → tree_size x [] ≤ limit → AreAllowed x limit h
+    → Opens file (canonical_text x) h → IsStartable (opening_of x limit h) file
+resumed x limit file h within allowed opens = record {
+  own = own_of x file h opens.own opens.recovers;
+  recovers = opens.recovers;
+  within = each_within x limit h (initial_within x limit within) allowed;
+}

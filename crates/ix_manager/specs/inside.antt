@@ -4,7 +4,6 @@ pub mod Clean
 pub mod Core
 pub mod Does
 pub mod OverSite
-pub mod Recovering
 pub mod Ready
 pub mod Refused
 pub mod Saving

@@ -12,7 +12,6 @@ mod journaled;
 pub mod laws;
 mod machine;
 mod manager;
-mod recovering;
 mod refusals;
 mod reserving;
 mod sending;

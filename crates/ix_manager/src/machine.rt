@@ -1,8 +1,7 @@
 //! The protocol machine: the engine, the reservation, the watches, the moment and the next ticket.
 
-ghost use Rattle.std.specs.Prelude.{◌≡◌, ◌+◌, ◌-◌, ◌^◌, ◌<◌, ◌≤◌, ℕ, [], length, IfOk, OnOk};
+ghost use Rattle.std.specs.Prelude.{◌≡◌, ◌+◌, ◌-◌, ◌^◌, ◌<◌, ◌≤◌, [], length};
 ghost use Rattle.ix_watch.specs.inside.Watches.{changes_of};
-ghost use Rattle.ix_can.specs.TreeOf.{tree_size};
 ghost use Rattle.ix_manager.specs.Machine.{start_of};
 ghost use Rattle.ix_manager.specs.Runs.{raised};
 ghost use Rattle.ix_manager.specs.inside.Core.{MachineAnswers, IsRefreshed, TellsPoll};
@@ -10,10 +9,8 @@ ghost use Rattle.ix_proto.specs.Requests.{PlainRequest, IsRequest};
 ghost use Rattle.ix_proto.specs.inside.Lends.{Lends};
 
 use ix_engine::{Engine, Next};
-use ix_expr::Expression;
 use ix_lease::Slot;
 use ix_proto::{Reply, Request};
-use ix_step::BuildFault;
 use ix_values::{Action, Name};
 use ix_watch::{Changes, WATCH_LIMIT, Watches};
 use std::alloc::Global;
@@ -73,30 +70,22 @@ impl Model for Machine {
 }
 
 impl Machine {
-    pub(crate) fn new(
-        alloc: Global,
-        expression: Expression,
-        limit: usize,
-    ) -> Result<Machine, BuildFault>
-        requires least { 1 ≤ limit }
-        requires most { limit ≤ 1000000 }
-        ensures starts { IfOk result
-            (λ m. m
-            ≡ record { form = expression; limit = limit; state = start_of []; noted = [] }) }
-        ensures within { OnOk result (tree_size expression [] ≤ limit) }
-        ensures over { (l : ℕ) → result ≡ Err (BuildFault.Over l)
-            → (l ≡ limit) × (limit < tree_size expression []) }
+    /// The machine of an engine, at the start of a run.
+    pub(crate) fn new(alloc: Global, engine: Engine) -> Machine
+        ensures { result ≡ record {
+          form = engine.form;
+          limit = engine.limit;
+          state = start_of engine.history;
+          noted = [];
+        } }
     {
-        match Engine::new(alloc, expression, limit) {
-            Ok(engine) => Ok(Machine {
-                engine,
-                pending: None,
-                slot: Slot::Free,
-                watches: Watches::new(alloc),
-                moment: 0,
-                ticket: 1,
-            }),
-            Err(fault) => Err(fault),
+        Machine {
+            engine,
+            pending: None,
+            slot: Slot::Free,
+            watches: Watches::new(alloc),
+            moment: 0,
+            ticket: 1,
         }
     }
 

@@ -14,6 +14,7 @@ ghost use Rattle.ix_manager.specs.inside.StartAnswers.{StartsFrom, StartLeaves};
 ghost use Rattle.ix_manager.specs.Runs.{opening_of};
 ghost use Rattle.ix_manager.specs.inside.OverSite.{FitsSite, HandlesOver, OnlyServes};
 ghost use Rattle.ix_manager.specs.inside.StartFaults.{start_fault_of, open_fault_of};
+ghost use Rattle.ix_manager.specs.inside.StartFaults.{record_fault_of};
 ghost use Rattle.ix_manager.specs.inside.TakenItems.{BytesOver};
 ghost use Rattle.ix_manager.specs.inside.WireState.{wired};
 
@@ -21,6 +22,7 @@ use crate::answering::{Piece, take_piece};
 use crate::journaled::Journaled;
 use crate::machine::Machine;
 use crate::{Go, StartFault, Stop};
+use ix_engine::{Engine, PrepareFault, ResumeFault};
 use ix_expr::Expression;
 use ix_lines::Lines;
 use ix_outside::{Event, EventKind, Site};
@@ -111,8 +113,8 @@ impl Manager {
         let Ok(text) = text(alloc, &expression) else {
             return Err(StartFault::Memory);
         };
-        let mut machine = match Machine::new(alloc, expression, limit) {
-            Ok(machine) => machine,
+        let engine = match Engine::new(alloc, expression, limit) {
+            Ok(engine) => engine,
             Err(fault) => return Err(start_fault(fault)),
         };
         let Ok(lines) = all_lines(alloc) else {
@@ -122,14 +124,17 @@ impl Manager {
             Ok(opened) => opened,
             Err(fault) => return Err(open_fault(fault)),
         };
-        match machine.recover(alloc, &actions) {
-            Ok(()) => Ok(Manager {
-                journaled: Journaled { machine, store },
-                lines,
-                marks: [false; CONNECTIONS],
-                ended: false,
-            }),
-            Err(fault) => Err(fault),
+        match engine.resume(alloc, actions) {
+            Ok(engine) => {
+                let machine = Machine::new(alloc, engine);
+                Ok(Manager {
+                    journaled: Journaled { machine, store },
+                    lines,
+                    marks: [false; CONNECTIONS],
+                    ended: false,
+                })
+            }
+            Err(fault) => Err(record_fault(fault)),
         }
     }
 
@@ -278,5 +283,17 @@ fn open_fault(fault: OpenFault) -> StartFault
         OpenFault::Damaged { at } => StartFault::Damaged { at },
         OpenFault::Many => StartFault::Many,
         OpenFault::Memory => StartFault::Memory,
+    }
+}
+
+fn record_fault(fault: ResumeFault) -> StartFault
+    ensures { result ≡ record_fault_of fault.number fault.why }
+{
+    let number = fault.number;
+    match fault.why {
+        PrepareFault::NotPartial => StartFault::Word { number },
+        PrepareFault::Full => StartFault::Many,
+        PrepareFault::Over { limit } => StartFault::Heavy { number, limit },
+        PrepareFault::Memory => StartFault::Memory,
     }
 }

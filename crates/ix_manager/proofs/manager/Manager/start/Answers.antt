@@ -1,14 +1,19 @@
-use Rattle.std.proofs.Common.{◌≡◌, ℕ, List, subst, sym, ◌∙◌}
+use Rattle.std.proofs.Common.{◌≡◌, ℕ, List, subst, sym, ◌∙◌, ap}
 use Rattle.ix_expr.specs.CanonicalText.{canonical_text}
+use Rattle.ix_expr.specs.Form.{Form}
+use Rattle.ix_engine.specs.inside.Extending.{AreAllowed, StopsAt}
 use Rattle.ix_outside.proofs.Passing.{DiskCalls-none}
 use Rattle.ix_values.specs.PlainAction.{Word}
 use Rattle.ix_store.specs.inside.Opens.{Opens}
 use Rattle.ix_store.specs.inside.Refusals.{Refuses}
 use Rattle.ix_store.specs.inside.Starting.{LeavesOnStart}
+use Rattle.ix_manager.specs.Images.{IsStartable}
+use Rattle.ix_manager.specs.Runs.{opening_of}
+use Rattle.ix_manager.specs.inside.Core.{Core}
 use Rattle.ix_manager.specs.inside.StartAnswers.{IsFault}
 use Rattle.ix_manager.specs.declared.faults.StartFault.{StartFault}
 use Rattle.ix_manager.specs.inside.Clean.{AreClean}
-use Rattle.ix_manager.proofs.StartLemmas.{leaves_store, open_fault, recovered_starts, recovered_fault}
+use Rattle.ix_manager.proofs.StartLemmas.{leaves_store, open_fault, resumed, resume_fault}
 use Rattle.ix_manager.proofs.TakeLemmas.{clean_at_start}
 use Rattle.ix_manager.proofs.manager.Manager.start.Goals as goal
 
@@ -49,18 +54,21 @@ returns-in-Err-start-clause-leaves g c = λ disk is.
     (c.in-Err-start.ensures.images disk is))
 
 -- the history was taken
-pub returns-in-Ok-recover-clause-not_large : goal.returns-in-Ok-recover-clause-not_large
-returns-in-Ok-recover-clause-not_large g c = λ small disk is.
-    let text : c.deref.result.now ≡ canonical_text c.args.expression = c.deref.ensures.value ∙ c.in-Ok.ensures.value in
-    let history = c.deref-2.result.now in
-    let opens : Opens disk.file (canonical_text c.args.expression) history =
-    subst (λ (t : List ℕ). Opens disk.file t history) text
-    (subst (λ (w : Word). Opens disk.file c.deref.result.now w) (sym c.deref-2.ensures.value) (c.in-Ok-start.ensures.opened disk is)) in
-    recovered_starts c.args.expression c.args.limit disk.file history c.in-Ok-new.machine c.recover.new.self
-    c.in-Ok-new.ensures.starts c.in-Ok-recover.ensures.0 c.in-Ok-recover.ensures.1 opens
+pub returns-in-Ok-resume-clause-not_large : goal.returns-in-Ok-resume-clause-not_large
+returns-in-Ok-resume-clause-not_large g c = λ small disk is.
+    let x = c.args.expression in
+    let limit = c.args.limit in
+    let text : c.deref.result.now ≡ canonical_text x = c.deref.ensures.value ∙ c.in-Ok.ensures.value in
+    let history = c.in-Ok-start.opened.1.items in
+    let opens = subst (λ (t : List ℕ). Opens disk.file t history) text (c.in-Ok-start.ensures.opened disk is) in
+    let allowed = subst (λ (form : Form). AreAllowed form limit history) c.in-Ok-new.ensures.form
+    (subst (λ most. AreAllowed c.in-Ok-new.engine.form most history) c.in-Ok-new.ensures.limit c.in-Ok-resume.ensures.allowed) in
+    subst (λ (w : Word). IsStartable (opening_of x limit w) disk.file)
+    (sym (ap (λ (core : Core). core.state.history) c.new-machine.ensures ∙ c.in-Ok-resume.ensures.history))
+    (resumed x limit disk.file history small allowed opens)
 
-pub returns-in-Ok-recover-clause-leaves : goal.returns-in-Ok-recover-clause-leaves
-returns-in-Ok-recover-clause-leaves g c = λ disk is.
+pub returns-in-Ok-resume-clause-leaves : goal.returns-in-Ok-resume-clause-leaves
+returns-in-Ok-resume-clause-leaves g c = λ disk is.
     let text : c.deref.result.now ≡ canonical_text c.args.expression = c.deref.ensures.value ∙ c.in-Ok.ensures.value in
     let old = c.args.site.now in
     let new = c.start.new.site in
@@ -72,13 +80,16 @@ returns-in-Ok-recover-clause-leaves g c = λ disk is.
 -- a record was refused
 pub returns-clause-not_large : goal.returns-clause-not_large
 returns-clause-not_large g c = λ small disk is.
-    let text : c.deref.result.now ≡ canonical_text c.args.expression = c.deref.ensures.value ∙ c.in-Ok.ensures.value in
-    let history = c.deref-2.result.now in
-    let opens : Opens disk.file (canonical_text c.args.expression) history =
-    subst (λ (t : List ℕ). Opens disk.file t history) text
-    (subst (λ (w : Word). Opens disk.file c.deref.result.now w) (sym c.deref-2.ensures.value) (c.in-Ok-start.ensures.opened disk is)) in
-    recovered_fault c.args.expression c.args.limit disk.file history c.in-Ok-new.machine c.in-Err-recover.fault
-    c.in-Ok-new.ensures.starts c.in-Err-recover.ensures opens
+    let x = c.args.expression in
+    let limit = c.args.limit in
+    let text : c.deref.result.now ≡ canonical_text x = c.deref.ensures.value ∙ c.in-Ok.ensures.value in
+    let history = c.in-Ok-start.opened.1.items in
+    let stopped = c.in-Err-resume.fault in
+    let opens = subst (λ (t : List ℕ). Opens disk.file t history) text (c.in-Ok-start.ensures.opened disk is) in
+    let at = subst (λ (form : Form). StopsAt form limit history stopped) c.in-Ok-new.ensures.form
+    (subst (λ most. StopsAt c.in-Ok-new.engine.form most history stopped) c.in-Ok-new.ensures.limit c.in-Err-resume.ensures.refused) in
+    subst (λ (fault : StartFault). IsFault x limit disk.file fault) (sym c.record_fault.ensures)
+    (resume_fault x limit disk.file history stopped small opens at)
 
 pub returns-clause-leaves : goal.returns-clause-leaves
 returns-clause-leaves g c = λ disk is.
