@@ -99,8 +99,8 @@ fn runs(alloc: Global) -> Result<Expr, Fail> {
     Ok(Expr::ParStar(run))
 }
 
-// Before: the quantifier 1, the list of pairs 1, one pair 1, `a - b` 1 + 1, the runs 1 + 1. After: two
-// pairs, with `a - b` begun of 3 beside no run, and with no `a - b` beside one run of 3.
+// Before: the quantifier 1, the list of pairs 1, one pair 1, `a - b` 1 + 1, the runs 1 + 1. After:
+// two pairs, with `a - b` begun of 3 beside no run, and with no `a - b` beside one run of 3.
 #[test]
 fn trees_have_their_sizes_and_limits(rt: HostRuntime) -> Result<(), Fail> {
     assert!(rt; row(rt.alloc(), nested(rt.alloc())?, 7, 16)?);
