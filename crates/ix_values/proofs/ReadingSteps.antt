@@ -4,6 +4,7 @@ use Rattle.std.specs.Prelude.{Option, Some, None, slice_get, All}
 use Rattle.std.proofs.lemmas.List.{take_rest, take_all, append-nil}
 use Rattle.std.proofs.lemmas.List.Elements.{All-nil}
 use Rattle.std.proofs.lemmas.Option.{slice_get_within}
+use Rattle.ix_values.specs.declared.faults.ActionFault.{ActionFault}
 use Rattle.ix_values.specs.Faults.{IsFault}
 use Rattle.ix_values.specs.PlainAction.{PlainAction, text_of}
 use Rattle.ix_values.specs.inside.ActionOf.{action_of}
@@ -12,6 +13,10 @@ use Rattle.ix_values.specs.Texts.{IsName, IsValue, IsAction}
 use Rattle.ix_values.proofs.FirstWord.{first_word-WasRead, no_word_next, take-next}
 use Rattle.ix_values.proofs.Stuck.{word_next, slice_get-drop, fault_behind_name, fault_behind_value}
 use Rattle.ix_values.proofs.TextsOfActions.{text_of-push, opened-push}
+
+-- the fault that is made of a cause and a place
+pub told : (text : List ℕ) (code at : ℕ) (fault : ActionFault) → fault ≡ record { code = code; at = at } → IsFault text code at → IsFault text fault.code fault.at
+told text code at fault made is = subst (λ f. IsFault text f.code f.at) (sym made) is
 
 -- no value stands at a place
 pub no_word_at : (text : List ℕ) (at : ℕ) → word_length (take (length text - at) (drop at text)) ≡ 0 → word_next (slice_get text at) ≡ false

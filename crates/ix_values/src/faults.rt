@@ -1,5 +1,8 @@
 //! Why a text isn't an action's.
 
+ghost use Rattle.std.specs.Prelude.{◌≡◌};
+ghost use Rattle.ix_values.specs.inside.Causes.{code_of};
+
 /// A fault of a text that isn't an action's.
 ///
 /// `at` is the greatest number of first bytes of the text that are a prefix of some action's text.
@@ -13,12 +16,41 @@ pub struct ActionFault {
     pub at: usize,
 }
 
-pub(crate) const NAME: u8 = 1;
+/// Why a text isn't an action's.
+#[derive(Clone, Copy)]
+pub(crate) enum Cause {
+    /// No name stands at the beginning.
+    Name,
+    /// No value stands behind `(` or `,`, or neither `,` nor `)` behind a value.
+    Argument,
+    /// A `,` stands behind a fourth value.
+    TooManyArguments,
+    /// A word byte stands behind a name or value of 32 bytes.
+    TooLong,
+    /// Bytes stand behind an action's text.
+    Trailing,
+}
 
-pub(crate) const ARGUMENT: u8 = 2;
+impl Cause {
+    fn code(self) -> u8
+        ensures { result ≡ code_of self }
+    {
+        match self {
+            Cause::Name => 1,
+            Cause::Argument => 2,
+            Cause::TooManyArguments => 3,
+            Cause::TooLong => 4,
+            Cause::Trailing => 5,
+        }
+    }
+}
 
-pub(crate) const TOO_MANY_ARGUMENTS: u8 = 3;
-
-pub(crate) const TOO_LONG: u8 = 4;
-
-pub(crate) const TRAILING: u8 = 5;
+/// The fault of this cause, with this place.
+pub(crate) fn fault(cause: Cause, at: usize) -> ActionFault
+    ensures { result ≡ record { code = code_of cause; at = at } }
+{
+    ActionFault {
+        code: cause.code(),
+        at,
+    }
+}

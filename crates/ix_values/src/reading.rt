@@ -4,12 +4,13 @@ ghost use Rattle.std.specs.Prelude.{◌≡◌, ◌<◌, ◌≤◌, ◌↔◌, Is
 ghost use Rattle.std.specs.Prelude.{MatchOption, MatchResult};
 ghost use Rattle.ix_values.specs.Faults.{IsActionText, IsFault};
 ghost use Rattle.ix_values.specs.PlainAction.{text_of};
+ghost use Rattle.ix_values.specs.inside.Causes.{code_of};
 ghost use Rattle.ix_values.specs.inside.FirstWord as spec;
 ghost use Rattle.ix_values.specs.Texts.{IsAction, IsName, IsValue, begins_with_letter};
 
 use crate::actions::Action;
 use crate::bytes::is_word_byte;
-use crate::faults::{ARGUMENT, ActionFault, NAME, TOO_LONG, TOO_MANY_ARGUMENTS, TRAILING};
+use crate::faults::{ActionFault, Cause, fault};
 use crate::names::Name;
 use crate::values::Value;
 
@@ -23,17 +24,14 @@ impl Action {
     {
         let name = match read_name(text) {
             Some(name) => name,
-            None => return Err(ActionFault { code: NAME, at: 0 }),
+            None => return Err(fault(Cause::Name, 0)),
         };
         let at = name.bytes().len();
         let action = Action::new(name, &[]);
         match byte_at(text, at) {
             None => Ok(action),
             Some(b'(') => read_values(text, at + 1, action),
-            Some(byte) => Err(ActionFault {
-                code: code_after_name(byte),
-                at,
-            }),
+            Some(byte) => Err(fault(cause_after_name(byte), at)),
         }
     }
 }
@@ -65,7 +63,7 @@ fn read_values(text: &[u8], mut at: usize, mut action: Action) -> Result<Action,
     loop {
         let value = match read_value(&text[at..]) {
             Some(value) => value,
-            None => return Err(ActionFault { code: ARGUMENT, at }),
+            None => return Err(fault(Cause::Argument, at)),
         };
         at += value.bytes().len();
         action.push(value);
@@ -74,10 +72,7 @@ fn read_values(text: &[u8], mut at: usize, mut action: Action) -> Result<Action,
             return end(text, at + 1, action);
         }
         if !goes_on(next, action.values().len()) {
-            return Err(ActionFault {
-                code: code_after_value(next),
-                at,
-            });
+            return Err(fault(cause_after_value(next), at));
         }
         at += 1;
     }
@@ -96,7 +91,7 @@ fn end(text: &[u8], at: usize, action: Action) -> Result<Action, ActionFault>
     if at == text.len() {
         Ok(action)
     } else {
-        Err(ActionFault { code: TRAILING, at })
+        Err(fault(Cause::Trailing, at))
     }
 }
 
@@ -146,22 +141,22 @@ fn goes_on(next: Option<u8>, count: usize) -> bool
     matches!(next, Some(b',')) && count < 4
 }
 
-fn code_after_name(byte: u8) -> u8
-    ensures { result ≡ spec.code_after_name byte }
+fn cause_after_name(byte: u8) -> Cause
+    ensures { code_of result ≡ spec.code_after_name byte }
 {
     if is_word_byte(byte) {
-        TOO_LONG
+        Cause::TooLong
     } else {
-        TRAILING
+        Cause::Trailing
     }
 }
 
-fn code_after_value(next: Option<u8>) -> u8
-    ensures { result ≡ spec.code_after_value next }
+fn cause_after_value(next: Option<u8>) -> Cause
+    ensures { code_of result ≡ spec.code_after_value next }
 {
     match next {
-        Some(b',') => TOO_MANY_ARGUMENTS,
-        Some(byte) if is_word_byte(byte) => TOO_LONG,
-        _ => ARGUMENT,
+        Some(b',') => Cause::TooManyArguments,
+        Some(byte) if is_word_byte(byte) => Cause::TooLong,
+        _ => Cause::Argument,
     }
 }

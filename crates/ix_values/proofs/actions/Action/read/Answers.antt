@@ -1,10 +1,11 @@
 use Rattle.std.proofs.Common.{◌∙◌, ap, Some}
+use Rattle.ix_values.specs.inside.Causes.{code_of}
 use Rattle.ix_values.proofs.Stuck.{fault_name}
-use Rattle.ix_values.proofs.ReadingSteps.{next_within, name_read, name_only, opened_front, name_fault}
+use Rattle.ix_values.proofs.ReadingSteps.{told, next_within, name_read, name_only, opened_front, name_fault}
 use Rattle.ix_values.proofs.actions.Action.read.Goals as goal
 
 pub returns-in-None : goal.returns-in-None
-returns-in-None c = fault_name c.args.text.now c.in-None.ensures
+returns-in-None c = told c.args.text.now 1 0 c.fault.result c.fault.ensures (fault_name c.args.text.now c.in-None.ensures)
 
 pub read_values-requires-clause-within : goal.read_values-requires-clause-within
 read_values-requires-clause-within c =
@@ -23,4 +24,5 @@ returns-in-None-byte_at c =
 pub returns-in-Some-byte_at : goal.returns-in-Some-byte_at
 returns-in-Some-byte_at c =
     let read = name_read c.args.text.now c.in-Some.name c.bytes-at.result.now c.in-Some.ensures.0 c.bytes-at.ensures.value in
-    name_fault c.args.text.now _ c.in-Some.name c.byte_at.result c.in-Some-byte_at.byte c.code_after_name.result read c.in-Some.ensures.1 c.byte_at.ensures c.in-Some-byte_at.is c.in-Some-byte_at.byte-test.1 c.code_after_name.ensures
+    told c.args.text.now _ _ c.fault-in-Some-byte_at.result c.fault-in-Some-byte_at.ensures
+    (name_fault c.args.text.now _ c.in-Some.name c.byte_at.result c.in-Some-byte_at.byte (code_of c.cause_after_name.result) read c.in-Some.ensures.1 c.byte_at.ensures c.in-Some-byte_at.is c.in-Some-byte_at.byte-test.1 c.cause_after_name.ensures)
