@@ -5,96 +5,97 @@ ghost use Rattle.std.specs.Option.{option_copied};
 ghost use Rattle.ix_values.specs.Faults.{IsActionText};
 ghost use Rattle.ix_values.specs.Texts.{IsName};
 ghost use Rattle.ix_lines.specs.Numbers.{IsNumber};
+ghost use Rattle.ix_proto.specs.inside.Causes.{code_of};
 ghost use Rattle.ix_proto.specs.Requests.{IsLease};
 ghost use Rattle.ix_proto.specs.RequestFaults.{an_action, a_name, a_number, a_lease, IsPartFault};
 ghost use Rattle.ix_lines.specs.inside.WordsBehind.{words_behind};
 
-use crate::request_fault::RequestFault;
+use crate::request_fault::Cause;
 use ix_lines::{read_number, split_word};
 use ix_values::{Action, Name};
 
 /// The longest lease, in milliseconds.
 const LONGEST_LEASE: u64 = 86_400_000;
 
-pub(crate) fn no_words(rest: Option<&[u8]>) -> Result<(), RequestFault>
+pub(crate) fn no_words(rest: Option<&[u8]>) -> Result<(), Cause>
     ensures { MatchResult result
         (λ _. words_behind (option_copied rest.entry) ≡ [])
-        (λ fault. (length (words_behind (option_copied rest.entry)) ≢ 0) × (fault.code ≡ 15)) }
+        (λ cause. (length (words_behind (option_copied rest.entry)) ≢ 0) × (code_of cause ≡ 15)) }
 {
     match rest {
         None => Ok(()),
         Some(text) => {
             let _words = split_word(text);
-            Err(RequestFault { code: 15 })
+            Err(Cause::WordCount)
         }
     }
 }
 
-pub(crate) fn one_word(rest: Option<&[u8]>) -> Result<&[u8], RequestFault>
+pub(crate) fn one_word(rest: Option<&[u8]>) -> Result<&[u8], Cause>
     ensures { MatchResult result
         (λ word. words_behind (option_copied rest.entry) ≡ word.now ∷ [])
-        (λ fault. (length (words_behind (option_copied rest.entry)) ≢ 1) × (fault.code ≡ 15)) }
+        (λ cause. (length (words_behind (option_copied rest.entry)) ≢ 1) × (code_of cause ≡ 15)) }
 {
     let Some(text) = rest else {
-        return Err(RequestFault { code: 15 });
+        return Err(Cause::WordCount);
     };
     let (word, behind) = split_word(text);
     no_words(behind)?;
     Ok(word)
 }
 
-pub(crate) fn two_words(rest: Option<&[u8]>) -> Result<(&[u8], &[u8]), RequestFault>
+pub(crate) fn two_words(rest: Option<&[u8]>) -> Result<(&[u8], &[u8]), Cause>
     ensures { MatchResult result
         (λ words. words_behind (option_copied rest.entry) ≡ words.0.now ∷ words.1.now ∷ [])
-        (λ fault. (length (words_behind (option_copied rest.entry)) ≢ 2) × (fault.code ≡ 15)) }
+        (λ cause. (length (words_behind (option_copied rest.entry)) ≢ 2) × (code_of cause ≡ 15)) }
 {
     let Some(text) = rest else {
-        return Err(RequestFault { code: 15 });
+        return Err(Cause::WordCount);
     };
     let (first, behind) = split_word(text);
     let second = one_word(behind)?;
     Ok((first, second))
 }
 
-pub(crate) fn action_word(word: &[u8]) -> Result<&[u8], RequestFault>
+pub(crate) fn action_word(word: &[u8]) -> Result<&[u8], Cause>
     ensures { MatchResult result
         (λ text. (text.now ≡ word.now) × IsActionText word.now)
-        (λ fault. IsPartFault an_action word.now fault.code) }
+        (λ cause. IsPartFault an_action word.now (code_of cause)) }
 {
     match Action::read(word) {
         Ok(_action) => Ok(word),
-        Err(_) => Err(RequestFault { code: 12 }),
+        Err(_) => Err(Cause::NoAction),
     }
 }
 
-pub(crate) fn name_word(word: &[u8]) -> Result<&[u8], RequestFault>
+pub(crate) fn name_word(word: &[u8]) -> Result<&[u8], Cause>
     ensures { MatchResult result
         (λ text. (text.now ≡ word.now) × IsName word.now)
-        (λ fault. IsPartFault a_name word.now fault.code) }
+        (λ cause. IsPartFault a_name word.now (code_of cause)) }
 {
     match Name::read(word) {
         Some(_name) => Ok(word),
-        None => Err(RequestFault { code: 16 }),
+        None => Err(Cause::NoName),
     }
 }
 
-pub(crate) fn number_word(word: &[u8]) -> Result<u64, RequestFault>
+pub(crate) fn number_word(word: &[u8]) -> Result<u64, Cause>
     ensures { MatchResult result
         (λ number. IsNumber (2 ^ 64) word.now number)
-        (λ fault. IsPartFault a_number word.now fault.code) }
+        (λ cause. IsPartFault a_number word.now (code_of cause)) }
 {
-    read_number(word, u64::MAX).ok_or(RequestFault { code: 13 })
+    read_number(word, u64::MAX).ok_or(Cause::NoNumber)
 }
 
 /// A lease in milliseconds, from 1 to `LONGEST_LEASE`.
-pub(crate) fn lease_word(word: &[u8]) -> Result<u32, RequestFault>
+pub(crate) fn lease_word(word: &[u8]) -> Result<u32, Cause>
     ensures { MatchResult result
         (λ lease. IsNumber (2 ^ 64) word.now lease × IsLease lease)
-        (λ fault. IsPartFault a_lease word.now fault.code) }
+        (λ cause. IsPartFault a_lease word.now (code_of cause)) }
 {
     let lease = number_word(word)?;
     if lease < 1 || lease > LONGEST_LEASE {
-        return Err(RequestFault { code: 14 });
+        return Err(Cause::LeaseOutOfRange);
     }
     Ok(lease as u32)
 }

@@ -7,6 +7,7 @@ ghost use Rattle.std.specs.Option.{option_copied};
 ghost use Rattle.ix_values.specs.Faults.{IsActionText};
 ghost use Rattle.ix_values.specs.Texts.{IsName};
 ghost use Rattle.ix_lines.specs.Numbers.{IsNumber};
+ghost use Rattle.ix_proto.specs.inside.Causes.{code_of};
 ghost use Rattle.ix_proto.specs.inside.Lends.{Reads};
 ghost use Rattle.ix_proto.specs.Requests.{IsLease};
 ghost use Rattle.ix_proto.specs.RequestFaults.{an_action, a_name, a_number, a_lease, verb_word};
@@ -18,7 +19,7 @@ ghost use Rattle.ix_lines.specs.inside.WordsBehind.{words_behind};
 use crate::parts::{
     action_word, lease_word, name_word, no_words, number_word, one_word, two_words,
 };
-use crate::request_fault::RequestFault;
+use crate::request_fault::{Cause, RequestFault};
 use ix_lines::split_word;
 
 /// A request. Its texts are words of the line that it was read from: each `action` is an action's
@@ -68,19 +69,31 @@ impl<'a> Request<'a> {
             (λ request. Reads (words_of line.now) request)
             (λ fault. IsRequestFault (words_of line.now) fault.code) }
     {
-        let (word, rest) = split_word(line);
-        match read_verb(word) {
-            Some(verb) => read_behind(verb, rest),
-            None => Err(RequestFault { code: 11 }),
+        match read_line(line) {
+            Ok(request) => Ok(request),
+            Err(cause) => Err(RequestFault { code: cause.code() }),
         }
     }
 }
 
-fn read_behind(verb: Verb, rest: Option<&[u8]>) -> Result<Request<'_>, RequestFault>
+/// The request of a line, which is given without its byte 10, or the cause of its first fault.
+fn read_line(line: &[u8]) -> Result<Request<'_>, Cause>
+    ensures { MatchResult result
+        (λ request. Reads (words_of line.now) request)
+        (λ cause. IsRequestFault (words_of line.now) (code_of cause)) }
+{
+    let (word, rest) = split_word(line);
+    match read_verb(word) {
+        Some(verb) => read_behind(verb, rest),
+        None => Err(Cause::UnknownRequest),
+    }
+}
+
+fn read_behind(verb: Verb, rest: Option<&[u8]>) -> Result<Request<'_>, Cause>
     ensures { MatchResult result
         (λ request. Reads (verb_word verb ∷ words_behind (option_copied rest.entry)) request)
-        (λ fault. IsFaultBehind (parts_of verb)
-        (words_behind (option_copied rest.entry)) fault.code) }
+        (λ cause. IsFaultBehind (parts_of verb)
+        (words_behind (option_copied rest.entry)) (code_of cause)) }
 {
     match verb {
         Verb::Ask => read_ask(rest),
@@ -116,11 +129,11 @@ fn read_verb(word: &[u8]) -> Option<Verb>
     }
 }
 
-fn read_ask(rest: Option<&[u8]>) -> Result<Request<'_>, RequestFault>
+fn read_ask(rest: Option<&[u8]>) -> Result<Request<'_>, Cause>
     ensures { MatchResult result
         (λ request. Reads (codes "ask" ∷ words_behind (option_copied rest.entry)) request)
-        (λ fault. IsFaultBehind (parts_of Verb.Ask)
-        (words_behind (option_copied rest.entry)) fault.code) }
+        (λ cause. IsFaultBehind (parts_of Verb.Ask)
+        (words_behind (option_copied rest.entry)) (code_of cause)) }
 {
     let (action, lease) = two_words(rest)?;
     let action = action_word(action)?;
@@ -128,66 +141,66 @@ fn read_ask(rest: Option<&[u8]>) -> Result<Request<'_>, RequestFault>
     Ok(Request::Ask { action, lease })
 }
 
-fn read_confirm(rest: Option<&[u8]>) -> Result<Request<'_>, RequestFault>
+fn read_confirm(rest: Option<&[u8]>) -> Result<Request<'_>, Cause>
     ensures { MatchResult result
         (λ request. Reads (codes "confirm" ∷ words_behind (option_copied rest.entry)) request)
-        (λ fault. IsFaultBehind (parts_of Verb.Confirm)
-        (words_behind (option_copied rest.entry)) fault.code) }
+        (λ cause. IsFaultBehind (parts_of Verb.Confirm)
+        (words_behind (option_copied rest.entry)) (code_of cause)) }
 {
     let word = one_word(rest)?;
     let number = number_word(word)?;
     Ok(Request::Confirm(number))
 }
 
-fn read_cancel(rest: Option<&[u8]>) -> Result<Request<'_>, RequestFault>
+fn read_cancel(rest: Option<&[u8]>) -> Result<Request<'_>, Cause>
     ensures { MatchResult result
         (λ request. Reads (codes "cancel" ∷ words_behind (option_copied rest.entry)) request)
-        (λ fault. IsFaultBehind (parts_of Verb.Cancel)
-        (words_behind (option_copied rest.entry)) fault.code) }
+        (λ cause. IsFaultBehind (parts_of Verb.Cancel)
+        (words_behind (option_copied rest.entry)) (code_of cause)) }
 {
     let word = one_word(rest)?;
     let number = number_word(word)?;
     Ok(Request::Cancel(number))
 }
 
-fn read_log(rest: Option<&[u8]>) -> Result<Request<'_>, RequestFault>
+fn read_log(rest: Option<&[u8]>) -> Result<Request<'_>, Cause>
     ensures { MatchResult result
         (λ request. Reads (codes "log" ∷ words_behind (option_copied rest.entry)) request)
-        (λ fault. IsFaultBehind (parts_of Verb.Log)
-        (words_behind (option_copied rest.entry)) fault.code) }
+        (λ cause. IsFaultBehind (parts_of Verb.Log)
+        (words_behind (option_copied rest.entry)) (code_of cause)) }
 {
     let word = one_word(rest)?;
     let number = number_word(word)?;
     Ok(Request::Log(number))
 }
 
-fn read_may(rest: Option<&[u8]>) -> Result<Request<'_>, RequestFault>
+fn read_may(rest: Option<&[u8]>) -> Result<Request<'_>, Cause>
     ensures { MatchResult result
         (λ request. Reads (codes "may" ∷ words_behind (option_copied rest.entry)) request)
-        (λ fault. IsFaultBehind (parts_of Verb.May)
-        (words_behind (option_copied rest.entry)) fault.code) }
+        (λ cause. IsFaultBehind (parts_of Verb.May)
+        (words_behind (option_copied rest.entry)) (code_of cause)) }
 {
     let word = one_word(rest)?;
     let action = action_word(word)?;
     Ok(Request::May(action))
 }
 
-fn read_poll(rest: Option<&[u8]>) -> Result<Request<'_>, RequestFault>
+fn read_poll(rest: Option<&[u8]>) -> Result<Request<'_>, Cause>
     ensures { MatchResult result
         (λ request. Reads (codes "poll" ∷ words_behind (option_copied rest.entry)) request)
-        (λ fault. IsFaultBehind (parts_of Verb.Poll)
-        (words_behind (option_copied rest.entry)) fault.code) }
+        (λ cause. IsFaultBehind (parts_of Verb.Poll)
+        (words_behind (option_copied rest.entry)) (code_of cause)) }
 {
     let word = one_word(rest)?;
     let name = name_word(word)?;
     Ok(Request::Poll(name))
 }
 
-fn read_watch(rest: Option<&[u8]>) -> Result<Request<'_>, RequestFault>
+fn read_watch(rest: Option<&[u8]>) -> Result<Request<'_>, Cause>
     ensures { MatchResult result
         (λ request. Reads (codes "watch" ∷ words_behind (option_copied rest.entry)) request)
-        (λ fault. IsFaultBehind (parts_of Verb.Watch)
-        (words_behind (option_copied rest.entry)) fault.code) }
+        (λ cause. IsFaultBehind (parts_of Verb.Watch)
+        (words_behind (option_copied rest.entry)) (code_of cause)) }
 {
     let (name, action) = two_words(rest)?;
     let name = name_word(name)?;
@@ -195,11 +208,11 @@ fn read_watch(rest: Option<&[u8]>) -> Result<Request<'_>, RequestFault>
     Ok(Request::Watch { name, action })
 }
 
-fn read_drop(rest: Option<&[u8]>) -> Result<Request<'_>, RequestFault>
+fn read_drop(rest: Option<&[u8]>) -> Result<Request<'_>, Cause>
     ensures { MatchResult result
         (λ request. Reads (codes "drop" ∷ words_behind (option_copied rest.entry)) request)
-        (λ fault. IsFaultBehind (parts_of Verb.Drop)
-        (words_behind (option_copied rest.entry)) fault.code) }
+        (λ cause. IsFaultBehind (parts_of Verb.Drop)
+        (words_behind (option_copied rest.entry)) (code_of cause)) }
 {
     let (name, action) = two_words(rest)?;
     let name = name_word(name)?;
@@ -207,21 +220,21 @@ fn read_drop(rest: Option<&[u8]>) -> Result<Request<'_>, RequestFault>
     Ok(Request::Drop { name, action })
 }
 
-fn read_status(rest: Option<&[u8]>) -> Result<Request<'_>, RequestFault>
+fn read_status(rest: Option<&[u8]>) -> Result<Request<'_>, Cause>
     ensures { MatchResult result
         (λ request. Reads (codes "status" ∷ words_behind (option_copied rest.entry)) request)
-        (λ fault. IsFaultBehind (parts_of Verb.Status)
-        (words_behind (option_copied rest.entry)) fault.code) }
+        (λ cause. IsFaultBehind (parts_of Verb.Status)
+        (words_behind (option_copied rest.entry)) (code_of cause)) }
 {
     no_words(rest)?;
     Ok(Request::Status)
 }
 
-fn read_stop(rest: Option<&[u8]>) -> Result<Request<'_>, RequestFault>
+fn read_stop(rest: Option<&[u8]>) -> Result<Request<'_>, Cause>
     ensures { MatchResult result
         (λ request. Reads (codes "stop" ∷ words_behind (option_copied rest.entry)) request)
-        (λ fault. IsFaultBehind (parts_of Verb.Stop)
-        (words_behind (option_copied rest.entry)) fault.code) }
+        (λ cause. IsFaultBehind (parts_of Verb.Stop)
+        (words_behind (option_copied rest.entry)) (code_of cause)) }
 {
     no_words(rest)?;
     Ok(Request::Stop)
