@@ -6,6 +6,11 @@ use Rattle.ix_expr.specs.declared.expression.FormFault.{FormFault}
 use Rattle.ix_expr.specs.FormFaults.{Node, fault_at, HaveNoFault, IsFirstFault}
 use Rattle.ix_expr.specs.inside.Walk.{FreeFrom, free_end, free_node, FaultFrom, fault_here, fault_later, Passed, Walked}
 
+-- the fault that is made of a code and the number of the first node
+pub told : {node : Node} {nodes : List Node} (n code : ℕ) (fault : FormFault) → fault ≡ record { code = code; node = n } → Some code ≡ fault_at n node → FaultFrom n (node ∷ nodes) fault.code fault.node
+told {node} {nodes} n code fault made is =
+    subst (λ f. FaultFrom n (node ∷ nodes) f.code f.node) (sym made) (fault_here (sym is))
+
 -- the nodes behind a first node that has no fault
 pub walked-node : (n m : ℕ) (node : Node) (nodes : List Node) (r : Result ℕ FormFault) → m ≡ suc n → fault_at n node ≡ None → Walked m nodes r → Walked n (node ∷ nodes) r
 walked-node n m node nodes (Ok next) is none walked = record {

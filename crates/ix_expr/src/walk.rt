@@ -1,12 +1,14 @@
 //! The walk over the nodes of an expression, in pre-order, to its first form fault.
 
 ghost use Rattle.std.specs.Prelude.{◌≡◌, suc, ◌<◌, ◌≤◌, ◌==◌, ◌∷◌, [], IfNone, IfOk, OnOk};
+ghost use Rattle.std.specs.Option.{option_map};
 ghost use Rattle.ix_values.specs.Texts.{IsName};
 ghost use Rattle.ix_expr.specs.FormFaults.{fault_at, first_code, nodes_below};
 ghost use Rattle.ix_expr.specs.inside.FormOf.{form_of};
 ghost use Rattle.ix_expr.specs.inside.Scope.{binders};
 ghost use Rattle.ix_expr.specs.Spelling.{IsAtom, IsSpelled};
-ghost use Rattle.ix_expr.specs.inside.Walk.{Walked, atom_node, quantifier_node, operator_node};
+ghost use Rattle.ix_expr.specs.inside.Walk.{code_of, Walked};
+ghost use Rattle.ix_expr.specs.inside.Walk.{atom_node, quantifier_node, operator_node};
 
 use crate::atom::Atom;
 use crate::expr::Expr;
@@ -14,17 +16,47 @@ use crate::expression::FormFault;
 use crate::scope::Scope;
 use ix_values::Name;
 
-const UNBOUND: u8 = 5;
+/// Why an expression isn't well formed.
+#[derive(Clone, Copy)]
+enum Cause {
+    /// An atom has a parameter that no enclosing quantifier binds.
+    Unbound,
+    /// A quantifier's parameter is bound by an enclosing one.
+    BoundTwice,
+    /// An atom inside an `all` doesn't name its parameter.
+    AllWithoutParameter,
+    /// The node is numbered 512, counted from 0.
+    TooManyNodes,
+    /// The node is at depth 257.
+    TooDeep,
+    /// A quantifier stands inside eight others.
+    TooManyQuantifiers,
+}
 
-const BOUND_TWICE: u8 = 6;
+impl Cause {
+    fn code(self) -> u8
+        ensures { result ≡ code_of self }
+    {
+        match self {
+            Cause::Unbound => 5,
+            Cause::BoundTwice => 6,
+            Cause::AllWithoutParameter => 7,
+            Cause::TooManyNodes => 8,
+            Cause::TooDeep => 9,
+            Cause::TooManyQuantifiers => 13,
+        }
+    }
+}
 
-const ALL_WITHOUT_PARAMETER: u8 = 7;
-
-const TOO_MANY_NODES: u8 = 8;
-
-const TOO_DEEP: u8 = 9;
-
-const TOO_MANY_QUANTIFIERS: u8 = 13;
+/// The fault of this cause at the node of this number.
+fn fault_of(cause: Cause, node: usize) -> FormFault
+    ensures { result ≡ record { code = code_of cause; node = node } }
+{
+    FormFault {
+        code: cause.code(),
+        node,
+    }
+}
 
 /// Walks over the nodes of `expr`, whose root has this depth, this scope and this number, to the
 /// first fault, or to the number behind the last node.
@@ -70,7 +102,7 @@ fn walk_one(operand: &Expr, depth: usize, scope: &Scope, number: usize) -> Resul
     ensures room { IfOk result (λ next. (depth < 257) × (next ≤ 512)) }
 {
     match operator_fault(depth, number) {
-        Some(code) => Err(FormFault { code, node: number }),
+        Some(cause) => Err(fault_of(cause, number)),
         None => walk(operand, depth + 1, scope, number + 1),
     }
 }
@@ -95,7 +127,7 @@ fn walk_inside(
     ensures room { IfOk result (λ next. next ≤ 512) }
 {
     match quantifier_fault(parameter, depth, scope, number) {
-        Some(code) => Err(FormFault { code, node: number }),
+        Some(cause) => Err(fault_of(cause, number)),
         None => {
             prove!(!parameter.bytes().is_empty());
             let inside = Scope::Inside {
@@ -116,63 +148,65 @@ fn visit_atom(atom: &Atom, depth: usize, scope: &Scope, number: usize) -> Result
     ensures room { IfOk result (λ next. next ≤ 512) }
 {
     match atom_fault(atom, depth, scope, number) {
-        Some(code) => Err(FormFault { code, node: number }),
+        Some(cause) => Err(fault_of(cause, number)),
         None => Ok(number + 1),
     }
 }
 
-/// The code of the fault that any node has by its depth and its number.
-fn operator_fault(depth: usize, number: usize) -> Option<u8>
+/// The cause of the fault that any node has by its depth and its number.
+fn operator_fault(depth: usize, number: usize) -> Option<Cause>
     requires shallow { depth ≤ 257 }
     requires few { number ≤ 512 }
-    ensures value { result ≡ first_code ((8, number == 512) ∷ (9, depth == 257) ∷ []) }
+    ensures value { option_map code_of result
+        ≡ first_code ((8, number == 512) ∷ (9, depth == 257) ∷ []) }
     ensures within { IfNone result ((depth < 257) × (number < 512)) }
 {
     if number == 512 {
-        Some(TOO_MANY_NODES)
+        Some(Cause::TooManyNodes)
     } else if depth == 257 {
-        Some(TOO_DEEP)
+        Some(Cause::TooDeep)
     } else {
         None
     }
 }
 
-fn quantifier_fault(parameter: &Name, depth: usize, scope: &Scope, number: usize) -> Option<u8>
+fn quantifier_fault(parameter: &Name, depth: usize, scope: &Scope, number: usize) -> Option<Cause>
     requires shallow { depth ≤ 257 }
     requires few { number ≤ 512 }
-    ensures value { result
+    ensures value { option_map code_of result
         ≡ fault_at number (quantifier_node depth (binders scope.now) parameter.now) }
     ensures within { IfNone result ((depth < 257) × (number < 512)) }
 {
     if number == 512 {
-        Some(TOO_MANY_NODES)
+        Some(Cause::TooManyNodes)
     } else if depth == 257 {
-        Some(TOO_DEEP)
+        Some(Cause::TooDeep)
     } else if scope.has(8) {
-        Some(TOO_MANY_QUANTIFIERS)
+        Some(Cause::TooManyQuantifiers)
     } else if scope.binds(parameter) {
-        Some(BOUND_TWICE)
+        Some(Cause::BoundTwice)
     } else {
         None
     }
 }
 
-fn atom_fault(atom: &Atom, depth: usize, scope: &Scope, number: usize) -> Option<u8>
+fn atom_fault(atom: &Atom, depth: usize, scope: &Scope, number: usize) -> Option<Cause>
     requires shallow { depth ≤ 257 }
     requires few { number ≤ 512 }
-    ensures value { result ≡ fault_at number (atom_node depth (binders scope.now) atom.now) }
+    ensures value { option_map code_of result
+        ≡ fault_at number (atom_node depth (binders scope.now) atom.now) }
     ensures within { IfNone result ((depth < 257) × (number < 512)) }
     ensures valid { IsAtom atom.now }
 {
     prove!(atom.args().len() <= 4);
     if number == 512 {
-        Some(TOO_MANY_NODES)
+        Some(Cause::TooManyNodes)
     } else if depth == 257 {
-        Some(TOO_DEEP)
+        Some(Cause::TooDeep)
     } else if !scope.binds_all(atom) {
-        Some(UNBOUND)
+        Some(Cause::Unbound)
     } else if scope.misses(atom) {
-        Some(ALL_WITHOUT_PARAMETER)
+        Some(Cause::AllWithoutParameter)
     } else {
         None
     }

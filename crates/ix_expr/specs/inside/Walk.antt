@@ -1,8 +1,19 @@
 -- What a walk over nodes that are numbered from n answers.
 use Rattle.std.specs.Prelude.{◌≡◌, ℕ, suc, ◌+◌, ◌≤◌, List, [], ◌∷◌, length, Result, Ok, Err, Some, None}
 use Rattle.ix_expr.specs.declared.expression.FormFault.{FormFault}
+use Rattle.ix_expr.specs.declared.walk.Cause.{Cause}
+use Rattle.ix_expr.specs.declared.walk.Cause.TheVariants as cause
 use Rattle.ix_expr.specs.Form.{PlainAtom}
 use Rattle.ix_expr.specs.FormFaults.{Binder, Node, atom_head, quantifier_head, operator_head, fault_at}
+
+-- the code that tells a cause
+abbrev pub code_of : Cause → ℕ
+code_of cause.Unbound = 5
+code_of cause.BoundTwice = 6
+code_of cause.AllWithoutParameter = 7
+code_of cause.TooManyNodes = 8
+code_of cause.TooDeep = 9
+code_of cause.TooManyQuantifiers = 13
 
 -- the node of an atom
 abbrev pub atom_node : ℕ → List Binder → PlainAtom → Node

@@ -3,12 +3,12 @@ use Rattle.ix_expr.specs.declared.expr.Expr.{Expr}
 use Rattle.ix_expr.specs.FormFaults.{nodes_below}
 use Rattle.ix_expr.specs.inside.FormOf.{form_of}
 use Rattle.ix_expr.specs.inside.Scope.{binders}
-use Rattle.ix_expr.specs.inside.Walk.{Walked, Passed, FaultFrom, fault_here, operator_node}
-use Rattle.ix_expr.proofs.Walks.{walked-node, walked-append, fault-before}
+use Rattle.ix_expr.specs.inside.Walk.{Walked, Passed, FaultFrom, operator_node}
+use Rattle.ix_expr.proofs.Walks.{told, walked-node, walked-append, fault-before}
 use Rattle.ix_expr.proofs.walk.+walk.Goals as goal
 
 pub walk_inside-returns-in-Some-clause-walked : goal.walk_inside-returns-in-Some-clause-walked
-walk_inside-returns-in-Some-clause-walked t c = fault_here (sym c.in-Some.ensures.value)
+walk_inside-returns-in-Some-clause-walked t c = told _ _ _ c.fault_of.ensures c.in-Some.ensures.value
 
 pub walk_inside-returns-in-None-clause-walked : goal.walk_inside-returns-in-None-clause-walked
 walk_inside-returns-in-None-clause-walked t c =
@@ -18,7 +18,7 @@ walk_inside-returns-in-None-clause-walked t c =
     (subst (λ d. Walked (c.args.number + 1) (nodes_below d around (form_of c.args.body.now)) c.walk.result) deeper c.walk.ensures.walked)
 
 pub walk_one-returns-in-Some-clause-walked : goal.walk_one-returns-in-Some-clause-walked
-walk_one-returns-in-Some-clause-walked t c = fault_here (sym c.in-Some.ensures.value)
+walk_one-returns-in-Some-clause-walked t c = told _ _ _ c.fault_of.ensures c.in-Some.ensures.value
 
 pub walk_one-returns-in-None-clause-walked : goal.walk_one-returns-in-None-clause-walked
 walk_one-returns-in-None-clause-walked t c =
