@@ -10,7 +10,7 @@ ghost use Rattle.ix_expr.specs.inside.FormOf.{form_of};
 ghost use Rattle.ix_expr.specs.Meaning.{IsPartial};
 ghost use Rattle.ix_can.specs.inside.CanAsk.{first_or_stays, UnseenFirst};
 ghost use Rattle.ix_can.specs.inside.May.{may_first};
-ghost use Rattle.ix_can.specs.Tests.{in_alphabet, values_and_outside};
+ghost use Rattle.ix_can.specs.Tests.{values_and_outside};
 
 use crate::plain_tests::{accepts_empty, in_alphabet, is_match};
 use ix_expr::{Env, Expr, sees};
@@ -36,7 +36,7 @@ pub(crate) fn begins(expr: &Expr, env: &Env, action: &Action) -> bool
         Expr::Seq(y, z) => begins_seq(y, z, env, action),
         Expr::Par(y, z) | Expr::Or(y, z) => begins_either(y, z, env, action),
         Expr::And(y, z) => begins_both(y, z, env, action),
-        Expr::Couple(y, z) => in_alphabet(expr, env, action) && begins_couple(y, z, env, action),
+        Expr::Couple(y, z) => begins_couple(y, z, env, action),
         Expr::Any(p, y) => begins_for_some(p, y, env, action),
         Expr::Every(p, y) => begins_for_each(false, p, y, env, action),
         Expr::Sync(p, y) => in_alphabet(expr, env, action)
@@ -73,16 +73,23 @@ fn begins_both(y: &Expr, z: &Expr, env: &Env, action: &Action) -> bool
     begins(y, env, action) && begins(z, env, action)
 }
 
-/// Some side has the action in its alphabet. The answer is whether each such side begins with it.
+/// Each side that has the action in its alphabet must begin with it, and one of them must have it.
+/// Each is asked once.
 #[cycle(begins)]
 fn begins_couple(y: &Expr, z: &Expr, env: &Env, action: &Action) -> bool
     requires first { Fits (form_of y.now) env.now }
     requires second { Fits (form_of z.now) env.now }
-    requires inside { in_alphabet (couple (form_of y.now) (form_of z.now)) env.now action.now
-        ≡ true }
     ensures { result ≡ may_first (couple (form_of y.now) (form_of z.now)) env.now action.now }
 {
-    begins_or_stays(true, y, env, action) && begins_or_stays(true, z, env, action)
+    let left_moves = in_alphabet(y, env, action);
+    if left_moves && !begins(y, env, action) {
+        return false;
+    }
+    let right_moves = in_alphabet(z, env, action);
+    if right_moves && !begins(z, env, action) {
+        return false;
+    }
+    left_moves || right_moves
 }
 
 /// With `stays`, an action outside the alphabet is taken too: the expression stands still.

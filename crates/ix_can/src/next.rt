@@ -7,12 +7,13 @@ ghost use Rattle.ix_words.specs.Each.{Each};
 ghost use Rattle.ix_values.specs.PlainAction.{Word};
 ghost use Rattle.ix_expr.specs.Environment.{bind};
 ghost use Rattle.ix_expr.specs.Fitting.{FitsInside};
+ghost use Rattle.ix_expr.specs.Form.{couple};
 ghost use Rattle.ix_expr.specs.FormFaults.{Fits};
 ghost use Rattle.ix_expr.specs.inside.FormOf.{form_of};
 ghost use Rattle.ix_expr.specs.Laws.{EachAtomNames};
 ghost use Rattle.ix_expr.specs.Meaning.{IsPartial};
 ghost use Rattle.ix_tree.specs.Order.{key, first_part, second_part};
-ghost use Rattle.ix_tree.specs.Plain.{listed, items_of};
+ghost use Rattle.ix_tree.specs.Plain.{couple as couple_of, listed, items_of};
 ghost use Rattle.ix_tree.specs.PlainOf.{plain_pair, plain_bag, plain_map, plain_entries};
 ghost use Rattle.ix_can.specs.declared.next.Outside.TheVariants.{Refused};
 ghost use Rattle.ix_can.specs.inside.CanAsk.{stays, may_or_stays, each_may_or_stays, may_own};
@@ -78,9 +79,7 @@ pub fn goes_on(expr: &Expr, env: &Env, state: &Knot, action: &Action) -> bool
             goes_on(y, env, left, action) && goes_on(z, env, right, action)
         }
         (Expr::Couple(y, z), Node::Couple(left, right)) => {
-            in_alphabet(expr, env, action)
-                && (goes_on_or_stays(y, Outside::Stays, env, left, action)
-                    && goes_on_or_stays(z, Outside::Stays, env, right, action))
+            coupled_go_on(y, z, env, left, right, action)
         }
         (Expr::Any(parameter, expr), Node::Any(common, entries)) => {
             some_goes_on_for(Body { parameter, expr }, env, common, entries, action)
@@ -184,6 +183,26 @@ fn some_bag_goes_on(y: &Expr, env: &Env, bags: &[Bag], action: &Action) -> bool
         }
     }
     false
+}
+
+/// Each side that has the action in its alphabet must go on, and one of them must have it. Each is
+/// asked once.
+#[cycle(goes_on)]
+fn coupled_go_on(y: &Expr, z: &Expr, env: &Env, left: &Knot, right: &Knot, action: &Action) -> bool
+    requires first { CanAsk (form_of y.now) env.now left.now }
+    requires second { CanAsk (form_of z.now) env.now right.now }
+    ensures { result ≡ may (couple (form_of y.now) (form_of z.now)) env.now
+        (couple_of left.now right.now) action.now }
+{
+    let left_moves = in_alphabet(y, env, action);
+    if left_moves && !goes_on(y, env, left, action) {
+        return false;
+    }
+    let right_moves = in_alphabet(z, env, action);
+    if right_moves && !goes_on(z, env, right, action) {
+        return false;
+    }
+    left_moves || right_moves
 }
 
 #[cycle(goes_on)]

@@ -91,12 +91,12 @@ pub member-stands : {v : List ℕ} {values : List (List ℕ)} → Member v value
 member-stands here = record { place = 0; within = omega arith; is = λ d. refl }
 member-stands (there m) = let rest = member-stands m in record { place = suc rest.place; within = omega (arith, rest.within); is = rest.is }
 
--- with p outside and no value of the action in the alphabet, no value at all is
-pub none-in-alphabet : (y : Form) (p : List ℕ) (e : Environment) (a : PlainAction)
-    → ((k : ℕ) (d : List ℕ) → k < length a.values → ¬ InAlphabet y (bind p (Some (get_or a.values k d)) e) a)
+-- what is in the alphabet with some value of p is in it with p outside, if that holds of the action's own values
+pub outside-in-alphabet : (y : Form) (p : List ℕ) (e : Environment) (a : PlainAction)
+    → ((k : ℕ) → k < length a.values → (d : List ℕ) → InAlphabet y (bind p (Some (get_or a.values k d)) e) a → InAlphabet y (bind p None e) a)
     → ((v : List ℕ) × InAlphabet y (bind p (Some v) e) a) → InAlphabet y (bind p None e) a
-none-in-alphabet y p e a none w = elim (member-or-not w.0 a.values) [
-  | inl m ↦ let at = member-stands m in absurd (none at.place [] at.within (subst (λ v. InAlphabet y (bind p (Some v) e) a) (sym (at.is [])) w.1))
+outside-in-alphabet y p e a own w = elim (member-or-not w.0 a.values) [
+  | inl m ↦ let at = member-stands m in own at.place at.within [] (subst (λ v. InAlphabet y (bind p (Some v) e) a) (sym (at.is [])) w.1)
   | inr absent ↦ alphabet-leads y a (unused-leads p w.0 e a.values absent) w.1
 ]
 

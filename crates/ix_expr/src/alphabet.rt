@@ -10,6 +10,7 @@ ghost use Rattle.ix_expr.specs.Meaning.{InAlphabet};
 use crate::env::Env;
 use crate::expr::Expr;
 use crate::matching::matches;
+use crate::seen::sees;
 use ix_values::{Action, Name};
 
 /// Whether the action is in the alphabet of the expression: an atom's is the actions that it
@@ -33,7 +34,7 @@ pub fn contains(expr: &Expr, env: &Env, action: &Action) -> bool
 }
 
 /// Whether the action is in the alphabet of `body` for some value of the parameter. A value that
-/// isn't one of the action's does as outside does.
+/// isn't one of the action's does as outside does, and so does one that the body doesn't see.
 #[cycle(alphabet)]
 fn contains_for_some(body: &Expr, parameter: &Name, env: &Env, action: &Action) -> bool
     requires { FitsInside parameter.now (form_of body.now) env.now }
@@ -42,7 +43,9 @@ fn contains_for_some(body: &Expr, parameter: &Name, env: &Env, action: &Action) 
         × InAlphabet (form_of body.now) (bind parameter.now (Some v) env.now) action.now) }
 {
     for value in action.values() {
-        if contains(body, &env.with(*parameter, Some(*value)), action) {
+        if sees(body, parameter, value, action)
+            && contains(body, &env.with(*parameter, Some(*value)), action)
+        {
             return true;
         }
     }

@@ -1,10 +1,10 @@
 -- What each call behind `can_first` asks holds, and what the quantifiers answer.
-use Rattle.std.proofs.Common.{◌≡◌, inl, inr, ℕ, Bool, true, false, List, Option, Some, None, refl, sym, ◌∙◌, subst, rules}
+use Rattle.std.proofs.Common.{inl, inr, ℕ, Bool, true, false, List, Option, Some, None, refl, sym, ◌∙◌, subst, rules}
 use Rattle.ix_expr.specs.declared.expr.Expr.{Expr}
 use Rattle.ix_expr.specs.declared.expr.Expr.TheViews.{the_lemmas}
 use Rattle.ix_expr.specs.Environment.{bind}
 use Rattle.ix_expr.specs.Fitting.{FitsInside, OperandsFit}
-use Rattle.ix_expr.specs.Form.{couple, all}
+use Rattle.ix_expr.specs.Form.{all}
 use Rattle.ix_expr.proofs.LawsOfNames.{fits-names}
 use Rattle.ix_expr.specs.FormFaults.{Fits}
 use Rattle.ix_expr.specs.inside.FormOf.{form_of}
@@ -12,7 +12,6 @@ use Rattle.ix_expr.proofs.Parts.{fits-operands}
 use Rattle.ix_can.specs.inside.CanAsk.{first_or_stays, UnseenFirst}
 use Rattle.ix_can.proofs.UnseenValues.{unseen_first, unseen_out}
 use Rattle.ix_can.specs.inside.May.{may_first}
-use Rattle.ix_can.specs.Tests.{in_alphabet}
 use Rattle.ix_can.proofs.Children.{either_else, both_then, any_made, all_made}
 use Rattle.ix_can.proofs.first.+begins.Goals as goal
 
@@ -32,18 +31,7 @@ pub begins-begins_couple-requires : goal.begins-begins_couple-requires
 begins-begins_couple-requires t c =
     let e = c.args.env.now in
     let parts : Fits (form_of c.in-Couple.y.value) e × Fits (form_of c.in-Couple.z.value) e = subst (λ (x : Expr). OperandsFit (form_of x) e) c.in-Couple.is (fits-operands (form_of c.args.expr.now) e c.requires) in
-    let inside : in_alphabet (couple (form_of c.in-Couple.y.value) (form_of c.in-Couple.z.value)) e c.args.action.now ≡ true =
-    subst (λ (x : Expr). in_alphabet (form_of x) e c.args.action.now ≡ true) c.in-Couple.is (sym c.in_alphabet.ensures ∙ c.if-in_alphabet.true) in (
-      search (rules, the_lemmas),
-      (
-        subst (λ (x : Expr). Fits (form_of x) e) (sym c.deref-then-in_alphabet.ensures) parts.0,
-        (
-          subst (λ (x : Expr). Fits (form_of x) e) (sym c.deref-then-in_alphabet-2.ensures) parts.1,
-          subst (λ (x : Expr). in_alphabet (couple (form_of c.deref-then-in_alphabet.result.now) (form_of x)) e c.args.action.now ≡ true) (sym c.deref-then-in_alphabet-2.ensures)
-              (subst (λ (x : Expr). in_alphabet (couple (form_of x) (form_of c.in-Couple.z.value)) e c.args.action.now ≡ true) (sym c.deref-then-in_alphabet.ensures) inside),
-        ),
-      ),
-    )
+    (search (rules, the_lemmas), (subst (λ (x : Expr). Fits (form_of x) e) (sym c.deref-in-Couple.ensures) parts.0, subst (λ (x : Expr). Fits (form_of x) e) (sym c.deref-in-Couple-2.ensures) parts.1))
 
 pub begins-begins_either-requires : goal.begins-begins_either-requires
 begins-begins_either-requires t c =
@@ -73,11 +61,11 @@ begins-begins_for_each-requires t c =
     let inside : FitsInside c.in-Every.p (form_of c.in-Every.y.value) e = subst (λ (x : Expr). OperandsFit (form_of x) e) c.in-Every.is (fits-operands (form_of c.args.expr.now) e c.requires) in
     (search (rules, the_lemmas), subst (λ (x : Expr). FitsInside c.in-Every.p (form_of x) e) (sym c.deref-in-Every.ensures) inside)
 
-pub begins-begins_for_each-requires-then-in_alphabet-2 : goal.begins-begins_for_each-requires-then-in_alphabet-2
-begins-begins_for_each-requires-then-in_alphabet-2 t c =
+pub begins-begins_for_each-requires-then-in_alphabet : goal.begins-begins_for_each-requires-then-in_alphabet
+begins-begins_for_each-requires-then-in_alphabet t c =
     let e = c.args.env.now in
     let inside : FitsInside c.in-Sync.p (form_of c.in-Sync.y.value) e = subst (λ (x : Expr). OperandsFit (form_of x) e) c.in-Sync.is (fits-operands (form_of c.args.expr.now) e c.requires) in
-    (search (rules, the_lemmas), subst (λ (x : Expr). FitsInside c.in-Sync.p (form_of x) e) (sym c.deref-then-in_alphabet-2-2.ensures) inside)
+    (search (rules, the_lemmas), subst (λ (x : Expr). FitsInside c.in-Sync.p (form_of x) e) (sym c.deref-then-in_alphabet.ensures) inside)
 
 pub begins-some_value_begins-requires : goal.begins-some_value_begins-requires
 begins-some_value_begins-requires t c =

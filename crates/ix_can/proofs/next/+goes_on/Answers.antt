@@ -77,13 +77,12 @@ pub goes_on-goes_on-requires-then-goes_on-3 : goal.goes_on-goes_on-requires-then
 goes_on-goes_on-requires-then-goes_on-3 t c =
     (search (rules, the_lemmas), and_second (asked (ap form_of c.in-And-And.is-0 ∙ ap (λ v. and (form_of c.in-And-And.y.value) (form_of v)) (sym c.deref-then-goes_on-3.ensures)) (sym c.node.ensures ∙ ap plain_node c.in-And-And.is-1) c.requires))
 
-pub goes_on-goes_on_or_stays-requires : goal.goes_on-goes_on_or_stays-requires
-goes_on-goes_on_or_stays-requires t c =
-    (search (rules, the_lemmas), couple_first (asked (ap form_of c.in-Couple-Couple.is-0 ∙ ap (λ v. couple (form_of v) (form_of c.in-Couple-Couple.z.value)) (sym c.deref-then-in_alphabet.ensures)) (sym c.node.ensures ∙ ap plain_node c.in-Couple-Couple.is-1) c.requires))
-
-pub goes_on-goes_on_or_stays-requires-then-goes_on_or_stays : goal.goes_on-goes_on_or_stays-requires-then-goes_on_or_stays
-goes_on-goes_on_or_stays-requires-then-goes_on_or_stays t c =
-    (search (rules, the_lemmas), couple_second (asked (ap form_of c.in-Couple-Couple.is-0 ∙ ap (λ v. couple (form_of c.in-Couple-Couple.y.value) (form_of v)) (sym c.deref-then-goes_on_or_stays.ensures)) (sym c.node.ensures ∙ ap plain_node c.in-Couple-Couple.is-1) c.requires))
+pub goes_on-coupled_go_on-requires : goal.goes_on-coupled_go_on-requires
+goes_on-coupled_go_on-requires t c =
+    let y = c.deref-in-Couple-Couple in
+    let z = c.deref-in-Couple-Couple-2 in
+    let k = asked (ap form_of c.in-Couple-Couple.is-0 ∙ ap (λ v. couple (form_of v) (form_of c.in-Couple-Couple.z.value)) (sym y.ensures) ∙ ap (λ v. couple (form_of y.result.now) (form_of v)) (sym z.ensures)) (sym c.node.ensures ∙ ap plain_node c.in-Couple-Couple.is-1) c.requires in
+    (search (rules, the_lemmas), (couple_first k, couple_second k))
 
 pub goes_on-some_goes_on_for-requires : goal.goes_on-some_goes_on_for-requires
 goes_on-some_goes_on_for-requires t c =
@@ -95,7 +94,7 @@ goes_on-each_goes_on_for-requires t c =
 
 pub goes_on-each_goes_on_or_stays-requires : goal.goes_on-each_goes_on_or_stays-requires
 goes_on-each_goes_on_or_stays-requires t c =
-    (search (rules, the_lemmas), sync_values (asked (ap form_of c.in-Sync-Sync.is-0 ∙ ap (λ v. sync c.in-Sync-Sync.parameter (form_of v)) (sym c.deref-in-Sync-Sync.ensures)) (sym c.node.ensures ∙ ap plain_node c.in-Sync-Sync.is-1 ∙ ap (λ v. sync_of c.in-Sync-Sync.common (plain_entries v)) (sym c.deref-then-in_alphabet-2.ensures.value)) c.requires))
+    (search (rules, the_lemmas), sync_values (asked (ap form_of c.in-Sync-Sync.is-0 ∙ ap (λ v. sync c.in-Sync-Sync.parameter (form_of v)) (sym c.deref-in-Sync-Sync.ensures)) (sym c.node.ensures ∙ ap plain_node c.in-Sync-Sync.is-1 ∙ ap (λ v. sync_of c.in-Sync-Sync.common (plain_entries v)) (sym c.deref-then-in_alphabet.ensures.value)) c.requires))
 
 pub goes_on-some_map_goes_on-requires : goal.goes_on-some_map_goes_on-requires
 goes_on-some_map_goes_on-requires t c =
@@ -123,13 +122,13 @@ goes_on-returns-in-All-All t c =
     ∙ ap (λ s. may (all c.in-All-All.parameter (form_of c.deref-in-All-All.result.now)) e s a) (sym tree)
     ∙ ap (λ x. may x e c.args.state.now a) (sym shape)
 
-pub goes_on-returns-then-in_alphabet-2 : goal.goes_on-returns-then-in_alphabet-2
-goes_on-returns-then-in_alphabet-2 t c =
+pub goes_on-returns-then-in_alphabet : goal.goes_on-returns-then-in_alphabet
+goes_on-returns-then-in_alphabet t c =
     let e = c.args.env.now in
     let a = c.args.action.now in
     let shape = ap form_of c.in-Sync-Sync.is-0 ∙ ap (λ v. sync c.in-Sync-Sync.parameter (form_of v)) (sym c.deref-in-Sync-Sync.ensures) in
-    let tree = sym c.node.ensures ∙ ap plain_node c.in-Sync-Sync.is-1 ∙ ap (λ v. sync_of c.in-Sync-Sync.common (plain_entries v)) (sym c.deref-then-in_alphabet-2.ensures.value) in
-    inside_too (in_alphabet (sync c.in-Sync-Sync.parameter (form_of c.deref-in-Sync-Sync.result.now)) e a) _ c.each_goes_on_or_stays.result (ap (λ x. in_alphabet x e a) (sym shape) ∙ sym c.in_alphabet-in-Sync-Sync.ensures ∙ c.if-in_alphabet-2.true) c.each_goes_on_or_stays.ensures
+    let tree = sym c.node.ensures ∙ ap plain_node c.in-Sync-Sync.is-1 ∙ ap (λ v. sync_of c.in-Sync-Sync.common (plain_entries v)) (sym c.deref-then-in_alphabet.ensures.value) in
+    inside_too (in_alphabet (sync c.in-Sync-Sync.parameter (form_of c.deref-in-Sync-Sync.result.now)) e a) _ c.each_goes_on_or_stays.result (ap (λ x. in_alphabet x e a) (sym shape) ∙ sym c.in_alphabet.ensures ∙ c.if-in_alphabet.true) c.each_goes_on_or_stays.ensures
     ∙ ap (λ s. may (sync c.in-Sync-Sync.parameter (form_of c.deref-in-Sync-Sync.result.now)) e s a) (sym tree)
     ∙ ap (λ x. may x e c.args.state.now a) (sym shape)
 

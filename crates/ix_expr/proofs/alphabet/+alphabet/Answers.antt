@@ -1,14 +1,19 @@
-use Rattle.std.proofs.Common.{ℕ, ◌<◌, ◌⊎◌, inl, inr, Some, None, List, length, get_or, sym, ap, subst, arith, rules}
+use Rattle.std.proofs.Common.{ℕ, ◌<◌, ◌⊎◌, inl, inr, Some, None, List, length, get_or, refl, sym, ap, ◌∙◌, subst, true≢false, arith, rules}
+use Rattle.std.proofs.lemmas.List.{get_or_read_under}
+use borrow.Author.Count.{below_more}
 use Rattle.ix_expr.specs.declared.expr.Expr.{Expr}
 use Rattle.ix_expr.specs.declared.expr.Expr.TheViews.{the_lemmas}
 use Rattle.ix_expr.specs.Environment.{Environment, bind}
 use Rattle.ix_expr.specs.inside.FormOf.{form_of}
 use Rattle.ix_expr.specs.FormFaults.{Fits}
 use Rattle.ix_expr.specs.Meaning.{InAlphabet}
-use Rattle.ix_expr.proofs.Agreement.{some-in-alphabet, none-in-alphabet}
+use Rattle.ix_expr.proofs.Agreement.{some-in-alphabet, outside-in-alphabet}
 use Rattle.ix_expr.specs.Fitting.{FitsInside, OperandsFit}
 use Rattle.ix_expr.proofs.Parts.{fits-operands}
+use Rattle.ix_expr.proofs.AgreeingAtoms.{alphabet-same}
+use Rattle.ix_expr.proofs.Unseen.{unseen-outside}
 use Rattle.ix_expr.proofs.alphabet.+alphabet.Goals as goal
+use Rattle.ix_expr.proofs.alphabet.+alphabet.Goals.{contains_for_some-else-sees-via-then-sees+else-contains, contains_for_some-else-sees-via-else-sees}
 
 pub contains-contains-requires-in-Opt : goal.contains-contains-requires-in-Opt
 contains-contains-requires-in-Opt t c =
@@ -72,9 +77,24 @@ contains_for_some-returns t c =
     let p = c.args.parameter.now in
     let e = c.args.env.now in
     let a = c.args.action.now in
-    let values = c.values-value-items.result.now in
-    let none : (k : ℕ) (d : List ℕ) → k < length a.values → ¬ InAlphabet y (bind p (Some (get_or a.values k d)) e) a =
-    λ k d below. subst (λ vs. ¬ InAlphabet y (bind p (Some (get_or vs k d)) e) a) c.values-value-items.ensures.value (c.loop-value.invariant k d (omega (arith, ap length c.values-value-items.ensures.value))) in (
+    let own : (k : ℕ) → k < length a.values → (d : List ℕ) → InAlphabet y (bind p (Some (get_or a.values k d)) e) a → InAlphabet y (bind p None e) a =
+    λ k below d. subst (λ vs. InAlphabet y (bind p (Some (get_or vs k d)) e) a → InAlphabet y (bind p None e) a) c.values-value-items.ensures.value (c.loop-value.invariant k (omega (arith, ap length c.values-value-items.ensures.value)) d) in (
       λ t. some-in-alphabet y p e a (subst (λ f. InAlphabet y f a) c.with-2.ensures (c.contains-2.ensures.0 t)),
-      λ w. c.contains-2.ensures.1 (subst (λ f. InAlphabet y f a) (sym c.with-2.ensures) (none-in-alphabet y p e a none w)),
+      λ w. c.contains-2.ensures.1 (subst (λ f. InAlphabet y f a) (sym c.with-2.ensures) (outside-in-alphabet y p e a own w)),
     )
+
+pub contains_for_some-loop-value-preserved : goal.contains_for_some-loop-value-preserved
+contains_for_some-loop-value-preserved t c =
+    let y = form_of c.args.body.now in
+    let p = c.args.parameter.now in
+    let e = c.args.env.now in
+    let a = c.args.action.now in
+    let v = c.value-item.result in
+    let leads : List ℕ → Type 0 = λ u. InAlphabet y (bind p (Some u) e) a → InAlphabet y (bind p None e) a in
+    let items = c.values-value-items.result.now in
+    let here : leads v = elim c.else-sees.branch [
+      | contains_for_some-else-sees-via-then-sees+else-contains w ↦ λ i. absurd (true≢false (sym (w.contains.ensures.1 (subst (λ f. InAlphabet y f a) (sym w.with.ensures) i)) ∙ w.if-contains.false))
+      | contains_for_some-else-sees-via-else-sees w ↦ alphabet-same y (bind p (Some v) e) (bind p None e) a (unseen-outside y e p v a (λ s. true≢false (sym (c.sees.ensures.1 s) ∙ w.if-sees.false)))
+    ] in
+    below_more (λ k. (d : List ℕ) → leads (get_or items k d)) c.loop-value.value-index c.loop-value.invariant
+    (λ d. subst leads (get_or_read_under items c.loop-value.value-index (length items) v d c.value-item.is c.loop-value-test.true refl) here)
