@@ -23,7 +23,7 @@ use crate::advance::advance;
 use crate::bodies::Body;
 use crate::fault::Unbuilt;
 use crate::first::first_tree;
-use crate::nodes::{dead_knot, within_if_live};
+use crate::nodes::{dead_knot, sized_if_live};
 use crate::one_step::Step;
 use crate::sets::put as put_alternative;
 use ix_alts::AltSet;
@@ -45,7 +45,8 @@ pub(crate) fn advance_all(step: Step, body: Body, maps: &[Map]) -> Result<Knot, 
 {
     let first = first_tree(step.alloc, body.expr)?;
     let set = advance_maps(step, body, &first, maps)?;
-    within_if_live(step, Node::All(set.into_items()))
+    let size = 1 + set.total();
+    sized_if_live(step, Node::All(set.into_items()), size)
 }
 
 /// Each map gives one for each of the action's values, with the tree of that value moved. `first`

@@ -20,7 +20,7 @@ use crate::advance::advance;
 use crate::bags::{put_more, put_moved};
 use crate::beginning::advance_again;
 use crate::fault::Unbuilt;
-use crate::nodes::{dead_knot, within_if_live};
+use crate::nodes::{dead_knot, sized_if_live};
 use crate::one_step::Step;
 use crate::pairs::put_pairs;
 use ix_alts::AltSet;
@@ -36,7 +36,8 @@ pub(crate) fn advance_par(step: Step, y: &Expr, z: &Expr, pairs: &[Pair]) -> Res
         result }
 {
     let set = advance_pairs(step, y, z, pairs)?;
-    within_if_live(step, Node::Par(set.into_items()))
+    let size = 1 + set.total();
+    sized_if_live(step, Node::Par(set.into_items()), size)
 }
 
 #[cycle(advance)]
@@ -70,7 +71,8 @@ pub(crate) fn advance_par_star(step: Step, y: &Expr, bags: &[Bag]) -> Result<Kno
     }
     let first = advance_again(step, y, true)?;
     let set = advance_bags(step, y, &first, bags)?;
-    within_if_live(step, Node::ParStar(set.into_items()))
+    let size = 1 + set.total();
+    sized_if_live(step, Node::ParStar(set.into_items()), size)
 }
 
 /// Each bag gives one for each of its trees, with that one moved, and one with a run more, whose
