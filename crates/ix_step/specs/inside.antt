@@ -3,6 +3,7 @@ pub mod Builds
 pub mod Makes
 pub mod EnterTrees
 pub mod Initial
+pub mod Limits
 pub mod MapsAfter
 pub mod Moves
 pub mod ParallelMoves

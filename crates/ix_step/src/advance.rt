@@ -20,7 +20,7 @@ use crate::beginning::advance_again;
 use crate::bodies::{Body, Reach};
 use crate::fault::Unbuilt;
 use crate::maps::advance_all;
-use crate::nodes::{bounded, dead_knot, within, within_if_live};
+use crate::nodes::{bounded, dead_knot, sized_if_live, within, within_if_live};
 use crate::one_step::Step;
 use crate::parallel::{advance_par, advance_par_star};
 use crate::quantifiers::{advance_sync, advance_values};
@@ -154,7 +154,8 @@ fn advance_seq(step: Step, y: &Expr, z: &Expr, first: &Knot, rest: &[Knot]) -> R
     let first = advance(step, y, first)?;
     let mut set = advance_each(step, z, rest)?;
     put_first(step.alloc, &mut set, completes(y, &first), z)?;
-    within_if_live(step, Node::Seq(first, set.into_items()))
+    let size = 1 + first.size() + set.total();
+    sized_if_live(step, Node::Seq(first, set.into_items()), size)
 }
 
 /// Beside the moved alternatives stands one more: the run that begins with the action. The flag
@@ -169,9 +170,10 @@ fn advance_star(step: Step, y: &Expr, again: bool, rest: &[Knot]) -> Result<Knot
     let begun = advance_again(step, y, again)?;
     let mut set = advance_each(step, y, rest)?;
     put_live(&mut set, begun)?;
+    let size = 1 + set.total();
     let items = set.into_items();
     let again = some_completes(y, &items);
-    within_if_live(step, Node::Star(again, items))
+    sized_if_live(step, Node::Star(again, items), size)
 }
 
 fn some_completes(y: &Expr, trees: &[Knot]) -> bool

@@ -13,6 +13,7 @@ ghost use Rattle.ix_can.specs.inside.May.{may};
 ghost use Rattle.ix_can.specs.inside.Moved.{moved};
 ghost use Rattle.ix_can.specs.TreeOf.{tree_of};
 ghost use Rattle.ix_step.specs.inside.Builds.{Builds, IsAbove};
+ghost use Rattle.ix_step.specs.inside.Limits.{most_size};
 ghost use Rattle.ix_step.specs.inside.Makes.{Makes, IsOver};
 ghost use Rattle.ix_step.specs.inside.Ready.{Ready};
 
@@ -82,7 +83,7 @@ fn moved_within(
 ) -> Result<Knot, Unbuilt>
     requires ready { Ready (form_of expr.now) env.now tree.now }
     requires may { may (form_of expr.now) env.now tree.now action.now ≡ true }
-    requires limit { limit ≤ 1000000 }
+    requires limit { limit ≤ most_size }
     ensures { Makes limit (moved (form_of expr.now) env.now tree.now action.now) result }
 {
     let dead = Knot::new(alloc, Node::Dead)?;
@@ -100,10 +101,10 @@ fn moved_within(
 /// Dead trees come up on the way, whose Size is 1, so a step needs a limit of at least 1. A limit
 /// of 0, which no tree is within, is told by `bounded`.
 fn at_least_one(limit: usize) -> usize
-    requires { limit ≤ 1000000 }
+    requires { limit ≤ most_size }
     ensures positive { 1 ≤ result }
     ensures above { limit ≤ result }
-    ensures bounded { result ≤ 1000000 }
+    ensures bounded { result ≤ most_size }
 {
     if limit == 0 { 1 } else { limit }
 }

@@ -7,6 +7,7 @@ ghost use Rattle.ix_tree.specs.Size.{size_of};
 ghost use Rattle.ix_words.specs.Canon.{when};
 ghost use Rattle.ix_can.specs.Tests.{accepts_empty as accepts};
 ghost use Rattle.ix_step.specs.inside.Initial.{initial_tree};
+ghost use Rattle.ix_step.specs.inside.Limits.{most_size};
 
 use ix_expr::{Expr, accepts_empty};
 use ix_tree::{Bag, Knot, Map, Node, Pair};
@@ -16,7 +17,7 @@ use std::alloc::{AllocError, Global};
 /// and that of `*y` that a run may begin.
 #[cycle(first)]
 pub(crate) fn first_tree(alloc: Global, expr: &Expr) -> Result<Knot, AllocError>
-    requires { size_of (initial_tree (form_of expr.now)) ≤ 1000000 }
+    requires { size_of (initial_tree (form_of expr.now)) ≤ most_size }
     ensures { IfOk result (λ t. t ≡ initial_tree (form_of expr.now)) }
 {
     match expr {
@@ -54,9 +55,9 @@ pub(crate) fn first_tree(alloc: Global, expr: &Expr) -> Result<Knot, AllocError>
 /// Where the empty word is complete in y, z may begin.
 #[cycle(first)]
 fn first_seq(alloc: Global, y: &Expr, z: &Expr) -> Result<Knot, AllocError>
-    requires first { size_of (initial_tree (form_of y.now)) ≤ 1000000 }
+    requires first { size_of (initial_tree (form_of y.now)) ≤ most_size }
     requires second { accepts (form_of y.now) ≡ true → size_of (initial_tree (form_of z.now)) ≤
-        1000000 }
+        most_size }
     ensures { IfOk result
         (λ t. t
         ≡ seq (initial_tree (form_of y.now))
@@ -78,8 +79,8 @@ fn is_complete(expr: &Expr) -> bool
 
 /// The one split of the empty word.
 fn one_pair(alloc: Global, first: Knot, second: Knot) -> Result<Knot, AllocError>
-    requires first { size_of first ≤ 1000000 }
-    requires second { size_of second ≤ 1000000 }
+    requires first { size_of first ≤ most_size }
+    requires second { size_of second ≤ most_size }
     ensures { IfOk result (λ t. t ≡ par (listed (pair first second ∷ []))) }
 {
     let mut pairs = Vec::new(alloc);

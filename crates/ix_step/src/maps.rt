@@ -12,6 +12,7 @@ ghost use Rattle.ix_can.specs.inside.May.{tree_at};
 ghost use Rattle.ix_can.specs.inside.Moved.{map_with, or_initial};
 ghost use Rattle.ix_entries.specs.inside.Entries.{KeysAscend};
 ghost use Rattle.ix_values.specs.Order.{text_cmp};
+ghost use Rattle.ix_step.specs.inside.Limits.{most_size};
 ghost use Rattle.ix_step.specs.inside.Makes.{Makes, Collects, Gathers, IsOver, put_all};
 ghost use Rattle.ix_step.specs.inside.MovedNode.{moved_node};
 ghost use Rattle.ix_step.specs.inside.Pruned.{pruned};
@@ -23,7 +24,7 @@ use crate::advance::advance;
 use crate::bodies::Body;
 use crate::fault::Unbuilt;
 use crate::first::first_tree;
-use crate::nodes::{dead_knot, within_if_live};
+use crate::nodes::{dead_knot, sized_if_live};
 use crate::one_step::Step;
 use crate::sets::put as put_alternative;
 use ix_alts::AltSet;
@@ -45,7 +46,8 @@ pub(crate) fn advance_all(step: Step, body: Body, maps: &[Map]) -> Result<Knot, 
 {
     let first = first_tree(step.alloc, body.expr)?;
     let set = advance_maps(step, body, &first, maps)?;
-    within_if_live(step, Node::All(set.into_items()))
+    let size = 1 + set.total();
+    sized_if_live(step, Node::All(set.into_items()), size)
 }
 
 /// Each map gives one for each of the action's values, with the tree of that value moved. `first`
@@ -115,7 +117,7 @@ fn advance_owner(
         (tree
         ≡ begun_tree body.entry.parameter.now
         (form_of body.entry.expr.now) step.entry.env.now step.entry.action.now first.now
-        (plain_map state.now) value.now) × (size_of tree ≤ 1000000))
+        (plain_map state.now) value.now) × (size_of tree ≤ most_size))
         (λ fault. (old : List Plain)
         → IsOver step.entry.limit
         (listed
@@ -168,7 +170,7 @@ fn put_owner(
     tree: Knot,
 ) -> Result<(), Unbuilt>
     requires held { (y : Form) × HoldsWell y first.now (plain_map state.now) }
-    requires small { size_of tree ≤ 1000000 }
+    requires small { size_of tree ≤ most_size }
     requires within { size_of (listed (map plain_map set.old.items)) ≤ set.old.budget }
     ensures gathers { Gathers set.old.budget
         (map_with first.now value tree (items_of (first_part (plain_map state.now))))

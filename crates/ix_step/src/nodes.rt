@@ -17,6 +17,15 @@ pub(crate) fn within(step: Step, node: Node) -> Result<Knot, Unbuilt>
     ensures { Makes step.entry.limit (plain_node node) result }
 {
     let size = node.size();
+    sized(step, node, size)
+}
+
+/// The knot of the node, whose Size is known.
+fn sized(step: Step, node: Node, size: usize) -> Result<Knot, Unbuilt>
+    requires size { size ≡ size_of (plain_node node) }
+    requires most { size ≤ 2 ^ 32 }
+    ensures { Makes step.entry.limit (plain_node node) result }
+{
     if size > step.limit {
         return Err(Unbuilt::Over);
     }
@@ -35,10 +44,20 @@ pub(crate) fn within_if_live(step: Step, node: Node) -> Result<Knot, Unbuilt>
     requires { size_of (plain_node node) ≤ 2 ^ 32 }
     ensures { Makes step.entry.limit (pruned (plain_node node)) result }
 {
+    let size = node.size();
+    sized_if_live(step, node, size)
+}
+
+/// The knot of the node, whose Size is known, or, where none of its parts is live, the dead one.
+pub(crate) fn sized_if_live(step: Step, node: Node, size: usize) -> Result<Knot, Unbuilt>
+    requires size { size ≡ size_of (plain_node node) }
+    requires most { size ≤ 2 ^ 32 }
+    ensures { Makes step.entry.limit (pruned (plain_node node)) result }
+{
     if has_died(&node) {
         return dead_knot(step);
     }
-    within(step, node)
+    sized(step, node, size)
 }
 
 /// Whether no part of the node is live, where it is enough that one is.

@@ -2,6 +2,7 @@
 
 ghost use Rattle.std.specs.Prelude.{◌≡◌, ◌≤◌};
 ghost use Rattle.ix_tree.specs.Plain.{dead as dead_tree};
+ghost use Rattle.ix_step.specs.inside.Limits.{most_size};
 
 use ix_expr::Env;
 use ix_tree::Knot;
@@ -19,5 +20,5 @@ pub(crate) struct Step<'a> {
     pub(crate) dead: &'a Knot,
     ghost ends: { dead.now ≡ dead_tree },
     ghost positive: { 1 ≤ limit },
-    ghost bounded: { limit ≤ 1000000 },
+    ghost bounded: { limit ≤ most_size },
 }

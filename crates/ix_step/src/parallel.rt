@@ -8,6 +8,7 @@ ghost use Rattle.ix_tree.specs.Plain.{listed, par as par_of, par_star as par_sta
 ghost use Rattle.ix_tree.specs.PlainOf.{plain_pair, plain_bag};
 ghost use Rattle.ix_tree.specs.Size.{size_of};
 ghost use Rattle.ix_can.specs.Laws.{IsRising};
+ghost use Rattle.ix_step.specs.inside.Limits.{most_size};
 ghost use Rattle.ix_step.specs.inside.Makes.{Makes, Collects, Gathers};
 ghost use Rattle.ix_step.specs.inside.MovedNode.{moved_node};
 ghost use Rattle.ix_step.specs.inside.Moves.{begun};
@@ -20,7 +21,7 @@ use crate::advance::advance;
 use crate::bags::{put_more, put_moved};
 use crate::beginning::advance_again;
 use crate::fault::Unbuilt;
-use crate::nodes::{dead_knot, within_if_live};
+use crate::nodes::{dead_knot, sized_if_live};
 use crate::one_step::Step;
 use crate::pairs::put_pairs;
 use ix_alts::AltSet;
@@ -36,14 +37,15 @@ pub(crate) fn advance_par(step: Step, y: &Expr, z: &Expr, pairs: &[Pair]) -> Res
         result }
 {
     let set = advance_pairs(step, y, z, pairs)?;
-    within_if_live(step, Node::Par(set.into_items()))
+    let size = 1 + set.total();
+    sized_if_live(step, Node::Par(set.into_items()), size)
 }
 
 #[cycle(advance)]
 fn advance_pairs(step: Step, y: &Expr, z: &Expr, pairs: &[Pair]) -> Result<AltSet<Pair>, Unbuilt>
     requires ready { Each (IsReadyPair (form_of y.now) (form_of z.now) step.env.now) (map plain_pair
         pairs.now) }
-    requires small { Each (λ p. size_of p ≤ 1000000) (map plain_pair pairs.now) }
+    requires small { Each (λ p. size_of p ≤ most_size) (map plain_pair pairs.now) }
     ensures { Collects (map plain_pair) step.entry.limit (flat_map (pair_moves (form_of y.now)
         (form_of z.now) step.entry.env.now step.entry.action.now) (map plain_pair
         pairs.now)) result }
@@ -70,7 +72,8 @@ pub(crate) fn advance_par_star(step: Step, y: &Expr, bags: &[Bag]) -> Result<Kno
     }
     let first = advance_again(step, y, true)?;
     let set = advance_bags(step, y, &first, bags)?;
-    within_if_live(step, Node::ParStar(set.into_items()))
+    let size = 1 + set.total();
+    sized_if_live(step, Node::ParStar(set.into_items()), size)
 }
 
 /// Each bag gives one for each of its trees, with that one moved, and one with a run more, whose
@@ -79,7 +82,7 @@ pub(crate) fn advance_par_star(step: Step, y: &Expr, bags: &[Bag]) -> Result<Kno
 fn advance_bags(step: Step, y: &Expr, first: &Knot, bags: &[Bag]) -> Result<AltSet<Bag>, Unbuilt>
     requires ready { Each (IsReadyBag (form_of y.now) step.env.now) (map plain_bag bags.now) }
     requires first { first.now ≡ begun (form_of y.now) step.env.now step.action.now }
-    requires small { size_of first.now ≤ 1000000 }
+    requires small { size_of first.now ≤ most_size }
     ensures { Collects (map plain_bag) step.entry.limit (flat_map (bag_moves (form_of y.now)
         step.entry.env.now step.entry.action.now) (map plain_bag bags.now)) result }
 {
@@ -97,7 +100,7 @@ fn advance_bags(step: Step, y: &Expr, first: &Knot, bags: &[Bag]) -> Result<AltS
 fn advance_picks(step: Step, y: &Expr, items: &[Knot], set: &mut AltSet<Bag>) -> Result<(), Unbuilt>
     requires ready { Each (Ready (form_of y.now) step.env.now) items.now }
     requires rising { IsRising items.now }
-    requires size { size_of (listed items.now) ≤ 1000000 }
+    requires size { size_of (listed items.now) ≤ most_size }
     requires budget { set.old.budget ≡ step.limit }
     requires within { size_of (listed (map plain_bag set.old.items)) ≤ step.limit }
     ensures gathers { Gathers step.entry.limit (pick_moves (form_of y.now) step.entry.env.now
@@ -129,7 +132,7 @@ fn advance_pick(
 ) -> Result<(), Unbuilt>
     requires ready { Ready (form_of y.now) step.env.now item.now }
     requires rising { IsRising items.now }
-    requires size { size_of (listed items.now) ≤ 1000000 }
+    requires size { size_of (listed items.now) ≤ most_size }
     requires place { place < length items.now }
     requires budget { set.old.budget ≡ step.limit }
     requires within { size_of (listed (map plain_bag set.old.items)) ≤ step.limit }

@@ -11,6 +11,7 @@ ghost use Rattle.ix_tree.specs.Size.{size_of};
 ghost use Rattle.ix_can.specs.Laws.{IsProper};
 ghost use Rattle.ix_can.specs.Tests.{in_alphabet};
 ghost use Rattle.ix_step.specs.declared.bodies.Reach.TheVariants.{OwnAlphabet};
+ghost use Rattle.ix_step.specs.inside.Limits.{most_size};
 ghost use Rattle.ix_step.specs.inside.Makes.{Makes};
 ghost use Rattle.ix_step.specs.inside.MovedNode.{moved_node};
 ghost use Rattle.ix_step.specs.inside.ValueTrees.{ReadyInside, part_may, EachMay, moved_part};
@@ -162,7 +163,7 @@ fn advance_at(
 ) -> Result<Knot, Unbuilt>
     requires fits { FitsInside body.parameter.now (form_of body.expr.now) step.env.now }
     requires proper { IsProper (form_of body.expr.now) state.now }
-    requires small { size_of state.now ≤ 1000000 }
+    requires small { size_of state.now ≤ most_size }
     requires may { part_may reach (form_of body.expr.now) (bind body.parameter.now value
         step.env.now) step.action.now state.now ≡ true }
     ensures { Makes step.entry.limit

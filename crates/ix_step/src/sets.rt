@@ -8,6 +8,7 @@ ghost use Rattle.ix_tree.specs.Plain.{Plain, listed};
 ghost use Rattle.ix_tree.specs.Size.{size_of};
 ghost use Rattle.ix_can.specs.Nodes.{live};
 ghost use Rattle.ix_step.specs.inside.Initial.{initial_tree};
+ghost use Rattle.ix_step.specs.inside.Limits.{most_size};
 ghost use Rattle.ix_step.specs.inside.Makes.{Gathers, Puts};
 
 use crate::fault::Unbuilt;
@@ -50,7 +51,7 @@ pub(crate) fn put_first(
     begins: bool,
     expr: &Expr,
 ) -> Result<(), Unbuilt>
-    requires small { size_of (initial_tree (form_of expr.now)) ≤ 1000000 }
+    requires small { size_of (initial_tree (form_of expr.now)) ≤ most_size }
     requires within { size_of (listed set.old.items) ≤ set.old.budget }
     ensures gathers { Gathers set.old.budget (when begins (initial_tree (form_of expr.now) ∷ []))
         set.old.items set.new.items result }

@@ -17,6 +17,7 @@ use Rattle.ix_tree.specs.inside.PlainNode.{plain_node}
 use Rattle.ix_tree.specs.Order.{first_part, tree_cmp}
 use Rattle.ix_tree.specs.Size.{size_of}
 use Rattle.ix_tree.specs.contracts.order.KnotPartialEq.TheImpl.{ghosts as tree_ghosts}
+use Rattle.ix_tree.proofs.Alternatives.{weight_of-list}
 use Rattle.ix_tree.proofs.PlainLists.{items_of-listed}
 use Rattle.ix_can.specs.Nodes.{live, put_in, set_of}
 use Rattle.ix_can.specs.Laws.{IsProper, IsRising}
@@ -39,7 +40,7 @@ use Rattle.ix_step.proofs.Beginnings.{initial_is}
 use Rattle.ix_step.proofs.BagsPut.{length-picks, get-picks, size-put_in}
 use Rattle.ix_step.proofs.EntriesPut.{nothing_proper, nothing_held, after_put, upto_size, value_size, keys_ascend}
 use Rattle.ix_step.proofs.Exits.{exit_over}
-use Rattle.ix_step.proofs.Gathered.{live_over, size_all, any_of_set}
+use Rattle.ix_step.proofs.Gathered.{live_over, size_all, any_of_set, tree_weights}
 use Rattle.ix_step.proofs.Gathering.{each_at, image_at, lot_over, lots_more, lots_end, set_is, front_of_set, live_in_set, left_over, right_over, first_over, made_set, picks_size, bag_put}
 use Rattle.ix_step.proofs.Limits.{moved_is_dead, same_alphabet}
 use Rattle.ix_step.proofs.Measure.{form_size}
@@ -264,6 +265,10 @@ advance::advance_seq-returns-in_err-put_first t c =
     exit_over _ c.from_residual-in_err-put_first.result _ c.from_residual-in_err-put_first.ensures.1 c.in_err-put_first.ensures.gathers (λ lt.
     beside_over c.args.step.limit (seq_of (moved (form_of c.args.y.now) c.args.step.env.now c.args.first.now c.args.step.action.now) (set_of (second_parts (form_of c.args.y.now) (form_of c.args.z.now) c.args.step.env.now c.args.step.action.now (moved (form_of c.args.y.now) c.args.step.env.now c.args.first.now c.args.step.action.now) (items_of (listed c.args.rest.now))))) c.args.step.positive (moved (form_of c.args.y.now) c.args.step.env.now c.args.first.now c.args.step.action.now) (set_of (second_parts (form_of c.args.y.now) (form_of c.args.z.now) c.args.step.env.now c.args.step.action.now (moved (form_of c.args.y.now) c.args.step.env.now c.args.first.now c.args.step.action.now) (items_of (listed c.args.rest.now)))) (omega (arith, ap size_of whole, c.in_ok-set.ensures.1)) (omega arith))
 
+pub advance::advance_seq-sized_if_live-requires-clause-size : goal.advance::advance_seq-sized_if_live-requires-clause-size
+advance::advance_seq-sized_if_live-requires-clause-size t c =
+    omega (arith, tree_weights c.put_first.new.set.items, ap size_all c.into_items.ensures.items)
+
 pub advance::advance_seq-returns : goal.advance::advance_seq-returns
 advance::advance_seq-returns t c =
     let z = form_of c.args.z.now in
@@ -273,8 +278,8 @@ advance::advance_seq-returns t c =
     ∙ ap (λ b. set_of (live_moves z c.args.step.env.now c.args.step.action.now c.args.rest.now ++ when b (initial_tree z ∷ []))) begins
     ∙ ap (λ l. set_of (second_parts (form_of c.args.y.now) z c.args.step.env.now c.args.step.action.now (moved (form_of c.args.y.now) c.args.step.env.now c.args.first.now c.args.step.action.now) l)) (sym (items_of-listed c.args.rest.now)) in
     let items = ap listed (c.into_items.ensures.items ∙ c.in_ok-put_first.ensures.gathers) ∙ whole in
-    subst (λ x. Makes c.args.step.limit (pruned x) c.within_if_live.result)
-    (ap (λ x. seq_of x (listed c.into_items.result.items)) c.in_ok-first.ensures.0 ∙ ap (seq_of (moved (form_of c.args.y.now) c.args.step.env.now c.args.first.now c.args.step.action.now)) items) c.within_if_live.ensures
+    subst (λ x. Makes c.args.step.limit (pruned x) c.sized_if_live.result)
+    (ap (λ x. seq_of x (listed c.into_items.result.items)) c.in_ok-first.ensures.0 ∙ ap (seq_of (moved (form_of c.args.y.now) c.args.step.env.now c.args.first.now c.args.step.action.now)) items) c.sized_if_live.ensures
 
 pub advance::advance_star-advance_again-requires : goal.advance::advance_star-advance_again-requires
 advance::advance_star-advance_again-requires t c =
@@ -305,6 +310,10 @@ advance::advance_star-returns-in_err-put_live t c =
     exit_over _ c.from_residual-in_err-put_live.result _ c.from_residual-in_err-put_live.ensures.1 c.in_err-put_live.ensures.gathers (λ lt.
     list_over c.args.step.limit (star_of (list_any (is_final (form_of c.args.y.now)) (last_runs (form_of c.args.y.now) c.args.step.env.now c.args.step.action.now c.args.again (items_of (listed c.args.rest.now)))) (set_of (last_runs (form_of c.args.y.now) c.args.step.env.now c.args.step.action.now c.args.again (items_of (listed c.args.rest.now))))) (set_of (last_runs (form_of c.args.y.now) c.args.step.env.now c.args.step.action.now c.args.again (items_of (listed c.args.rest.now)))) (omega (arith, ap size_of whole, c.in_ok-set.ensures.1)) (omega arith))
 
+pub advance::advance_star-sized_if_live-requires-clause-size : goal.advance::advance_star-sized_if_live-requires-clause-size
+advance::advance_star-sized_if_live-requires-clause-size t c =
+    omega (arith, tree_weights c.put_live.new.set.items, ap size_all c.into_items-items.ensures.items)
+
 pub advance::advance_star-returns : goal.advance::advance_star-returns
 advance::advance_star-returns t c =
     let whole = set_is (live_moves (form_of c.args.y.now) c.args.step.env.now c.args.step.action.now c.args.rest.now) (live c.in_ok-begun.begun) c.in_ok-set.set.items c.in_ok-set.ensures.0
@@ -312,8 +321,8 @@ advance::advance_star-returns t c =
     ∙ ap (λ l. set_of (last_runs (form_of c.args.y.now) c.args.step.env.now c.args.step.action.now c.args.again l)) (sym (items_of-listed c.args.rest.now)) in
     let items = ap listed (c.into_items-items.ensures.items ∙ c.in_ok-put_live.ensures.gathers) ∙ whole in
     let again = c.some_completes-again.ensures ∙ ap (list_any (is_final (form_of c.args.y.now))) (c.deref.ensures.value ∙ sym (items_of-listed c.into_items-items.result.items) ∙ ap items_of items ∙ items_of-listed (canon tree_cmp (last_runs (form_of c.args.y.now) c.args.step.env.now c.args.step.action.now c.args.again (items_of (listed c.args.rest.now))))) ∙ any_of_set (is_final (form_of c.args.y.now)) (last_runs (form_of c.args.y.now) c.args.step.env.now c.args.step.action.now c.args.again (items_of (listed c.args.rest.now))) in
-    subst (λ x. Makes c.args.step.limit (pruned x) c.within_if_live.result)
-    (ap (λ b. star_of b (listed c.into_items-items.result.items)) again ∙ ap (star_of (list_any (is_final (form_of c.args.y.now)) (last_runs (form_of c.args.y.now) c.args.step.env.now c.args.step.action.now c.args.again (items_of (listed c.args.rest.now))))) items) c.within_if_live.ensures
+    subst (λ x. Makes c.args.step.limit (pruned x) c.sized_if_live.result)
+    (ap (λ b. star_of b (listed c.into_items-items.result.items)) again ∙ ap (star_of (list_any (is_final (form_of c.args.y.now)) (last_runs (form_of c.args.y.now) c.args.step.env.now c.args.step.action.now c.args.again (items_of (listed c.args.rest.now))))) items) c.sized_if_live.ensures
 
 pub advance::advance_each-advance-requires : goal.advance::advance_each-advance-requires
 advance::advance_each-advance-requires t c =
@@ -393,10 +402,14 @@ parallel::advance_par-returns-in_err-set t c =
     exit_over _ c.from_residual.result _ c.from_residual.ensures.1 c.in_err-set.ensures (λ lt.
     list_over c.args.step.limit (par_of (set_of (flat_map (pair_moves (form_of c.args.y.now) (form_of c.args.z.now) c.args.step.env.now c.args.step.action.now) (items_of (listed (map plain_pair c.args.pairs.now)))))) (set_of (flat_map (pair_moves (form_of c.args.y.now) (form_of c.args.z.now) c.args.step.env.now c.args.step.action.now) (items_of (listed (map plain_pair c.args.pairs.now))))) (omega (arith, ap size_of whole)) (omega arith))
 
+pub parallel::advance_par-sized_if_live-requires-clause-size : goal.parallel::advance_par-sized_if_live-requires-clause-size
+parallel::advance_par-sized_if_live-requires-clause-size t c =
+    omega (arith, weight_of-list plain_pair c.in_ok-set.set.items, ap (λ v. size_all (map plain_pair v)) c.into_items.ensures.items)
+
 pub parallel::advance_par-returns : goal.parallel::advance_par-returns
 parallel::advance_par-returns t c =
-    subst (λ l. Makes c.args.step.limit (pruned (par_of l)) c.within_if_live.result)
-    (ap (λ v. listed (map plain_pair v)) c.into_items.ensures.items ∙ ap listed c.in_ok-set.ensures.0 ∙ made_set (pair_moves (form_of c.args.y.now) (form_of c.args.z.now) c.args.step.env.now c.args.step.action.now) (map plain_pair c.args.pairs.now)) c.within_if_live.ensures
+    subst (λ l. Makes c.args.step.limit (pruned (par_of l)) c.sized_if_live.result)
+    (ap (λ v. listed (map plain_pair v)) c.into_items.ensures.items ∙ ap listed c.in_ok-set.ensures.0 ∙ made_set (pair_moves (form_of c.args.y.now) (form_of c.args.z.now) c.args.step.env.now c.args.step.action.now) (map plain_pair c.args.pairs.now)) c.sized_if_live.ensures
 
 pub parallel::advance_par_star-returns-then-is_empty : goal.parallel::advance_par_star-returns-then-is_empty
 parallel::advance_par_star-returns-then-is_empty t c =
@@ -424,10 +437,14 @@ parallel::advance_par_star-returns-in_err-set t c =
     exit_over _ c.from_residual-in_err-set.result _ c.from_residual-in_err-set.ensures.1 c.in_err-set.ensures (λ lt.
     list_over c.args.step.limit (par_star_of (set_of (flat_map (bag_moves (form_of c.args.y.now) c.args.step.env.now c.args.step.action.now) (items_of (listed (map plain_bag c.args.bags.now)))))) (set_of (flat_map (bag_moves (form_of c.args.y.now) c.args.step.env.now c.args.step.action.now) (items_of (listed (map plain_bag c.args.bags.now))))) (omega (arith, ap size_of whole)) (omega arith))
 
+pub parallel::advance_par_star-sized_if_live-requires-clause-size : goal.parallel::advance_par_star-sized_if_live-requires-clause-size
+parallel::advance_par_star-sized_if_live-requires-clause-size t c =
+    omega (arith, weight_of-list plain_bag c.in_ok-set.set.items, ap (λ v. size_all (map plain_bag v)) c.into_items.ensures.items)
+
 pub parallel::advance_par_star-returns : goal.parallel::advance_par_star-returns
 parallel::advance_par_star-returns t c =
-    subst (λ l. Makes c.args.step.limit (pruned (par_star_of l)) c.within_if_live.result)
-    (ap (λ v. listed (map plain_bag v)) c.into_items.ensures.items ∙ ap listed c.in_ok-set.ensures.0 ∙ made_set (bag_moves (form_of c.args.y.now) c.args.step.env.now c.args.step.action.now) (map plain_bag c.args.bags.now)) c.within_if_live.ensures
+    subst (λ l. Makes c.args.step.limit (pruned (par_star_of l)) c.sized_if_live.result)
+    (ap (λ v. listed (map plain_bag v)) c.into_items.ensures.items ∙ ap listed c.in_ok-set.ensures.0 ∙ made_set (bag_moves (form_of c.args.y.now) c.args.step.env.now c.args.step.action.now) (map plain_bag c.args.bags.now)) c.sized_if_live.ensures
 
 pub parallel::advance_bags-advance_picks-requires : goal.parallel::advance_bags-advance_picks-requires
 parallel::advance_bags-advance_picks-requires t c =
@@ -729,10 +746,14 @@ maps::advance_all-returns-in_err-set t c =
     exit_over _ c.from_residual-in_err-set.result _ c.from_residual-in_err-set.ensures.1 c.in_err-set.ensures (λ lt.
     list_over c.args.step.limit (all_of (set_of (flat_map (maps_after c.args.body.parameter.now (form_of c.args.body.expr.now) c.args.step.env.now c.args.step.action.now (initial_tree (form_of c.args.body.expr.now)) c.args.step.action.now.values) (items_of (listed (map plain_map c.args.maps.now)))))) (set_of (flat_map (maps_after c.args.body.parameter.now (form_of c.args.body.expr.now) c.args.step.env.now c.args.step.action.now (initial_tree (form_of c.args.body.expr.now)) c.args.step.action.now.values) (items_of (listed (map plain_map c.args.maps.now))))) (omega (arith, ap size_of whole)) (omega arith))
 
+pub maps::advance_all-sized_if_live-requires-clause-size : goal.maps::advance_all-sized_if_live-requires-clause-size
+maps::advance_all-sized_if_live-requires-clause-size t c =
+    omega (arith, weight_of-list plain_map c.in_ok-set.set.items, ap (λ v. size_all (map plain_map v)) c.into_items.ensures.items)
+
 pub maps::advance_all-returns : goal.maps::advance_all-returns
 maps::advance_all-returns t c =
-    subst (λ l. Makes c.args.step.limit (pruned (all_of l)) c.within_if_live.result)
-    (ap (λ v. listed (map plain_map v)) c.into_items.ensures.items ∙ ap listed c.in_ok-set.ensures.0 ∙ made_set (maps_after c.args.body.parameter.now (form_of c.args.body.expr.now) c.args.step.env.now c.args.step.action.now c.in_ok-first.first c.args.step.action.now.values) (map plain_map c.args.maps.now) ∙ ap (λ z. set_of (flat_map (maps_after c.args.body.parameter.now (form_of c.args.body.expr.now) c.args.step.env.now c.args.step.action.now z c.args.step.action.now.values) (items_of (listed (map plain_map c.args.maps.now))))) c.in_ok-first.ensures) c.within_if_live.ensures
+    subst (λ l. Makes c.args.step.limit (pruned (all_of l)) c.sized_if_live.result)
+    (ap (λ v. listed (map plain_map v)) c.into_items.ensures.items ∙ ap listed c.in_ok-set.ensures.0 ∙ made_set (maps_after c.args.body.parameter.now (form_of c.args.body.expr.now) c.args.step.env.now c.args.step.action.now c.in_ok-first.first c.args.step.action.now.values) (map plain_map c.args.maps.now) ∙ ap (λ z. set_of (flat_map (maps_after c.args.body.parameter.now (form_of c.args.body.expr.now) c.args.step.env.now c.args.step.action.now z c.args.step.action.now.values) (items_of (listed (map plain_map c.args.maps.now))))) c.in_ok-first.ensures) c.sized_if_live.ensures
 
 pub maps::advance_owner-or_first-requires : goal.maps::advance_owner-or_first-requires
 maps::advance_owner-or_first-requires t c =

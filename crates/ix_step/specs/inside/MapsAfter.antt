@@ -13,11 +13,12 @@ use Rattle.ix_can.specs.Nodes.{set_of}
 use Rattle.ix_can.specs.Laws.{IsProper, ProperEntries}
 use Rattle.ix_can.specs.inside.May.{tree_at}
 use Rattle.ix_can.specs.inside.Moved.{moved, map_with, entry_with, or_initial}
+use Rattle.ix_step.specs.inside.Limits.{most_size}
 
 -- the map is a proper one beside the initial tree, and not too large
 pub record HoldsWell (y : Form) (initial : Plain) (m : Plain) : Type 0 where
   pub beside : ProperEntries (IsProper y) initial (items_of (first_part m))
-  pub small : size_of m ≤ 1000000
+  pub small : size_of m ≤ most_size
 
 -- the operand fits under every value, each atom of it names the parameter, and the initial tree is a proper one and not
 -- too large
@@ -25,7 +26,7 @@ pub record ReadyToBegin (p : List ℕ) (y : Form) (e : Environment) (initial : P
   pub fits : FitsInside p y e
   pub named : EachAtomNames p y
   pub proper : IsProper y initial
-  pub small : size_of initial ≤ 1000000
+  pub small : size_of initial ≤ most_size
 
 -- the map in which the value has this tree and all others are as before
 abbrev pub with_tree : Plain → List ℕ → Plain → List Plain → Plain

@@ -11,6 +11,7 @@ use Rattle.ix_tree.specs.Size.{size_of}
 use Rattle.ix_can.specs.Laws.{IsRising}
 use Rattle.ix_can.specs.Nodes.{is_live}
 use Rattle.ix_can.specs.inside.Moved.{moved, picks, bag_with}
+use Rattle.ix_step.specs.inside.Limits.{most_size}
 use Rattle.ix_step.specs.inside.Moves.{begun}
 use Rattle.ix_step.specs.inside.Ready.{Ready}
 
@@ -40,7 +41,7 @@ IsReadyPair y z e p = Ready y e (first_part p) × Ready z e (second_part p)
 
 -- each tree of the bag is ready, and the bag isn't too large and rises
 abbrev pub IsReadyBag : Form → Environment → Plain → Type 0
-IsReadyBag y e b = Each (Ready y e) (items_of (first_part b)) × (size_of b ≤ 1000000) × IsRising (items_of (first_part b))
+IsReadyBag y e b = Each (Ready y e) (items_of (first_part b)) × (size_of b ≤ most_size) × IsRising (items_of (first_part b))
 
 -- the tree at the place equals the one before it
 abbrev pub IsRepeat : List Plain → ℕ → Type 0

@@ -17,6 +17,7 @@ use Rattle.ix_can.specs.Tests.{in_alphabet}
 use Rattle.ix_can.specs.Laws.{IsProper, ProperEntries}
 use Rattle.ix_can.specs.inside.May.{may, moves_within, tree_at}
 use Rattle.ix_can.specs.inside.Moved.{moved, moved_inside, entry_with}
+use Rattle.ix_step.specs.inside.Limits.{most_size}
 use Rattle.ix_step.specs.inside.Makes.{IsOver}
 use Rattle.ix_step.specs.declared.bodies.Reach.{Reach}
 use Rattle.ix_step.specs.declared.bodies.Reach.TheVariants.{All, Must, OwnAlphabet}
@@ -27,7 +28,7 @@ pub record ReadyInside (p : List ℕ) (y : Form) (e : Environment) (common : Pla
   pub fits : FitsInside p y e
   pub proper : IsProper y common
   pub beside : ProperEntries (IsProper y) common entries
-  pub small : 1 + size_of common + size_of (listed entries) ≤ 1000000
+  pub small : 1 + size_of common + size_of (listed entries) ≤ most_size
 
 -- the moved tree; where only what is in the alphabet moves, the tree as it was outside it
 abbrev pub moved_part : Reach → Form → Environment → PlainAction → Plain → Plain

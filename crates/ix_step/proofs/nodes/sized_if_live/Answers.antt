@@ -2,7 +2,7 @@ use Rattle.std.proofs.Common.{sym, ◌∙◌, subst}
 use Rattle.ix_tree.specs.inside.PlainNode.{plain_node}
 use Rattle.ix_can.specs.Nodes.{dead_if}
 use Rattle.ix_step.specs.inside.Makes.{Makes}
-use Rattle.ix_step.proofs.nodes.within_if_live.Goals as goal
+use Rattle.ix_step.proofs.nodes.sized_if_live.Goals as goal
 
 pub returns-then-has_died : goal.returns-then-has_died
 returns-then-has_died c =
@@ -10,4 +10,4 @@ returns-then-has_died c =
 
 pub returns : goal.returns
 returns c =
-    subst (λ b. Makes c.args.step.limit (dead_if b (plain_node c.args.node)) c.within.result) (sym c.if-has_died.false ∙ c.has_died.ensures) c.within.ensures
+    subst (λ b. Makes c.args.step.limit (dead_if b (plain_node c.args.node)) c.sized.result) (sym c.if-has_died.false ∙ c.has_died.ensures) c.sized.ensures
