@@ -74,6 +74,25 @@ place_is x ys i le point =
     at_end : i ≡ length ys → placed_after x ys i ≡ insert ys i x
     at_end is = subst (λ n. placed_after x ys n ≡ insert ys n x) (sym is) (place_end x ys)
 
+-- The place of a tree in a list without the one at a place
+
+-- x stands behind the place, where it is above all trees before the place
+pub put_behind : (x : Plain) (ys : List Plain) (i : ℕ) (d : Plain) → i < length ys → ((k : ℕ) → k < i → is_gt (tree_cmp x (get_or ys k d)) ≡ true) → put_in x (remove ys i) ≡ take i ys ++ put_in x (drop (suc i) ys)
+put_behind x [] i d lt above = absurd (omega arith)
+put_behind x (y ∷ ys) zero d lt above = refl
+put_behind x (y ∷ ys) (suc i) d lt above = rw (above zero (omega arith)) (ap (λ l. y ∷ l) (put_behind x ys i d (omega arith) (λ k below. above (suc k) (omega arith))))
+
+-- x stands before what is behind the place, where it isn't above the first of that
+pub put_before : (x : Plain) (ys : List Plain) (i : ℕ) (d : Plain) → suc i < length ys → is_gt (tree_cmp x (get_or ys (suc i) d)) ≡ false → put_in x (remove ys i) ≡ put_in x (take i ys) ++ drop (suc i) ys
+put_before x [] i d lt next = absurd (omega arith)
+put_before x (y ∷ []) i d lt next = absurd (omega arith)
+put_before x (y ∷ z ∷ zs) zero d lt next = rw next refl
+put_before x (y ∷ z ∷ zs) (suc i) d lt next = by_test (is_gt (tree_cmp x y)) (put_before x (z ∷ zs) i d (omega arith) next)
+  where
+    by_test : (b : Bool) → put_in x (remove (z ∷ zs) i) ≡ put_in x (take i (z ∷ zs)) ++ drop (suc i) (z ∷ zs) → (if b then y ∷ put_in x (remove (z ∷ zs) i) else x ∷ y ∷ remove (z ∷ zs) i) ≡ (if b then y ∷ put_in x (take i (z ∷ zs)) else x ∷ y ∷ take i (z ∷ zs)) ++ drop (suc i) (z ∷ zs)
+    by_test true h = ap (λ l. y ∷ l) h
+    by_test false h = refl
+
 -- Sizes
 
 pub size-insert : (x : Plain) (ys : List Plain) (i : ℕ) → size_of (listed (insert ys i x)) ≡ size_of x + size_of (listed ys)

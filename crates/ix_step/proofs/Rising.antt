@@ -1,10 +1,11 @@
 -- Rising lists of trees: what halving finds in them, and runs of equal trees.
-use Rattle.std.proofs.Common.{◌≡◌, ℕ, zero, suc, ◌<◌, ◌≤◌, Bool, true, false, not, List, [], ◌∷◌, length, get_or, refl, sym, ap, ◌∙◌, subst, true≢false, arith, Ordering, Less, Equal, Greater}
+use Rattle.std.proofs.Common.{◌≡◌, ℕ, zero, suc, ◌<◌, ◌≤◌, Bool, true, false, not, List, [], ◌∷◌, length, get_or, take, drop, refl, sym, ap, ◌∙◌, subst, true≢false, arith, Ordering, Less, Equal, Greater}
 use Rattle.std.specs.Cmp.{tied_itself, upto}
-use Rattle.std.specs.List.{remove}
 use Rattle.std.specs.List.Sorted.{IsPartitionPoint, IsPartitionedBy}
 use Rattle.std.specs.Ordering.{is_gt, ordering_reverse}
+use Rattle.std.proofs.lemmas.List.{take-append-drop}
 use Rattle.ix_words.specs.Each.{Each, item}
+use Rattle.ix_words.proofs.Each.{Each-left}
 use Rattle.ix_tree.specs.Order.{tree_cmp}
 use Rattle.ix_tree.specs.Plain.{Plain}
 use Rattle.ix_tree.specs.lemmas.TreeOrder.{tree_order}
@@ -16,18 +17,19 @@ each_get [] i d lt h = absurd (omega arith)
 each_get (x ∷ xs) zero d lt (item g h) = g
 each_get (x ∷ xs) (suc i) d lt (item g h) = each_get xs i d (omega arith) h
 
-each_remove : {G : Plain → Type 0} (xs : List Plain) (i : ℕ) → Each G xs → Each G (remove xs i)
-each_remove [] zero h = h
-each_remove [] (suc i) h = h
-each_remove (x ∷ xs) zero (item g h) = h
-each_remove (x ∷ xs) (suc i) (item g h) = item g (each_remove xs i h)
+-- the front of a rising list rises
+pub rising_take : (xs : List Plain) (i : ℕ) → IsRising xs → IsRising (take i xs)
+rising_take [] zero h = h
+rising_take [] (suc i) h = h
+rising_take (x ∷ xs) zero h = tt
+rising_take (x ∷ xs) (suc i) h = (Each-left (take i xs) (drop i xs) (subst (Each (λ y. is_gt (tree_cmp x y) ≡ false)) (sym (take-append-drop i xs)) h.0), rising_take xs i h.1)
 
--- without one of its trees a rising list rises
-pub rising_remove : (xs : List Plain) (i : ℕ) → IsRising xs → IsRising (remove xs i)
-rising_remove [] zero h = h
-rising_remove [] (suc i) h = h
-rising_remove (x ∷ xs) zero h = h.1
-rising_remove (x ∷ xs) (suc i) h = (each_remove xs i h.0, rising_remove xs i h.1)
+-- and so does what is behind
+pub rising_drop : (xs : List Plain) (i : ℕ) → IsRising xs → IsRising (drop i xs)
+rising_drop [] zero h = h
+rising_drop [] (suc i) h = h
+rising_drop (x ∷ xs) zero h = h
+rising_drop (x ∷ xs) (suc i) h = rising_drop xs i h.1
 
 -- no tree is above one behind it
 rising_at : (xs : List Plain) (i j : ℕ) (d : Plain) → IsRising xs → i ≤ j → j < length xs → is_gt (tree_cmp (get_or xs i d) (get_or xs j d)) ≡ false

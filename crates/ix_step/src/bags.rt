@@ -1,6 +1,8 @@
 //! Bags put into sets of alternatives.
 
-ghost use Rattle.std.specs.Prelude.{◌≡◌, ◌+◌, ◌<◌, ◌≤◌, [], ◌∷◌, length, map, insert, remove, IfOk};
+ghost use Rattle.std.specs.Prelude.{◌≡◌, ◌+◌, ◌<◌, ◌≤◌, [], ◌∷◌, ◌++◌, suc, length, map, take};
+ghost use Rattle.std.specs.Prelude.{drop, insert, remove, vec_len, vec_capacity};
+ghost use Rattle.std.specs.Prelude.{IsTrue, IsFalse, IfOk, OnOk};
 ghost use Rattle.ix_tree.specs.Plain.{bag, listed};
 ghost use Rattle.ix_tree.specs.PlainOf.{plain_bag};
 ghost use Rattle.ix_tree.specs.Size.{size_of};
@@ -12,7 +14,7 @@ ghost use Rattle.ix_step.specs.inside.Makes.{Gathers};
 use crate::fault::Unbuilt;
 use crate::sets::put;
 use ix_alts::AltSet;
-use ix_tree::{Bag, Knot, share_knots};
+use ix_tree::{Bag, Knot, push_shared};
 use std::alloc::{AllocError, Global};
 
 /// The place that keeps the trees in ascending order: before the first that isn't below this one.
@@ -24,30 +26,75 @@ fn place_of(tree: &Knot, others: &[Knot]) -> usize
     others.partition_point(|other| tree.cmp(other).is_gt())
 }
 
-fn others_of(alloc: Global, items: &[Knot], place: usize) -> Result<Vec<Knot>, AllocError>
-    requires { place < length items.now }
-    ensures { IfOk result (λ v. v.items ≡ remove items.now place) }
+/// Appends the trees with one more in its place among them.
+fn push_with(all: &mut Vec<Knot>, tree: Knot, others: &[Knot]) -> Result<(), AllocError>
+    requires rising { IsRising others.now }
+    requires room { vec_len all.old + length others.now < vec_capacity all.old }
+    ensures items { OnOk result (all.new.items ≡ all.old.items ++ put_in tree others.now) }
+    ensures len { OnOk result (vec_len all.new ≡ vec_len all.old + length others.now + 1) }
+    ensures capacity { vec_capacity all.new ≡ vec_capacity all.old }
 {
-    let mut others = share_knots(alloc, items)?;
-    let _ = others.remove(place);
-    Ok(others)
+    let place = place_of(&tree, others);
+    push_shared(all, &others[..place])?;
+    all.push_reserved(tree);
+    push_shared(all, &others[place..])
 }
 
-fn put_bag(set: &mut AltSet<Bag>, tree: Knot, others: Vec<Knot>) -> Result<(), Unbuilt>
-    requires small { size_of tree + size_of (listed others.items) ≤ 2000000 }
-    requires rising { IsRising others.items }
+/// Whether the place of the tree is behind the one at `place`, since it is above the next.
+fn is_behind(tree: &Knot, items: &[Knot], place: usize) -> bool
+    requires rising { IsRising items.now }
+    requires place { place < length items.now }
+    ensures behind { IsTrue result → put_in tree.now (remove items.now place) ≡ take place items.now
+        ++ put_in tree.now (drop (suc place) items.now) }
+    ensures before { IsFalse result → put_in tree.now (remove items.now place)
+        ≡ put_in tree.now (take place items.now) ++ drop (suc place) items.now }
+{
+    place + 1 < items.len() && tree.cmp(&items[place + 1]).is_gt()
+}
+
+/// The trees without the one at the place, and with one more in its own place.
+fn with_moved(
+    alloc: Global,
+    tree: Knot,
+    items: &[Knot],
+    place: usize,
+) -> Result<Vec<Knot>, AllocError>
+    requires rising { IsRising items.now }
+    requires place { place < length items.now }
+    ensures { IfOk result (λ v. v.items ≡ put_in tree (remove items.now place)) }
+{
+    let front = &items[..place];
+    let back = &items[place + 1..];
+    let mut all = Vec::with_capacity(alloc, items.len())?;
+    if is_behind(&tree, items, place) {
+        push_shared(&mut all, front)?;
+        push_with(&mut all, tree, back)?;
+    } else {
+        push_with(&mut all, tree, front)?;
+        push_shared(&mut all, back)?;
+    }
+    Ok(all)
+}
+
+/// The trees with one more in its place.
+fn with_more(alloc: Global, tree: Knot, items: &[Knot]) -> Result<Vec<Knot>, AllocError>
+    requires { IsRising items.now }
+    ensures { IfOk result (λ v. v.items ≡ put_in tree items.now) }
+{
+    let mut all = Vec::with_capacity(alloc, items.len() + 1)?;
+    push_with(&mut all, tree, items)?;
+    Ok(all)
+}
+
+fn put_bag(set: &mut AltSet<Bag>, items: Vec<Knot>) -> Result<(), Unbuilt>
+    requires small { size_of (listed items.items) ≤ 2000000 }
     requires within { size_of (listed (map plain_bag set.old.items)) ≤ set.old.budget }
-    ensures gathers { Gathers set.old.budget (bag (listed (put_in tree others.items)) ∷ [])
+    ensures gathers { Gathers set.old.budget (bag (listed items.items) ∷ [])
         (map plain_bag set.old.items) (map plain_bag set.new.items) result }
     ensures within { size_of (listed (map plain_bag set.new.items)) ≤ set.old.budget }
     ensures budget { set.new.budget ≡ set.old.budget }
 {
-    let mut items = others;
-    let place = place_of(&tree, items.as_slice());
-    match items.insert(place, tree) {
-        Ok(()) => put(set, Bag { items }),
-        Err(_) => Err(Unbuilt::Memory),
-    }
+    put(set, Bag { items })
 }
 
 /// The bag with the tree at the place moved. A dead tree gives no bag.
@@ -71,8 +118,8 @@ pub(crate) fn put_moved(
     if tree.is_dead() {
         return Ok(());
     }
-    let others = others_of(alloc, items, place)?;
-    put_bag(set, tree, others)
+    let all = with_moved(alloc, tree, items, place)?;
+    put_bag(set, all)
 }
 
 /// The bag with one run more, whose tree is `more`. A dead tree gives no bag.
@@ -95,6 +142,6 @@ pub(crate) fn put_more(
         return Ok(());
     }
     let tree = more.share()?;
-    let others = share_knots(alloc, items)?;
-    put_bag(set, tree, others)
+    let all = with_more(alloc, tree, items)?;
+    put_bag(set, all)
 }

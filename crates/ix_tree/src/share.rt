@@ -1,19 +1,31 @@
 //! Lists of shared knots.
 
-ghost use Rattle.std.specs.Prelude.{◌≡◌, IfOk};
+ghost use Rattle.std.specs.Prelude.{◌≡◌, ◌+◌, ◌≤◌, ◌++◌, length, vec_len, vec_capacity, IfOk, OnOk};
 
 use crate::node::Knot;
 use ix_values::Value;
 use std::alloc::{AllocError, Global};
+
+/// Appends equal knots of the same nodes, in the same order. There is room for them, so none is
+/// asked for. After an error the first few of them may have been appended.
+pub fn push_shared(shared: &mut Vec<Knot>, knots: &[Knot]) -> Result<(), AllocError>
+    requires room { vec_len shared.old + length knots.now ≤ vec_capacity shared.old }
+    ensures items { OnOk result (shared.new.items ≡ shared.old.items ++ knots.now) }
+    ensures len { OnOk result (vec_len shared.new ≡ vec_len shared.old + length knots.now) }
+    ensures capacity { vec_capacity shared.new ≡ vec_capacity shared.old }
+{
+    for knot in knots {
+        shared.push_reserved(knot.share()?);
+    }
+    Ok(())
+}
 
 /// Equal knots of the same nodes, in the same order, and room for one more.
 pub fn share_knots(alloc: Global, knots: &[Knot]) -> Result<Vec<Knot>, AllocError>
     ensures { IfOk result (λ v. v.items ≡ knots.now) }
 {
     let mut shared = Vec::with_capacity(alloc, knots.len().saturating_add(1))?;
-    for knot in knots {
-        shared.push(knot.share()?)?;
-    }
+    push_shared(&mut shared, knots)?;
     Ok(shared)
 }
 
@@ -26,7 +38,7 @@ pub fn share_entries(
 {
     let mut shared = Vec::with_capacity(alloc, entries.len().saturating_add(1))?;
     for entry in entries {
-        shared.push((entry.0, entry.1.share()?))?;
+        shared.push_reserved((entry.0, entry.1.share()?));
     }
     Ok(shared)
 }

@@ -157,6 +157,20 @@ fn wide(rt: HostRuntime) -> Result<(), Fail> {
     Ok(())
 }
 
+/// A list goes behind the knots that stand there, in the room that there is.
+#[test]
+fn appended(rt: HostRuntime) -> Result<(), Fail> {
+    let alloc = rt.alloc();
+    let first = Knot::new(alloc, Node::Start)?;
+    let second = two_sides(alloc)?;
+    let mut items = Vec::with_capacity(alloc, 3)?;
+    items.push_reserved(second.share()?);
+    push_shared(&mut items, &[first.share()?, second.share()?])?;
+    assert!(rt; items.len() == 3);
+    assert!(rt; items[0] == second && items[1] == first && items[2] == second);
+    Ok(())
+}
+
 /// A tree as deep as an expression may be.
 #[test]
 fn deep(rt: HostRuntime) -> Result<(), Fail> {
