@@ -8,7 +8,7 @@ ghost use Rattle.ix_can.specs.TreeOf.{tree_of, tree_size};
 ghost use Rattle.ix_engine.specs.inside.Engine.{Allows, Permits, Follows, extended};
 ghost use Rattle.ix_engine.specs.inside.Extending.{AreAllowed, StopsAt};
 
-use crate::extending::extend;
+use crate::extending::{MOST_ACTIONS, extend};
 use crate::{Next, PrepareFault, ResumeFault};
 use ix_can::{can, is_final};
 use ix_expr::{Env, Expression};
@@ -132,7 +132,7 @@ impl Engine {
     /// The confirmed actions, the oldest first, at most 1,000,000.
     pub fn history(&self) -> &[Action]
         ensures value { result.now ≡ self.now.history }
-        ensures most { length self.now.history ≤ 1000000 }
+        ensures most { length self.now.history ≤ MOST_ACTIONS }
     {
         self.history.as_slice()
     }

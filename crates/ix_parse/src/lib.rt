@@ -23,6 +23,9 @@ use crate::taking::read_operand;
 use ix_expr::Expression;
 use std::alloc::Global;
 
+/// The most bytes of an expression's text.
+pub(crate) const MOST_BYTES: usize = 16384;
+
 /// Why a text is no expression: its first fault, by its code and the place where it is
 /// met, or want of memory.
 #[derive(Clone, Copy, Debug, PartialEq, Eq)]
@@ -67,8 +70,11 @@ pub fn read(alloc: Global, text: &[u8]) -> Result<Expression, TextFault>
     ensures ok { IfOk result (λ x. spec.StandsFor text.now x) }
     ensures fault { IfErr result (λ fault. IsFaultOf text.now fault) }
 {
-    if text.len() > 16384 {
-        return Err(TextFault::Bad { code: 1, at: 16384 });
+    if text.len() > MOST_BYTES {
+        return Err(TextFault::Bad {
+            code: 1,
+            at: MOST_BYTES,
+        });
     }
     match read_operand(alloc, text) {
         Ok(operand) => checked(operand),

@@ -15,7 +15,7 @@ use crate::operand::Operand;
 use crate::reader::{Reader, is_node};
 use crate::step::{step, whole};
 use crate::symbols::sign_of;
-use crate::{TextFault, fault_at};
+use crate::{MOST_BYTES, TextFault, fault_at};
 use ix_lex::{LexFault, Token, TokenKind, Tokens};
 use std::alloc::Global;
 
@@ -78,7 +78,7 @@ fn with_node(nodes: usize, is_one: bool) -> usize
 }
 
 pub(crate) fn read_operand(alloc: Global, text: &[u8]) -> Result<Operand, TextFault>
-    requires { length text.now ≤ 16384 }
+    requires { length text.now ≤ MOST_BYTES }
     ensures { IsMeaning text.now result }
 {
     let mut tokens = Tokens::new(text);

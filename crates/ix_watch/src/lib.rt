@@ -85,7 +85,7 @@ impl Watches {
     /// How many watches there are: at most 4,096, and no pair twice.
     pub fn len(&self) -> usize
         ensures count { result ≡ length self.now }
-        ensures few { result ≤ 4096 }
+        ensures few { result ≤ WATCH_LIMIT }
         ensures distinct { AreDistinct self.now }
     {
         self.marks.len()
@@ -145,7 +145,7 @@ impl Watches {
 
     fn append(&mut self, pair: Pair, mark: Mark) -> Result<Added, WatchFault>
         requires new { is_watched pair.name pair.action self.old ≡ false }
-        requires room { length self.old < 4096 }
+        requires room { length self.old < WATCH_LIMIT }
         ensures ok { IfOk result
             (λ added. (added ≡ Added.New) × (self.new ≡ self.old ++ watch_of (pair, mark) ∷ [])) }
         ensures err { IfErr result (λ fault. (fault ≡ WatchFault.Memory) × (self.new ≡ self.old)) }

@@ -3,8 +3,8 @@ use Rattle.ix_parse.specs.inside.Operands.{meaning_of}
 use Rattle.ix_parse.proofs.Endings.{HasMeaning-places, read-fault}
 use Rattle.ix_parse.proofs.read.Goals as goal
 
-pub returns-then-text-gt16384-clause-fault : goal.returns-then-text-gt16384-clause-fault
-returns-then-text-gt16384-clause-fault c = IsFirstFault.too_long c.if-text-gt16384.true
+pub returns-then-text-gt-MOST_BYTES-clause-fault : goal.returns-then-text-gt-MOST_BYTES-clause-fault
+returns-then-text-gt-MOST_BYTES-clause-fault c = IsFirstFault.too_long c.if-text-gt-MOST_BYTES.true
 
 pub checked-requires : goal.checked-requires
 checked-requires c = HasMeaning-places c.args.text.now (meaning_of c.in-Ok.operand) c.in-Ok.ensures
