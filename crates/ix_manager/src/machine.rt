@@ -128,7 +128,7 @@ impl Machine {
     /// The actions of the name whose allowance isn't what was told, in order, with their allowance.
     pub(crate) fn changes<'a>(&'a self, name: &'a Name) -> Changes<'a>
         ensures changes { result ≡ changes_of name.now self.now.noted }
-        ensures few { length self.now.noted ≤ 4096 }
+        ensures few { length self.now.noted ≤ WATCH_LIMIT }
     {
         prove!(self.watches.len() <= WATCH_LIMIT);
         self.watches.changes(name)

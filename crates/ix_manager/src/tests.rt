@@ -121,18 +121,30 @@ fn play_of(
     if site.attach("journal").is_err() {
         return Err("not attached".into());
     }
-    match Manager::start(alloc, &mut site, expression, 100) {
-        Ok(mut manager) => {
-            let went = hand_all(alloc, &mut manager, &mut site, events)?;
-            Ok(Played {
-                text: sent_text(alloc, &site)?,
-                confirmed: manager.history().len(),
-                went,
-                file: site.image().to_vec(alloc)?,
-            })
-        }
-        Err(_) => Err("not started".into()),
-    }
+    let (confirmed, went) = run_on(alloc, &mut site, expression, events)?;
+    Ok(Played {
+        text: sent_text(alloc, &site)?,
+        confirmed,
+        went,
+        file: site.image().to_vec(alloc)?,
+    })
+}
+
+/// Starts a manager on the site and hands the events over: how many actions were confirmed, and how
+/// the last event went.
+fn run_on<S: Site>(
+    alloc: Global,
+    site: &mut S,
+    expression: Expression,
+    events: &[Coming<'_>],
+) -> Result<(usize, Option<Go>), Fail>
+    requires attached { (S.state site.old).attached ≡ true }
+{
+    let Ok(mut manager) = Manager::start(alloc, site, expression, 100) else {
+        return Err("not started".into());
+    };
+    let went = hand_all(alloc, &mut manager, site, events)?;
+    Ok((manager.history().len(), went))
 }
 
 /// A journal of `a - b` in which `a` was confirmed.
