@@ -5,6 +5,7 @@ ghost use Rattle.std.specs.Prelude.{IsTrue, IfOk, IfErr, OnOk};
 ghost use Rattle.ix_expr.specs.Meaning.{IsComplete};
 ghost use Rattle.ix_tree.specs.Size.{size_of};
 ghost use Rattle.ix_can.specs.TreeOf.{tree_of, tree_size};
+ghost use Rattle.ix_step.specs.inside.Limits.{most_size};
 ghost use Rattle.ix_engine.specs.inside.Engine.{Allows, Permits, Follows, extended};
 ghost use Rattle.ix_engine.specs.inside.Extending.{AreAllowed, StopsAt};
 
@@ -62,7 +63,7 @@ impl Engine {
     /// above it. A refused expression is dropped.
     pub fn new(alloc: Global, expression: Expression, limit: usize) -> Result<Engine, BuildFault>
         requires least { 1 ≤ limit }
-        requires most { limit ≤ 1000000 }
+        requires most { limit ≤ most_size }
         ensures form { IfOk result (λ s. s.form ≡ expression) }
         ensures history { IfOk result (λ s. s.history ≡ []) }
         ensures limit { IfOk result (λ s. s.limit ≡ limit) }

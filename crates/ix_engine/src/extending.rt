@@ -7,6 +7,7 @@ ghost use Rattle.ix_expr.specs.inside.FormOf.{form_of};
 ghost use Rattle.ix_tree.specs.Size.{size_of};
 ghost use Rattle.ix_can.specs.Laws.{IsProper};
 ghost use Rattle.ix_can.specs.TreeOf.{tree_of};
+ghost use Rattle.ix_step.specs.inside.Limits.{most_size};
 ghost use Rattle.ix_engine.specs.inside.Extending.{Extends};
 
 use crate::PrepareFault;
@@ -32,9 +33,9 @@ pub(crate) fn extend(
 ) -> Result<Tree, PrepareFault>
     requires fits { Fits (form_of expr.now) [] }
     requires proper { IsProper (form_of expr.now) tree.now }
-    requires size { size_of tree.now ≤ 1000000 }
+    requires size { size_of tree.now ≤ most_size }
     requires actions { actions ≤ MOST_ACTIONS }
-    requires limit { limit ≤ 1000000 }
+    requires limit { limit ≤ most_size }
     ensures { (history : Word) → tree.now ≡ tree_of (form_of expr.now) [] history
         → actions ≡ length history
         → Extends (form_of expr.now) limit history action.now result }

@@ -8,6 +8,7 @@ ghost use Rattle.ix_outside.specs.Counts.{Rose};
 ghost use Rattle.ix_outside.specs.Crashes.{Passes};
 ghost use Rattle.ix_outside.specs.inside.DiskCalls.{DiskCalls};
 ghost use Rattle.ix_can.specs.TreeOf.{tree_size};
+ghost use Rattle.ix_step.specs.inside.Limits.{most_size};
 ghost use Rattle.ix_lines.specs.Feeding.{unfinished};
 ghost use Rattle.ix_manager.specs.Handled.{FitsEvent, started};
 ghost use Rattle.ix_manager.specs.inside.StartAnswers.{StartsFrom, StartLeaves};
@@ -86,7 +87,7 @@ impl Manager {
         limit: usize,
     ) -> Result<Manager, StartFault>
         requires least { 1 ≤ limit }
-        requires most { limit ≤ 1000000 }
+        requires most { limit ≤ most_size }
         requires attached { (S.state site.old).attached ≡ true }
 
         // What the manager goes on from, or why none is started, by the file as it read.

@@ -9,6 +9,7 @@ ghost use Rattle.ix_tree.specs.Size.{size_of};
 ghost use Rattle.ix_can.specs.Laws.{IsRising};
 ghost use Rattle.ix_can.specs.Nodes.{put_in};
 ghost use Rattle.ix_can.specs.inside.Moved.{bag_with};
+ghost use Rattle.ix_step.specs.inside.Limits.{most_size};
 ghost use Rattle.ix_step.specs.inside.Makes.{Gathers};
 
 use crate::fault::Unbuilt;
@@ -105,8 +106,8 @@ pub(crate) fn put_moved(
     items: &[Knot],
     place: usize,
 ) -> Result<(), Unbuilt>
-    requires tree { size_of tree ≤ 1000000 }
-    requires items { size_of (listed items.now) ≤ 1000000 }
+    requires tree { size_of tree ≤ most_size }
+    requires items { size_of (listed items.now) ≤ most_size }
     requires rising { IsRising items.now }
     requires place { place < length items.now }
     requires within { size_of (listed (map plain_bag set.old.items)) ≤ set.old.budget }
@@ -129,8 +130,8 @@ pub(crate) fn put_more(
     more: &Knot,
     items: &[Knot],
 ) -> Result<(), Unbuilt>
-    requires more { size_of more.now ≤ 1000000 }
-    requires items { size_of (listed items.now) ≤ 1000000 }
+    requires more { size_of more.now ≤ most_size }
+    requires items { size_of (listed items.now) ≤ most_size }
     requires rising { IsRising items.now }
     requires within { size_of (listed (map plain_bag set.old.items)) ≤ set.old.budget }
     ensures gathers { Gathers set.old.budget (bag_with more.now items.now) (map plain_bag
