@@ -43,7 +43,7 @@ pub(crate) fn load_expression<F: Files>(
     match files.load(alloc, name, MOST_BYTES) {
         Ok(text) => read_expression(alloc, &text),
         Err(LoadFault::Failed) => Err(Refusal::LostExpression),
-        Err(LoadFault::TooLong) => Err(Refusal::BadText { code: 1, at: 16384 }),
+        Err(LoadFault::TooLong) => Err(Refusal::BadText { code: 1, at: MOST_BYTES }),
         Err(LoadFault::Memory) => Err(Refusal::Memory),
     }
 }
@@ -68,7 +68,7 @@ pub(crate) fn load_actions<F: Files>(
 ) -> Result<Vec<u8>, Refusal>
     ensures file { IfOk result
         (λ bytes. HasFile (F.state files.old).contents name.now bytes.items) }
-    ensures short { IfOk result (λ bytes. length bytes.items ≤ 67108864) }
+    ensures short { IfOk result (λ bytes. length bytes.items ≤ MOST_ACTIONS_BYTES) }
     ensures lines { IfOk result (λ bytes. Each IsActionText (lines_of bytes.items)) }
     ensures err { IfErr result (RefusesActions (F.state files.old).contents name.now) }
     ensures lost { IsErrOf result Refusal.LostActions
@@ -87,7 +87,7 @@ pub(crate) fn load_actions<F: Files>(
         Err(LoadFault::Failed) => Err(Refusal::LostActions),
         Err(LoadFault::TooLong) => Err(Refusal::BadActions {
             code: 6,
-            at: 67_108_864,
+            at: MOST_ACTIONS_BYTES,
         }),
         Err(LoadFault::Memory) => Err(Refusal::Memory),
     }
@@ -101,7 +101,7 @@ pub(crate) fn load_script<F: Files>(
 ) -> Result<Vec<u8>, Refusal>
     ensures file { IfOk result
         (λ bytes. HasFile (F.state files.old).contents name.now bytes.items) }
-    ensures short { IfOk result (λ bytes. length bytes.items ≤ 67108864) }
+    ensures short { IfOk result (λ bytes. length bytes.items ≤ MOST_SCRIPT_BYTES) }
     ensures err { IfErr result (RefusesScript (F.state files.old).contents name.now) }
     ensures lost { IsErrOf result Refusal.LostScript
         → Rose (F.state files.old).faults (F.state files.new).faults }
@@ -113,7 +113,7 @@ pub(crate) fn load_script<F: Files>(
         Err(LoadFault::Failed) => Err(Refusal::LostScript),
         Err(LoadFault::TooLong) => Err(Refusal::BadScript {
             code: 34,
-            at: 67_108_864,
+            at: MOST_SCRIPT_BYTES,
         }),
         Err(LoadFault::Memory) => Err(Refusal::Memory),
     }

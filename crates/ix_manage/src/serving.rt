@@ -8,7 +8,7 @@ ghost use Rattle.ix_manage.specs.inside.Turns.{IsStarted, stretch_of};
 
 use crate::refusal::Refusal;
 use crate::run::Stop;
-use crate::turn::{Turn, piece, turn_of};
+use crate::turn::{EVENT_ROOM, Turn, piece, turn_of};
 use ix_manager::Manager;
 use ix_outside::Site;
 use std::alloc::Global;
@@ -31,7 +31,7 @@ pub(crate) fn serve_events<S: Site>(
     ensures failed { IfErr result (FailedWhere (S.state site.old) (S.state site.new)) }
     ensures site { OnlyServed (S.state site.old) (S.state site.new) }
 {
-    let mut buffer = [0; 4096];
+    let mut buffer = [0; EVENT_ROOM];
     for _turn in 0..turns {
         match serve_event(alloc, manager, &mut buffer, site) {
             Turn::More => {}
@@ -49,7 +49,7 @@ fn serve_event<S: Site>(
     buffer: &mut [u8],
     site: &mut S,
 ) -> Turn
-    requires buffer { length buffer.old ≡ 4096 }
+    requires buffer { length buffer.old ≡ EVENT_ROOM }
     requires going { manager.old.ended ≡ false }
     requires tickets { manager.old.machine.ticket < 2 ^ 63 }
     requires attached { (S.state site.old).attached ≡ true }

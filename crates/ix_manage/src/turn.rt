@@ -10,6 +10,9 @@ ghost use Rattle.ix_manage.specs.inside.Turns.{IsTurn};
 use ix_manager::{Go, Stop as Halt};
 use ix_outside::EventKind;
 
+/// The most bytes of an event.
+pub(crate) const EVENT_ROOM: usize = 4096;
+
 /// What became of a run by an event.
 #[derive(Clone, Copy)]
 pub(crate) enum Turn {

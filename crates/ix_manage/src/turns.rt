@@ -10,7 +10,7 @@ ghost use Rattle.ix_manage.specs.inside.Turns.{IsStarted};
 
 use crate::refusal::Refusal;
 use crate::run::Stop;
-use crate::turn::{Turn, piece, turn_of};
+use crate::turn::{EVENT_ROOM, Turn, piece, turn_of};
 use ix_manager::Manager;
 use ix_outside::{Sink, Site};
 use ix_script::ScriptSite;
@@ -40,7 +40,7 @@ pub(crate) fn take_events<S: Site, K: Sink>(
     ensures same_sink { (playing site.new).sink_loan ≡ (playing site.old).sink_loan }
     ensures same_site { (playing site.new).site_loan ≡ (playing site.old).site_loan }
 {
-    let mut buffer = [0; 4096];
+    let mut buffer = [0; EVENT_ROOM];
     for _turn in 0..turns {
         match take_event(alloc, manager, &mut buffer, site) {
             Turn::More => {}
@@ -58,7 +58,7 @@ fn take_event<S: Site, K: Sink>(
     buffer: &mut [u8],
     site: &mut ScriptSite<'_, S, K>,
 ) -> Turn
-    requires buffer { length buffer.old ≡ 4096 }
+    requires buffer { length buffer.old ≡ EVENT_ROOM }
     requires between { IsBetween manager.old (player S.state K.state site.old) }
     requires attached { (S.state (playing site.old).site).attached ≡ true }
     requires fits { FitsDisk S.state S.crashes manager.old (playing site.old).site }
