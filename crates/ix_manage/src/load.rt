@@ -43,7 +43,10 @@ pub(crate) fn load_expression<F: Files>(
     match files.load(alloc, name, MOST_BYTES) {
         Ok(text) => read_expression(alloc, &text),
         Err(LoadFault::Failed) => Err(Refusal::LostExpression),
-        Err(LoadFault::TooLong) => Err(Refusal::BadText { code: 1, at: MOST_BYTES }),
+        Err(LoadFault::TooLong) => Err(Refusal::BadText {
+            code: 1,
+            at: MOST_BYTES,
+        }),
         Err(LoadFault::Memory) => Err(Refusal::Memory),
     }
 }
