@@ -3,7 +3,7 @@
 
 A crate's row has how many planted bodies were refused, how many couldn't be judged, the day, and what was let through
 with its reason. The reason is written by hand and kept; a crate that has no row gets one. It ends with 1 where a run of
-`rt plant` doesn't end, and where a body is let through of a crate whose row says `none`."""
+`rt plant` doesn't end or leaves bodies out, and where a body is let through of a crate whose row says `none`."""
 import datetime
 import re
 import subprocess
@@ -14,12 +14,15 @@ PAGE = "docs/DECISIONS.md"
 
 def counts(crate):
     """What `rt plant` counts of a crate by its last line, and the rows of what its contracts let through."""
-    run = subprocess.run(["rt", "plant"], cwd="crates/" + crate, stdout=subprocess.PIPE, stderr=subprocess.STDOUT)
+    words = ["rt", "plant", "--minutes", "90", "--max", "2000"]
+    run = subprocess.run(words, cwd="crates/" + crate, stdout=subprocess.PIPE, stderr=subprocess.STDOUT)
     lines = run.stdout.decode().splitlines()
     last = next((line for line in reversed(lines) if line.startswith("plants crate=")), None)
     if last is None:
         raise SystemExit("%s: rt plant didn't end: %s" % (crate, lines[-1:]))
     found = {name: int(number) for name, number in re.findall(r"([\w-]+)=(\d+)", last)}
+    if found.get("not-run"):
+        raise SystemExit("%s: rt plant left %d bodies out" % (crate, found["not-run"]))
     return found, [line for line in lines if line.startswith(("proves", "no-ensures", "untested"))]
 
 
