@@ -11,7 +11,7 @@ use crate::env::Env;
 use crate::expr::Expr;
 use crate::matching::matches;
 use crate::seen::sees;
-use ix_values::{Action, Name};
+use ix_values::{Action, Name, Value};
 
 /// Whether the action is in the alphabet of the expression: an atom's is the actions that it
 /// matches, an operator's is the union of its operands', a quantifier's is the union over all
@@ -44,10 +44,29 @@ fn contains_for_some(body: &Expr, parameter: &Name, env: &Env, action: &Action) 
 {
     for value in action.values() {
         if sees(body, parameter, value, action)
-            && contains(body, &env.with(*parameter, Some(*value)), action)
+            && contains_at(body, parameter, Some(*value), env, action)
         {
             return true;
         }
     }
-    contains(body, &env.with(*parameter, None), action)
+    contains_at(body, parameter, None, env, action)
+}
+
+/// Whether the action is in the alphabet of `body` where the parameter has this value. A value of
+/// None is outside.
+#[cycle(alphabet)]
+fn contains_at(
+    body: &Expr,
+    parameter: &Name,
+    value: Option<Value>,
+    env: &Env,
+    action: &Action,
+) -> bool
+    requires { FitsInside parameter.now (form_of body.now) env.now }
+    ensures { IsTrue result
+        ↔ InAlphabet (form_of body.now) (bind parameter.now value env.now) action.now }
+{
+    let mut inside = *env;
+    inside.bind(*parameter, value);
+    contains(body, &inside, action)
 }

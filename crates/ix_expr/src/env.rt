@@ -55,9 +55,18 @@ impl Env {
         ensures { result ≡ bind name value self.now }
     {
         let mut env = *self;
-        env.entries[env.count as usize] = (name, value);
-        env.count += 1;
+        env.bind(name, value);
         env
+    }
+
+    /// Gives the parameter `name` this value, where None is outside. Nothing is copied.
+    pub fn bind(&mut self, name: Name, value: Option<Value>)
+        requires room { length self.old < 8 }
+        requires free { is_bound (binders_of self.old) name ≡ false }
+        ensures { self.new ≡ bind name value self.old }
+    {
+        self.entries[self.count as usize] = (name, value);
+        self.count += 1;
     }
 
     /// The value of the parameter `name`, or None where it is outside or isn't there.

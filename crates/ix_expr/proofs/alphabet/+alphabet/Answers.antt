@@ -13,7 +13,7 @@ use Rattle.ix_expr.proofs.Parts.{fits-operands}
 use Rattle.ix_expr.proofs.AgreeingAtoms.{alphabet-same}
 use Rattle.ix_expr.proofs.Unseen.{unseen-outside}
 use Rattle.ix_expr.proofs.alphabet.+alphabet.Goals as goal
-use Rattle.ix_expr.proofs.alphabet.+alphabet.Goals.{contains_for_some-else-sees-via-then-sees+else-contains, contains_for_some-else-sees-via-else-sees}
+use Rattle.ix_expr.proofs.alphabet.+alphabet.Goals.{contains_for_some-else-sees-via-then-sees+else-contains_at, contains_for_some-else-sees-via-else-sees}
 
 pub contains-contains-requires-in-Opt : goal.contains-contains-requires-in-Opt
 contains-contains-requires-in-Opt t c =
@@ -63,13 +63,9 @@ contains-contains_for_some-requires t c =
     ] in
     (search (rules, the_lemmas), subst (λ (x : Expr). FitsInside p (form_of x) e) (sym c.deref.ensures) inside)
 
-pub contains_for_some-contains-requires : goal.contains_for_some-contains-requires
-contains_for_some-contains-requires t c =
-    (search (rules, the_lemmas), subst (λ e. Fits (form_of c.args.body.now) e) (sym c.with.ensures) (c.requires.body (Some c.value-item.result)))
-
-pub contains_for_some-contains-requires-2 : goal.contains_for_some-contains-requires-2
-contains_for_some-contains-requires-2 t c =
-    (search (rules, the_lemmas), subst (λ e. Fits (form_of c.args.body.now) e) (sym c.with-2.ensures) (c.requires.body None))
+pub contains_at-contains-requires : goal.contains_at-contains-requires
+contains_at-contains-requires t c =
+    (search (rules, the_lemmas), subst (λ e. Fits (form_of c.args.body.now) e) (sym c.bind.ensures) (c.requires.body c.args.value))
 
 pub contains_for_some-returns : goal.contains_for_some-returns
 contains_for_some-returns t c =
@@ -79,8 +75,8 @@ contains_for_some-returns t c =
     let a = c.args.action.now in
     let own : (k : ℕ) → k < length a.values → (d : List ℕ) → InAlphabet y (bind p (Some (get_or a.values k d)) e) a → InAlphabet y (bind p None e) a =
     λ k below d. subst (λ vs. InAlphabet y (bind p (Some (get_or vs k d)) e) a → InAlphabet y (bind p None e) a) c.values-value-items.ensures.value (c.loop-value.invariant k (omega (arith, ap length c.values-value-items.ensures.value)) d) in (
-      λ t. some-in-alphabet y p e a (subst (λ f. InAlphabet y f a) c.with-2.ensures (c.contains-2.ensures.0 t)),
-      λ w. c.contains-2.ensures.1 (subst (λ f. InAlphabet y f a) (sym c.with-2.ensures) (outside-in-alphabet y p e a own w)),
+      λ t. some-in-alphabet y p e a (c.contains_at-2.ensures.0 t),
+      λ w. c.contains_at-2.ensures.1 (outside-in-alphabet y p e a own w),
     )
 
 pub contains_for_some-loop-value-preserved : goal.contains_for_some-loop-value-preserved
@@ -93,7 +89,7 @@ contains_for_some-loop-value-preserved t c =
     let leads : List ℕ → Type 0 = λ u. InAlphabet y (bind p (Some u) e) a → InAlphabet y (bind p None e) a in
     let items = c.values-value-items.result.now in
     let here : leads v = elim c.else-sees.branch [
-      | contains_for_some-else-sees-via-then-sees+else-contains w ↦ λ i. absurd (true≢false (sym (w.contains.ensures.1 (subst (λ f. InAlphabet y f a) (sym w.with.ensures) i)) ∙ w.if-contains.false))
+      | contains_for_some-else-sees-via-then-sees+else-contains_at w ↦ λ i. absurd (true≢false (sym (w.contains_at.ensures.1 i) ∙ w.if-contains_at.false))
       | contains_for_some-else-sees-via-else-sees w ↦ alphabet-same y (bind p (Some v) e) (bind p None e) a (unseen-outside y e p v a (λ s. true≢false (sym (c.sees.ensures.1 s) ∙ w.if-sees.false)))
     ] in
     below_more (λ k. (d : List ℕ) → leads (get_or items k d)) c.loop-value.value-index c.loop-value.invariant
