@@ -38,7 +38,8 @@ pub fn share_entries(
 {
     let mut shared = Vec::with_capacity(alloc, entries.len().saturating_add(1))?;
     for entry in entries {
-        shared.push_reserved((entry.0, entry.1.share()?));
+        let knot = entry.1.share()?;
+        shared.push_reserved((entry.0, knot));
     }
     Ok(shared)
 }
