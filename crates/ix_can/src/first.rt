@@ -118,7 +118,9 @@ fn begins_at(
     requires { FitsInside p.now (form_of y.now) env.now }
     ensures { result ≡ first_or_stays stays (form_of y.now) (bind p.now value env.now) action.now }
 {
-    begins_or_stays(stays, y, &env.with(*p, value), action)
+    let mut inside = *env;
+    inside.bind(*p, value);
+    begins_or_stays(stays, y, &inside, action)
 }
 
 /// Outside stands for every value that isn't one of the action's.

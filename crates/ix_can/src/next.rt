@@ -232,7 +232,8 @@ fn goes_on_at(
         ≡ may_or_stays (stays outside) (form_of body.entry.expr.now)
         (bind body.entry.parameter.now value env.now) state.now action.now }
 {
-    let inside = env.with(*body.parameter, value);
+    let mut inside = *env;
+    inside.bind(*body.parameter, value);
     goes_on_or_stays(body.expr, outside, &inside, state, action)
 }
 
@@ -414,7 +415,9 @@ fn each_goes_on_or_stays(
         body.entry.parameter.now env.now action.now common.now
         (items_of (plain_entries entries.now)) }
 {
-    if in_alphabet(body.expr, &env.with(*body.parameter, None), action) {
+    let mut outside = *env;
+    outside.bind(*body.parameter, None);
+    if in_alphabet(body.expr, &outside, action) {
         return each_goes_on_for(body, Outside::Stays, env, common, entries, action);
     }
     each_own_goes_on(body, Outside::Stays, env, common, entries, action)
@@ -478,6 +481,10 @@ fn owner_goes_on(
         Some(state) if !state.is_dead() => {
             goes_on_at(body, Outside::Refused, Some(*value), env, state, action)
         }
-        _ => begins(body.expr, &env.with(*body.parameter, Some(*value)), action),
+        _ => {
+            let mut inside = *env;
+            inside.bind(*body.parameter, Some(*value));
+            begins(body.expr, &inside, action)
+        }
     }
 }

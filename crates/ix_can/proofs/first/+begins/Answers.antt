@@ -82,7 +82,7 @@ begins-some_value_begins-requires t c =
 
 pub begins_at-begins_or_stays-requires : goal.begins_at-begins_or_stays-requires
 begins_at-begins_or_stays-requires t c =
-    (search (rules, the_lemmas), subst (λ e. Fits (form_of c.args.y.now) e) (sym c.with.ensures) (c.requires.body c.args.value))
+    (search (rules, the_lemmas), subst (λ e. Fits (form_of c.args.y.now) e) (sym c.bind.ensures) (c.requires.body c.args.value))
 
 pub begins_for_each-returns-then-begins_at : goal.begins_for_each-returns-then-begins_at
 begins_for_each-returns-then-begins_at t c =

@@ -134,7 +134,7 @@ goes_on-returns-then-in_alphabet t c =
 
 pub goes_on_at-goes_on_or_stays-requires : goal.goes_on_at-goes_on_or_stays-requires
 goes_on_at-goes_on_or_stays-requires t c =
-    (search (rules, the_lemmas), record { fits = subst (Fits (form_of c.args.body.expr.now)) (sym c.with-inside.ensures) (c.requires.fits.body c.args.value); proper = c.requires.proper })
+    (search (rules, the_lemmas), record { fits = subst (Fits (form_of c.args.body.expr.now)) (sym c.bind.ensures) (c.requires.fits.body c.args.value); proper = c.requires.proper })
 
 pub owner_goes_on-goes_on_at-requires : goal.owner_goes_on-goes_on_at-requires
 owner_goes_on-goes_on_at-requires t c =
@@ -142,7 +142,7 @@ owner_goes_on-goes_on_at-requires t c =
 
 pub owner_goes_on-begins-requires : goal.owner_goes_on-begins-requires
 owner_goes_on-begins-requires t c =
-    subst (Fits (form_of c.args.body.expr.now)) (sym c.with.ensures) (c.requires.fits.body (Some c.args.value.now))
+    subst (Fits (form_of c.args.body.expr.now)) (sym c.bind.ensures) (c.requires.fits.body (Some c.args.value.now))
 
 pub some_goes_on-goes_on-requires : goal.some_goes_on-goes_on-requires
 some_goes_on-goes_on-requires t c =
@@ -192,12 +192,12 @@ each_goes_on_for-each_own_goes_on-requires t c =
 
 pub each_goes_on_or_stays-in_alphabet-requires : goal.each_goes_on_or_stays-in_alphabet-requires
 each_goes_on_or_stays-in_alphabet-requires t c =
-    subst (Fits (form_of c.args.body.expr.now)) (sym c.with.ensures) (c.requires.fits.body None)
+    subst (Fits (form_of c.args.body.expr.now)) (sym c.bind.ensures) (c.requires.fits.body None)
 
 pub each_goes_on_or_stays-each_own_goes_on-requires : goal.each_goes_on_or_stays-each_own_goes_on-requires
 each_goes_on_or_stays-each_own_goes_on-requires t c =
     let y = form_of c.args.body.expr.now in
-    let outside = ap (λ f. in_alphabet y f c.args.action.now) (sym c.with.ensures) ∙ sym c.in_alphabet.ensures ∙ c.if-in_alphabet.false in
+    let outside = ap (λ f. in_alphabet y f c.args.action.now) (sym c.bind.ensures) ∙ sym c.in_alphabet.ensures ∙ c.if-in_alphabet.false in
     let stay = unseen_stay y c.args.body.parameter.now c.args.env.now c.args.action.now c.args.common.now (items_of (plain_entries c.args.entries.now)) outside in
     (search (rules, the_lemmas), (c.requires.fits, (c.requires.common, (c.requires.entries, stay))))
 
@@ -205,7 +205,7 @@ pub each_goes_on_or_stays-returns : goal.each_goes_on_or_stays-returns
 each_goes_on_or_stays-returns t c =
     let y = form_of c.args.body.expr.now in
     let es = c.args.entries.now in
-    let outside = ap (λ f. in_alphabet y f c.args.action.now) (sym c.with.ensures) ∙ sym c.in_alphabet.ensures ∙ c.if-in_alphabet.false in
+    let outside = ap (λ f. in_alphabet y f c.args.action.now) (sym c.bind.ensures) ∙ sym c.in_alphabet.ensures ∙ c.if-in_alphabet.false in
     let ascending = subst (Ascending (λ x z. text_cmp (key x) (key z))) (sym (items_of-listed (map plain_entry es))) (entries_ascend es c.requires.entries.ascending) in
     own_tell y c.args.body.parameter.now c.args.env.now c.args.action.now c.args.common.now (items_of (plain_entries es)) ascending outside c.each_own_goes_on.result c.each_own_goes_on.ensures
 
