@@ -1,5 +1,6 @@
 -- Of equal trees of a bag one is moved: the next gives the same bag.
-use Rattle.std.proofs.Common.{◌≡◌, ℕ, zero, suc, ◌<◌, ◌+◌, Bool, true, false, List, [], ◌∷◌, length, get_or, take, flat_map, refl, sym, ap, ◌∙◌, arith, Ordering, Less, Equal, Greater}
+use Rattle.std.proofs.Common.{◌≡◌, ℕ, zero, suc, ◌<◌, ◌≤◌, ◌+◌, Bool, true, false, List, [], ◌∷◌, length, get_or, take, flat_map, refl, sym, ap, ◌∙◌, arith, Ordering, Less, Equal, Greater}
+use Rattle.std.proofs.lemmas.List.{get_or_default}
 use Rattle.std.specs.Cmp.{tied_itself}
 use Rattle.std.specs.List.{remove}
 use Rattle.ix_words.specs.Canon.{by_order, put_once, when}
@@ -7,7 +8,7 @@ use Rattle.ix_values.specs.PlainAction.{PlainAction}
 use Rattle.ix_expr.specs.Environment.{Environment}
 use Rattle.ix_expr.specs.Form.{Form}
 use Rattle.ix_tree.specs.Order.{tree_cmp}
-use Rattle.ix_tree.specs.Plain.{Plain, bag, listed}
+use Rattle.ix_tree.specs.Plain.{Plain, bag, dead, listed}
 use Rattle.ix_tree.specs.lemmas.TreeOrder.{tree_order}
 use Rattle.ix_can.specs.Nodes.{is_live, put_in}
 use Rattle.ix_can.specs.inside.Moved.{moved, picks}
@@ -71,3 +72,14 @@ repeat_adds_none y e a items place t start old lt at repeat so_far =
     (so_far ∙ ap (λ n. put_all (flat_map (pick_move y e a) (take n (picks items))) start) repeat.1) in
     lots_more (pick_move y e a) (picks items) place (t, remove items place) start old old (omega (arith, length-picks items)) at_picks so_far
     (sym (ap (λ n. put_all (pick_move y e a (t, remove items n)) old) repeat.1 ∙ again))
+
+-- and so do all trees up to the end of a run
+pub run_adds_none : (y : Form) (e : Environment) (a : PlainAction) (items : List Plain) (place more : ℕ) (start old : List Plain) → place + 1 + more ≤ length items → ((k : ℕ) → place < k → k < place + 1 + more → IsRepeat items k) → old ≡ put_all (flat_map (pick_move y e a) (take (place + 1) (picks items))) start → old ≡ put_all (flat_map (pick_move y e a) (take (place + 1 + more) (picks items))) start
+run_adds_none y e a items place zero start old within repeats so_far =
+    so_far ∙ ap (λ n. put_all (flat_map (pick_move y e a) (take n (picks items))) start) (omega arith)
+run_adds_none y e a items place (suc more) start old within repeats so_far =
+    let at = place + 1 + more in
+    let tree = get_or items at dead in
+    repeat_adds_none y e a items at tree start old (omega arith) (get_or_default items at dead tree (omega arith)) (repeats at (omega arith) (omega arith))
+    (run_adds_none y e a items place more start old (omega arith) (λ k low high. repeats k low (omega arith)) so_far)
+    ∙ ap (λ n. put_all (flat_map (pick_move y e a) (take n (picks items))) start) (omega arith)

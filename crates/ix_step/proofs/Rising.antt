@@ -1,9 +1,10 @@
 -- Rising lists of trees: what halving finds in them, and runs of equal trees.
-use Rattle.std.proofs.Common.{◌≡◌, ℕ, zero, suc, ◌<◌, ◌≤◌, Bool, true, false, not, List, [], ◌∷◌, length, get_or, take, drop, refl, sym, ap, ◌∙◌, subst, true≢false, arith, Ordering, Less, Equal, Greater}
+use Rattle.std.proofs.Common.{◌≡◌, ◌+◌, ◌⊎◌, inl, inr, ℕ, zero, suc, ◌<◌, ◌≤◌, Bool, true, false, not, List, [], ◌∷◌, length, get_or, take, drop, refl, sym, ap, ◌∙◌, subst, true≢false, arith, Ordering, Less, Equal, Greater}
 use Rattle.std.specs.Cmp.{tied_itself, upto}
 use Rattle.std.specs.List.Sorted.{IsPartitionPoint, IsPartitionedBy}
 use Rattle.std.specs.Ordering.{is_gt, ordering_reverse}
-use Rattle.std.proofs.lemmas.List.{take-append-drop}
+use Rattle.std.proofs.lemmas.Bool.{cases_lt}
+use Rattle.std.proofs.lemmas.List.{take-append-drop, get_or_default}
 use Rattle.ix_words.specs.Each.{Each, item}
 use Rattle.ix_words.proofs.Each.{Each-left}
 use Rattle.ix_tree.specs.Order.{tree_cmp}
@@ -59,6 +60,13 @@ pub upto_first : (x : Plain) (ys : List Plain) → IsRising ys → IsPartitioned
 upto_first x ys h = λ i j d le lt upto_x.
     ap not (upto tree_order.total (get_or ys i d) (get_or ys j d) x (rising_at ys i j d h le lt) (not_false (is_gt (tree_cmp (get_or ys j d) x)) upto_x))
 
+-- where the last isn't above x, none is
+pub all_upto : (x : Plain) (ys : List Plain) (last : ℕ) → IsRising ys → last + 1 ≡ length ys → is_gt (tree_cmp (get_or ys last x) x) ≡ false → IsPartitionPoint (λ y. not (is_gt (tree_cmp y x)) ≡ true) (λ y. not (is_gt (tree_cmp y x)) ≡ false) ys (length ys)
+all_upto x ys last h ends upto_x = (
+  λ k d low lt. upto_first x ys h k last d (omega (arith, ends)) (omega (arith, ends)) (ap (λ y. not (is_gt (tree_cmp y x))) (get_or_default ys last d x (omega (arith, ends))) ∙ ap not upto_x),
+  λ k d low lt. absurd (omega (arith, low, lt)),
+)
+
 level : (x y : Plain) → is_gt (tree_cmp x y) ≡ false → is_gt (tree_cmp y x) ≡ false → x ≡ y
 level x y e f = by_order (tree_cmp x y) refl
   where
@@ -70,14 +78,17 @@ level x y e f = by_order (tree_cmp x y) refl
 module _ (xs : List Plain) (h : IsRising xs) (place end : ℕ) (x : Plain) (lt : place < length xs) (is : x ≡ get_or xs place x) (le : end ≤ length xs) (point : IsPartitionPoint (λ y. not (is_gt (tree_cmp y x)) ≡ true) (λ y. not (is_gt (tree_cmp y x)) ≡ false) xs end) where
   same_in_run : (k : ℕ) (d : Plain) → place ≤ k → k < end → get_or xs k d ≡ x
   same_in_run k d low high =
-      let at : get_or xs place d ≡ x = get_same xs place d x lt ∙ sym is in
+      let at : get_or xs place d ≡ x = get_or_default xs place d x lt ∙ sym is in
       level (get_or xs k d) x (not_false (is_gt (tree_cmp (get_or xs k d) x)) (point.0 k d (omega arith) high))
       (subst (λ y. is_gt (tree_cmp y (get_or xs k d)) ≡ false) at (rising_at xs place k d h low (omega arith)))
+
+  -- the place itself is one of them
+  pub run_goes_on : place < end
+  run_goes_on = by_test (cases_lt place end)
     where
-      get_same : (ys : List Plain) (i : ℕ) (d e : Plain) → i < length ys → get_or ys i d ≡ get_or ys i e
-      get_same [] i d e lt = absurd (omega arith)
-      get_same (y ∷ ys) zero d e lt = refl
-      get_same (y ∷ ys) (suc i) d e lt = get_same ys i d e (omega arith)
+      by_test : place < end ⊎ end ≤ place → place < end
+      by_test (inl below) = below
+      by_test (inr above) = absurd (true≢false (ap not (sym (ap is_gt (tied_itself tree_order.total x))) ∙ ap (λ y. not (is_gt (tree_cmp y x))) is ∙ point.1 place x above lt))
 
   -- from the place to where the trees end that aren't above its tree each repeats the one before it
   pub run_repeats : (k : ℕ) → place < k → k < end → IsRepeat xs k

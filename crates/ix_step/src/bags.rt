@@ -19,11 +19,15 @@ use ix_tree::{Bag, Knot, push_shared};
 use std::alloc::{AllocError, Global};
 
 /// The place that keeps the trees in ascending order: before the first that isn't below this one.
+/// The first tree is asked first: a tree that isn't above it needs no search.
 fn place_of(tree: &Knot, others: &[Knot]) -> usize
     requires { IsRising others.now }
     ensures within { result ≤ length others.now }
     ensures place { put_in tree.now others.now ≡ insert others.now result tree.now }
 {
+    if others.is_empty() || !tree.cmp(&others[0]).is_gt() {
+        return 0;
+    }
     others.partition_point(|other| tree.cmp(other).is_gt())
 }
 

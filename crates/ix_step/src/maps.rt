@@ -129,7 +129,8 @@ fn advance_owner(
     if !sees(body.expr, body.parameter, value, step.action) {
         return dead_knot(step);
     }
-    let env = step.env.with(*body.parameter, Some(*value));
+    let mut env = *step.env;
+    env.bind(*body.parameter, Some(*value));
     let inside = Step {
         action: step.action,
         env: &env,

@@ -21,6 +21,7 @@ pub(crate) fn within(step: Step, node: Node) -> Result<Knot, Unbuilt>
 }
 
 /// The knot of the node, whose Size is known.
+#[inline]
 fn sized(step: Step, node: Node, size: usize) -> Result<Knot, Unbuilt>
     requires size { size ≡ size_of (plain_node node) }
     requires most { size ≤ 2 ^ 32 }

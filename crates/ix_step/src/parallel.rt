@@ -109,13 +109,11 @@ fn advance_picks(step: Step, y: &Expr, items: &[Knot], set: &mut AltSet<Bag>) ->
     ensures within { size_of (listed (map plain_bag set.new.items)) ≤ step.entry.limit }
     ensures budget { set.new.budget ≡ step.entry.limit }
 {
-    let mut end = 0;
-    for (place, item) in items.iter().enumerate() {
-        if place < end {
-            continue;
-        }
+    let mut place = 0;
+    while place < items.len() {
+        let item = &items[place];
         advance_pick(step, y, items, place, item, set)?;
-        end = run_end(items, place);
+        place = run_end(items, place);
     }
     Ok(())
 }
@@ -147,12 +145,19 @@ fn advance_pick(
     put_moved(step.alloc, set, tree, items, place)
 }
 
-/// Where the trees equal to the one at the place end.
+/// Where the trees equal to the one at the place end. The last tree is asked first: a bag's last
+/// run needs no search.
 fn run_end(items: &[Knot], place: usize) -> usize
     requires rising { IsRising items.now }
     requires place { place < length items.now }
-    ensures { (k : ℕ) → place < k → k < result → IsRepeat items.now k }
+    ensures behind { place < result }
+    ensures within { result ≤ length items.now }
+    ensures repeats { (k : ℕ) → place < k → k < result → IsRepeat items.now k }
 {
     let first = &items[place];
+    let last = &items[items.len() - 1];
+    if !last.cmp(first).is_gt() {
+        return items.len();
+    }
     items.partition_point(|item| !item.cmp(first).is_gt())
 }

@@ -111,11 +111,9 @@ pub(crate) fn advance_sync(
         (sync_of common.now (plain_entries entries.now)) step.entry.action.now)
         result }
 {
-    if contains(
-        body.expr,
-        &step.env.with(*body.parameter, None),
-        step.action,
-    ) {
+    let mut outside = *step.env;
+    outside.bind(*body.parameter, None);
+    if contains(body.expr, &outside, step.action) {
         let own = Reach::OwnAlphabet;
         let (common, entries) = advance_values(step, body, own, common, entries)?;
         return within(step, Node::Sync(common, entries));
@@ -171,7 +169,8 @@ fn advance_at(
         step.entry.env.now) step.entry.action.now state.now)
         result }
 {
-    let env = step.env.with(*body.parameter, value);
+    let mut env = *step.env;
+    env.bind(*body.parameter, value);
     let inside = Step {
         action: step.action,
         env: &env,

@@ -1,5 +1,5 @@
 -- The parts of a step: what each asks of the next, and what it makes.
-use Rattle.std.proofs.Common.{◌<◌, ◌≡◌, ◌≤◌, true, refl, sym, ap, ◌∙◌, subst, arith, [], ◌∷◌, ◌++◌, map, length, flat_map, take, drop, get_or, Some, None, true≢false}
+use Rattle.std.proofs.Common.{◌+◌, ◌-◌, ◌<◌, ◌≡◌, ◌≤◌, true, refl, sym, ap, ◌∙◌, subst, arith, [], ◌∷◌, ◌++◌, map, length, flat_map, take, drop, get_or, Some, None, true≢false}
 use Rattle.std.specs.List.{list_any, remove}
 use Rattle.std.specs.Map.{keys_of}
 use Rattle.std.proofs.lemmas.List.{length-map}
@@ -47,7 +47,7 @@ use Rattle.ix_step.proofs.Measure.{form_size}
 use Rattle.ix_step.proofs.MovedIs.{moved_is, begun_dead, begun_or}
 use Rattle.ix_step.proofs.ParallelArms.{pairs_ready, pairs_small, bags_ready, run_begins}
 use Rattle.ix_step.proofs.Pruning.{passed, refused, same_passes, and_first_may, and_second_may, couple_first_may, couple_second_may, no_items, some_items, list_over, beside_over}
-use Rattle.ix_step.proofs.Repeats.{repeat_adds_none}
+use Rattle.ix_step.proofs.Repeats.{run_adds_none}
 use Rattle.ix_step.proofs.Quantifying.{any_ready, every_ready, sync_ready, any_each, every_common, every_each, sync_common, sync_each, value_ready, entries_touched, value_moves, at_ready}
 use Rattle.ix_step.proofs.Mapping.{begin_small, begin_ready, all_held, map_keys, start_ready, owner_made, dead_owner, copy_proper}
 use Rattle.ix_step.proofs.OwnEntries.{GivesAll, common_stays, before_own, one_given, all_given, one_more_size}
@@ -499,7 +499,7 @@ parallel::advance_picks-loop-place-init t c =
       items = refl;
       within = c.requires.within;
       budget = c.requires.budget;
-      run = λ k low high. absurd (omega arith);
+      place = omega arith;
     }
 
 pub parallel::advance_picks-advance_pick-requires : goal.parallel::advance_picks-advance_pick-requires
@@ -520,29 +520,39 @@ parallel::advance_picks-returns-in_err-advance_pick-clause-gathers t c =
 
 pub parallel::advance_picks-loop-place-preserved : goal.parallel::advance_picks-loop-place-preserved
 parallel::advance_picks-loop-place-preserved t c =
-    let lt : c.loop-place.place < length (picks c.args.items.now) = omega (arith, length-picks c.args.items.now, c.loop-place-test.true) in
-    let is : (c.index-items-place.result, remove c.args.items.now c.loop-place.place) ≡ get_or (picks c.args.items.now) c.loop-place.place (c.index-items-place.result, remove c.args.items.now c.loop-place.place) = ap (λ u. (u, remove c.args.items.now c.loop-place.place)) c.index-items-place.is ∙ sym (get-picks c.args.items.now c.loop-place.place c.index-items-place.result (c.index-items-place.result, remove c.args.items.now c.loop-place.place) c.loop-place-test.true) in
+    let place = c.loop-place.place in
+    let end = c.run_end-place.result in
+    let items = c.args.items.now in
+    let old = map plain_bag c.args.set.now.items in
+    let new = map plain_bag c.advance_pick.new.set.items in
+    let move = pick_move (form_of c.args.y.now) c.args.step.env.now c.args.step.action.now in
+    let lt : place < length (picks items) = omega (arith, length-picks items, c.loop-place-test.true) in
+    let is : (c.index-items-place.result, remove items place) ≡ get_or (picks items) place (c.index-items-place.result, remove items place) = ap (λ u. (u, remove items place)) c.index-items-place.is ∙ sym (get-picks items place c.index-items-place.result (c.index-items-place.result, remove items place) c.loop-place-test.true) in
+    let moved_one = lots_more move (picks items) place (c.index-items-place.result, remove items place) old (map plain_bag c.loop-place.set.items) new lt is c.loop-place.invariant.items c.in_ok-advance_pick.ensures.gathers in
+    let more = end - (place + 1) in
+    let ends : place + 1 + more ≡ end = omega (arith, c.run_end-place.ensures.behind) in
     record {
-      items = lots_more (pick_move (form_of c.args.y.now) c.args.step.env.now c.args.step.action.now) (picks c.args.items.now) c.loop-place.place (c.index-items-place.result, remove c.args.items.now c.loop-place.place) (map plain_bag c.args.set.now.items) (map plain_bag c.loop-place.set.items) (map plain_bag c.advance_pick.new.set.items) lt is c.loop-place.invariant.items c.in_ok-advance_pick.ensures.gathers;
+      items = run_adds_none (form_of c.args.y.now) c.args.step.env.now c.args.step.action.now items place more old new (omega (arith, ends, c.run_end-place.ensures.within)) (λ k low high. c.run_end-place.ensures.repeats k low (omega (arith, ends, high))) moved_one
+          ∙ ap (λ n. put_all (flat_map move (take n (picks items))) old) ends;
       within = c.advance_pick.ensures.within;
       budget = c.advance_pick.ensures.budget;
-      run = λ k low high. c.run_end-end.ensures k (omega arith) high;
+      place = c.run_end-place.ensures.within;
     }
 
-pub parallel::advance_picks-loop-place-preserved-then-place-end : goal.parallel::advance_picks-loop-place-preserved-then-place-end
-parallel::advance_picks-loop-place-preserved-then-place-end t c =
-    record {
-      items = repeat_adds_none (form_of c.args.y.now) c.args.step.env.now c.args.step.action.now c.args.items.now c.loop-place.place c.index-items-place.result (map plain_bag c.args.set.now.items) (map plain_bag c.loop-place.set.items) (omega arith) c.index-items-place.is (c.loop-place.invariant.run c.loop-place.place (omega arith) (omega arith)) c.loop-place.invariant.items;
-      within = c.loop-place.invariant.within;
-      budget = c.loop-place.invariant.budget;
-      run = λ k low high. c.loop-place.invariant.run k (omega arith) high;
-    }
+pub parallel::advance_picks-loop-place-smaller : goal.parallel::advance_picks-loop-place-smaller
+parallel::advance_picks-loop-place-smaller t c = omega (arith, c.run_end-place.ensures.behind, c.run_end-place.ensures.within, c.loop-place-test.true)
 
 pub parallel::advance_picks-returns-clause-gathers : goal.parallel::advance_picks-returns-clause-gathers
 parallel::advance_picks-returns-clause-gathers t c =
-    let all : c.loop-place.place ≡ length (picks c.args.items.now) = omega (arith, length-picks c.args.items.now, c.loop-place-test.false, c.loop-place.auto.place-end) in
+    let all : c.loop-place.place ≡ length (picks c.args.items.now) = omega (arith, length-picks c.args.items.now, c.loop-place-test.false, c.loop-place.invariant.place) in
     lots_end (pick_move (form_of c.args.y.now) c.args.step.env.now c.args.step.action.now) (picks c.args.items.now) (map plain_bag c.args.set.now.items) (map plain_bag c.loop-place.set.items)
     (subst (λ n. (map plain_bag c.loop-place.set.items) ≡ put_all (flat_map (pick_move (form_of c.args.y.now) c.args.step.env.now c.args.step.action.now) (take n (picks c.args.items.now))) (map plain_bag c.args.set.now.items)) all c.loop-place.invariant.items)
+
+pub parallel::advance_picks-returns-clause-within : goal.parallel::advance_picks-returns-clause-within
+parallel::advance_picks-returns-clause-within t c = c.loop-place.invariant.within
+
+pub parallel::advance_picks-returns-clause-budget : goal.parallel::advance_picks-returns-clause-budget
+parallel::advance_picks-returns-clause-budget t c = c.loop-place.invariant.budget
 
 pub parallel::advance_pick-advance-requires : goal.parallel::advance_pick-advance-requires
 parallel::advance_pick-advance-requires t c =
@@ -644,7 +654,7 @@ quantifiers::advance_values-advance_at-requires t c =
 
 pub quantifiers::advance_sync-contains-requires : goal.quantifiers::advance_sync-contains-requires
 quantifiers::advance_sync-contains-requires t c =
-    subst (Fits (form_of c.args.body.expr.now)) (sym c.with.ensures) (c.requires.ready.fits.body None)
+    subst (Fits (form_of c.args.body.expr.now)) (sym c.bind.ensures) (c.requires.ready.fits.body None)
 
 pub quantifiers::advance_sync-advance_values-requires : goal.quantifiers::advance_sync-advance_values-requires
 quantifiers::advance_sync-advance_values-requires t c =
@@ -653,20 +663,20 @@ quantifiers::advance_sync-advance_values-requires t c =
 pub quantifiers::advance_sync-advance_own-requires : goal.quantifiers::advance_sync-advance_own-requires
 quantifiers::advance_sync-advance_own-requires t c =
     let y = form_of c.args.body.expr.now in
-    let outside = ap (λ f. in_alphabet y f c.args.step.action.now) (sym c.with.ensures) ∙ sym (same_alphabet c.contains.result y c.with.result c.args.step.action.now c.contains.ensures) ∙ c.if-contains.false in
+    let outside = ap (λ f. in_alphabet y f c.args.step.action.now) (sym c.bind.ensures) ∙ sym (same_alphabet c.contains.result y c.bind.new.self c.args.step.action.now c.contains.ensures) ∙ c.if-contains.false in
     (omega arith, (c.requires.ready, (outside, c.requires.each)))
 
 pub quantifiers::advance_sync-returns : goal.quantifiers::advance_sync-returns
 quantifiers::advance_sync-returns t c =
     let y = form_of c.args.body.expr.now in
-    let outside = ap (λ f. in_alphabet y f c.args.step.action.now) (sym c.with.ensures) ∙ sym (same_alphabet c.contains.result y c.with.result c.args.step.action.now c.contains.ensures) ∙ c.if-contains.false in
+    let outside = ap (λ f. in_alphabet y f c.args.step.action.now) (sym c.bind.ensures) ∙ sym (same_alphabet c.contains.result y c.bind.new.self c.args.step.action.now c.contains.ensures) ∙ c.if-contains.false in
     let common = c.in_ok-share.ensures ∙ sym (common_stays c.args.body.parameter.now (form_of c.args.body.expr.now) c.args.step.env.now c.args.step.action.now c.args.common.now c.args.entries.now outside) in
     subst (λ x. Makes c.args.step.limit x c.within-2.result) (λ i. sync_of (common i) (c.in_ok-entries.ensures.0 i)) c.within-2.ensures
 
 pub quantifiers::advance_sync-returns-in_err-entries : goal.quantifiers::advance_sync-returns-in_err-entries
 quantifiers::advance_sync-returns-in_err-entries t c =
     let y = form_of c.args.body.expr.now in
-    let outside = ap (λ f. in_alphabet y f c.args.step.action.now) (sym c.with.ensures) ∙ sym (same_alphabet c.contains.result y c.with.result c.args.step.action.now c.contains.ensures) ∙ c.if-contains.false in
+    let outside = ap (λ f. in_alphabet y f c.args.step.action.now) (sym c.bind.ensures) ∙ sym (same_alphabet c.contains.result y c.bind.new.self c.args.step.action.now c.contains.ensures) ∙ c.if-contains.false in
     let common = common_stays c.args.body.parameter.now (form_of c.args.body.expr.now) c.args.step.env.now c.args.step.action.now c.args.common.now c.args.entries.now outside in
     exit_over _ c.from_residual-in_err-entries.result _ c.from_residual-in_err-entries.ensures.1 c.in_err-entries.ensures (λ over. omega (arith, ap size_of common, over))
 
@@ -763,8 +773,8 @@ pub maps::advance_owner-advance-requires : goal.maps::advance_owner-advance-requ
 maps::advance_owner-advance-requires t c =
     let found = c.or_first.ensures ∙ ap (λ l. or_initial c.args.first.now (tree_at c.args.value.now dead (items_of (plain_entries l)))) c.deref.ensures.value in (
       omega arith,
-      subst (Ready (form_of c.args.body.expr.now) c.with-env.result) (sym found)
-          (start_ready c.args.state.now c.deref.result.now c.deref.ensures.value c.args.body.parameter.now (form_of c.args.body.expr.now) c.args.step.env.now c.with-env.result c.args.first.now c.args.value.now c.with-env.ensures c.requires.ready c.requires.held),
+      subst (Ready (form_of c.args.body.expr.now) c.bind.new.self) (sym found)
+          (start_ready c.args.state.now c.deref.result.now c.deref.ensures.value c.args.body.parameter.now (form_of c.args.body.expr.now) c.args.step.env.now c.bind.new.self c.args.first.now c.args.value.now c.bind.ensures c.requires.ready c.requires.held),
     )
 
 pub maps::advance_owner-returns-then-not-sees : goal.maps::advance_owner-returns-then-not-sees
@@ -780,8 +790,8 @@ maps::advance_owner-returns-then-not-sees t c =
 pub maps::advance_owner-returns : goal.maps::advance_owner-returns
 maps::advance_owner-returns t c =
     let found = c.or_first.ensures ∙ ap (λ l. or_initial c.args.first.now (tree_at c.args.value.now dead (items_of (plain_entries l)))) c.deref.ensures.value in
-    let same = ap (λ g. moved (form_of c.args.body.expr.now) g c.or_first.result.now c.args.step.action.now) c.with-env.ensures ∙ ap (λ z. moved (form_of c.args.body.expr.now) (bind c.args.body.parameter.now (Some c.args.value.now) c.args.step.env.now) z c.args.step.action.now) found in
-    owner_made c.args.step.limit c.larger.result c.args.first.now c.args.value.now (begun_tree c.args.body.parameter.now (form_of c.args.body.expr.now) c.args.step.env.now c.args.step.action.now c.args.first.now (plain_map c.args.state.now) c.args.value.now) (moved (form_of c.args.body.expr.now) c.with-env.result c.or_first.result.now c.args.step.action.now) (items_of (first_part (plain_map c.args.state.now))) c.advance.result same
+    let same = ap (λ g. moved (form_of c.args.body.expr.now) g c.or_first.result.now c.args.step.action.now) c.bind.ensures ∙ ap (λ z. moved (form_of c.args.body.expr.now) (bind c.args.body.parameter.now (Some c.args.value.now) c.args.step.env.now) z c.args.step.action.now) found in
+    owner_made c.args.step.limit c.larger.result c.args.first.now c.args.value.now (begun_tree c.args.body.parameter.now (form_of c.args.body.expr.now) c.args.step.env.now c.args.step.action.now c.args.first.now (plain_map c.args.state.now) c.args.value.now) (moved (form_of c.args.body.expr.now) c.bind.new.self c.or_first.result.now c.args.step.action.now) (items_of (first_part (plain_map c.args.state.now))) c.advance.result same
     (omega (arith, c.larger.ensures.first, c.args.step.positive)) c.larger.ensures.first (omega (arith, c.larger.ensures.second, c.size.ensures.value))
     (c.larger.ensures.bound 1000000 c.args.step.bounded (omega (arith, c.size.ensures.value, c.requires.ready.small))) c.advance.ensures
 
@@ -825,14 +835,14 @@ maps::advance_owners-loop-value-preserved t c =
 
 pub quantifiers::advance_at-advance-requires : goal.quantifiers::advance_at-advance-requires
 quantifiers::advance_at-advance-requires t c =
-    (omega arith, at_ready c.args.value c.with-env.result c.with-env.ensures c.requires.fits c.requires.proper c.requires.small)
+    (omega arith, at_ready c.args.value c.bind.new.self c.bind.ensures c.requires.fits c.requires.proper c.requires.small)
 
 pub quantifiers::advance_at-advance_asked-requires : goal.quantifiers::advance_at-advance_asked-requires
 quantifiers::advance_at-advance_asked-requires t c =
     let y = form_of c.args.body.expr.now in
     let must = subst (λ r. part_may r y (bind c.args.body.parameter.now c.args.value c.args.step.env.now) c.args.step.action.now c.args.state.now ≡ true) c.in-Must.is c.requires.may in (
       omega arith,
-      (at_ready c.args.value c.with-env.result c.with-env.ensures c.requires.fits c.requires.proper c.requires.small, passed y c.with-env.result c.args.state.now c.args.step.action.now (ap (λ f. may y f c.args.state.now c.args.step.action.now) c.with-env.ensures ∙ must)),
+      (at_ready c.args.value c.bind.new.self c.bind.ensures c.requires.fits c.requires.proper c.requires.small, passed y c.bind.new.self c.args.state.now c.args.step.action.now (ap (λ f. may y f c.args.state.now c.args.step.action.now) c.bind.ensures ∙ must)),
     )
 
 pub quantifiers::advance_at-advance_inside-requires : goal.quantifiers::advance_at-advance_inside-requires
@@ -840,5 +850,5 @@ quantifiers::advance_at-advance_inside-requires t c =
     let y = form_of c.args.body.expr.now in
     let must = subst (λ r. part_may r y (bind c.args.body.parameter.now c.args.value c.args.step.env.now) c.args.step.action.now c.args.state.now ≡ true) c.in-OwnAlphabet.is c.requires.may in (
       omega arith,
-      (at_ready c.args.value c.with-env.result c.with-env.ensures c.requires.fits c.requires.proper c.requires.small, ap (λ f. moves_within (in_alphabet y f c.args.step.action.now) (may y f c.args.state.now c.args.step.action.now)) c.with-env.ensures ∙ must),
+      (at_ready c.args.value c.bind.new.self c.bind.ensures c.requires.fits c.requires.proper c.requires.small, ap (λ f. moves_within (in_alphabet y f c.args.step.action.now) (may y f c.args.state.now c.args.step.action.now)) c.bind.ensures ∙ must),
     )

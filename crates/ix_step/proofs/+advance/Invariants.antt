@@ -1,5 +1,5 @@
 -- Measures and invariants of the functions behind `step`.
-use Rattle.std.proofs.Common.{◌+◌, ◌*◌, ◌≡◌, ◌≤◌, [], map, take, drop, flat_map, ℕ, ◌<◌}
+use Rattle.std.proofs.Common.{◌+◌, ◌*◌, ◌≡◌, ◌≤◌, [], map, length, take, drop, flat_map, ◌-◌}
 use Rattle.ix_expr.specs.inside.FormOf.{form_of}
 use Rattle.ix_values.specs.Order.{text_cmp}
 use Rattle.ix_entries.specs.inside.Entries.{IsProper}
@@ -12,7 +12,7 @@ use Rattle.ix_step.specs.inside.EnterTrees.{HoldTrees}
 use Rattle.ix_step.specs.inside.Makes.{put_all}
 use Rattle.ix_step.specs.inside.MapsAfter.{maps_after, map_after}
 use Rattle.ix_step.specs.inside.Moves.{live_move}
-use Rattle.ix_step.specs.inside.ParallelMoves.{pair_moves, bag_moves, pick_move, IsRepeat}
+use Rattle.ix_step.specs.inside.ParallelMoves.{pair_moves, bag_moves, pick_move}
 use Rattle.ix_step.specs.inside.ValueTrees.{tree_after}
 use Rattle.ix_step.specs.declared.bodies.Reach.TheVariants.{OwnAlphabet}
 use Rattle.ix_step.proofs.Measure.{form_size}
@@ -91,15 +91,17 @@ invariant-parallel::advance_bags-loop-bag l = record {
 abbrev pub decreases-parallel::advance_picks : goal.decreases-parallel::advance_picks
 decreases-parallel::advance_picks l = 8 * form_size (form_of l.y.now) + 4
 
--- the set holds the bags in which one of the trees so far is moved, within the limit, and up to the end each tree repeats
--- the one before it
+-- the set holds the bags in which one of the trees so far is moved, within the limit
 abbrev pub invariant-parallel::advance_picks-loop-place : goal.invariant-parallel::advance_picks-loop-place
 invariant-parallel::advance_picks-loop-place l = record {
   items : map plain_bag l.set.items ≡ put_all (flat_map (pick_move (form_of l.y) l.step.env.now l.step.action.now) (take l.place (picks l.items))) (map plain_bag l.initial.set.items);
   within : size_of (listed (map plain_bag l.set.items)) ≤ l.step.limit;
   budget : l.set.budget ≡ l.step.limit;
-  run : (k : ℕ) → l.place ≤ k → k < l.end → IsRepeat l.items k;
+  place : l.place ≤ length l.items;
 }
+
+abbrev pub decreases-parallel::advance_picks-loop-place : goal.decreases-parallel::advance_picks-loop-place
+decreases-parallel::advance_picks-loop-place l = length l.items - l.place
 
 abbrev pub decreases-parallel::advance_pick : goal.decreases-parallel::advance_pick
 decreases-parallel::advance_pick l = 8 * form_size (form_of l.y.now) + 3
