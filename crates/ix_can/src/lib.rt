@@ -12,6 +12,3 @@ pub use completion::{completes, is_final};
 pub use first::can_first;
 pub use next::{can, goes_on};
 pub use values::{state_at, state_of};
-
-#[cfg(test)]
-mod tests;

@@ -1,4 +1,5 @@
-//! Asks and confirmations on the engine, with answers worked out by hand.
+//! Asks and confirmations on the engine, with answers and Sizes worked out by hand. They run `ix_can`
+//! and `ix_step` too, which have no tests of their own: a crate with tests is proved twice.
 
 ghost use Rattle.std.specs.Prelude.{◌≤◌};
 
@@ -157,6 +158,52 @@ fn a_called_patient_is_busy_and_another_is_not(rt: HostRuntime) -> Result<(), Fa
     let texts: [&[u8]; 3] = [b"call(p1,x1)", b"call(p1,x2)", b"call(p2,x1)"];
     let both = new_engine_answers(alloc, patients(alloc)?, 100, &texts)?;
     assert!(rt; answers_so(both, b"yny", 18, 2, false));
+    Ok(())
+}
+
+/// `a @ b`.
+fn coupled(alloc: Global) -> Result<Expr, Fail> {
+    let left = boxed(alloc, atom(b"a", &[])?)?;
+    Ok(Expr::Couple(left, boxed(alloc, atom(b"b", &[])?)?))
+}
+
+#[test]
+fn a_coupling_waits_for_neither_side(rt: HostRuntime) -> Result<(), Fail> {
+    let alloc = rt.alloc();
+    let texts: [&[u8]; 5] = [b"c", b"a", b"a", b"b", b"a"];
+    let both = new_engine_answers(alloc, coupled(alloc)?, 3, &texts)?;
+    assert!(rt; answers_so(both, b"nynyn", 3, 2, true));
+    let texts: [&[u8]; 2] = [b"b", b"b"];
+    let right = new_engine_answers(alloc, coupled(alloc)?, 3, &texts)?;
+    assert!(rt; answers_so(right, b"yn", 3, 1, false));
+    Ok(())
+}
+
+/// `any $p ((a - b($p)) + #(a - c))`.
+fn nested(alloc: Global) -> Result<Expr, Fail> {
+    let given = atom(b"b", &[Arg::Param(name(b"p")?)])?;
+    let left = in_turn(alloc, atom(b"a", &[])?, given)?;
+    let run = in_turn(alloc, atom(b"a", &[])?, atom(b"c", &[])?)?;
+    let right = Expr::ParStar(boxed(alloc, run)?);
+    let body = Expr::Par(boxed(alloc, left)?, boxed(alloc, right)?);
+    Ok(Expr::Any(name(b"p")?, boxed(alloc, body)?))
+}
+
+// Before: the quantifier 1, the list of pairs 1, one pair 1, `a - b` 1 + 1, the runs 1 + 1. After:
+// two pairs, with `a - b` begun of 3 beside no run, and with no `a - b` beside one run of 3.
+#[test]
+fn trees_have_their_sizes_and_limits(rt: HostRuntime) -> Result<(), Fail> {
+    let alloc = rt.alloc();
+    let texts: [&[u8]; 1] = [b"a"];
+    for (limit, answer, nodes, actions) in [(7, b"l", 7, 0), (15, b"l", 7, 0), (16, b"y", 16, 1)] {
+        let seen = new_engine_answers(alloc, nested(alloc)?, limit, &texts)?;
+        assert!(rt;
+            answers_so(seen, answer, nodes, actions, false),
+            "limit {limit}"
+        );
+    }
+    let above = new_engine_answers(alloc, nested(alloc)?, 6, &texts)?;
+    assert!(rt; above.is_none());
     Ok(())
 }
 

@@ -20,6 +20,3 @@ mod sets;
 
 pub use calls::{initial, step};
 pub use fault::BuildFault;
-
-#[cfg(test)]
-mod tests;
