@@ -10,8 +10,6 @@ mod fault;
 mod job;
 pub mod laws;
 mod matches;
-#[cfg(test)]
-mod tests;
 
 pub use fault::WordsFault;
 use fault::no_command;

@@ -1,5 +1,5 @@
-//! Asks and confirmations on the engine, with answers and Sizes worked out by hand. They run `ix_can`
-//! and `ix_step` too, which have no tests of their own: a crate with tests is proved twice.
+//! Asks and confirmations on the engine, with answers and Sizes worked out by hand. They run
+//! `ix_can` and `ix_step` too, which have no tests: a crate with tests is proved twice.
 
 ghost use Rattle.std.specs.Prelude.{◌≤◌};
 

@@ -13,7 +13,6 @@ pub mod Playing
 pub mod ServeLemmas
 pub mod ServeEnding
 pub mod Fronts
-pub mod Coming
 pub mod Examinations
 pub mod Working
 pub mod ShortLines

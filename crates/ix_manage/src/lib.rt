@@ -129,6 +129,3 @@ fn put_other<K: Sink>(kept: &[u8], out: &mut K) -> Result<(), Failed>
     out.put(kept)?;
     out.put(b"\n")
 }
-
-#[cfg(test)]
-mod tests;

@@ -19,6 +19,3 @@ mod watching;
 
 pub use faults::{Go, StartFault, Stop};
 pub use manager::Manager;
-
-#[cfg(test)]
-mod tests;

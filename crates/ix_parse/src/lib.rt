@@ -96,6 +96,3 @@ fn checked(operand: Operand) -> Result<Expression, TextFault>
         }),
     }
 }
-
-#[cfg(test)]
-mod tests;

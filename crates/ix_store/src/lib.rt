@@ -18,6 +18,3 @@ mod write;
 
 pub use fault::OpenFault;
 pub use store::Store;
-
-#[cfg(test)]
-mod tests;

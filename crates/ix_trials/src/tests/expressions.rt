@@ -1,6 +1,7 @@
-use super::*;
+//! Texts of expressions, with their nodes or their first faults.
 use ix_expr::Expr;
-use std::alloc::AllocError;
+use ix_parse::{TextFault, read};
+use std::alloc::{AllocError, Global};
 use std::test::Fail;
 
 // 0 and the number of nodes of an expression, the code and the place of a fault, or None for want

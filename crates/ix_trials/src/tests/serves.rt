@@ -5,9 +5,6 @@ ghost use Rattle.ix_memory.specs.inside.CanCome.{CanAllCome, CanCome, beside, ev
 use super::*;
 use ix_outside::{Event, EventKind};
 
-// A connection, a moment, and bytes that come then in one piece.
-type Coming<'a> = (u8, u64, &'a [u8]);
-
 // Where a serve runs: its journal, what comes to its site, the call of the site that fails, and the
 // number of the call from which on all fail.
 #[derive(Clone, Copy)]
@@ -28,9 +25,6 @@ struct Served {
 }
 
 const SERVE: [&str; 4] = ["serve", "expression", "journal", "socket"];
-
-// A journal of `a - b` without records.
-const EMPTY: &[u8] = b"\xA5IXJ1\x00\x05a - b\x00";
 
 // The event of a piece, beside its bytes.
 fn event_of(alloc: Global, coming: Coming<'_>) -> Result<(Event, Vec<u8>), Fail>
@@ -81,18 +75,6 @@ fn site_over(alloc: Global, outside: Outside<'_>) -> Result<MemorySite, Fail>
     let image = outside.journal.to_vec(alloc)?;
     let site = MemorySite::new(alloc, image, events, ROOM, fail, outside.fuse);
     Ok(site?)
-}
-
-// Of each send its connection, a space and its bytes.
-fn sent_by(alloc: Global, site: &MemorySite) -> Result<Vec<u8>, Fail> {
-    let mut sent = Vec::new(alloc);
-    for index in 0..site.sent_len() {
-        let (conn, bytes) = site.sent_at(index);
-        let conn = format!(in alloc; "{conn} ")?;
-        sent.extend_from_slice(conn.as_bytes())?;
-        sent.extend_from_slice(bytes)?;
-    }
-    Ok(sent)
 }
 
 fn run_serve(alloc: Global, expression: &[u8], site: &mut MemorySite) -> Result<Ended, Fail>

@@ -1,5 +1,6 @@
-use super::*;
-use std::alloc::AllocError;
+//! The job of a command line's words, and what people are told of others.
+use ix_cli::{Job, WordsFault, read_words};
+use std::alloc::{AllocError, Global};
 use std::test::Fail;
 
 // The words of a text that is cut at each space.

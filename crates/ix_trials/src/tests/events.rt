@@ -2,17 +2,13 @@
 
 ghost use Rattle.std.specs.Prelude.{◌≡◌, ◌≤◌, true, IfOk, OnSome};
 ghost use Rattle.ix_manager.specs.inside.OverSite.{FitsSite};
+ghost use Rattle.ix_step.specs.inside.Limits.{most_size};
 
 use super::*;
 use ix_expr::{Atom, Expr, Expression};
-use ix_memory::MemorySite;
-use ix_outside::{Event, EventKind, Site};
+use ix_manager::{Go, Manager, StartFault, Stop};
+use ix_outside::{Event, EventKind};
 use ix_values::Name;
-use std::alloc::{AllocError, Global};
-use std::test::Fail;
-
-/// What comes: a connection, a moment and bytes. Without bytes the connection is closed.
-type Coming<'a> = (u8, u64, &'a [u8]);
 
 fn atom(text: &[u8]) -> Result<Expr, Fail> {
     let name = Name::read(text).ok_or("not a name")?;
@@ -23,7 +19,7 @@ fn boxed(alloc: Global, expr: Expr) -> Result<Box<Expr>, Fail> {
     Ok(Box::new(alloc, expr).map_err(|_| AllocError)?)
 }
 
-/// `a - b`.
+// `a - b`.
 fn expression(alloc: Global) -> Result<Expression, Fail> {
     formed(Expr::Seq(boxed(alloc, atom(b"a")?)?, boxed(alloc, atom(b"b")?)?))
 }
@@ -32,7 +28,7 @@ fn formed(expr: Expr) -> Result<Expression, Fail> {
     Ok(Expression::new(expr).map_err(|_| "not well formed")?)
 }
 
-/// Hands an event to the manager. None where the disk failed.
+// Hands an event to the manager. None where the disk failed.
 fn hand_over<S: Site>(
     alloc: Global,
     manager: &mut Manager,
@@ -61,7 +57,7 @@ fn hand_over<S: Site>(
     }
 }
 
-/// Hands over events up to one in which the disk fails, and says how the last one went.
+// Hands over events up to one in which the disk fails, and says how the last one went.
 fn hand_all<S: Site>(
     alloc: Global,
     manager: &mut Manager,
@@ -81,19 +77,7 @@ fn hand_all<S: Site>(
     Ok(Some(last))
 }
 
-/// What was sent: of each send its connection, a space and its bytes.
-fn sent_text(alloc: Global, site: &MemorySite) -> Result<Vec<u8>, Fail> {
-    let mut text = Vec::new(alloc);
-    for index in 0..site.sent_len() {
-        let (conn, bytes) = site.sent_at(index);
-        let conn = format!(in alloc; "{conn} ")?;
-        text.extend_from_slice(conn.as_bytes())?;
-        text.extend_from_slice(bytes)?;
-    }
-    Ok(text)
-}
-
-/// What was sent, how many actions were confirmed, how the last event went, and the file.
+// What was sent, how many actions were confirmed, how the last event went, and the file.
 #[derive(Drop)]
 struct Played {
     text: Vec<u8>,
@@ -102,12 +86,12 @@ struct Played {
     file: Vec<u8>,
 }
 
-/// Plays events of `a - b` over a site with this file whose calls of these numbers fail.
+// Plays events of `a - b` over a site with this file whose calls of these numbers fail.
 fn play(alloc: Global, file: &[u8], fail: &[u64], events: &[Coming<'_>]) -> Result<Played, Fail> {
     play_of(alloc, expression(alloc)?, file, fail, events)
 }
 
-/// The same of any expression.
+// The same of any expression.
 fn play_of(
     alloc: Global,
     expression: Expression,
@@ -121,18 +105,18 @@ fn play_of(
     if site.attach("journal").is_err() {
         return Err("not attached".into());
     }
-    let (confirmed, went) = run_on(alloc, &mut site, expression, events)?;
+    let (confirmed, went) = start_and_hand(alloc, &mut site, expression, events)?;
     Ok(Played {
-        text: sent_text(alloc, &site)?,
+        text: sent_by(alloc, &site)?,
         confirmed,
         went,
         file: site.image().to_vec(alloc)?,
     })
 }
 
-/// Starts a manager on the site and hands the events over: how many actions were confirmed, and how
-/// the last event went.
-fn run_on<S: Site>(
+// Starts a manager on the site and hands the events over: how many actions were confirmed, and how
+// the last event went.
+fn start_and_hand<S: Site>(
     alloc: Global,
     site: &mut S,
     expression: Expression,
@@ -146,12 +130,6 @@ fn run_on<S: Site>(
     let went = hand_all(alloc, &mut manager, site, events)?;
     Ok((manager.history().len(), went))
 }
-
-/// A journal of `a - b` in which `a` was confirmed.
-const JOURNAL: &[u8] = b"\xA5IXJ1\x00\x05a - b\xA5\x00\x01a\x00";
-
-/// One of `a - b` without records.
-const EMPTY: &[u8] = b"\xA5IXJ1\x00\x05a - b\x00";
 
 #[test]
 fn events_of_several_connections(rt: HostRuntime) -> Result<(), Fail> {
@@ -216,25 +194,25 @@ fn confirms_are_in_the_journal(rt: HostRuntime) -> Result<(), Fail> {
     let confirm: &[Coming<'_>] = &[(0, 1, b"ask a 50\nconfirm 1\nstatus\n")];
     let cases: [(&[u8], &[u64], &[Coming<'_>], &[u8], &[u8]); 3] = [
         (
-            JOURNAL,
+            OF_A,
             &[],
             &[(0, 5, b"status\nlog 1\nlog 2\n")],
             b"0 status partial 1 nodes 3\n0 entry 1 a\n0 refused 42 no such entry\n",
-            JOURNAL,
+            OF_A,
         ),
         (
             EMPTY,
             &[],
             confirm,
             b"0 granted 1\n0 confirmed 1\n0 status partial 1 nodes 3\n",
-            JOURNAL,
+            OF_A,
         ),
         (
             EMPTY,
             &[9],
             confirm,
             b"0 granted 1\n0 refused 91 disk\n",
-            JOURNAL,
+            OF_A,
         ),
     ];
     for (file, fail, events, text, then) in cases {
@@ -246,7 +224,7 @@ fn confirms_are_in_the_journal(rt: HostRuntime) -> Result<(), Fail> {
     Ok(())
 }
 
-/// The same bytes on each connection, at moment 1.
+// The same bytes on each connection, at moment 1.
 fn add_pieces<'a>(events: &mut Vec<Coming<'a>>, bytes: &'a [u8]) -> Result<(), AllocError> {
     for conn in 0..64 {
         events.push((conn, 1, bytes)).map_err(|_| AllocError)?;
@@ -254,7 +232,7 @@ fn add_pieces<'a>(events: &mut Vec<Coming<'a>>, bytes: &'a [u8]) -> Result<(), A
     Ok(())
 }
 
-/// A line that is sent on each connection, as `sent_text` has it.
+// A line that is sent on each connection, as `sent_by` has it.
 fn add_lines(alloc: Global, text: &mut Vec<u8>, line: &str) -> Result<(), AllocError> {
     for conn in 0..64 {
         let line = format!(in alloc; "{conn} {line}\n")?;
@@ -283,7 +261,7 @@ fn a_long_line_is_refused_once_and_an_unfinished_one_is_dropped(
     Ok(())
 }
 
-/// What a start answered: a word or the other text that is kept, and a number.
+// What a start answered: a word or the other text that is kept, and a number.
 #[derive(Drop)]
 struct Told {
     text: Vec<u8>,
@@ -295,10 +273,10 @@ fn make_told(alloc: Global, text: &[u8], number: u64) -> Result<Told, Fail> {
     Ok(Told { text, number })
 }
 
-/// What starting from a file under a limit answers.
+// What starting from a file under a limit answers.
 fn start_from(alloc: Global, file: &[u8], limit: usize) -> Result<Told, Fail>
     requires least { 1 ≤ limit }
-    requires most { limit ≤ 1000000 }
+    requires most { limit ≤ most_size }
 {
     let file = file.to_vec(alloc)?;
     let fail = Vec::new(alloc);
@@ -325,13 +303,13 @@ fn files_that_are_started_from_or_not(rt: HostRuntime) -> Result<(), Fail> {
     let cases: [(&[u8], usize, &[u8], u64); 9] = [
         (b"", 1, b"large", 1),
         (b"", 2, b"started", 0),
-        (JOURNAL, 3, b"started", 1),
+        (OF_A, 3, b"started", 1),
         (b"\x5A", 100, b"started", 0),
         (b"#!/bin/sh", 100, b"foreign", 0),
         (b"\xA5IXJ1\x00\x05a - c\x00", 100, b"a - c", 0),
         (b"\xA5IXJ1\x00\x05a - b\xA5\x00\x01a", 100, b"damaged", 13),
         (b"\xA5IXJ1\x00\x05a - b\xA5\x00\x01b\x00", 100, b"word", 1),
-        (JOURNAL, 2, b"heavy", 1),
+        (OF_A, 2, b"heavy", 1),
     ];
     for (file, limit, text, number) in cases {
         let told = start_from(rt.alloc(), file, limit)?;

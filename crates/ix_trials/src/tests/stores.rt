@@ -1,25 +1,25 @@
 //! Journals in memory that are opened and appended to, with answers worked out by hand.
 ghost use Rattle.std.specs.Prelude.{◌≡◌, ◌<◌, length, true, IfOk};
 
-use super::*;
 use arrayvec::ArrayVec;
 use ix_memory::MemorySite;
 use ix_outside::Site;
+use ix_store::{OpenFault, Store};
 use ix_values::Action;
 use std::alloc::Global;
 use std::test::Fail;
 
-/// Journals of `a - b`: without records, with the action `a`, and with `b` behind it.
+// Journals of `a - b`: without records, with the action `a`, and with `b` behind it.
 const EMPTY: &[u8] = b"\xA5IXJ1\x00\x05a - b\x00";
 
 const ONE: &[u8] = b"\xA5IXJ1\x00\x05a - b\xA5\x00\x01a\x00";
 
 const BOTH: &[u8] = b"\xA5IXJ1\x00\x05a - b\xA5\x00\x01a\xA5\x00\x01b\x00";
 
-/// One that was never opened.
+// One that was never opened.
 const UNOPENED: &[u8] = b"\x7FIXJ1\x00\x05a - b\x00";
 
-/// A site with this file, whose calls of these numbers fail. Call 0 attached the file.
+// A site with this file, whose calls of these numbers fail. Call 0 attached the file.
 fn site_with(alloc: Global, file: &[u8], fail: &[u64]) -> Result<MemorySite, Fail>
     ensures attached { IfOk result (λ site. site.attached ≡ true) }
     ensures added { IfOk result (λ site. site.plan.added ≡ 0) }
@@ -33,7 +33,7 @@ fn site_with(alloc: Global, file: &[u8], fail: &[u64]) -> Result<MemorySite, Fai
     Ok(site)
 }
 
-/// The texts of the actions, with a space behind each.
+// The texts of the actions, with a space behind each.
 fn texts_of(alloc: Global, actions: &[Action]) -> Result<Vec<u8>, Fail> {
     let mut texts = Vec::new(alloc);
     for action in actions {
@@ -45,8 +45,8 @@ fn texts_of(alloc: Global, actions: &[Action]) -> Result<Vec<u8>, Fail> {
     Ok(texts)
 }
 
-/// What a start answered: a word, the history's texts or the text that is kept, and the place of
-/// damage; and the file then.
+// What a start answered: a word, the history's texts or the text that is kept, and the place of
+// damage; and the file then.
 #[derive(Drop)]
 struct Told {
     word: &'static str,
@@ -55,7 +55,7 @@ struct Told {
     file: Vec<u8>,
 }
 
-/// Starts on a file with the text of an expression.
+// Starts on a file with the text of an expression.
 fn start_on(alloc: Global, file: &[u8], text: &[u8]) -> Result<Told, Fail>
     requires { length text.now < 65536 }
 {
@@ -63,7 +63,7 @@ fn start_on(alloc: Global, file: &[u8], text: &[u8]) -> Result<Told, Fail>
     start_at(alloc, &mut site, text)
 }
 
-/// Starts on the file of a site.
+// Starts on the file of a site.
 fn start_at(alloc: Global, site: &mut MemorySite, text: &[u8]) -> Result<Told, Fail>
     requires attached { site.old.attached ≡ true }
     requires short { length text.now < 65536 }
@@ -158,8 +158,8 @@ fn each_front_of_a_journal(rt: HostRuntime) -> Result<(), Fail> {
     Ok(())
 }
 
-/// Starts on a file where the call of this number fails, and then once more. Gives what the last
-/// start told, which is the first one where it made fewer calls.
+// Starts on a file where the call of this number fails, and then once more. Gives what the last
+// start told, which is the first one where it made fewer calls.
 fn start_again(alloc: Global, file: &[u8], call: u64) -> Result<Told, Fail> {
     let mut site = site_with(alloc, file, &[])?;
     site.fail_next(call);
@@ -187,19 +187,19 @@ fn a_start_that_failed_is_made_again(rt: HostRuntime) -> Result<(), Fail> {
     Ok(())
 }
 
-/// How far a store came.
+// How far a store came.
 #[derive(Clone, Copy, Debug, PartialEq, Eq)]
 enum Went {
-    /// It wasn't opened: the disk failed.
+    // It wasn't opened: the disk failed.
     NotOpened,
-    /// The first append failed.
+    // The first append failed.
     Opened { has_failed: bool },
-    /// The second append failed.
+    // The second append failed.
     AppendedFirst { has_failed: bool },
     AppendedBoth,
 }
 
-/// Opens the journal of `a - b`, and appends two actions, unless a call of the disk fails.
+// Opens the journal of `a - b`, and appends two actions, unless a call of the disk fails.
 fn append_both<S: Site>(
     alloc: Global,
     site: &mut S,
@@ -227,7 +227,7 @@ fn append_both<S: Site>(
     Ok(Went::AppendedBoth)
 }
 
-/// The action whose text this is.
+// The action whose text this is.
 fn action(text: &[u8]) -> Result<Action, Fail> {
     Ok(Action::read(text).map_err(|_| "no action")?)
 }
@@ -274,7 +274,7 @@ fn each_call_of_the_disk_fails_in_turn(rt: HostRuntime) -> Result<(), Fail> {
     Ok(())
 }
 
-/// A journal of `*a` with so many records of `a`.
+// A journal of `*a` with so many records of `a`.
 fn long_journal(alloc: Global, count: usize) -> Result<Vec<u8>, Fail> {
     let mut file = Vec::from_slice(alloc, b"\xA5IXJ1\x00\x02*a")?;
     for _ in 0..count {

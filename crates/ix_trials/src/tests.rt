@@ -1,9 +1,10 @@
-//! The top call over devices in memory.
+//! The top call and what it stands on, over devices in memory.
 ghost use Rattle.std.specs.Prelude.{◌≡◌, false, IfOk};
 
-use super::*;
+use ix_manage::manage;
 use ix_memory::{MemoryFiles, MemorySink, MemorySite};
-use std::alloc::AllocError;
+use ix_outside::Site;
+use std::alloc::{AllocError, Global};
 use std::test::Fail;
 
 // The status of a run, and what it put.
@@ -116,6 +117,22 @@ fn run_on(
     Ok(ended)
 }
 
+// A connection, a moment, and bytes that come then in one piece. Without bytes the connection is
+// closed.
+type Coming<'a> = (u8, u64, &'a [u8]);
+
+// Of each send its connection, a space and its bytes.
+fn sent_by(alloc: Global, site: &MemorySite) -> Result<Vec<u8>, Fail> {
+    let mut sent = Vec::new(alloc);
+    for index in 0..site.sent_len() {
+        let (conn, bytes) = site.sent_at(index);
+        let conn = format!(in alloc; "{conn} ")?;
+        sent.extend_from_slice(conn.as_bytes())?;
+        sent.extend_from_slice(bytes)?;
+    }
+    Ok(sent)
+}
+
 const TRACE: [&str; 3] = ["trace", "expression", "actions"];
 
 // Compares what is put, and the status, with what is wanted.
@@ -155,12 +172,19 @@ const BOTH: &[u8] = b"all $p *(any $x (call($p,$x) - perform($p,$x))) \
 // The journal of `a - b` with the action `a`.
 const OF_A: &[u8] = b"\xA5IXJ1\x00\x05a - b\xA5\x00\x01a\x00";
 
+// One of `a - b` without records.
+const EMPTY: &[u8] = b"\xA5IXJ1\x00\x05a - b\x00";
+
 // The same before that action.
 const BEFORE_A: &[u8] = b"\xA5IXJ1\x00\x05a - b\x7F\x00\x01a\x00";
 
+mod events;
+mod expressions;
 mod journals;
 mod refusals;
 mod replays;
 mod serves;
+mod stores;
 mod traces;
+mod words;
 mod works;
