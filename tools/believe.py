@@ -1,24 +1,28 @@
 #!/usr/bin/env python3
 """believe.py [--write]: the definitions that the claims of this repository reach, against docs/BELIEVE.md.
 
-A claim is a clause: those of `manage`, those of the traits that it ranges over, and those of the laws, which are the
-public functions with an empty body. From the names in them this script follows the definitions of specs/ as far as
-they go. What is reached must be believed by whoever reads "proved".
+A claim is a clause: those of the call that a program's main makes, those of the traits that this call ranges over, and
+those of the laws, which are the public functions with an empty body. From the names in them this script follows the
+definitions of specs/ as far as they go. What is reached must be believed by whoever reads "proved".
 
-It fails where docs/BELIEVE.md doesn't list exactly the modules that are reached, with their numbers; where a module
-outside specs/inside/ and specs/lemmas/ has a definition that isn't reached; where a definition inside them is reached;
-where a module that is reached imports one of them; or where a module stands in its list above one that it imports.
-With --write it writes the tables of docs/BELIEVE.md anew and keeps the order of their rows."""
+It fails if docs/BELIEVE.md doesn't list exactly the modules that are reached, with their numbers; if the text of a
+claim or of a definition that one reaches isn't the text whose digest the page has; if a module outside specs/inside/
+and specs/lemmas/ has a definition that isn't reached; if a definition inside them is reached; if a module that is
+reached imports one of them; if a claim or such a definition names something of ours that isn't a definition of specs/;
+if a module stands in its list above one that it imports; or if docs/promises.md names a function, a clause or a module
+that isn't there.
+With --write it writes the tables and the digests of docs/BELIEVE.md again and keeps the order of the rows."""
 import glob
+import hashlib
 import os
 import re
 import sys
 
 PAGE = "docs/BELIEVE.md"
-TOP_CALL = "crates/ix_manage/src/lib.rt"
-TRAITS = ["crates/ix_outside/src/%s.rt" % name for name in ("files", "sink", "site")]
+PROMISES = "docs/promises.md"
 NAME = r"[A-Za-z_][A-Za-z0-9_'-]*"
-KINDS = ("abbrev pub ", "unfoldable pub ", "pub data ", "pub record ", "pub ", "abbrev ", "unfoldable ", "data ", "record ")
+KINDS = ("abbrev pub ", "unfoldable pub ", "pub data ", "pub record ", "pub ", "abbrev ", "unfoldable ", "data ",
+         "record ")
 
 
 def without_comments(text, mark):
@@ -46,21 +50,25 @@ class Module:
         self.short = rest[: -len(".antt")].replace("/", ".")
         self.name = "Rattle.%s.specs.%s" % (crate, self.short)
         self.is_internal = self.short.split(".")[0] in ("inside", "lemmas")
-        with open(path) as file:
-            text = file.read()
+        text = read(path)
         head = re.match(r"(?:--.*\n)*", text).group(0)
         self.about = re.sub(r"(?<=[.]) .*", "", " ".join(line[2:].strip() for line in head.splitlines()))
-        self.imports, self.exports, self.texts, self.makers = {}, {}, {}, {}
-        for statement in re.split(r"(?m)^(?=\S)", without_comments(text, "--")):
+        self.imports, self.exports, self.texts, self.makers = [], {}, {}, {}
+        self.take_all(without_comments(text, "--"))
+
+    def take_all(self, text):
+        for statement in re.split(r"(?m)^(?=\S)", text):
             self.take(statement.rstrip())
 
     def take(self, statement):
         """Takes one statement: all lines up to the next one that isn't indented."""
-        if not statement or re.match(r"(pub )?mod |unfolding |mutual|[)}\]]", statement):
+        if not statement or re.match(r"(pub )?mod |unfolding |[)}\]]", statement):
             return
+        if re.match(r"mutual\b", statement):
+            return self.take_all(re.sub(r"(?m)^  ", "", statement.partition("\n")[2]))
         use = re.match(r"(pub )?use (.*)", statement, re.S)
         if use:
-            self.imports.update(imported(use.group(2)))
+            self.imports += imported(use.group(2))
             if use.group(1):
                 self.exports.update(imported(use.group(2)))
             return
@@ -94,31 +102,55 @@ class Specs:
         name = home.makers.get(name, name)
         return (module, name) if name in home.texts else None
 
+    def places_of(self, full, rest):
+        """The definitions that a name may stand for, where it is written with these further parts."""
+        parts = rest.split(".")[1:]
+        fulls = [".".join([full] + parts[:count]) for count in range(len(parts) + 1)]
+        return {place for place in map(self.resolve, fulls) if place}
+
     def names_in(self, text, scope):
-        """The definitions that a text names, where names stand for what the scope says."""
-        found = set()
+        """The definitions that a text names, where names stand for what the scope says, and the names of ours in it
+        that are no definition."""
+        found, lost = set(), set()
         for first, rest in re.findall(r"(?<![\w'.-])(%s)((?:\.%s)*)" % (NAME, NAME), text):
-            if first in scope:
-                full = scope[first]
-                places = {self.resolve(full), self.resolve(full + "." + rest[1:].split(".")[0])}
-                found |= places - {None}
-        return found
+            for full in ["Rattle"] if first == "Rattle" else scope.get(first, ()):
+                places = self.places_of(full, rest)
+                found |= places
+                if not places and is_ours(full + rest) and full + rest not in self.modules:
+                    lost.add(full + rest)
+        for operator, fulls in scope.items():
+            if "◌" in operator and all(part in text for part in operator.split("◌")):
+                for full in fulls:
+                    place = self.resolve(full)
+                    found |= {place} - {None}
+                    lost |= set() if place or not is_ours(full) else {full}
+        return found, lost
 
     def scope_of(self, module):
-        own = {name: module.name + "." + name for name in list(module.texts) + list(module.makers)}
-        return {**module.imports, **own}
+        scope = {name: {module.name + "." + name} for name in list(module.texts) + list(module.makers)}
+        for name, full in module.imports:
+            scope.setdefault(name, set()).add(full)
+        return scope
 
     def reached_from(self, start):
-        """All definitions that those of the start reach, themselves among them. A name that a pattern or a binder gives
-        is looked up too: rather one definition too many than one too few."""
-        reached, ahead = set(), list(start)
+        """All definitions that those of the start reach, themselves among them, and the names that can't be followed,
+        each with its place. A name that a pattern or a binder gives is looked up too: one definition too many is
+        better than one too few."""
+        reached, ahead, lost = set(), list(start), set()
         while ahead:
             place = ahead.pop()
             if place not in reached:
                 reached.add(place)
                 module = self.modules[place[0]]
-                ahead += self.names_in(module.texts[place[1]], self.scope_of(module))
-        return reached
+                found, unknown = self.names_in(module.texts[place[1]], self.scope_of(module))
+                ahead += found
+                lost |= {(module.path, full) for full in unknown}
+        return reached, lost
+
+
+def is_ours(full):
+    """Whether the full name is one of this repository's that isn't a declared type of the program."""
+    return bool(re.match(r"Rattle\.ix_\w+\.(?!specs\.declared\b)(specs|proofs)\.", full))
 
 
 def is_list(path):
@@ -136,41 +168,87 @@ def clauses(text):
         yield text[found.end() : end - 1]
 
 
-def named_by_clauses(specs, path, pick=lambda text: [text]):
-    """The definitions that the clauses of a source file name, of all of it or of the picked pieces."""
+def read(path):
     with open(path) as file:
-        text = without_comments(file.read(), "//")
-    scope = {}
-    for use in re.findall(r"ghost use ([^;]*);", text):
-        scope.update(imported(use))
-    rest = re.sub(r"ghost use [^;]*;", "", text)
-    return set().union(*(specs.names_in(clause, scope) for piece in pick(rest) for clause in clauses(piece)), set())
+        return file.read()
 
 
-def laws(text):
-    """The public functions with an empty body."""
-    return re.findall(r"(?m)^pub fn \w+.*\n(?:(?![{}]).*\n)*?(?=\{\}$)", text)
+class Source:
+    """A source file without its comments: what its ghost names stand for, and its text without them."""
+
+    def __init__(self, path):
+        self.path = path
+        text = without_comments(read(path), "//")
+        self.scope = {}
+        for use in re.findall(r"ghost use ([^;]*);", text):
+            for name, full in imported(use):
+                self.scope.setdefault(name, set()).add(full)
+        self.text = re.sub(r"ghost use [^;]*;", "", text)
+
+    def item(self, kind, name):
+        """The text of a public function up to its body, or of a whole public trait; empty where it has none."""
+        found = re.search(r"(?ms)^pub %s %s\b.*?^(?:%s)" % (kind, name, r"\{" if kind == "fn" else r"\}"), self.text)
+        return found.group(0) if found else ""
+
+    def laws(self):
+        """The public functions with an empty body."""
+        return re.findall(r"(?m)^pub fn \w+.*\n(?:(?![{}]).*\n)*?(?=\{\}$)", self.text)
+
+
+def sources():
+    paths = sorted(glob.glob("crates/*/src/**/*.rt", recursive=True))
+    return [Source(path) for path in paths if os.path.basename(path) != "tests.rt"]
+
+
+def top_calls(files):
+    """The claims of the programs: what each main calls of our crates, and the traits that these calls range over."""
+    calls, traits = [], []
+    for program in files:
+        if not program.path.endswith("/src/main.rt"):
+            continue
+        for crate, name in re.findall(r"(?m)^use (ix_\w+)::([a-z]\w*);", program.text):
+            at_home = [(file, file.item("fn", name)) for file in files if file.path.startswith("crates/%s/" % crate)]
+            calls += [pair for pair in at_home if pair[1]]
+    for _, call in calls:
+        for trait in re.findall(r"\b[A-Z]\w*: ([A-Z]\w*)", call.partition("(")[0]):
+            traits += [(file, file.item("trait", trait)) for file in files if file.item("trait", trait)]
+    return calls, traits
 
 
 def claims(specs):
-    """The three lists of the page, by the heading of each: the modules that it reaches and no list before it."""
-    sources = [path for path in sorted(glob.glob("crates/*/src/**/*.rt", recursive=True))
-               if os.path.basename(path) != "tests.rt"]
-    starts = [
-        ("The claim of the program", named_by_clauses(specs, TOP_CALL)),
-        ("The devices", set().union(*(named_by_clauses(specs, path) for path in TRAITS))),
-        ("The laws", set().union(*(named_by_clauses(specs, path, laws) for path in sources))),
-    ]
-    reached, lists = set(), []
-    for heading, start in starts:
-        before = {module for module, _ in reached}
-        reached |= specs.reached_from(start)
-        lists.append((heading, sorted({module for module, _ in reached} - before)))
-    return reached, lists
+    """The three lists of the page, by the heading of each: the modules that it reaches and no list before it, and the
+    digest of what it says; then all that is reached, and the names that can't be followed."""
+    files = sources()
+    calls, traits = top_calls(files)
+    if not calls:
+        sys.exit("no program calls a function of this repository")
+    pieces = [("The claim of the program", calls), ("The devices", traits),
+              ("The laws", [(file, law) for file in files for law in file.laws()])]
+    reached, lost, lists = set(), set(), []
+    for heading, claimed in pieces:
+        start = set()
+        for file, text in claimed:
+            for clause in clauses(text):
+                found, unknown = specs.names_in(clause, file.scope)
+                start |= found
+                lost |= {(file.path, full) for full in unknown}
+        mine, unknown = specs.reached_from(start)
+        before, lost = {module for module, _ in reached}, lost | unknown
+        texts = [text for _, text in claimed] + [specs.modules[module].texts[name] for module, name in mine - reached]
+        reached |= mine
+        lists.append((heading, sorted({module for module, _ in reached} - before), digest(texts)))
+    return reached, lost, lists
+
+
+def digest(texts):
+    """The digest of the texts, in any order and however they are laid out."""
+    plain = sorted(" ".join(text.split()) for text in texts)
+    return hashlib.sha256("\n".join(plain).encode()).hexdigest()[:32]
 
 
 def row(module):
-    return "| `%s` | %s | %d | %d | %s |" % (module.crate, module.short, len(module.texts), module.lines(), module.about)
+    return "| `%s` | %s | %d | %d | %s |" % (
+        module.crate, module.short, len(module.texts), module.lines(), module.about)
 
 
 def in_order(specs, names, page):
@@ -180,29 +258,53 @@ def in_order(specs, names, page):
     return sorted(names, key=lambda name: (place.get(name, len(place)), name))
 
 
-def table(specs, names):
+def table(specs, names, sum_of_texts):
     head = ["| Crate | Module | Definitions | Lines | What it says |", "|---|---|---|---|---|"]
     modules = [specs.modules[name] for name in names]
     total = "In all %d modules, %d definitions, %d lines." % (
         len(modules), sum(len(module.texts) for module in modules), sum(module.lines() for module in modules))
-    return "\n".join(head + [row(module) for module in modules] + ["", total])
+    sums = "Digest of these claims and definitions: `%s`." % sum_of_texts
+    return "\n".join(head + [row(module) for module in modules] + ["", total, "", sums])
 
 
 def rewritten(specs, lists, page):
     """The page with its tables as they must be: each stands between its heading's two marks."""
-    for heading, names in lists:
+    for heading, names, sum_of_texts in lists:
         begin, end = "<!-- %s -->" % heading, "<!-- end -->"
         front, found, rest = page.partition(begin)
         if not found:
             sys.exit("%s: the mark %s is missing" % (PAGE, begin))
         behind = rest.partition(end)[2]
-        page = front + begin + "\n" + table(specs, in_order(specs, names, page)) + "\n" + end + behind
+        page = front + begin + "\n" + table(specs, in_order(specs, names, page), sum_of_texts) + "\n" + end + behind
     return page
 
 
-def faults(specs, reached, lists, page):
+def broken_promises(specs, promises):
+    """The functions, clauses and modules that a row of the page of promises names and that aren't there."""
+    known = {path.split("/")[1] for path in glob.glob("crates/*/src")}
+    for file in sources():
+        known |= set(re.findall(r"\b(?:fn|enum|struct|trait|ensures|requires|ghost) (\w+)", file.text))
+    for module in specs.modules.values():
+        known |= set(module.texts)
+        known |= {name for own in module.texts.values() for name in re.findall(r"(?m)^ +pub (\w+) :", own)}
+    for line in re.findall(r"(?m)^\|.*\|$", promises):
+        cells = line.strip("|").split("|")
+        for name in re.findall(r"`([\w:]+)`", " ".join(cells[1:2])):
+            if name.split("::")[-1] not in known:
+                yield "%s: nothing is called %s" % (PROMISES, name)
+        for crate, names in re.findall(r"`(ix_\w+)` ([^`]*)", re.sub(r"\([^)]*\)", "", " ".join(cells[2:3]))):
+            for name in re.findall(r"\b[A-Z]\w+", names.partition(" of its")[0]):
+                places = {"Rattle.%s.specs.%s%s" % (crate, inside, name) for inside in ("", "inside.")}
+                if not places & set(specs.modules):
+                    yield "%s: %s has no module %s" % (PROMISES, crate, name)
+
+
+def faults(specs, reached, lost, lists, page):
     """What is wrong, one line each."""
     modules = {module for module, _ in reached}
+    for path, full in lost:
+        yield "%s: a claim reaches %s, which is no definition of specs/ that can be followed" % (path, full)
+    yield from broken_promises(specs, read(PROMISES))
     for name, module in specs.modules.items():
         for definition in module.texts:
             is_reached = (name, definition) in reached
@@ -211,12 +313,12 @@ def faults(specs, reached, lists, page):
             if not is_reached and not module.is_internal:
                 yield "%s: no claim reaches %s, so it belongs in specs/inside/" % (module.path, definition)
         if name in modules and not module.is_internal:
-            for full in module.imports.values():
+            for _, full in module.imports:
                 if re.match(r"Rattle\.ix_\w+\.(specs\.(inside|lemmas)|proofs)\b", full):
                     yield "%s: imports %s, which isn't to be believed" % (module.path, full)
     order = in_order(specs, modules, page)
     for index, name in enumerate(order):
-        for full in specs.modules[name].imports.values():
+        for _, full in specs.modules[name].imports:
             place = specs.resolve(full)
             home = place[0] if place else full
             if home in order[index + 1:]:
@@ -228,14 +330,13 @@ def faults(specs, reached, lists, page):
 def main():
     os.chdir(os.path.dirname(os.path.dirname(os.path.abspath(__file__))))
     specs = Specs()
-    reached, lists = claims(specs)
-    with open(PAGE) as file:
-        page = file.read()
+    reached, lost, lists = claims(specs)
+    page = read(PAGE)
     if "--write" in sys.argv[1:]:
         page = rewritten(specs, lists, page)
         with open(PAGE, "w") as file:
             file.write(page)
-    found = sorted(set(faults(specs, reached, lists, page)))
+    found = sorted(set(faults(specs, reached, lost, lists, page)))
     for fault in found:
         print(fault)
     internal = [module for module in specs.modules.values() if module.is_internal]
