@@ -179,12 +179,9 @@ const EMPTY: &[u8] = b"\xA5IXJ1\x00\x05a - b\x00";
 const BEFORE_A: &[u8] = b"\xA5IXJ1\x00\x05a - b\x7F\x00\x01a\x00";
 
 mod events;
-mod expressions;
 mod journals;
 mod refusals;
 mod replays;
 mod serves;
-mod stores;
 mod traces;
-mod words;
 mod works;
