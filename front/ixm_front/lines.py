@@ -1,0 +1,72 @@
+"""Bytes cut into lines, and into whole replies."""
+
+from .protocol import LINE_LIMIT, number
+
+
+class LineReader:
+    """The lines of a client, cut as the manager cuts them. It holds the bytes that are fed and not yet taken."""
+
+    __slots__ = ("held", "skipping")
+
+    def __init__(self) -> None:
+        self.held = bytearray()
+        self.skipping = False
+
+    def feed(self, data: bytes) -> None:
+        """Takes further bytes. What is left of a line that was too long is dropped."""
+        if self.skipping:
+            end = data.find(b"\n")
+            if end < 0:
+                return
+            self.skipping = False
+            data = data[end + 1:]
+        self.held += data
+
+    def next(self) -> bytes | None:
+        """The next line without its byte 10, or None where no line is whole. Of a line that is too long it gives the
+        first 513 bytes, as soon as they are there, and drops the rest."""
+        held = self.held
+        end = held.find(b"\n", 0, LINE_LIMIT + 1)
+        if end >= 0:
+            line = bytes(held[:end])
+            del held[:end + 1]
+            return line
+        if len(held) <= LINE_LIMIT:
+            return None
+        line = bytes(held[:LINE_LIMIT + 1])
+        end = held.find(b"\n")
+        self.skipping = end < 0
+        del held[:end + 1 if end >= 0 else len(held)]
+        return line
+
+    def is_unfinished(self) -> bool:
+        """Whether a line was begun and isn't ended."""
+        return self.skipping or bool(self.held)
+
+
+class ReplyReader:
+    """The replies of the manager, each whole: one line, and behind `changes K` K lines more."""
+
+    __slots__ = ("held", "seen", "more")
+
+    def __init__(self) -> None:
+        self.held = bytearray()
+        self.seen = 0  # the bytes of whole lines that belong to the reply at the front of `held`
+        self.more = 0  # the lines that this reply still lacks
+
+    def feed(self, data: bytes) -> list[bytes]:
+        """The replies that these bytes complete, each with its line ends."""
+        held = self.held
+        held += data
+        replies = []
+        while (end := held.find(b"\n", self.seen)) >= 0:
+            if self.seen:
+                self.more -= 1
+            elif held.startswith(b"changes "):
+                self.more = number(bytes(held[8:end])) or 0
+            self.seen = end + 1
+            if self.more == 0:
+                replies.append(bytes(held[:self.seen]))
+                del held[:self.seen]
+                self.seen = 0
+        return replies

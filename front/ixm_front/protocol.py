@@ -1,0 +1,53 @@
+"""The few words and replies of docs/protocol.md that the front must tell apart. A ticket is a word like any other."""
+
+LINE_LIMIT = 512
+
+# What the front answers by itself.
+TOO_LONG = b"refused 10 line too long\n"
+NO_SUCH_WORD = b"refused 11 word\n"
+BAD_NUMBER = b"refused 13 number\n"
+WRONG_WORDS = b"refused 15 words\n"
+NO_SUCH_TICKET = b"refused 30 no such ticket\n"
+YES = b"yes\n"
+
+# The lines that may be sent a second time where the first one's reply was lost: they confirm nothing, give up nothing,
+# and end nothing.
+REPEATABLE = frozenset((b"ask", b"may", b"watch", b"drop", b"poll", b"status", b"log", b"outcome"))
+
+# The requests that use up a ticket.
+SPENDING = frozenset((b"confirm", b"cancel"))
+
+# The requests that are told by their own name in the metrics.
+KNOWN = REPEATABLE | SPENDING | {b"stop", b"front"}
+
+FAULT = b"refused 1"  # the codes 10 to 16, of a line that is no request
+BUSY = b"refused 20 "
+GRANTED = b"granted "
+CONFIRMED = b"confirmed "
+CANCELLED = b"cancelled "
+
+
+def word(text: bytes, place: int) -> bytes:
+    """The word at this place of a line, 0 being the first; no bytes where there is none."""
+    words = text.split(b" ", place + 1)
+    return words[place].rstrip(b"\n") if place < len(words) else b""
+
+
+def number(text: bytes) -> int | None:
+    """The decimal number without leading zeros that the text is, up to 18446744073709551615."""
+    if not text.isdigit() or len(text) > 20 or (text[:1] == b"0" and text != b"0"):
+        return None
+    value = int(text)
+    return value if value < 2**64 else None
+
+
+def busy_until(reply: bytes) -> int:
+    """The deadline that a reply 20 names, in milliseconds since 1970."""
+    return number(reply[:-1].rpartition(b" ")[2]) or 0
+
+
+def kind_of(reply: bytes) -> str:
+    """What a reply is called in the metrics: the code of a refusal, else its first word."""
+    if reply.startswith(b"refused "):
+        return word(reply, 1).decode("ascii", "replace")
+    return word(reply, 0).decode("ascii", "replace")
