@@ -83,27 +83,28 @@ class TooLate(NotDone):
 class Pause:
     """Pauses of a random length that grow, so that engines which met one another don't meet again."""
 
-    def __init__(self, until):
-        self.until, self.length = until, FIRST_PAUSE
+    def __init__(self, until, longest):
+        self.until, self.longest, self.length = until, longest, FIRST_PAUSE
 
     def is_over(self):
         return self.until is not None and time.monotonic() >= self.until
 
     def wait(self):
         time.sleep(random.uniform(0, self.length))
-        self.length = min(2 * self.length, LONGEST_PAUSE)
+        self.length = min(2 * self.length, self.longest)
 
 
 class Engine:
     """An engine at the manager's socket. It may be used by many threads. Its name is its own: no other process has it.
 
-    `tell` is called with each request and its reply, as a list of lines.
+    No pause between two tries or polls is longer than `pause` seconds. `tell` is called with each request and its
+    reply, as a list of lines.
     """
 
-    def __init__(self, path, name, lease=LEASE, turn=TURN, tell=None):
+    def __init__(self, path, name, lease=LEASE, turn=TURN, pause=LONGEST_PAUSE, tell=None):
         if len(name) > LONGEST_NAME:
             raise ValueError(f"the name of an engine has at most {LONGEST_NAME} bytes")
-        self.path, self.name, self.lease, self.limit = path, name, lease, turn
+        self.path, self.name, self.lease, self.limit, self.pause = path, name, lease, turn, pause
         self.tell = tell or (lambda line, reply: None)
         self.waiting, self.lock = set(), threading.Lock()
 
@@ -114,7 +115,7 @@ class Engine:
         `within` seconds, where that is given, no further try is made. An engine that may have done the action before
         it was started again gives `since`, a length of the history from before that: then the log is read first.
         """
-        pause = Pause(None if within is None else time.monotonic() + within)
+        pause = Pause(None if within is None else time.monotonic() + within, self.pause)
         lost = since  # the length of the history before a confirm whose reply was lost
         while not pause.is_over():
             try:

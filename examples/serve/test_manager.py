@@ -59,7 +59,7 @@ class Played(threading.Thread):
 
 class TestEngine(unittest.TestCase):
     def setUp(self):
-        manager.FIRST_PAUSE = manager.LONGEST_PAUSE = 0.01
+        manager.FIRST_PAUSE = 0.01
         folder = tempfile.TemporaryDirectory()
         self.addCleanup(folder.cleanup)
         self.path = os.path.join(folder.name, "socket")
@@ -69,7 +69,7 @@ class TestEngine(unittest.TestCase):
         played = Played(self.path, rows)
         played.start()
         try:
-            return run(Engine(self.path, "e", turn=turn))
+            return run(Engine(self.path, "e", turn=turn, pause=0.01))
         finally:
             played.join(5)
             os.remove(self.path)
@@ -125,7 +125,7 @@ class TestEngine(unittest.TestCase):
 
     def test_the_time_of_the_caller(self):
         with self.assertRaises(TooLate) as raised:
-            Engine(self.path, "e").do(A, within=0.1)  # nobody listens
+            Engine(self.path, "e", pause=0.01).do(A, within=0.1)  # nobody listens
         self.assertFalse(raised.exception.may_count)
         lost = [STATUS, (ASK, "granted 3"), ("confirm 3", CLOSE)]
         with self.assertRaises(TooLate) as raised:
@@ -137,7 +137,7 @@ class TestEngine(unittest.TestCase):
         played = Played(self.path + "2", [DONE])
         played.start()
         threading.Timer(0.1, os.rename, (self.path + "2", self.path)).start()
-        self.assertEqual(Engine(self.path, "e").do(A), 8)
+        self.assertEqual(Engine(self.path, "e", pause=0.01).do(A), 8)
         played.join(5)
         self.assertEqual(played.faults, [])
 
