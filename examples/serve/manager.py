@@ -1,14 +1,44 @@
-"""How a client talks to a manager: the lines of docs/protocol.md, over its Unix socket."""
+"""How an engine talks to a manager, with Python's standard library alone. docs/engines.md says why it is so.
 
+    engine = Engine("/run/ixm/socket", "admissions")
+    with engine.activity("call(anna,xray)", "perform(anna,xray)"):
+        ..                                        # the work: no reservation is held meanwhile
+
+`Engine.do` brings an action about exactly once, over busy managers, restarts and lost replies. `Connection` sends
+single requests of docs/protocol.md.
+"""
+
+import contextlib
+import itertools
+import random
 import socket
+import threading
+import time
+
+LEASE = 5000  # milliseconds for which an action is reserved, from its ask to its confirm
+TURN = 60.0  # seconds in which the manager has to come to a connection; else that is given up
+REPLY = 10.0  # seconds in which it has to answer a connection that it reads
+FIRST_PAUSE, LONGEST_PAUSE = 0.05, 2.0  # seconds
+POLLS = 10  # polls before a watch is set again: a restart that no connection met takes it away
+LONGEST_NAME = 24  # bytes of an engine's name; the names of its watches have up to 32
+
+FOR_PEOPLE = ("22", "23", "90", "91")
 
 
 class Connection:
-    """A connection to the manager, which reads one connection until that is closed, and then the next."""
+    """A connection to the manager, which reads one connection until that is closed, and then the next.
 
-    def __init__(self, path):
+    Each wait, for the connect and for a reply, ends with an OSError after `limit` seconds, or never where that is None.
+    """
+
+    def __init__(self, path, limit=None):
         self.socket = socket.socket(socket.AF_UNIX)
-        self.socket.connect(path)
+        self.socket.settimeout(limit)
+        try:
+            self.socket.connect(path)
+        except OSError:
+            self.socket.close()
+            raise
         self.lines = self.socket.makefile("r", encoding="ascii", newline="\n")
 
     def __enter__(self):
@@ -32,3 +62,183 @@ class Connection:
         if not line.endswith("\n"):
             raise ConnectionError("the manager closed the connection")
         return line[:-1]
+
+
+class NotDone(Exception):
+    """An action wasn't brought about. Where `may_count` is True nobody knows yet: it may be in the history."""
+
+    def __init__(self, action, reason, may_count=False):
+        super().__init__(f"{action}: {reason}" + (", and it may have happened" if may_count else ""))
+        self.action, self.reason, self.may_count = action, reason, may_count
+
+
+class ForPeople(NotDone):
+    """The manager refused for a reason that no engine can mend, or that its programmer has to."""
+
+
+class TooLate(NotDone):
+    """The time that the caller set has passed."""
+
+
+class Pause:
+    """Pauses of a random length that grow, so that engines which met one another don't meet again."""
+
+    def __init__(self, until, longest):
+        self.until, self.longest, self.length = until, longest, FIRST_PAUSE
+
+    def is_over(self):
+        return self.until is not None and time.monotonic() >= self.until
+
+    def wait(self):
+        time.sleep(random.uniform(0, self.length))
+        self.length = min(2 * self.length, self.longest)
+
+
+class Engine:
+    """An engine at the manager's socket. It may be used by many threads. Its name is its own: no other process has it.
+
+    No pause between two tries or polls is longer than `pause` seconds. `tell` is called with each request and its
+    reply, as a list of lines.
+    """
+
+    def __init__(self, path, name, lease=LEASE, turn=TURN, pause=LONGEST_PAUSE, tell=None):
+        if len(name) > LONGEST_NAME:
+            raise ValueError(f"the name of an engine has at most {LONGEST_NAME} bytes")
+        self.path, self.name, self.lease, self.limit, self.pause = path, name, lease, turn, pause
+        self.tell = tell or (lambda line, reply: None)
+        self.waiting, self.lock = set(), threading.Lock()
+
+    def do(self, action, within=None, since=None):
+        """Brings the action about, as soon as the rules permit it, and gives its number in the history.
+
+        It is confirmed as soon as it is granted, so it has to be an instant: a beginning, an end, a decision. After
+        `within` seconds, where that is given, no further try is made. An engine that may have done the action before
+        it was started again gives `since`, a length of the history from before that: then the log is read first.
+        """
+        pause = Pause(None if within is None else time.monotonic() + within, self.pause)
+        lost = since  # the length of the history before a confirm whose reply was lost
+        while not pause.is_over():
+            try:
+                with self.turn() as (connection, length):
+                    if lost is not None:
+                        number = self.find(connection, action, lost, length)
+                        if number is not None:
+                            return number
+                        lost = None
+                    reply = self.send(connection, f"ask {action} {self.lease}")[0]
+                    if reply.startswith("granted "):
+                        lost = length
+                        reply = self.send(connection, f"confirm {reply.split()[1]}")[0]
+                        if reply.startswith("confirmed "):
+                            return int(reply.split()[1])
+                        self.check(action, reply, may_count=True)
+                        lost = None
+                    self.check(action, reply)
+            except OSError:
+                reply = None
+            if reply is not None and reply.startswith("refused 21 "):
+                self.wait_for(action, pause)
+            else:
+                pause.wait()
+        raise TooLate(action, "the time is over", may_count=lost is not None)
+
+    @contextlib.contextmanager
+    def activity(self, begin, end, undo=None):
+        """Two actions around the work in the `with` block. What holds a room meanwhile is the rule: `call - perform`.
+
+        Where the work fails, the action `undo` is brought about in place of `end`, and where there is none, neither.
+        """
+        self.do(begin)
+        try:
+            yield
+        except BaseException:
+            if undo is not None:
+                self.do(undo)
+            raise
+        self.do(end)
+
+    @contextlib.contextmanager
+    def turn(self):
+        """A connection that the manager reads, and the length of the history. No other client is read until it closes.
+
+        Only `status` is sent before the manager has come to it, so that an engine which gives up while it waits leaves
+        no ask behind that is granted to nobody.
+        """
+        with Connection(self.path, self.limit) as connection:
+            status = self.send(connection, "status")[0]
+            connection.socket.settimeout(REPLY)
+            yield connection, int(status.split()[2])
+
+    def length(self):
+        """The length of the history."""
+        return int(self.request("status")[0].split()[2])
+
+    def request(self, line):
+        """One request on a connection of its own. An OSError says that its reply is lost."""
+        with Connection(self.path, self.limit) as connection:
+            return self.send(connection, line)
+
+    def send(self, connection, line):
+        reply = connection.request(line)
+        self.tell(line, reply)
+        return reply
+
+    def find(self, connection, action, before, length):
+        """The action's number among those behind the first `before`, or None.
+
+        The log says what happened and not who asked for it, so an action has to be one engine's alone.
+        """
+        for number in range(before + 1, length + 1):
+            if self.send(connection, f"log {number}")[0] == f"entry {number} {action}":
+                return number
+        return None
+
+    def wait_for(self, action, pause):
+        """Waits until the action is allowed, or may be. The watch has a name that nobody else polls."""
+        name = self.take_name()
+        try:
+            while not pause.is_over():
+                try:
+                    if self.is_told(name, action, pause):
+                        return
+                except OSError:  # the watch may be gone, and what a poll told without its reply is lost
+                    pause.wait()
+        finally:
+            with contextlib.suppress(OSError):
+                self.request(f"drop {name} {action}")
+            self.give_name(name)
+
+    def is_told(self, name, action, pause):
+        """Whether a watch, or one of some polls behind it, tells that the action is allowed."""
+        reply = self.request(f"watch {name} {action}")
+        if reply[0].startswith("refused 40 "):  # no more watches: ask again now and then
+            pause.wait()
+            return True
+        self.check(action, reply[0])
+        if reply == ["watching yes"]:
+            return True
+        for _ in range(POLLS):
+            if pause.is_over():
+                break
+            pause.wait()
+            reply = self.request(f"poll {name}")
+            self.check(action, reply[0])
+            if f"yes {action}" in reply:
+                return True
+        return False
+
+    def take_name(self):
+        with self.lock:
+            name = next(it for it in map(f"{self.name}_{{}}".format, itertools.count(1)) if it not in self.waiting)
+            self.waiting.add(name)
+            return name
+
+    def give_name(self, name):
+        with self.lock:
+            self.waiting.discard(name)
+
+    def check(self, action, reply, may_count=False):
+        """Raises where a reply has to be looked at by people: 22, 23, 90, 91, and a request with a fault, 10 to 16."""
+        code = reply.split()[1] if reply.startswith("refused ") else ""
+        if code in FOR_PEOPLE or code.startswith("1"):
+            raise ForPeople(action, reply, may_count=may_count and code == "91")
