@@ -1,0 +1,7 @@
+pub mod Names
+pub mod Heads
+pub mod Keys
+pub mod Number
+pub mod Refusals
+pub mod Bounds
+pub mod inside
