@@ -4,4 +4,5 @@ pub mod Keys
 pub mod Number
 pub mod Refusals
 pub mod Bounds
+pub mod Laws
 pub mod inside

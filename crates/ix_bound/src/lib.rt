@@ -4,6 +4,7 @@
 mod answer;
 mod heads;
 mod keys;
+pub mod laws;
 mod names;
 mod number;
 mod walk;
