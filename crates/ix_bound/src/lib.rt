@@ -1,0 +1,17 @@
+//! A static bound on the state: how large the trees of an expression get, before the first action.
+#![tactic(auto)]
+
+mod answer;
+mod heads;
+mod keys;
+pub mod laws;
+mod names;
+mod number;
+mod walk;
+mod whole;
+
+pub use answer::Bound;
+pub use whole::bound;
+
+#[cfg(test)]
+mod tests;
