@@ -5,7 +5,7 @@ use Rattle.ix_expr.specs.Form.{Form}
 use Rattle.ix_expr.specs.Environment.{Environment}
 use Rattle.ix_expr.specs.FormFaults.{nodes_of}
 use Rattle.ix_expr.specs.Meaning.{InAlphabet, IsComplete, IsPartial}
-use Rattle.ix_simplify.specs.Rewriting.{Law, Becomes}
+use Rattle.ix_simplify.specs.Rewriting.{Law, Becomes, HasNoLeftSide}
 
 -- in every environment the expressions have the same complete words, the same partial words and the
 -- same alphabet
@@ -21,6 +21,14 @@ SidesMeanTheSame = (x z : Form) → Law x z → MeanTheSame x z
 -- each use of a law lowers the number of nodes
 abbrev pub EachUseLowersTheNodes : Type 0
 EachUseLowersTheNodes = (x z : Form) → Law x z → length (nodes_of z) < length (nodes_of x)
+
+-- an expression and what it becomes mean the same
+abbrev pub ResultsMeanTheSame : Type 0
+ResultsMeanTheSame = (x s : Form) → Becomes x s → MeanTheSame x s
+
+-- no left side of a law stands in what an expression becomes
+abbrev pub ResultsHaveNoLeftSide : Type 0
+ResultsHaveNoLeftSide = (x s : Form) → Becomes x s → HasNoLeftSide s
 
 -- an expression becomes one expression
 abbrev pub ResultsAreOne : Type 0
