@@ -1,6 +1,6 @@
 -- What a run makes of the journal that it attached.
 use Rattle.std.proofs.Common.{◌≡◌, ◌⊎◌, inl, inr, ℕ, ◌≤◌, List, [], ◌++◌, length, append-nil}
-use Rattle.std.proofs.Common.{Option, None, Some, refl, sym, ◌∙◌, ap, subst, arith}
+use Rattle.std.proofs.Common.{false, Option, None, Some, refl, sym, ◌∙◌, ap, subst, arith}
 use Rattle.std.proofs.lemmas.Option.{none-some}
 use Rattle.ix_values.specs.PlainAction.{Word}
 use Rattle.ix_expr.specs.CanonicalText.{canonical_text}
@@ -9,7 +9,7 @@ use Rattle.ix_journal.specs.Kinds.{IsUnfinished}
 use Rattle.ix_journal.specs.Recovery.{Recovers}
 use Rattle.ix_journal.proofs.OutcomeLaws.{one_history}
 use Rattle.ix_outside.specs.Crashes.{Crashes, AreLawful, Elapses, LeavesTheFile}
-use Rattle.ix_outside.specs.Disk.{Disk, Opened, IsOpened, MakesFile, Stays}
+use Rattle.ix_outside.specs.Disk.{Disk, HasNothingOpened, Opened, IsOpened, MakesFile, Stays}
 use Rattle.ix_outside.specs.SiteState.{SiteState}
 use Rattle.ix_outside.specs.inside.DiskCalls.{KeepsOpened}
 use Rattle.ix_manager.specs.Images as image
@@ -196,7 +196,7 @@ pub on_journal : (files : Option Listing) (job : Job) (expression journal : List
     → UsesJournal x (limit_of job) session e.file (record { name = journal; tick = at.tick; file = d.file }) r)
     → OnJournal files job before end r session
 on_journal files job expression journal x of_expression has_journal reads session before at end r is (inl keeps) uses =
-    λ named kept_in same_expression same_journal old new told_old none told_new.
+    λ named kept_in same_expression same_journal old new told_old told_new.
     let kept = kept_opened at.disk end.disk keeps new told_new in
     let opened_is = kept.2 ∙ opened_at journal at.tick before.disk at.disk is kept.0 kept.1 in
     subst (λ (o : Option Opened). OpensJournal files (limit_of job) named kept_in session new r o) (sym opened_is) (
@@ -208,15 +208,17 @@ on_journal files job expression journal x of_expression has_journal reads sessio
       ),
     )
 on_journal files job expression journal x of_expression has_journal reads session before at end r is (inr untold) uses =
-    λ named kept_in same_expression same_journal old new told_old none told_new.
+    λ named kept_in same_expression same_journal old new told_old told_new.
     absurd (none-some new (sym untold ∙ told_new))
 
 -- nothing was attached
-pub none_opened : (files : Option Listing) (job : Job) (before end : SiteState) (r : Crashes)
+pub none_opened : (files : Option Listing) (job : Job) (before end : SiteState) (r p : Crashes)
+    → AreLawful before p → before.attached ≡ false
     → end.disk ≡ before.disk → OnJournal files job before end r None
-none_opened files job before end r same =
-    λ expression journal of_expression has_journal old new told_old none told_new.
+none_opened files job before end r p lawful away same =
+    λ expression journal of_expression has_journal old new told_old told_new.
     let disks : new ≡ old = some_is (sym told_new ∙ same ∙ told_old) in
+    let none : old.opened ≡ None = subst HasNothingOpened told_old (lawful.unattached away) in
     subst (λ (o : Option Opened). OpensJournal files (limit_of job) expression journal None new r o)
     (sym (ap (λ (disk : Disk). disk.opened) disks ∙ none)) refl
 

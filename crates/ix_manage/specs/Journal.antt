@@ -110,11 +110,11 @@ OpensJournal files limit expression journal session disk is (Some opened) =
     × ((x : Form) × ReadsForm files expression x
     × UsesJournal x limit session disk.file opened is)
 
--- what a job makes of its journal, where it has one, and where the site tells its disk before, with
--- nothing opened, and behind it
+-- what a job makes of its journal, where it has one, and where the site tells its disk before and
+-- behind it
 abbrev pub OnJournal : Option Listing → Job → SiteState → SiteState → Crashes → Option Session
     → Type 0
 OnJournal files job before after is session = (expression journal : List ℕ)
     → expression_of job ≡ Some expression → journal_of job ≡ Some journal
-    → (old new : Disk) → before.disk ≡ Some old → old.opened ≡ None → after.disk ≡ Some new
+    → (old new : Disk) → before.disk ≡ Some old → after.disk ≡ Some new
     → OpensJournal files (limit_of job) expression journal session new is new.opened

@@ -17,13 +17,14 @@ use Rattle.ix_journal.proofs.KindLaws.{one_kind}
 use Rattle.ix_outside.specs.Crashes.{Crashes, AreLawful}
 use Rattle.ix_outside.specs.Disk.{Disk, MakesFile, Stays}
 use Rattle.ix_outside.specs.SiteState.{SiteState}
-use Rattle.ix_store.specs.Opening.{IsNew, IsReadyWith}
+use Rattle.ix_store.specs.Opening.{IsNew}
 use Rattle.ix_store.specs.inside.Opens.{Opens}
 use Rattle.ix_store.specs.inside.Opens as opening
 use Rattle.ix_store.specs.inside.Refusals.{Refuses}
 use Rattle.ix_store.specs.inside.Starting.{LeavesOnStart}
 use Rattle.ix_store.specs.declared.fault.OpenFault.{OpenFault}
 use Rattle.ix_store.specs.declared.fault.OpenFault.TheVariants as refused
+use Rattle.ix_store.proofs.Opened.{ready_not_new}
 use Rattle.ix_manager.specs.Images as image
 use Rattle.ix_manager.specs.Images.{IsOwn, IsWithin, EachPrefixIsWithin, IsStartable}
 use Rattle.ix_manager.specs.Starts.{HasText}
@@ -57,12 +58,6 @@ same_text at text other gate first is isnt = ap kind_text (one_kind at (kind.rea
 not_unfinished : (at text : List ℕ) (gate : ℕ) → IsReady at text gate → IsUnfinished at → ⊥
 not_unfinished at text gate is isnt =
     let same = one_kind at kind.unfinished (kind.ready text gate) isnt is in cc
-
--- a ready file isn't to be made anew
-ready_not_new : (at text : List ℕ) → IsReadyWith at text → ¬ IsNew at text
-ready_not_new at text is (inl unfinished) = not_unfinished at text is.0 is.1 unfinished
-ready_not_new at text is (inr unopened) =
-    let same = one_kind at (kind.unopened text) (kind.ready text is.0) unopened is.1 in cc
 
 -- a file that is of the expression's text or unfinished, and recovers a history, is one that it may open
 pub own_of : (x : Form) (at : List ℕ) (h : Word) → opening.IsOwn at (canonical_text x) → Recovers at h → IsOwn x at

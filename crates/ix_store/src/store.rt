@@ -24,20 +24,23 @@ pub struct Store {
 
 impl Store {
     ghost use Rattle.std.specs.Prelude.{ℕ, List, [], ◌∷◌, ◌++◌, true, false, length, IfOk, IfErr};
-    ghost use Rattle.std.specs.Prelude.{OnOk, OnErr, IsErrOf, All, is_err};
+    ghost use Rattle.std.specs.Prelude.{OnOk, All, is_err};
     ghost use Rattle.std.specs.Option.{ForSome};
     ghost use Rattle.ix_values.specs.PlainAction.{Word};
     ghost use Rattle.ix_values.specs.Texts.{IsAction};
-    ghost use Rattle.ix_outside.specs.Counts.{Rose};
+    ghost use Rattle.ix_outside.specs.Counts.{CountsFault};
+    ghost use Rattle.ix_outside.specs.Disk.{MakesFile};
     ghost use Rattle.ix_outside.specs.inside.DiskCalls.{DiskCalls, LeavesOnly};
     ghost use Rattle.ix_store.specs.inside.Opens.{Opens};
     ghost use Rattle.ix_store.specs.inside.Keeping.{Fits, IsWithOrWithout};
     ghost use Rattle.ix_store.specs.inside.KeptBy.{kept};
     ghost use Rattle.ix_store.specs.inside.Refusals.{Refuses};
-    ghost use Rattle.ix_store.specs.inside.Starting.{LeavesOnStart};
+    ghost use Rattle.ix_store.specs.inside.Starting.{CountsOpening, LeavesOnStart, MakesNew};
+    ghost use Rattle.ix_store.specs.inside.Starting.{SettlesOpening};
 
     /// Opens the attached file as the journal of an expression with this text, and gives the
-    /// history that it keeps. A journal that was never opened is made anew. Any other file stays.
+    /// history that it keeps. A journal that was never opened is made anew: a gate, the header of the
+    /// text and a closed gate. Any other file stays.
     ///
     /// What was left unsynced before is brought to the disk first. Then, in this order:
     /// - `NotJournal`: the file is no journal, nor the front of one;
@@ -47,7 +50,8 @@ impl Store {
     /// - `Many`: 1,000,000 records are open, and so is the gate behind them.
     ///
     /// `Disk` comes where a call of the disk failed, and `Memory` where memory was wanted, both at
-    /// any step. After them a journal that was to be made anew may be so in part.
+    /// any step. After them a journal that was to be made anew may be so in part; after any other
+    /// answer nothing is left unsynced.
     pub fn start<S: Site>(
         alloc: Global,
         site: &mut S,
@@ -69,10 +73,13 @@ impl Store {
         ensures valid { IfOk result (λ opened. All IsAction opened.1.items) }
 
         // What the disk is left with, whatever the answer.
+        ensures made { OnOk result (MakesFile (MakesNew text.now)
+            (S.state site.old).disk (S.state site.new).disk) }
+        ensures settled { SettlesOpening result (S.state site.new).disk (S.crashes site.new).now }
         ensures images { ForSome (S.state site.old).disk (λ disk. LeavesOnStart text.now disk.file
             (S.state site.old) (S.state site.new) (S.crashes site.old) (S.crashes site.new)) }
-        ensures failed { IsErrOf result OpenFault.Disk
-            → Rose (S.state site.old).counts.disk (S.state site.new).counts.disk }
+        ensures failed { CountsOpening result
+            (S.state site.old).counts.disk (S.state site.new).counts.disk }
         ensures calls { DiskCalls (S.state site.old) (S.state site.new)
             (S.crashes site.old) (S.crashes site.new) }
     {
@@ -121,8 +128,8 @@ impl Store {
             → ForSome (S.state site.old).disk (λ _.
             LeavesOnly (IsWithOrWithout text history action.now)
             (S.state site.old) (S.crashes site.new)) }
-        ensures failed { OnErr result
-            (Rose (S.state site.old).counts.disk (S.state site.new).counts.disk) }
+        ensures failed { CountsFault result
+            (S.state site.old).counts.disk (S.state site.new).counts.disk }
         ensures calls { DiskCalls (S.state site.old) (S.state site.new)
             (S.crashes site.old) (S.crashes site.new) }
     {

@@ -12,7 +12,6 @@ use Rattle.ix_store.specs.declared.find.Found.{Found}
 use Rattle.ix_store.specs.declared.find.Found.TheVariants as found
 use Rattle.ix_store.specs.Opening.{IsNew, IsReadyWith}
 use Rattle.ix_store.specs.inside.Reading.{IsHeadOf}
-use Rattle.ix_store.specs.inside.Refusals.{Refuses}
 
 -- an image that might have been left, or one after a write in this range that was cut short
 abbrev pub MaybeTorn : ℕ → ℕ → (List ℕ → Type 0) → List ℕ → Type 0
@@ -46,10 +45,6 @@ abbrev pub IsSound : Found → Type 0
 IsSound (found.New head) = ⊤
 IsSound (found.Journal kept) =
     (kept.gate ≤ 65542 + 168 * length kept.history.items) × All IsAction kept.history.items
-
--- the fault says nothing of any file
-abbrev pub TellsNothing : OpenFault → Type 0
-TellsNothing fault = (file text : List ℕ) → Refuses file text fault
 
 -- the text that is kept, unless memory ran out
 abbrev pub KeepsOther : List ℕ → OpenFault → Type 0

@@ -1,5 +1,5 @@
 use Rattle.std.proofs.Common.{◌≡◌, ◌+◌, ◌++◌, ◌∷◌, [], length, take, drop}
-use Rattle.std.proofs.Common.{sym, ◌∙◌, ap, subst, arith, rules}
+use Rattle.std.proofs.Common.{refl, sym, ◌∙◌, ap, subst, arith, rules}
 use Rattle.std.proofs.lemmas.List.{take_rest}
 use Rattle.ix_values.specs.PlainAction.{Word}
 use Rattle.ix_journal.specs.Kept.{Kept, empty_at, extended}
@@ -35,6 +35,7 @@ records-init g c =
     let disk = (g.S.Site.state c.args.site.now).disk in
     record {
       reads = reads_none _ _ (g.met.S.Site.lawful c.args.site.now);
+      counts = refl;
       way = subst (IsOnWay first (first + count) items) (sym slide_is)
           (subst (λ (w : Word). IsOnWay first (first + count) w first_slide) none
           (starts_on_way head first count within (omega arith)));
@@ -67,6 +68,7 @@ records-preserved-in-Ok g c =
     record {
       reads = reads_join _ _ _ _ _ _ (g.met.S.Site.lawful c.feed.new.site) now.invariant.reads
           c.feed.ensures.reads;
+      counts = c.in-Ok.ensures.failed ∙ now.invariant.counts;
       way = fed_on_way c.args.first now.at items now.slide tells _ next new fed now.invariant.way;
       reached = to_told (Reached c.args.first next items new)
           (g.S.Site.state c.args.site.now).disk (λ told is.
@@ -90,6 +92,7 @@ records-preserved g c =
     c.if-len-eq-MOST_RECORDS.false (c.len.ensures ∙ (now.history.ok.0 ∙ e)) in
     record {
       reads = now.invariant.reads;
+      counts = now.invariant.counts;
       way = subst (λ (w : Word). IsOnWay c.args.first now.at w c.next.follows.lender-at-none)
           (sym pushed)
           (subst (IsOnWay c.args.first now.at (now.history.items ++ action ∷ [])) (sym same)
