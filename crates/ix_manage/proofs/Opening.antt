@@ -3,6 +3,7 @@ use Rattle.std.proofs.Common.{◌≡◌, ◌⊎◌, inl, inr, ℕ, ◌≤◌, Li
 use Rattle.std.proofs.Common.{false, Option, None, Some, refl, sym, ◌∙◌, ap, subst, arith}
 use Rattle.std.proofs.lemmas.Option.{none-some}
 use Rattle.ix_values.specs.PlainAction.{Word}
+use Rattle.ix_journal.specs.History.{PlainHistory}
 use Rattle.ix_expr.specs.CanonicalText.{canonical_text}
 use Rattle.ix_expr.specs.Form.{Form}
 use Rattle.ix_journal.specs.Kinds.{IsUnfinished}
@@ -62,10 +63,10 @@ own_text x file (image.ready history gate is) = inr (inr (is.first, is.ready))
 
 -- over a stretch of calls each image keeps the history that a run started from, and no other actions
 -- than those of its last one; and ends as the run does
-pub record KeepsAlong (x : Form) (h : Word) (played : Session) (before after : ℕ) (q r : Crashes)
+pub record KeepsAlong (x : Form) (h : PlainHistory) (played : Session) (before after : ℕ) (q r : Crashes)
     : Type 0 where
   pub passes : Elapses before after q.left r.left
-  pub rest : Word
+  pub rest : PlainHistory
   pub grows : h ++ rest ≡ with_failed played.ending played.last.history
   pub keeps : (image : List ℕ) → r.left before image
       → Keeps x (length h) (with_failed played.ending played.last.history) image
@@ -81,7 +82,7 @@ module _ (x : Form) (limit : ℕ) (at mid : SiteState) (p q : Crashes) (d : Disk
     opened = record { name = name; tick = at.tick; file = d.file }
 
     -- where the file is startable, all that may be left recovers its history
-    start_recovers : (h : Word) → IsStartable (opening_of x limit h) d.file
+    start_recovers : (h : PlainHistory) → IsStartable (opening_of x limit h) d.file
         → (image : List ℕ) → q.left at.tick image → Recovers image h
     start_recovers h s image left = elim (leaves.recovers h s.recovers image left) [
       | inl first ↦ subst (λ (file : List ℕ). Recovers file h) (sym (now image first)) s.recovers
@@ -89,7 +90,7 @@ module _ (x : Form) (limit : ℕ) (at mid : SiteState) (p q : Crashes) (d : Disk
     ]
 
     -- and is the expression's
-    pub start_keeps : (h : Word) → IsStartable (opening_of x limit h) d.file
+    pub start_keeps : (h : PlainHistory) → IsStartable (opening_of x limit h) d.file
         → (image : List ℕ) → q.left at.tick image → Keeps x (length h) h image
     start_keeps h s image left = record {
       own = elim (leaves.own (own_text x d.file s.own) image left) [
@@ -139,7 +140,7 @@ module _ (x : Form) (limit : ℕ) (at mid : SiteState) (p q : Crashes) (d : Disk
 
 -- a run started from a file from which it may, and took events, or none
 module _ (x : Form) (limit : ℕ) (tick : ℕ) (d : Disk) (name : List ℕ) (mid : ℕ) (q : Crashes)
-    (h : Word) (starts : IsStartable (opening_of x limit h) d.file)
+    (h : PlainHistory) (starts : IsStartable (opening_of x limit h) d.file)
     (kept : (image : List ℕ) → q.left tick image → Keeps x (length h) h image)
   where
     abbrev attached : Opened

@@ -1,6 +1,6 @@
 -- What starting a manager answers and leaves.
 use Rattle.std.proofs.Common.{◌≡◌, ◌⊎◌, ℕ, ◌≤◌, List, [], length, Option, None, Some, inl, inr, refl, ap, subst, arith}
-use Rattle.ix_values.specs.PlainAction.{Word}
+use Rattle.ix_journal.specs.History.{PlainHistory}
 use Rattle.ix_expr.specs.CanonicalText.{canonical_text}
 use Rattle.ix_expr.specs.Form.{Form}
 use Rattle.ix_expr.proofs.LawsOfMeaning.{empty-partial}
@@ -60,7 +60,7 @@ not_unfinished at text gate is isnt =
     let same = one_kind at kind.unfinished (kind.ready text gate) isnt is in cc
 
 -- a file that is of the expression's text or unfinished, and recovers a history, is one that it may open
-pub own_of : (x : Form) (at : List ℕ) (h : Word) → opening.IsOwn at (canonical_text x) → Recovers at h → IsOwn x at
+pub own_of : (x : Form) (at : List ℕ) (h : PlainHistory) → opening.IsOwn at (canonical_text x) → Recovers at h → IsOwn x at
 own_of x at h (inl new) recovers = image.new new
 own_of x at h (inr is) (recovery.unfinished _ unfinished) = absurd (not_unfinished at (canonical_text x) is.0 is.1 unfinished)
 own_of x at h (inr is) (recovery.unopened _ text unopened) =
@@ -116,13 +116,13 @@ open_fault x limit file (refused.Damaged at) facts = facts
 open_fault x limit file refused.Many facts = facts
 open_fault x limit file refused.Memory facts = tt
 
-few_recovered : (file : List ℕ) (h : Word) → Recovers file h → length h ≤ 1000000
+few_recovered : (file : List ℕ) (h : PlainHistory) → Recovers file h → length h ≤ 1000000
 few_recovered file h (recovery.unfinished _ _) = omega arith
 few_recovered file h (recovery.unopened _ _ _) = omega arith
 few_recovered file h (recovery.ready _ _ _ _ journal) = journal.closes.few
 
 -- why an engine of this expression and limit didn't take the history
-pub resume_fault : (x : Form) (limit : ℕ) (file : List ℕ) (h : Word) (stopped : ResumeFault) → tree_size x [] ≤ limit
+pub resume_fault : (x : Form) (limit : ℕ) (file : List ℕ) (h : PlainHistory) (stopped : ResumeFault) → tree_size x [] ≤ limit
     → Opens file (canonical_text x) h → StopsAt x limit h stopped → IsFault x limit file (record_fault_of stopped.number stopped.why)
 resume_fault x limit file h stopped within opens at = told stopped.why at.refused
   where
@@ -145,7 +145,7 @@ resume_fault x limit file h stopped within opens at = told stopped.why at.refuse
     told prepare.Memory refused = tt
 
 -- it took the history, and the file can be started from
-pub resumed : (x : Form) (limit : ℕ) (file : List ℕ) (h : Word) → tree_size x [] ≤ limit → AreAllowed x limit h
+pub resumed : (x : Form) (limit : ℕ) (file : List ℕ) (h : PlainHistory) → tree_size x [] ≤ limit → AreAllowed x limit h
     → Opens file (canonical_text x) h → IsStartable (opening_of x limit h) file
 resumed x limit file h within allowed opens = record {
   own = own_of x file h opens.own opens.recovers;

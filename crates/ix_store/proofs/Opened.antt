@@ -1,16 +1,16 @@
 -- What a file is, from its first bytes, and what a start leaves of it.
 use Rattle.std.proofs.Common.{◌≡◌, ◌⊎◌, ℕ, ◌+◌, ◌<◌, List, [], ◌∷◌, ◌++◌, length, Some}
-use Rattle.std.proofs.Common.{◌*◌, ◌≤◌, Option, Vec, Result, Ok, Err, MatchResult}
+use Rattle.std.proofs.Common.{◌≤◌, Option, Vec, Result, Ok, Err, MatchResult}
 use Rattle.std.proofs.Common.{sym, subst, arith, inl, inr}
 use Rattle.std.specs.Prelude.{All}
 use Rattle.std.specs.declared.alloc.Global.{Global}
 use Rattle.ix_values.specs.Texts.{IsAction}
-use Rattle.ix_values.specs.PlainAction.{Word}
+use Rattle.ix_journal.specs.History.{PlainHistory}
 use Rattle.ix_outside.specs.Crashes.{Crashes, LeavesTheFile}
 use Rattle.ix_outside.specs.Disk.{Disk, OfFile, MakesFile, Stays}
 use Rattle.ix_outside.specs.SiteState.{SiteState}
 use Rattle.ix_outside.specs.inside.DiskCalls.{DiskCalls, LeavesOnly}
-use Rattle.ix_journal.specs.Format.{header}
+use Rattle.ix_journal.specs.Format.{farthest_gate, header}
 use Rattle.ix_journal.specs.Kinds.{IsReady, unfinished, unopened, foreign, ready}
 use Rattle.ix_journal.specs.Records.{ClosesAt}
 use Rattle.ix_journal.specs.Recovery.{IsJournal, Recovers}
@@ -61,7 +61,7 @@ found_new text found head file is found_so =
     let P : Found → Type 0 = λ f. IsFound text f file in subst P is found_so
 
 pub found_sound : (found : Found) (kept : Kept) → found ≡ fd.Journal kept → IsSound found
-    → (kept.gate ≤ 65542 + 168 * length kept.history.items) × All IsAction kept.history.items
+    → (kept.gate ≤ farthest_gate (length kept.history.items)) × All IsAction kept.history.items
 found_sound found kept is sound = subst IsSound is sound
 
 -- what was found of a file that stays was found of it before
@@ -129,7 +129,7 @@ module _ (head file text : List ℕ) (is_head : IsHeadOf head file) where
     ready_there : IsReady file text first
     ready_there = is_head.kind (ready text first) is_ready
 
-    pub journal_read : (history : Word) (gate : ℕ) → ClosesAt file first history gate
+    pub journal_read : (history : PlainHistory) (gate : ℕ) → ClosesAt file first history gate
         → IsJournal file text history gate
     journal_read history gate closes =
         record { first = first; ready = ready_there; closes = closes }
@@ -152,7 +152,7 @@ module _ (head file text : List ℕ) (is_head : IsHeadOf head file) where
 pub opens_new : (file text : List ℕ) → IsNew file text → Opens file text []
 opens_new file text new = record { own = inl new; recovers = new_recovers file text new }
 
-pub opens_journal : (file text : List ℕ) (history : Word) (gate : ℕ)
+pub opens_journal : (file text : List ℕ) (history : PlainHistory) (gate : ℕ)
     → IsJournal file text history gate
     → Opens file text history
 opens_journal file text history gate journal = record {
@@ -162,7 +162,7 @@ opens_journal file text history gate journal = record {
 
 -- the store of a journal that alone may be left fits
 pub fits_only : (site : SiteState) (crashes : Crashes) (store : Keeping) (text : List ℕ)
-    (history : Word)
+    (history : PlainHistory)
     → store.count ≡ length history → LeavesTheFile site.disk crashes.now
     → ((disk : Disk) → site.disk ≡ Some disk → IsJournal disk.file text history store.gate)
     → Fits site crashes store text history

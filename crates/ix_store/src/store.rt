@@ -1,13 +1,14 @@
 //! The store.
 
-ghost use Rattle.std.specs.Prelude.{◌≡◌, ◌+◌, ◌*◌, ◌<◌, ◌≤◌};
+ghost use Rattle.std.specs.Prelude.{◌≡◌, ◌<◌, ◌≤◌};
+ghost use Rattle.ix_journal.specs.Format.{farthest_gate};
 
 use crate::OpenFault;
 use crate::begin::begin;
 use crate::find::{Found, sync_and_find};
 use crate::write::write_through;
 use arrayvec::ArrayVec;
-use ix_journal::{MOST_RECORDS, OPEN, record_bytes};
+use ix_journal::{FRONT_LENGTH, MOST_RECORDS, OPEN, record_bytes};
 use ix_outside::{DiskFailed, Site};
 use ix_values::Action;
 use std::alloc::Global;
@@ -19,14 +20,14 @@ pub struct Store {
     gate: u64,
     count: usize,
     failed: bool,
-    ghost near: { gate ≤ 65542 + 168 * count },
+    ghost near: { gate ≤ farthest_gate count },
 }
 
 impl Store {
     ghost use Rattle.std.specs.Prelude.{ℕ, List, [], ◌∷◌, ◌++◌, true, false, length, IfOk, IfErr};
     ghost use Rattle.std.specs.Prelude.{OnOk, All, is_err};
     ghost use Rattle.std.specs.Option.{ForSome};
-    ghost use Rattle.ix_values.specs.PlainAction.{Word};
+    ghost use Rattle.ix_journal.specs.History.{PlainHistory};
     ghost use Rattle.ix_values.specs.Texts.{IsAction};
     ghost use Rattle.ix_outside.specs.Counts.{CountsFault};
     ghost use Rattle.ix_outside.specs.Disk.{MakesFile};
@@ -95,7 +96,7 @@ impl Store {
             Ok(Found::New { head }) => match begin(alloc, site, &head, text) {
                 Ok(()) => {
                     let store = Store {
-                        gate: 7 + text.len() as u64,
+                        gate: (FRONT_LENGTH + text.len()) as u64,
                         count: 0,
                         failed: false,
                     };
@@ -113,17 +114,17 @@ impl Store {
         requires attached { (S.state site.old).attached ≡ true }
         requires works { (kept self.old).failed ≡ false }
         requires few { (kept self.old).count < MOST_RECORDS }
-        requires fits { (text : List ℕ) × (history : Word)
+        requires fits { (text : List ℕ) × (history : PlainHistory)
             × Fits (S.state site.old) (S.crashes site.old) (kept self.old) text history }
 
-        ensures appended { OnOk result ((text : List ℕ) (history : Word)
+        ensures appended { OnOk result ((text : List ℕ) (history : PlainHistory)
             → Fits (S.state site.old) (S.crashes site.old) (kept self.old) text history
             → Fits (S.state site.new) (S.crashes site.new) (kept self.new) text
             (history ++ action.now ∷ [])) }
         ensures works { (kept self.new).failed ≡ is_err result }
 
         // What the disk is left with, whatever the answer.
-        ensures images { (text : List ℕ) (history : Word)
+        ensures images { (text : List ℕ) (history : PlainHistory)
             → Fits (S.state site.old) (S.crashes site.old) (kept self.old) text history
             → ForSome (S.state site.old).disk (λ _.
             LeavesOnly (IsWithOrWithout text history action.now)

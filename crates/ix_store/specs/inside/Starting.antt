@@ -1,6 +1,6 @@
 -- What a start leaves on the disk, and what it counts.
 use Rattle.std.specs.Prelude.{◌≡◌, ◌⊎◌, ℕ, List, [], ◌∷◌, ◌++◌, Option, Result, Ok, Err}
-use Rattle.ix_values.specs.PlainAction.{Word}
+use Rattle.ix_journal.specs.History.{PlainHistory}
 use Rattle.ix_outside.specs.Counts.{Rose}
 use Rattle.ix_outside.specs.Crashes.{Crashes, LeavesTheFile}
 use Rattle.ix_outside.specs.Disk.{Disk, MakesFile, Stays}
@@ -20,7 +20,7 @@ use Rattle.ix_store.specs.inside.Refusals.{TellsNothing}
 -- file was unfinished or had this text, it is so too. A file that isn't to be made anew stays.
 pub record LeavesOnStart (text file : List ℕ) (old new : SiteState)
     (was is : Crashes) : Type 0 where
-  pub recovers : (history : Word) → Recovers file history
+  pub recovers : (history : PlainHistory) → Recovers file history
       → LeavesOnly (λ image. was.now image ⊎ Recovers image history) old is
   pub own : IsOwn file text → LeavesOnly (λ image. was.now image ⊎ IsOwn image text) old is
   pub stays : ¬ IsNew file text → MakesFile Stays old.disk new.disk × LeavesOnly was.now old is

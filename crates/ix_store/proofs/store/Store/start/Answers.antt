@@ -1,6 +1,6 @@
 use Rattle.std.proofs.Common.{◌≡◌, ◌+◌, ℕ, List, length, ◌∙◌, sym, ap, arith, subst}
 use Rattle.ix_journal.specs.Recovery.{IsJournal}
-use Rattle.ix_values.specs.PlainAction.{Word}
+use Rattle.ix_journal.specs.History.{PlainHistory}
 use Rattle.ix_store.specs.Opening.{IsNew}
 use Rattle.ix_store.specs.inside.Opens.{Opens}
 use Rattle.ix_outside.specs.Disk.{Stays}
@@ -95,7 +95,7 @@ returns-in-Ok-clause-fits g c =
     fits_only _ _ _ text c.new.result.items (ap length none) c.in-Ok.ensures.settled
     (λ disk told.
     let before = came _ _ _ disk told c.in-Ok.ensures.begun in
-    subst (λ (w : Word). IsJournal disk.file text w (7 + length text)) none
+    subst (λ (w : PlainHistory). IsJournal disk.file text w (7 + length text)) none
     (made_anew text c.requires.short disk.file before.makes))
 
 pub returns-in-Ok-clause-made : goal.returns-in-Ok-clause-made
