@@ -4,7 +4,8 @@ use Rattle.std.proofs.Common.{sym, ◌∙◌, ap, subst, arith}
 use Rattle.std.proofs.lemmas.List.{drop-take, length-take}
 use Rattle.std.proofs.Math.Seq.{take-append-add}
 use Rattle.std.specs.Prelude.{slice_get}
-use Rattle.ix_values.specs.PlainAction.{PlainAction, Word}
+use Rattle.ix_values.specs.PlainAction.{PlainAction}
+use Rattle.ix_journal.specs.History.{PlainHistory}
 use Rattle.ix_journal.specs.Format.{record_of}
 use Rattle.ix_journal.specs.Kinds.{IsReady, Kind}
 use Rattle.ix_journal.specs.Kinds.{HasKind}
@@ -38,7 +39,7 @@ module _ (bytes : List ℕ) (read : ℕ) (enough : 168065543 ≤ read) where
   at_gate gate within = slice_get-take read gate bytes (omega (arith, front_read bytes read))
 
   module _ (text : List ℕ) (first : ℕ) (is_ready : IsReady (take read bytes) text first)
-      (history : Word) (gate : ℕ) (holds : Holds (take read bytes) first history gate) where
+      (history : PlainHistory) (gate : ℕ) (holds : Holds (take read bytes) first history gate) where
     here : gate < length bytes
     here = let within = holds.within in omega (arith, front_len bytes read)
 
@@ -65,7 +66,7 @@ module _ (bytes : List ℕ) (read : ℕ) (enough : 168065543 ≤ read) where
         (record_in_front (read - (gate + 1)) (drop (gate + 1) bytes) action
         (omega (arith, text_short action w.valid)) w))
 
-  journal : (text : List ℕ) (history : Word) (gate : ℕ)
+  journal : (text : List ℕ) (history : PlainHistory) (gate : ℕ)
       → IsJournal (take read bytes) text history gate → IsJournal bytes text history gate
   journal text history gate v =
       let within = v.closes.records.within in

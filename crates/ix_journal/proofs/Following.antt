@@ -2,7 +2,7 @@
 use Rattle.std.proofs.Common.{◌≡◌, ℕ, ◌+◌, ◌≤◌, List, [], ◌∷◌, ◌++◌, length, Some, Result, Ok, Err, Bor, sym}
 use Rattle.std.proofs.Common.{◌∙◌, ap, subst, arith}
 use Rattle.std.proofs.lemmas.List.{length_push}
-use Rattle.ix_values.specs.PlainAction.{Word}
+use Rattle.ix_journal.specs.History.{PlainHistory}
 use Rattle.ix_journal.specs.declared.records.Damaged.{Damaged}
 use Rattle.ix_journal.specs.Format.{record_of}
 use Rattle.ix_journal.specs.Records.{Holds, IsDamagedFrom}
@@ -11,7 +11,7 @@ use Rattle.ix_journal.proofs.HoldsLemmas.{holds_more}
 
 -- so many records are open in front of this gate
 pub record Followed (bytes : List ℕ) (first gate count : ℕ) : Type 0 where
-  pub history : Word
+  pub history : PlainHistory
   pub records : Holds bytes first history gate
   pub counted : count ≡ length history
   pub few : count ≤ 1000000

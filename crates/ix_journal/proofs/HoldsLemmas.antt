@@ -3,7 +3,8 @@ use Rattle.std.proofs.Common.{◌≡◌, ℕ, ◌+◌, ◌<◌, List, [], ◌∷
 use Rattle.std.proofs.lemmas.Grind.{flat_map-append}
 use Rattle.std.proofs.lemmas.List.{append-nil, append_assoc, drop_at, drop-drop, length-append, length-drop}
 use Rattle.std.proofs.lemmas.List.Elements.{All-append, All-cons, All-nil}
-use Rattle.ix_values.specs.PlainAction.{PlainAction, Word}
+use Rattle.ix_values.specs.PlainAction.{PlainAction}
+use Rattle.ix_journal.specs.History.{PlainHistory}
 use Rattle.ix_values.specs.Texts.{IsAction}
 use Rattle.ix_journal.specs.Format.{record_of, open_records}
 use Rattle.ix_journal.specs.Records.{BeginsWithRecord}
@@ -16,7 +17,7 @@ holds_none bytes first within =
     record { spells = refl; place = omega arith; within = within; valid = All-nil IsAction }
 
 -- one record more, as bytes
-pub open_records-more : (word : Word) (action : PlainAction)
+pub open_records-more : (word : PlainHistory) (action : PlainAction)
     → open_records (word ++ action ∷ []) ≡ open_records word ++ (165 ∷ record_of action)
 open_records-more word action =
     flat_map-append (λ (a : PlainAction). 165 ∷ record_of a) word (action ∷ [])

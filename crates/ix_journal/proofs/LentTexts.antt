@@ -2,7 +2,8 @@
 use Rattle.std.proofs.Common.{◌≡◌, ℕ, ◌+◌, ◌<◌, List, [], ◌∷◌, ◌++◌, length, map, Some, None, Ok, refl, sym}
 use Rattle.std.proofs.Common.{ap, subst, arith, inl, inr}
 use Rattle.std.proofs.lemmas.List.{append-nil, append_assoc, length-drop, length-map}
-use Rattle.ix_values.specs.PlainAction.{Word, text_of}
+use Rattle.ix_values.specs.PlainAction.{text_of}
+use Rattle.ix_journal.specs.History.{PlainHistory}
 use Rattle.ix_journal.specs.Format.{IsClosed, record_of}
 use Rattle.ix_journal.specs.Records.{Holds}
 use Rattle.ix_journal.specs.Answers.{Standing, at_gate, Gives, Lends}
@@ -11,14 +12,14 @@ use Rattle.ix_journal.specs.Laws.{LendsTheHistory}
 use Rattle.ix_journal.proofs.HoldsLemmas.{holds_none, holds_more}
 
 -- the records that were lent behind those so far, and the closed gate behind them
-record Lent (bytes : List ℕ) (first : ℕ) (so_far : Word) (texts : List (List ℕ)) (gate : ℕ) : Type 0 where
-  later : Word
+record Lent (bytes : List ℕ) (first : ℕ) (so_far : PlainHistory) (texts : List (List ℕ)) (gate : ℕ) : Type 0 where
+  later : PlainHistory
   texts_of : texts ≡ map text_of later
   records : Holds bytes first (so_far ++ later) gate
   closed : IsClosed bytes gate
 
 module _ (bytes : List ℕ) (first : ℕ) where
-  ended : (gate : ℕ) (so_far : Word) (new : Standing) → Holds bytes first so_far gate
+  ended : (gate : ℕ) (so_far : PlainHistory) (new : Standing) → Holds bytes first so_far gate
       → Gives (at_gate bytes gate) None new → Lent bytes first so_far [] new.gate
   ended gate so_far new holds given =
       let place : gate ≡ new.gate = sym (ap (λ (s : Standing). s.gate) given.1) in
@@ -26,11 +27,11 @@ module _ (bytes : List ℕ) (first : ℕ) where
         later = [];
         texts_of = refl;
         records = subst (Holds bytes first (so_far ++ [])) place
-            (subst (λ (h : Word). Holds bytes first h gate) (sym (append-nil so_far)) holds);
+            (subst (λ (h : PlainHistory). Holds bytes first h gate) (sym (append-nil so_far)) holds);
         closed = subst (IsClosed bytes) place (elim given.0 [ inl told ↦ absurd cc | inr closed ↦ closed ]);
       }
 
-  lent : (old new : Standing) (texts : List (List ℕ)) (gate : ℕ) (so_far : Word)
+  lent : (old new : Standing) (texts : List (List ℕ)) (gate : ℕ) (so_far : PlainHistory)
       → Lends old texts new → old ≡ at_gate bytes gate → Holds bytes first so_far gate
       → Lent bytes first so_far texts new.gate
   lent _ _ _ gate so_far (Lends.at_end old new given) here holds =
@@ -43,7 +44,7 @@ module _ (bytes : List ℕ) (first : ℕ) where
       record {
         later = at.0 ∷ rest.later;
         texts_of = λ i. at.1 i ∷ rest.texts_of i;
-        records = subst (λ (h : Word). Holds bytes first h new.gate)
+        records = subst (λ (h : PlainHistory). Holds bytes first h new.gate)
             (append_assoc so_far (at.0 ∷ []) rest.later) rest.records;
         closed = rest.closed;
       }

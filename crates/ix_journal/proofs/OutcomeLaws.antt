@@ -1,6 +1,6 @@
 -- What is read of a file is one thing.
 use Rattle.std.proofs.Common.{◌≡◌, ℕ, List, [], length, refl, sym, ap, subst, arith}
-use Rattle.ix_values.specs.PlainAction.{Word}
+use Rattle.ix_journal.specs.History.{PlainHistory}
 use Rattle.ix_journal.specs.Format.{IsClosed}
 use Rattle.ix_journal.specs.Kinds.{IsUnfinished, IsUnopened, IsReady, unfinished, unopened, ready}
 use Rattle.ix_journal.specs.Records.{ClosesAt, IsDamagedFrom}
@@ -20,7 +20,7 @@ one_journal bytes text text' x y gate gate' v w =
 
 -- a ready file is neither unfinished nor unopened
 module _ (bytes text : List ℕ) (first : ℕ) (w : IsReady bytes text first) where
-  ready_only : (history : Word) → Recovers bytes history
+  ready_only : (history : PlainHistory) → Recovers bytes history
       → (t : List ℕ) × (g : ℕ) × IsJournal bytes t history g
   ready_only _ (Recovers.unfinished _ h) =
       absurd (let e = one_kind bytes unfinished (ready text first) h w in cc)
@@ -28,20 +28,20 @@ module _ (bytes text : List ℕ) (first : ℕ) (w : IsReady bytes text first) wh
       absurd (let e = one_kind bytes (unopened t) (ready text first) h w in cc)
   ready_only _ (Recovers.ready _ t history g h) = (t, g, h)
 
-  pub closes_there : (history : Word) → Recovers bytes history → (g : ℕ) × ClosesAt bytes first history g
+  pub closes_there : (history : PlainHistory) → Recovers bytes history → (g : ℕ) × ClosesAt bytes first history g
   closes_there history h =
       let found = ready_only history h in
       let same = ready_same bytes found.0 text found.2.first first found.2.ready w in
       (found.1, subst (λ (place : ℕ). ClosesAt bytes place history found.1) same.1 found.2.closes)
 
-not_damaged : (bytes : List ℕ) (history : Word) (at : ℕ) → Recovers bytes history → IsDamaged bytes at → ⊥
+not_damaged : (bytes : List ℕ) (history : PlainHistory) (at : ℕ) → Recovers bytes history → IsDamaged bytes at → ⊥
 not_damaged bytes history at h w =
     let closes = closes_there bytes w.text w.first w.ready history h in
     let end = one_end bytes w.first history w.damaged.history closes.0 w.damaged.gate
     (ends_closed bytes w.first history closes.0 closes.1) (ends_damaged bytes w.first at w.damaged) in
     not_both bytes w.damaged.gate w.damaged.open_there (subst (IsClosed bytes) end.1 closes.1.closed)
 
-not_many : (bytes : List ℕ) (history : Word) → Recovers bytes history → IsMany bytes → ⊥
+not_many : (bytes : List ℕ) (history : PlainHistory) → Recovers bytes history → IsMany bytes → ⊥
 not_many bytes history h w =
     let closes = closes_there bytes w.text w.first w.ready history h in
     let end = one_end bytes w.first history w.many.history closes.0 w.many.gate
@@ -76,17 +76,17 @@ pub one_outcome : OneOutcome
 one_outcome bytes = (not_damaged bytes, not_many bytes, damaged_not_many bytes, damaged_once bytes)
 
 -- two histories of one file
-recovers_same : (bytes : List ℕ) (x y : Word) → Recovers bytes x → Recovers bytes y → x ≡ y
+recovers_same : (bytes : List ℕ) (x y : PlainHistory) → Recovers bytes x → Recovers bytes y → x ≡ y
 recovers_same _ _ y (Recovers.unfinished bytes h) w = sym (unfinished_empty bytes y h w)
   where
-    unfinished_empty : (b : List ℕ) (z : Word) → IsUnfinished b → Recovers b z → z ≡ []
+    unfinished_empty : (b : List ℕ) (z : PlainHistory) → IsUnfinished b → Recovers b z → z ≡ []
     unfinished_empty b _ p (Recovers.unfinished _ q) = refl
     unfinished_empty b _ p (Recovers.unopened _ t q) = refl
     unfinished_empty b _ p (Recovers.ready _ t z g q) =
         absurd (let e = one_kind b unfinished (ready t q.first) p q.ready in cc)
 recovers_same _ _ y (Recovers.unopened bytes text h) w = sym (unopened_empty bytes y h w)
   where
-    unopened_empty : (b : List ℕ) (z : Word) → IsUnopened b text → Recovers b z → z ≡ []
+    unopened_empty : (b : List ℕ) (z : PlainHistory) → IsUnopened b text → Recovers b z → z ≡ []
     unopened_empty b _ p (Recovers.unfinished _ q) = refl
     unopened_empty b _ p (Recovers.unopened _ t q) = refl
     unopened_empty b _ p (Recovers.ready _ t z g q) =

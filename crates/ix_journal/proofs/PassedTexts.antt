@@ -2,7 +2,8 @@
 use Rattle.std.proofs.Common.{◌≡◌, ℕ, ◌+◌, ◌<◌, List, [], ◌∷◌, ◌++◌, length, map, Some, Ok}
 use Rattle.std.proofs.Common.{refl, sym, ◌∙◌, ap, subst}
 use Rattle.std.proofs.lemmas.List.{map-append}
-use Rattle.ix_values.specs.PlainAction.{Word, text_of}
+use Rattle.ix_values.specs.PlainAction.{text_of}
+use Rattle.ix_journal.specs.History.{PlainHistory}
 use Rattle.ix_journal.specs.Format.{record_of}
 use Rattle.ix_journal.specs.Records.{Holds}
 use Rattle.ix_journal.specs.Answers.{Standing, at_gate, Gives, Passes}
@@ -12,7 +13,7 @@ use Rattle.ix_journal.proofs.HoldsLemmas.{holds_none, holds_more}
 -- the records whose texts were given, and where they end
 record Passed (bytes : List ℕ) (first : ℕ) (texts : List (List ℕ)) (new : Standing) : Type 0 where
   stands : new ≡ at_gate bytes new.gate
-  history : Word
+  history : PlainHistory
   texts_of : texts ≡ map text_of history
   records : Holds bytes first history new.gate
 

@@ -5,7 +5,7 @@ use Rattle.std.proofs.lemmas.List.{append_assoc, drop_at, length-append, length-
 use Rattle.std.proofs.lemmas.List.{take_at, take-take}
 use Rattle.std.proofs.lemmas.List.Elements.{All-head, All-tail}
 use Rattle.std.specs.Prelude.{All}
-use Rattle.ix_values.specs.PlainAction.{Word}
+use Rattle.ix_journal.specs.History.{PlainHistory}
 use Rattle.ix_values.specs.Texts.{IsAction}
 use Rattle.ix_journal.specs.Format.{header, record_of, open_records}
 use Rattle.ix_journal.specs.Kinds.{IsReady}
@@ -26,7 +26,7 @@ moved bytes new gate same front n len le e =
     sym (take-append-drop n new) ∙ ap (λ (f : List ℕ). f ++ drop n new) begins
 
 -- a ready file with these records, and another that is the same up to the gate behind them
-module _ (bytes text : List ℕ) (first : ℕ) (history : Word) (gate : ℕ) (new : List ℕ)
+module _ (bytes text : List ℕ) (first : ℕ) (history : PlainHistory) (gate : ℕ) (new : List ℕ)
     (ready : IsReady bytes text first) (holds : Holds bytes first history gate)
     (same : take gate new ≡ take gate bytes) (here : gate < length new) where
   place : first ≡ 7 + length text
@@ -75,7 +75,7 @@ module _ (bytes text : List ℕ) (first : ℕ) (history : Word) (gate : ℕ) (ne
       }
 
 -- how many bytes records have with their gates
-records_short : (word : Word) → All IsAction word → length (open_records word) ≤ 168 * length word
+records_short : (word : PlainHistory) → All IsAction word → length (open_records word) ≤ 168 * length word
 records_short [] valid = omega arith
 records_short (action ∷ word) valid =
     let first : IsAction action = All-head IsAction action word valid in
@@ -84,7 +84,7 @@ records_short (action ∷ word) valid =
     omega (arith, length-append (record_of action) (open_records word))
 
 -- the gate behind records isn't far
-pub near : (bytes text : List ℕ) (first : ℕ) (history : Word) (gate : ℕ) → IsReady bytes text first
+pub near : (bytes text : List ℕ) (first : ℕ) (history : PlainHistory) (gate : ℕ) → IsReady bytes text first
     → Holds bytes first history gate → gate ≤ 65542 + 168 * length history
 near bytes text first history gate ready holds =
     let short = ready.header.short in

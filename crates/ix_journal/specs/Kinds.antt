@@ -1,7 +1,7 @@
 -- The kinds of file, by the bytes read.
 use Rattle.std.specs.Prelude.{◌≡◌, ◌≢◌, ◌⊎◌, ℕ, ◌+◌, ◌<◌, ◌≤◌, Some, List, [], ◌∷◌, ◌++◌, length}
 use Rattle.std.specs.Prelude.{drop, slice_get}
-use Rattle.ix_journal.specs.declared.TheConstants.{OPEN}
+use Rattle.ix_journal.specs.declared.TheConstants.{FRONT_LENGTH, OPEN}
 use Rattle.ix_journal.specs.Format.{header}
 
 -- the file is a head gate, the whole header of this text, and these bytes behind it, at least one
@@ -26,7 +26,7 @@ pub record IsUnopened (bytes text : List ℕ) : Type 0 where
 -- byte 0 is open, and the header is whole; the gate behind it is at this place
 pub record IsReady (bytes text : List ℕ) (gate : ℕ) : Type 0 where
   pub header : HasHeader bytes OPEN text (drop gate bytes)
-  pub place : gate ≡ 7 + length text
+  pub place : gate ≡ FRONT_LENGTH + length text
 
 -- not unfinished, and behind byte 0 the magic isn't there or the header isn't whole
 pub record LacksHeader (bytes : List ℕ) : Type 0 where

@@ -1,3 +1,4 @@
+pub mod History
 pub mod Format
 pub mod Kinds
 pub mod Records

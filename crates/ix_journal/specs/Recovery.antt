@@ -1,11 +1,11 @@
 -- What a file recovers, and the faults of a ready one.
 use Rattle.std.specs.Prelude.{ℕ, List, []}
-use Rattle.ix_values.specs.PlainAction.{Word}
+use Rattle.ix_journal.specs.History.{PlainHistory}
 use Rattle.ix_journal.specs.Kinds.{IsUnfinished, IsUnopened, IsReady}
 use Rattle.ix_journal.specs.Records.{ClosesAt, IsDamagedFrom, IsManyFrom}
 
 -- ready, and neither damaged nor of too many: this history is open, up to this closed gate
-pub record IsJournal (bytes text : List ℕ) (history : Word) (gate : ℕ) : Type 0 where
+pub record IsJournal (bytes text : List ℕ) (history : PlainHistory) (gate : ℕ) : Type 0 where
   pub first : ℕ
   pub ready : IsReady bytes text first
   pub closes : ClosesAt bytes first history gate
@@ -25,8 +25,8 @@ pub record IsMany (bytes : List ℕ) : Type 0 where
   pub many : IsManyFrom bytes first
 
 -- what a file recovers: nothing before it is opened, else its records up to the first closed gate
-pub data Recovers : List ℕ → Word → Type 0 where
+pub data Recovers : List ℕ → PlainHistory → Type 0 where
   unfinished : (bytes : List ℕ) → IsUnfinished bytes → Recovers bytes []
   unopened : (bytes text : List ℕ) → IsUnopened bytes text → Recovers bytes []
-  ready : (bytes text : List ℕ) (history : Word) (gate : ℕ) → IsJournal bytes text history gate
-      → Recovers bytes history
+  ready : (bytes text : List ℕ) (history : PlainHistory) (gate : ℕ)
+      → IsJournal bytes text history gate → Recovers bytes history

@@ -35,7 +35,7 @@ pub fn header_of<'a>(bytes: &'a [u8]) -> Head<'a>
     let Some(text) = header_text(rest) else {
         return Head::Foreign;
     };
-    let gate = 7 + text.len();
+    let gate = FRONT_LENGTH + text.len();
     if *head == OPEN {
         return Head::Ready { text, gate };
     }

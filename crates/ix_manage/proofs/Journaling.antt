@@ -75,7 +75,8 @@ event_saves old new event bytes result ending answers before after p q is takes 
 -- what a crash may leave of a disk agrees with what is told of it alone
 pub alone_lawful : (site : SiteState) (crashes : Crashes) → AreLawful site crashes
     → AreLawful (disk_alone site) (without_sends crashes)
-alone_lawful site crashes lawful = lawful_without_sends site (disk_alone site) crashes refl refl refl lawful
+alone_lawful site crashes lawful =
+    lawful_without_sends site (disk_alone site) crashes refl refl refl refl lawful
 
 -- a store fits a site of which the same is told and may be left
 pub fits_again : (m : ManagerState) (one two : SiteState) (p q : Crashes) → two.disk ≡ one.disk → q.now ≡ p.now

@@ -1,15 +1,16 @@
 -- What a run makes of the journal that it attached.
 use Rattle.std.proofs.Common.{◌≡◌, ◌⊎◌, inl, inr, ℕ, ◌≤◌, List, [], ◌++◌, length, append-nil}
-use Rattle.std.proofs.Common.{Option, None, Some, refl, sym, ◌∙◌, ap, subst, arith}
+use Rattle.std.proofs.Common.{false, Option, None, Some, refl, sym, ◌∙◌, ap, subst, arith}
 use Rattle.std.proofs.lemmas.Option.{none-some}
 use Rattle.ix_values.specs.PlainAction.{Word}
+use Rattle.ix_journal.specs.History.{PlainHistory}
 use Rattle.ix_expr.specs.CanonicalText.{canonical_text}
 use Rattle.ix_expr.specs.Form.{Form}
 use Rattle.ix_journal.specs.Kinds.{IsUnfinished}
 use Rattle.ix_journal.specs.Recovery.{Recovers}
 use Rattle.ix_journal.proofs.OutcomeLaws.{one_history}
 use Rattle.ix_outside.specs.Crashes.{Crashes, AreLawful, Elapses, LeavesTheFile}
-use Rattle.ix_outside.specs.Disk.{Disk, Opened, IsOpened, MakesFile, Stays}
+use Rattle.ix_outside.specs.Disk.{Disk, HasNothingOpened, Opened, IsOpened, MakesFile, Stays}
 use Rattle.ix_outside.specs.SiteState.{SiteState}
 use Rattle.ix_outside.specs.inside.DiskCalls.{KeepsOpened}
 use Rattle.ix_manager.specs.Images as image
@@ -62,10 +63,10 @@ own_text x file (image.ready history gate is) = inr (inr (is.first, is.ready))
 
 -- over a stretch of calls each image keeps the history that a run started from, and no other actions
 -- than those of its last one; and ends as the run does
-pub record KeepsAlong (x : Form) (h : Word) (played : Session) (before after : ℕ) (q r : Crashes)
+pub record KeepsAlong (x : Form) (h : PlainHistory) (played : Session) (before after : ℕ) (q r : Crashes)
     : Type 0 where
   pub passes : Elapses before after q.left r.left
-  pub rest : Word
+  pub rest : PlainHistory
   pub grows : h ++ rest ≡ with_failed played.ending played.last.history
   pub keeps : (image : List ℕ) → r.left before image
       → Keeps x (length h) (with_failed played.ending played.last.history) image
@@ -81,7 +82,7 @@ module _ (x : Form) (limit : ℕ) (at mid : SiteState) (p q : Crashes) (d : Disk
     opened = record { name = name; tick = at.tick; file = d.file }
 
     -- where the file is startable, all that may be left recovers its history
-    start_recovers : (h : Word) → IsStartable (opening_of x limit h) d.file
+    start_recovers : (h : PlainHistory) → IsStartable (opening_of x limit h) d.file
         → (image : List ℕ) → q.left at.tick image → Recovers image h
     start_recovers h s image left = elim (leaves.recovers h s.recovers image left) [
       | inl first ↦ subst (λ (file : List ℕ). Recovers file h) (sym (now image first)) s.recovers
@@ -89,7 +90,7 @@ module _ (x : Form) (limit : ℕ) (at mid : SiteState) (p q : Crashes) (d : Disk
     ]
 
     -- and is the expression's
-    pub start_keeps : (h : Word) → IsStartable (opening_of x limit h) d.file
+    pub start_keeps : (h : PlainHistory) → IsStartable (opening_of x limit h) d.file
         → (image : List ℕ) → q.left at.tick image → Keeps x (length h) h image
     start_keeps h s image left = record {
       own = elim (leaves.own (own_text x d.file s.own) image left) [
@@ -139,7 +140,7 @@ module _ (x : Form) (limit : ℕ) (at mid : SiteState) (p q : Crashes) (d : Disk
 
 -- a run started from a file from which it may, and took events, or none
 module _ (x : Form) (limit : ℕ) (tick : ℕ) (d : Disk) (name : List ℕ) (mid : ℕ) (q : Crashes)
-    (h : Word) (starts : IsStartable (opening_of x limit h) d.file)
+    (h : PlainHistory) (starts : IsStartable (opening_of x limit h) d.file)
     (kept : (image : List ℕ) → q.left tick image → Keeps x (length h) h image)
   where
     abbrev attached : Opened
@@ -196,7 +197,7 @@ pub on_journal : (files : Option Listing) (job : Job) (expression journal : List
     → UsesJournal x (limit_of job) session e.file (record { name = journal; tick = at.tick; file = d.file }) r)
     → OnJournal files job before end r session
 on_journal files job expression journal x of_expression has_journal reads session before at end r is (inl keeps) uses =
-    λ named kept_in same_expression same_journal old new told_old none told_new.
+    λ named kept_in same_expression same_journal old new told_old told_new.
     let kept = kept_opened at.disk end.disk keeps new told_new in
     let opened_is = kept.2 ∙ opened_at journal at.tick before.disk at.disk is kept.0 kept.1 in
     subst (λ (o : Option Opened). OpensJournal files (limit_of job) named kept_in session new r o) (sym opened_is) (
@@ -208,15 +209,17 @@ on_journal files job expression journal x of_expression has_journal reads sessio
       ),
     )
 on_journal files job expression journal x of_expression has_journal reads session before at end r is (inr untold) uses =
-    λ named kept_in same_expression same_journal old new told_old none told_new.
+    λ named kept_in same_expression same_journal old new told_old told_new.
     absurd (none-some new (sym untold ∙ told_new))
 
 -- nothing was attached
-pub none_opened : (files : Option Listing) (job : Job) (before end : SiteState) (r : Crashes)
+pub none_opened : (files : Option Listing) (job : Job) (before end : SiteState) (r p : Crashes)
+    → AreLawful before p → before.attached ≡ false
     → end.disk ≡ before.disk → OnJournal files job before end r None
-none_opened files job before end r same =
-    λ expression journal of_expression has_journal old new told_old none told_new.
+none_opened files job before end r p lawful away same =
+    λ expression journal of_expression has_journal old new told_old told_new.
     let disks : new ≡ old = some_is (sym told_new ∙ same ∙ told_old) in
+    let none : old.opened ≡ None = subst HasNothingOpened told_old (lawful.unattached away) in
     subst (λ (o : Option Opened). OpensJournal files (limit_of job) expression journal None new r o)
     (sym (ap (λ (disk : Disk). disk.opened) disks ∙ none)) refl
 

@@ -5,7 +5,7 @@ use Rattle.std.specs.Io.KnownBytes.{append_known}
 use Rattle.std.specs.Option.{option_map}
 use Rattle.std.proofs.lemmas.List.{length-take-le, length_push, length-replicate, get_or-set_same, get_or-replicate, same_from_push}
 use Rattle.ix_words.specs.Each.{Each, no_item, item}
-use Rattle.ix_values.specs.PlainAction.{Word}
+use Rattle.ix_journal.specs.History.{PlainHistory}
 use Rattle.ix_words.proofs.Each.{Each-append, Each-left}
 use Rattle.ix_expr.specs.Form.{Form}
 use Rattle.ix_lines.specs.Feeding.{UnfinishedLine}
@@ -490,7 +490,7 @@ history_lost m fresh turns script line old new site crashes lawful fits same par
     }
 
 -- it is put
-pub history_put : (history : Word) (line : List ℕ) (start between first : SinkState) → line ≡ history_line history
+pub history_put : (history : PlainHistory) (line : List ℕ) (start between first : SinkState) → line ≡ history_line history
     → between.written ≡ append_known start.written line → OnlyPuts start between → first ≡ between
     → PutsHistory history start first
 history_put history line start between first same put rest first_is =

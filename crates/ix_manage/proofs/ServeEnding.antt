@@ -6,6 +6,7 @@ use Rattle.std.specs.Option.{option_map}
 use Rattle.std.proofs.lemmas.List.{length_push}
 use Rattle.std.proofs.lemmas.Option.{none-some}
 use Rattle.ix_values.specs.PlainAction.{Word}
+use Rattle.ix_journal.specs.History.{PlainHistory}
 use Rattle.ix_expr.specs.Form.{Form}
 use Rattle.ix_outside.specs.Contents.{Contents, GivenEvent, Sends, with_name}
 use Rattle.ix_outside.specs.Counts.{Rose}
@@ -87,7 +88,7 @@ module _ (socket : List ℕ) (a b : SiteState) (p q : Crashes) (heard : b.conten
         (λ some. heard_told socket a.contents.sends (subst (λ (o : Option Sends). IsSome o) sends_heard some))
         (λ s s' told told'. ap (λ (sends : Sends). sends.sent) (heard_before socket a.contents.sends s' s (sym sends_heard ∙ told') told))
 
-    module _ (x : Form) (h : Word) (store : Keeping) (saves : Saves going x h h store a b p q) where
+    module _ (x : Form) (h : PlainHistory) (store : Keeping) (saves : Saves going x h h store a b p q) where
       -- what was kept since a tick before it still is
       pub listen_since : (t : ℕ) (start : Sends) → a.contents.sends ≡ Some start
           → ServesSince t x (length h) h start [] [] unmarked a p

@@ -6,7 +6,7 @@ use Rattle.std.proofs.lemmas.List.{length_push, length-replicate, get_or-replica
 use Rattle.ix_words.specs.Each.{Each, no_item, item}
 use Rattle.ix_words.proofs.Each.{Each-append, Each-left}
 use Rattle.ix_expr.specs.Form.{Form}
-use Rattle.ix_values.specs.PlainAction.{Word}
+use Rattle.ix_journal.specs.History.{PlainHistory}
 use Rattle.ix_outside.specs.Contents.{Contents, GivenEvent, Sends, SendsPart, SendsWhole, SentBytes, with_pair}
 use Rattle.ix_outside.specs.Counts.{Rose}
 use Rattle.ix_outside.specs.Crashes.{Crashes, AreLawful, IsSentByThen, LeavesTheSame, OneCall}
@@ -78,7 +78,7 @@ next_only old new was is only same call sends = wire_only old new was is only sa
     (λ s s' known known'. ap (λ (t : Sends). t.sent) (some_is (sym known' ∙ sends ∙ known)))
 
 -- so the history is kept over it
-pub wire_saves : (x : Form) (h : Word) (store : Keeping) (old new : SiteState) (was is : Crashes)
+pub wire_saves : (x : Form) (h : PlainHistory) (store : Keeping) (old new : SiteState) (was is : Crashes)
     → AreLawful old was → AreLawful new is → FitsWith x h store old was → OnlySends old new was is
     → Saves going x h h store old new was is
 wire_saves x h store old new was is before lawful fits only =

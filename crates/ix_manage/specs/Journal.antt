@@ -1,7 +1,7 @@
 -- What a replay and a serve make of their journal.
 use Rattle.std.specs.Prelude.{◌≡◌, ◌≢◌, ℕ, List, [], ◌++◌, length, codes, decimal, ⊤}
 use Rattle.std.specs.Prelude.{Option, None, Some}
-use Rattle.ix_values.specs.PlainAction.{Word}
+use Rattle.ix_journal.specs.History.{PlainHistory}
 use Rattle.ix_expr.specs.CanonicalText.{canonical_text}
 use Rattle.ix_expr.specs.Form.{Form}
 use Rattle.ix_journal.specs.Kinds.{IsForeign}
@@ -31,9 +31,11 @@ pub data RefusesFile (x : Form) (limit : ℕ) (file : List ℕ) : List ℕ → T
       → RefusesFile x limit file (codes "damaged " ++ decimal at)
   many : IsReadyWith file (canonical_text x) → IsMany file
       → RefusesFile x limit file (codes "many")
-  word : {history : Word} {number : ℕ} → OpensAs x file history → IsNoWord x limit history number
+  word : {history : PlainHistory} {number : ℕ} → OpensAs x file history
+      → IsNoWord x limit history number
       → RefusesFile x limit file (codes "word " ++ decimal number)
-  large : {history : Word} {number : ℕ} → OpensAs x file history → IsHeavy x limit history number
+  large : {history : PlainHistory} {number : ℕ} → OpensAs x file history
+      → IsHeavy x limit history number
       → RefusesFile x limit file
       (codes "large " ++ decimal number ++ codes " " ++ decimal limit)
 
@@ -75,7 +77,7 @@ pub record HoldsHistory (least : ℕ) (session : Session) (opened : Opened) (is 
   pub keeps : (image : List ℕ) → is.left opened.tick image
       → Keeps session.opening.form least (with_failed session.ending session.last.history) image
   pub reopens : (image : List ℕ) → is.left opened.tick image
-      → (kept : Word)
+      → (kept : PlainHistory)
       × IsStartable (opening_of session.opening.form session.opening.limit kept) image
 
 -- a run from a file that is startable: the session is from what the file recovers, and is held
@@ -95,9 +97,9 @@ pub record LeavesAlone (session : Option Session) (file : List ℕ) (opened : Op
 -- what a run of the expression under the limit makes of the file that it opened
 pub record UsesJournal (x : Form) (limit : ℕ) (session : Option Session) (file : List ℕ)
     (opened : Opened) (is : Crashes) : Type 0 where
-  pub startable : (history : Word) → IsStartable (opening_of x limit history) opened.file
+  pub startable : (history : PlainHistory) → IsStartable (opening_of x limit history) opened.file
       → GoesOnFrom (opening_of x limit history) session opened is
-  pub other : ((history : Word) → ¬ IsStartable (opening_of x limit history) opened.file)
+  pub other : ((history : PlainHistory) → ¬ IsStartable (opening_of x limit history) opened.file)
       → LeavesAlone session file opened is
 
 -- A run opened nothing and took no event; or it opened the file of its journal's name, and uses
@@ -110,11 +112,11 @@ OpensJournal files limit expression journal session disk is (Some opened) =
     × ((x : Form) × ReadsForm files expression x
     × UsesJournal x limit session disk.file opened is)
 
--- what a job makes of its journal, where it has one, and where the site tells its disk before, with
--- nothing opened, and behind it
+-- what a job makes of its journal, where it has one, and where the site tells its disk before and
+-- behind it
 abbrev pub OnJournal : Option Listing → Job → SiteState → SiteState → Crashes → Option Session
     → Type 0
 OnJournal files job before after is session = (expression journal : List ℕ)
     → expression_of job ≡ Some expression → journal_of job ≡ Some journal
-    → (old new : Disk) → before.disk ≡ Some old → old.opened ≡ None → after.disk ≡ Some new
+    → (old new : Disk) → before.disk ≡ Some old → after.disk ≡ Some new
     → OpensJournal files (limit_of job) expression journal session new is new.opened

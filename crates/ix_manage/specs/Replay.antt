@@ -1,6 +1,6 @@
 -- What `replay` puts.
 use Rattle.std.specs.Prelude.{◌≡◌, ℕ, ◌≤◌, List, [], ◌∷◌, ◌++◌, length, Option}
-use Rattle.ix_values.specs.PlainAction.{Word}
+use Rattle.ix_journal.specs.History.{PlainHistory}
 use Rattle.ix_outside.specs.Contents.{GivenEvent, send_text}
 use Rattle.ix_outside.specs.Files.{Listing, HasFile, HasLonger}
 use Rattle.ix_proto.specs.declared.reply.Reply.{Reply}
@@ -37,7 +37,7 @@ pub record Plays (turns : ℕ) (events : List GivenEvent) (session : Session) : 
 
 -- The put of a reply to the last event failed: what was put before it, and what it was to put. The
 -- replies behind it are silent.
-pub data LosesReply (history : Word)
+pub data LosesReply (history : PlainHistory)
     : List GivenEvent → List (List (List Reply)) → List ℕ → List ℕ → Type 0 where
   loses : (before : List GivenEvent) (given : GivenEvent)
       (answers : List (List (List Reply))) (last : List (List Reply))

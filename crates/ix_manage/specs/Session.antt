@@ -1,7 +1,8 @@
 -- What a run made of the protocol machine, its text, and how it ends.
 use Rattle.std.specs.Prelude.{◌≡◌, ◌≢◌, ◌⊎◌, ℕ, ◌≤◌, List, [], ◌∷◌, ◌++◌, length, codes, decimal}
 use Rattle.ix_words.specs.Each.{Each}
-use Rattle.ix_values.specs.PlainAction.{PlainAction, Word}
+use Rattle.ix_values.specs.PlainAction.{PlainAction}
+use Rattle.ix_journal.specs.History.{PlainHistory}
 use Rattle.ix_outside.specs.Contents.{GivenEvent}
 use Rattle.ix_outside.specs.declared.event.EventKind.TheVariants.{End}
 use Rattle.ix_proto.specs.declared.reply.Reply.{Reply}
@@ -21,11 +22,11 @@ pub record Session : Type 0 where
   pub ending : Ending
 
 -- the line that is put before any event is taken: how many actions the history has
-abbrev pub history_line : Word → List ℕ
+abbrev pub history_line : PlainHistory → List ℕ
 history_line history = line (codes "history " ++ decimal (length history))
 
 -- that line of the history, and behind it the replies to events
-abbrev pub replay_text : Word → List GivenEvent → List (List (List Reply)) → List ℕ
+abbrev pub replay_text : PlainHistory → List GivenEvent → List (List (List Reply)) → List ℕ
 replay_text history taken answers = history_line history ++ run_text taken answers
 
 -- not the end

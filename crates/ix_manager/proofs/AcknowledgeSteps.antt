@@ -4,7 +4,7 @@ use Rattle.std.proofs.Common.{append_assoc, append-nil, Option, Some, IsSome, Ok
 use Rattle.std.proofs.Common.{sym, ◌∙◌, ap, subst, arith}
 use Rattle.std.proofs.lemmas.List.{length-append}
 use Rattle.ix_words.specs.Each.{Each}
-use Rattle.ix_values.specs.PlainAction.{Word}
+use Rattle.ix_journal.specs.History.{PlainHistory}
 use Rattle.ix_expr.specs.Form.{Form}
 use Rattle.ix_outside.specs.Contents.{Contents, SentBytes, Sends, SendsWhole, SendsPart}
 use Rattle.ix_outside.specs.Crashes.{Crashes, Left, AreLawful, Elapses}
@@ -29,7 +29,7 @@ use Rattle.ix_manager.proofs.SavingLemmas.{fits_images}
 use Rattle.ix_manager.proofs.SendLemmas.{silent_keeps, carries}
 
 -- replies of which none is a confirm's were sent over calls that saved the journal
-pub saves_acknowledges : (e : Ending) (x : Form) (h new : Word) (store : Keeping) (conn : ℕ)
+pub saves_acknowledges : (e : Ending) (x : Form) (h new : PlainHistory) (store : Keeping) (conn : ℕ)
     (replies : List Reply)
     (before after : WireState) (p q : Crashes) → AreLawful after.site q
     → Saves e x h new store before.site after.site p q
@@ -112,7 +112,7 @@ none_left : {A : Type 0} (xs : List A) → length xs ≤ 0 → xs ≡ []
 none_left [] le = refl
 none_left (x ∷ xs) le = absurd (omega arith)
 
-module _ (x : Form) (h mid new rest : Word) (conn : ℕ) (one two : List Reply)
+module _ (x : Form) (h mid new rest : PlainHistory) (conn : ℕ) (one two : List Reply)
     (before here after : WireState) (q r : Crashes)
     (lawful : AreLawful here.site q) (le : before.site.tick ≤ here.site.tick)
     (passes : Elapses here.site.tick after.site.tick q.left_since r.left_since)

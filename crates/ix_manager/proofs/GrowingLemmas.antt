@@ -2,6 +2,7 @@
 use Rattle.std.proofs.Common.{◌≡◌, ℕ, List, [], ◌∷◌, ◌++◌, append_assoc, append-nil, refl, sym, ◌∙◌}
 use Rattle.std.proofs.Common.{ap}
 use Rattle.ix_values.specs.PlainAction.{Word}
+use Rattle.ix_journal.specs.History.{PlainHistory}
 use Rattle.ix_expr.specs.Form.{Form}
 use Rattle.ix_lines.specs.Items.{Item}
 use Rattle.ix_outside.specs.Contents.{GivenEvent}
@@ -15,8 +16,8 @@ use Rattle.ix_manager.specs.Runs.{over_long, disk_failed, Steps, none, last, mor
 use Rattle.ix_manager.specs.Runs.{takes}
 
 -- the second word begins with the first
-abbrev pub Grows : Word → Word → Type 0
-Grows old new = (rest : Word) × (old ++ rest ≡ new)
+abbrev pub Grows : PlainHistory → PlainHistory → Type 0
+Grows old new = (rest : PlainHistory) × (old ++ rest ≡ new)
 
 pub grows_not : (w : Word) → Grows w w
 grows_not w = ([], append-nil w)
@@ -35,7 +36,7 @@ step_grows (confirmed a deadline held open_still) = (a ∷ [], refl)
 step_grows _ = ([], append-nil _)
 
 -- no request fails
-pub none_failed : (asked : PlainRequest) (h : Word) → with_failed (ending_of asked) h ≡ h
+pub none_failed : (asked : PlainRequest) (h : PlainHistory) → with_failed (ending_of asked) h ≡ h
 none_failed request.stop h = refl
 none_failed _ h = refl
 

@@ -1,7 +1,8 @@
 -- What is answered over a site.
 use Rattle.std.proofs.Common.{◌≡◌, ℕ, Bool, false, List, [], ◌∷◌, ◌++◌, Result, Ok, Err, refl, sym, ap, subst}
 use Rattle.std.specs.Option.{ForSome}
-use Rattle.ix_values.specs.PlainAction.{PlainAction, Word}
+use Rattle.ix_values.specs.PlainAction.{PlainAction}
+use Rattle.ix_journal.specs.History.{PlainHistory}
 use Rattle.ix_words.specs.Each.{Each, no_item, item}
 use Rattle.ix_expr.specs.CanonicalText.{canonical_text}
 use Rattle.ix_lease.specs.declared.Take.TheVariants.{Taken, Expired, NoSuch}
@@ -72,11 +73,11 @@ refused_over ticket one j site crashes lawful fits does = record {
 module _ (ticket : ℕ) (action : PlainAction) (old new : Journaled) (before after : SiteState) (was is : Crashes)
     (lawful : AreLawful after is) (fits : FitsJournal old before was) (finds : Finds old.machine ticket (Taken action))
     (calls : DiskCalls before after was is)
-    (images : (text : List ℕ) (history : Word) → Fits before was (kept old.store) text history
+    (images : (text : List ℕ) (history : PlainHistory) → Fits before was (kept old.store) text history
     → ForSome before.disk (λ _. LeavesOnly (IsWithOrWithout text history action) before is)) where
   -- the action was appended
   pub confirmed_over : (one : Reply) → Commits old.machine one new.machine
-      → ((text : List ℕ) (history : Word) → Fits before was (kept old.store) text history
+      → ((text : List ℕ) (history : PlainHistory) → Fits before was (kept old.store) text history
       → Fits after is (kept new.store) text (history ++ action ∷ []))
       → (kept new.store).failed ≡ false
       → ConfirmsOver ticket (Ok one) old new before after was is

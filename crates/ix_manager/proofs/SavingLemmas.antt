@@ -4,6 +4,7 @@ use Rattle.std.proofs.Common.{append-nil, Option, None, Some, IsSome, Result, tr
 use Rattle.std.proofs.Common.{refl, sym, ◌∙◌, ap, subst, arith}
 use Rattle.std.proofs.lemmas.List.{length-append}
 use Rattle.ix_values.specs.PlainAction.{PlainAction, Word}
+use Rattle.ix_journal.specs.History.{PlainHistory}
 use Rattle.ix_expr.specs.CanonicalText.{canonical_text}
 use Rattle.ix_expr.specs.Form.{Form}
 use Rattle.ix_journal.specs.Recovery as journal
@@ -41,7 +42,7 @@ kept_told None new keeps told = let P : Option Disk → Type 0 = λ disk. IsSome
 kept_told (Some old) new keeps told = refl
 
 -- a journal of the expression keeps its history, whatever follows that
-abbrev pub journal_keeps : (x : Form) (least : ℕ) (h rest history : Word) (gate : ℕ) (at : List ℕ)
+abbrev pub journal_keeps : (x : Form) (least : ℕ) (h rest history : PlainHistory) (gate : ℕ) (at : List ℕ)
     → IsJournal at (canonical_text x) h gate → h ++ rest ≡ history → least ≤ length h → Keeps x least history at
 journal_keeps x least h rest history gate at is same long = record {
   own = image.ready h gate is;
@@ -53,7 +54,7 @@ journal_keeps x least h rest history gate at is same long = record {
 }
 
 -- of a longer history too
-abbrev pub keeps_longer : (x : Form) (least : ℕ) (h more history : Word) (at : List ℕ)
+abbrev pub keeps_longer : (x : Form) (least : ℕ) (h more history : PlainHistory) (at : List ℕ)
     → h ++ more ≡ history → Keeps x least h at → Keeps x least history at
 keeps_longer x least h more history at longer keeps = record {
   own = keeps.own;
@@ -65,7 +66,7 @@ keeps_longer x least h more history at longer keeps = record {
 }
 
 -- and of fewer actions
-abbrev pub keeps_fewer : (x : Form) (least fewer : ℕ) (h : Word) (at : List ℕ) → fewer ≤ least
+abbrev pub keeps_fewer : (x : Form) (least fewer : ℕ) (h : PlainHistory) (at : List ℕ) → fewer ≤ least
     → Keeps x least h at → Keeps x fewer h at
 keeps_fewer x least fewer h at le keeps = record {
   own = keeps.own;
@@ -77,7 +78,7 @@ keeps_fewer x least fewer h at le keeps = record {
 }
 
 -- where a store fits, each image that a crash may leave now is a journal of the history
-pub fits_images : (x : Form) (h : Word) (store : Keeping) (site : SiteState) (crashes : Crashes) → FitsWith x h store site crashes
+pub fits_images : (x : Form) (h : PlainHistory) (store : Keeping) (site : SiteState) (crashes : Crashes) → FitsWith x h store site crashes
     → IsSome site.disk → (at : List ℕ) → crashes.now at → IsJournal at (canonical_text x) h store.gate
 fits_images x h store site crashes fits told = let disk = the_value site.disk told in
     fits.fits.images disk.0 disk.1
@@ -93,7 +94,7 @@ where_failed stopped to p = tt
 where_failed (failed a) to p = to p
 
 -- no call, where the store fits
-pub saves_none : (x : Form) (h : Word) (store : Keeping) (site : SiteState) (crashes : Crashes) → AreLawful site crashes
+pub saves_none : (x : Form) (h : PlainHistory) (store : Keeping) (site : SiteState) (crashes : Crashes) → AreLawful site crashes
     → FitsWith x h store site crashes → Saves going x h h store site site crashes crashes
 saves_none x h store site crashes lawful fits = record {
   passes = Passes-none site crashes;
@@ -110,7 +111,7 @@ saves_none x h store site crashes lawful fits = record {
 }
 
 -- two stretches make one
-pub saves_join : (e : Ending) (x : Form) (h mid new : Word) (one two : Keeping) (a b c : SiteState) (p q r : Crashes) → AreLawful c r
+pub saves_join : (e : Ending) (x : Form) (h mid new : PlainHistory) (one two : Keeping) (a b c : SiteState) (p q r : Crashes) → AreLawful c r
     → Saves going x h mid one a b p q → Saves e x mid new two b c q r → Saves e x h new two a c p r
 saves_join e x h mid new one two a b c p q r lawful first second = record {
   passes = Passes-join a b c p q r lawful first.passes second.passes;
@@ -129,16 +130,16 @@ saves_join e x h mid new one two a b c p q r lawful first second = record {
   faults = where_failed e (Rose-earlier a.counts.disk b.counts.disk c.counts.disk first.count) second.faults;
 }
   where
-    shorter : (h rest mid : Word) → h ++ rest ≡ mid → length h ≤ length mid
+    shorter : (h rest mid : PlainHistory) → h ++ rest ≡ mid → length h ≤ length mid
     shorter h rest mid same = let counts = sym (ap length same) ∙ length-append h rest in omega arith
 
 -- of a history that has another spelling
-pub saves_same : (e : Ending) (x : Form) (h new other : Word) (store : Keeping) (a b : SiteState) (p q : Crashes) → other ≡ new
+pub saves_same : (e : Ending) (x : Form) (h new other : PlainHistory) (store : Keeping) (a b : SiteState) (p q : Crashes) → other ≡ new
     → Saves e x h new store a b p q → Saves e x h other store a b p q
 saves_same e x h new other store a b p q same = subst (λ (w : Word). Saves e x h w store a b p q) (sym same)
 
 -- `stop` may end the run
-pub saves_after : (go : Go) (x : Form) (h new : Word) (store : Keeping) (a b : SiteState) (p q : Crashes)
+pub saves_after : (go : Go) (x : Form) (h new : PlainHistory) (store : Keeping) (a b : SiteState) (p q : Crashes)
     → Saves going x h new store a b p q → Saves (ending_after go) x h new store a b p q
 saves_after More x h new store a b p q saves = saves
 saves_after Stopped x h new store a b p q saves = record {
@@ -200,7 +201,7 @@ only_join a b c p q r lawful first second = record {
 }
 
 -- where a store fits, it does after sends
-pub fits_sends : (x : Form) (h : Word) (store : Keeping) (b c : SiteState) (q r : Crashes) → OnlySends b c q r
+pub fits_sends : (x : Form) (h : PlainHistory) (store : Keeping) (b c : SiteState) (q r : Crashes) → OnlySends b c q r
     → FitsWith x h store b q → FitsWith x h store c r
 fits_sends x h store b c q r only fits = record {
   works = fits.works;
@@ -214,7 +215,7 @@ fits_sends x h store b c q r only fits = record {
 }
 
 -- sends behind calls
-pub saves_sends : (e : Ending) (x : Form) (h new : Word) (store : Keeping) (a b c : SiteState) (p q r : Crashes)
+pub saves_sends : (e : Ending) (x : Form) (h new : PlainHistory) (store : Keeping) (a b c : SiteState) (p q r : Crashes)
     → AreLawful b q → AreLawful c r → Saves e x h new store a b p q → OnlySends b c q r → Saves e x h new store a c p r
 saves_sends e x h new store a b c p q r before lawful first only = record {
   passes = Passes-join a b c p q r lawful first.passes only.passes;
@@ -233,14 +234,14 @@ saves_sends e x h new store a b c p q r before lawful first only = record {
 }
 
 -- an item was answered that left the journal alone
-pub answered_saves : (go : Go) (x : Form) (h new : Word) (store : Keeping) (a b : SiteState) (p q : Crashes)
+pub answered_saves : (go : Go) (x : Form) (h new : PlainHistory) (store : Keeping) (a b : SiteState) (p q : Crashes)
     → AreLawful a p → AreLawful b q → FitsWith x h store a p → new ≡ h → OnlySends a b p q
     → Saves (ending_after go) x h new store a b p q
 answered_saves go x h new store a b p q before lawful fits same only =
     saves_after go x h new store a b p q (saves_same going x h h new store a b p q same
     (saves_sends going x h h store a a b p p q before lawful (saves_none x h store a p before fits) only))
 
-module _ (x : Form) (h : Word) (action : PlainAction) (new : Keeping) (a b : SiteState) (p q : Crashes)
+module _ (x : Form) (h : PlainHistory) (action : PlainAction) (new : Keeping) (a b : SiteState) (p q : Crashes)
     (lawful : AreLawful b q) (calls : DiskCalls a b p q)
     (images : (disk : Disk) → a.disk ≡ Some disk → LeavesOnly (IsWithOrWithout (canonical_text x) h action) a q) where
   was_told : IsSome b.disk → IsSome a.disk

@@ -3,7 +3,7 @@ use Rattle.std.proofs.Common.{◌≡◌, ℕ, ◌≤◌, Bool, List, [], ◌∷�
 use Rattle.std.proofs.Common.{append-nil, Option, Some, IsSome, Result, inl, inr, refl, sym, ◌∙◌}
 use Rattle.std.proofs.Common.{ap, subst, arith}
 use Rattle.std.proofs.lemmas.List.{length-append, append_cancel_left}
-use Rattle.ix_values.specs.PlainAction.{Word}
+use Rattle.ix_journal.specs.History.{PlainHistory}
 use Rattle.ix_expr.specs.Form.{Form}
 use Rattle.ix_outside.specs.Contents.{GivenEvent, SentBytes, Sends}
 use Rattle.ix_outside.specs.Crashes.{Crashes, Left, AreLawful, Passes, OneCall, IsSentByThen}
@@ -49,7 +49,7 @@ nothing_call t before a b p q call began told same nothing sends is =
     )
 
 -- before the first event: nothing was sent since the tick, and each image keeps the history
-pub serves_begin : (t : ℕ) (x : Form) (least : ℕ) (history : Word) (before : Sends)
+pub serves_begin : (t : ℕ) (x : Form) (least : ℕ) (history : PlainHistory) (before : Sends)
     (site : SiteState) (is : Crashes)
     → AreLawful site is → t ≤ site.tick → least ≤ length history
     → ((sends : Sends) → site.contents.sends ≡ Some sends → sends ≡ before)
@@ -74,7 +74,7 @@ serves_begin t x least history before site is lawful began long sends_are keeps 
 }
 
 -- over a call that sends nothing, as `next`, what a crash may leave stays
-pub serves_call : (t : ℕ) (x : Form) (least : ℕ) (history : Word) (before : Sends)
+pub serves_call : (t : ℕ) (x : Form) (least : ℕ) (history : PlainHistory) (before : Sends)
     (events : List GivenEvent) (answers : List (List (List Reply))) (marks : List Bool)
     (a b : SiteState) (p q : Crashes)
     → AreLawful a p → AreLawful b q → OneCall a b p q → LeavesTheSame p.now q.now
@@ -115,7 +115,7 @@ module _ (t : ℕ) (x : Form) (least : ℕ) (before : Sends) (events : List Give
     (told_before : IsSome b.disk → IsSome a.disk)
     (over : HandlesOver old event bytes result new a b q)
     (serves : ServesSince t x least old.machine.history before events answers old.marks a p) where
-  abbrev longer_history : Word
+  abbrev longer_history : PlainHistory
   longer_history = with_failed over.ending new.machine.history
 
   -- what was acknowledged before the event is within the history before it

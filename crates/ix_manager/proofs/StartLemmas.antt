@@ -1,6 +1,6 @@
 -- What starting a manager answers and leaves.
 use Rattle.std.proofs.Common.{◌≡◌, ◌⊎◌, ℕ, ◌≤◌, List, [], length, Option, None, Some, inl, inr, refl, ap, subst, arith}
-use Rattle.ix_values.specs.PlainAction.{Word}
+use Rattle.ix_journal.specs.History.{PlainHistory}
 use Rattle.ix_expr.specs.CanonicalText.{canonical_text}
 use Rattle.ix_expr.specs.Form.{Form}
 use Rattle.ix_expr.proofs.LawsOfMeaning.{empty-partial}
@@ -17,13 +17,14 @@ use Rattle.ix_journal.proofs.KindLaws.{one_kind}
 use Rattle.ix_outside.specs.Crashes.{Crashes, AreLawful}
 use Rattle.ix_outside.specs.Disk.{Disk, MakesFile, Stays}
 use Rattle.ix_outside.specs.SiteState.{SiteState}
-use Rattle.ix_store.specs.Opening.{IsNew, IsReadyWith}
+use Rattle.ix_store.specs.Opening.{IsNew}
 use Rattle.ix_store.specs.inside.Opens.{Opens}
 use Rattle.ix_store.specs.inside.Opens as opening
 use Rattle.ix_store.specs.inside.Refusals.{Refuses}
 use Rattle.ix_store.specs.inside.Starting.{LeavesOnStart}
 use Rattle.ix_store.specs.declared.fault.OpenFault.{OpenFault}
 use Rattle.ix_store.specs.declared.fault.OpenFault.TheVariants as refused
+use Rattle.ix_store.proofs.Opened.{ready_not_new}
 use Rattle.ix_manager.specs.Images as image
 use Rattle.ix_manager.specs.Images.{IsOwn, IsWithin, EachPrefixIsWithin, IsStartable}
 use Rattle.ix_manager.specs.Starts.{HasText}
@@ -58,14 +59,8 @@ not_unfinished : (at text : List ℕ) (gate : ℕ) → IsReady at text gate → 
 not_unfinished at text gate is isnt =
     let same = one_kind at kind.unfinished (kind.ready text gate) isnt is in cc
 
--- a ready file isn't to be made anew
-ready_not_new : (at text : List ℕ) → IsReadyWith at text → ¬ IsNew at text
-ready_not_new at text is (inl unfinished) = not_unfinished at text is.0 is.1 unfinished
-ready_not_new at text is (inr unopened) =
-    let same = one_kind at (kind.unopened text) (kind.ready text is.0) unopened is.1 in cc
-
 -- a file that is of the expression's text or unfinished, and recovers a history, is one that it may open
-pub own_of : (x : Form) (at : List ℕ) (h : Word) → opening.IsOwn at (canonical_text x) → Recovers at h → IsOwn x at
+pub own_of : (x : Form) (at : List ℕ) (h : PlainHistory) → opening.IsOwn at (canonical_text x) → Recovers at h → IsOwn x at
 own_of x at h (inl new) recovers = image.new new
 own_of x at h (inr is) (recovery.unfinished _ unfinished) = absurd (not_unfinished at (canonical_text x) is.0 is.1 unfinished)
 own_of x at h (inr is) (recovery.unopened _ text unopened) =
@@ -121,13 +116,13 @@ open_fault x limit file (refused.Damaged at) facts = facts
 open_fault x limit file refused.Many facts = facts
 open_fault x limit file refused.Memory facts = tt
 
-few_recovered : (file : List ℕ) (h : Word) → Recovers file h → length h ≤ 1000000
+few_recovered : (file : List ℕ) (h : PlainHistory) → Recovers file h → length h ≤ 1000000
 few_recovered file h (recovery.unfinished _ _) = omega arith
 few_recovered file h (recovery.unopened _ _ _) = omega arith
 few_recovered file h (recovery.ready _ _ _ _ journal) = journal.closes.few
 
 -- why an engine of this expression and limit didn't take the history
-pub resume_fault : (x : Form) (limit : ℕ) (file : List ℕ) (h : Word) (stopped : ResumeFault) → tree_size x [] ≤ limit
+pub resume_fault : (x : Form) (limit : ℕ) (file : List ℕ) (h : PlainHistory) (stopped : ResumeFault) → tree_size x [] ≤ limit
     → Opens file (canonical_text x) h → StopsAt x limit h stopped → IsFault x limit file (record_fault_of stopped.number stopped.why)
 resume_fault x limit file h stopped within opens at = told stopped.why at.refused
   where
@@ -150,7 +145,7 @@ resume_fault x limit file h stopped within opens at = told stopped.why at.refuse
     told prepare.Memory refused = tt
 
 -- it took the history, and the file can be started from
-pub resumed : (x : Form) (limit : ℕ) (file : List ℕ) (h : Word) → tree_size x [] ≤ limit → AreAllowed x limit h
+pub resumed : (x : Form) (limit : ℕ) (file : List ℕ) (h : PlainHistory) → tree_size x [] ≤ limit → AreAllowed x limit h
     → Opens file (canonical_text x) h → IsStartable (opening_of x limit h) file
 resumed x limit file h within allowed opens = record {
   own = own_of x file h opens.own opens.recovers;

@@ -2,6 +2,7 @@
 use Rattle.std.proofs.Common.{◌≡◌, ◌↔◌, ℕ, zero, suc, ◌+◌, ◌-◌, ◌^◌, ◌<◌, ◌≤◌, min, Bool, true, false, List, [], ◌∷◌, ◌++◌, length, get_or, map, Option, Some, IsTrue, refl, sym, ◌∙◌, ap, subst, true≢false, arith, inl, inr, length-append, Ok}
 use Rattle.ix_words.specs.Each.{Each, no_item, item}
 use Rattle.ix_values.specs.PlainAction.{PlainAction, Word}
+use Rattle.ix_journal.specs.History.{PlainHistory}
 use Rattle.ix_expr.specs.Meaning.{IsPartial, IsComplete}
 use Rattle.ix_can.specs.TreeOf.{tree_size}
 use Rattle.ix_engine.specs.inside.Engine.{EngineState, Allows, extended}
@@ -38,8 +39,8 @@ core_of engine slot watches moment ticket = record {
 
 -- an entry of a word, with what stands before it and behind it
 record EntryParts (w : Word) (index : ℕ) (a : PlainAction) : Type 0 where
-  before : Word
-  behind : Word
+  before : PlainHistory
+  behind : PlainHistory
   same : w ≡ before ++ a ∷ behind
   place : length before ≡ index
 

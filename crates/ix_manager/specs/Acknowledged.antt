@@ -1,6 +1,6 @@
 -- Which confirms were acknowledged, and the images that keep each of them.
 use Rattle.std.specs.Prelude.{◌≡◌, ℕ, ◌≤◌, List, ◌∷◌, ◌++◌, length}
-use Rattle.ix_values.specs.PlainAction.{Word}
+use Rattle.ix_journal.specs.History.{PlainHistory}
 use Rattle.ix_expr.specs.Form.{Form}
 use Rattle.ix_outside.specs.Contents.{SentBytes}
 use Rattle.ix_outside.specs.Crashes.{Left}
@@ -21,7 +21,7 @@ pub data IsAcknowledged (n : ℕ) : List Reply → List SentBytes → Type 0 whe
 -- An image that a crash left, and what had been sent by then: it keeps at least so many actions of
 -- this history, the first ones and no others, and each that was acknowledged by then. The sends
 -- behind those of before carry these replies, each one of them.
-pub record KeepsAcknowledged (x : Form) (least : ℕ) (history : Word) (replies : List Reply)
+pub record KeepsAcknowledged (x : Form) (least : ℕ) (history : PlainHistory) (replies : List Reply)
     (before : List SentBytes) (left : Left) : Type 0 where
   pub keeps : Keeps x least history left.image
   pub sent : List SentBytes

@@ -1,6 +1,6 @@
 -- Laws of the images that a run leaves: each can be started from.
 use Rattle.std.specs.Prelude.{ℕ, List}
-use Rattle.ix_values.specs.PlainAction.{Word}
+use Rattle.ix_journal.specs.History.{PlainHistory}
 use Rattle.ix_expr.specs.Form.{Form}
 use Rattle.ix_outside.specs.Contents.{GivenEvent}
 use Rattle.ix_proto.specs.declared.reply.Reply.{Reply}
@@ -22,6 +22,6 @@ RunsStayWithin =
 -- gives these
 abbrev pub KeptImagesAreStartable : Type 0
 KeptImagesAreStartable =
-    (x : Form) (limit least : ℕ) (history : Word) (image : List ℕ)
+    (x : Form) (limit least : ℕ) (history : PlainHistory) (image : List ℕ)
     → EachPrefixIsWithin x limit history → (keeps : Keeps x least history image)
     → IsStartable (opening_of x limit keeps.kept) image

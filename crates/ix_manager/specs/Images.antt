@@ -1,6 +1,7 @@
 -- What an image of a journal is to a run of the machine: one that a crash left, or the file itself.
 use Rattle.std.specs.Prelude.{◌≡◌, ◌⊎◌, ℕ, ◌≤◌, List, [], ◌∷◌, ◌++◌, length, take}
 use Rattle.ix_values.specs.PlainAction.{Word}
+use Rattle.ix_journal.specs.History.{PlainHistory}
 use Rattle.ix_expr.specs.CanonicalText.{canonical_text}
 use Rattle.ix_expr.specs.Form.{Form}
 use Rattle.ix_expr.specs.Meaning.{IsPartial}
@@ -13,7 +14,7 @@ use Rattle.ix_manager.specs.Runs.{Opening, Ending, going, stopped, failed}
 -- opened, or a journal of that text, which is neither damaged nor of too many records.
 pub data IsOwn (x : Form) (image : List ℕ) : Type 0 where
   new : IsNew image (canonical_text x) → IsOwn x image
-  ready : (history : Word) (gate : ℕ) → IsJournal image (canonical_text x) history gate
+  ready : (history : PlainHistory) (gate : ℕ) → IsJournal image (canonical_text x) history gate
       → IsOwn x image
 
 -- the word is partial, and the Size of its tree is within the limit
@@ -33,23 +34,23 @@ pub record IsStartable (opening : Opening) (image : List ℕ) : Type 0 where
   pub within : EachPrefixIsWithin opening.form opening.limit opening.history
 
 -- the history, with the action of a confirm that failed behind it
-abbrev pub with_failed : Ending → Word → Word
+abbrev pub with_failed : Ending → PlainHistory → PlainHistory
 with_failed going history = history
 with_failed stopped history = history
 with_failed (failed a) history = history ++ a ∷ []
 
 -- an image of the file after a run that ended so with this history: it recovers the history, or,
 -- after a confirm that failed, maybe the history with the confirm's action behind it
-abbrev pub EndsAs : Ending → Word → List ℕ → Type 0
+abbrev pub EndsAs : Ending → PlainHistory → List ℕ → Type 0
 EndsAs going history image = Recovers image history
 EndsAs stopped history image = Recovers image history
 EndsAs (failed a) history image = Recovers image history ⊎ Recovers image (history ++ a ∷ [])
 
 -- an image that keeps at least so many actions of this history, the first ones, and no others
-pub record Keeps (x : Form) (least : ℕ) (history : Word) (image : List ℕ) : Type 0 where
+pub record Keeps (x : Form) (least : ℕ) (history : PlainHistory) (image : List ℕ) : Type 0 where
   pub own : IsOwn x image
-  pub kept : Word
+  pub kept : PlainHistory
   pub recovers : Recovers image kept
-  pub rest : Word
+  pub rest : PlainHistory
   pub prefix : kept ++ rest ≡ history
   pub long : least ≤ length kept

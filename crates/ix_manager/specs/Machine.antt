@@ -3,6 +3,7 @@ use Rattle.std.specs.Prelude.{◌≡◌, ◌≢◌, ◌⊎◌, ℕ, ◌+◌, ◌
 use Rattle.std.specs.Prelude.{List, [], ◌∷◌, ◌++◌, length}
 use Rattle.ix_words.specs.Each.{Each}
 use Rattle.ix_values.specs.PlainAction.{PlainAction, Word}
+use Rattle.ix_journal.specs.History.{PlainHistory}
 use Rattle.ix_expr.specs.Form.{Form}
 use Rattle.ix_expr.specs.Meaning.{IsComplete}
 use Rattle.ix_can.specs.TreeOf.{tree_size}
@@ -25,14 +26,14 @@ pub record MachineWatch : Type 0 where
 -- the confirmed actions, the reservation, the watches, the greatest moment so far, and the next
 -- ticket
 pub record MachineState : Type 0 where
-  pub history : Word
+  pub history : PlainHistory
   pub slot : Slot
   pub watches : List MachineWatch
   pub moment : ℕ
   pub ticket : ℕ
 
 -- the state at the start, with what was recovered
-abbrev pub start_of : Word → MachineState
+abbrev pub start_of : PlainHistory → MachineState
 start_of history =
     record { history = history; slot = slot.Free; watches = []; moment = 0; ticket = 1 }
 
@@ -163,7 +164,7 @@ pub data Step (x : Form) (limit : ℕ) (s : MachineState) : PlainRequest → Lis
       → Tells (IsComplete x [] (word_of s)) complete
       → Step x limit s request.status
       (reply.Status complete (length s.history) (tree_size x (word_of s)) ∷ []) s
-  entry : {number : ℕ} {a : PlainAction} (before behind : Word)
+  entry : {number : ℕ} {a : PlainAction} (before behind : PlainHistory)
       → s.history ≡ before ++ a ∷ behind → number ≡ length before + 1
       → Step x limit s (request.log number) (reply.Entry number a ∷ []) s
   no_such_entry : {number : ℕ}

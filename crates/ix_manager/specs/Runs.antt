@@ -1,6 +1,7 @@
 -- Runs of the protocol machine over the events of all connections.
 use Rattle.std.specs.Prelude.{◌≡◌, ◌≢◌, ℕ, ◌==◌, ◌<◌, max, List, [], ◌∷◌, ◌++◌, if◌then◌else◌}
-use Rattle.ix_values.specs.PlainAction.{PlainAction, Word}
+use Rattle.ix_values.specs.PlainAction.{PlainAction}
+use Rattle.ix_journal.specs.History.{PlainHistory}
 use Rattle.ix_expr.specs.Form.{Form}
 use Rattle.ix_lines.specs.Items.{Item, line, too_long, items}
 use Rattle.ix_outside.specs.Contents.{GivenEvent}
@@ -20,10 +21,10 @@ use Rattle.ix_manager.specs.Machine.{MachineState, Step, start_of}
 pub record Opening : Type 0 where
   pub form : Form
   pub limit : ℕ
-  pub history : Word
+  pub history : PlainHistory
 
 -- the opening of an expression, a limit and a history
-abbrev pub opening_of : Form → ℕ → Word → Opening
+abbrev pub opening_of : Form → ℕ → PlainHistory → Opening
 opening_of x limit history = record { form = x; limit = limit; history = history }
 
 -- whether the run goes on, or ended: by `stop`, or by a confirm that failed with its action

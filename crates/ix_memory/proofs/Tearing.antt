@@ -5,11 +5,11 @@ use Rattle.std.proofs.Common.{inl, inr, refl, sym, ◌∙◌, ap, subst, arith}
 use Rattle.std.proofs.lemmas.List.{take_at, length-take}
 use Rattle.std.proofs.lemmas.Slice.{drop-append-drop}
 use Rattle.ix_outside.specs.Contents.{SentBytes}
-use Rattle.ix_outside.specs.Crashes.{LeavesJust, LeavesAtMost}
+use Rattle.ix_outside.specs.Crashes.{LeavesJust, LeavesAtMost, LeavesNoLess}
 use Rattle.ix_outside.specs.Disk.{Opened, MakesFile, Torn}
 use Rattle.ix_memory.specs.declared.past.Effect.{Effect}
 use Rattle.ix_memory.specs.declared.past.Effect.TheVariants.{Kept, Wrote}
-use Rattle.ix_memory.specs.inside.MemorySiteState.{told_disk, half_of, written}
+use Rattle.ix_memory.specs.inside.MemorySiteState.{told_disk, half_of, opened_behind, opened_where, written}
 use Rattle.ix_memory.specs.inside.Moments.{Leaves}
 use Rattle.ix_memory.specs.inside.PastCalls.{PastCall}
 
@@ -69,10 +69,24 @@ pub keeps_leaving : (Step : List ℕ → List ℕ → Type 0) (file : List ℕ) 
     (past calls : List PastCall) → IsNext Kept file sent past calls
     → ((image : List ℕ) → Step image image)
     → LeavesAtMost Step (Leaves past file) (Leaves calls file)
+    × LeavesNoLess (Leaves past file) (Leaves calls file)
 keeps_leaving Step file sent past calls next none =
     let P : List PastCall → Type 0 = λ calls.
-    LeavesAtMost Step (Leaves past file) (Leaves calls file) in
-    subst P (sym next) (λ image now. (image, now, none image))
+    LeavesAtMost Step (Leaves past file) (Leaves calls file)
+    × LeavesNoLess (Leaves past file) (Leaves calls file) in
+    subst P (sym next) ((λ image now. (image, now, none image)), (λ image was. was))
+
+-- a write of which a part was done
+pub part_leaves : (at count : ℕ) (file new : List ℕ) (sent : List SentBytes)
+    (past calls : List PastCall) → IsNext (Wrote at count) file sent past calls
+    → Torn at count file new
+    → LeavesAtMost (Torn at count) (Leaves past file) (Leaves calls new)
+    × LeavesNoLess (Leaves past file) (Leaves calls new)
+part_leaves at count file new sent past calls next torn =
+    let just = write_leaves at count file new sent past calls next torn in (
+      (λ image. (just image).0),
+      (λ image was. (just image).1 (image, was, torn_none at count image)),
+    )
 
 -- the file as it is told
 pub makes_told : (R : List ℕ → List ℕ → Type 0) (told : Bool) (file new : List ℕ)
@@ -80,3 +94,12 @@ pub makes_told : (R : List ℕ → List ℕ → Type 0) (told : Bool) (file new 
     → MakesFile R (told_disk told file before) (told_disk told new after)
 makes_told R true file new before after makes same = (makes, same)
 makes_told R false file new before after makes same = refl
+
+-- a call whose effect attaches nothing keeps what was attached
+pub opened_stays : (effect : Effect)
+    → ((opened : Opened) (before : Option Opened) → opened_behind effect opened before ≡ before)
+    → (attached : Bool) (name file : List ℕ) (sent : List SentBytes) (past : List PastCall)
+    → opened_where attached name (record { effect = effect; file = file; sent = sent } ∷ past)
+    ≡ opened_where attached name past
+opened_stays effect keeps true name file sent past = keeps _ _
+opened_stays effect keeps false name file sent past = refl

@@ -3,7 +3,7 @@ ghost use Rattle.std.specs.Prelude.{◌≡◌, ◌≤◌, ◌<◌, ◌+◌, ◌-
 ghost use Rattle.std.specs.Prelude.{length as list_length, nat_le, true, false, min, length, take};
 ghost use Rattle.std.specs.Prelude.{drop, not, is_ok, slice_get, Some, IfOk, OnOk, OnErr};
 ghost use Rattle.ix_outside.specs.Contents.{piece_of, with_pair, Listens, Gives, SendsBytes};
-ghost use Rattle.ix_outside.specs.Counts.{Rose};
+ghost use Rattle.ix_outside.specs.Counts.{CountsFault, Rose};
 ghost use Rattle.ix_outside.specs.Crashes.{OneCall, LeavesTheSame, LeavesBy, Settles};
 ghost use Rattle.ix_outside.specs.Disk.{OfFile, MakesFile, Stays, Torn, MaybeCut};
 ghost use Rattle.ix_outside.specs.Disk.{Writes, Cuts, Attaches};
@@ -289,7 +289,7 @@ impl Site for MemorySite {
         ensures err { OnErr result (self.new
             ≡ disk_failed (called (16 + length name.now) Kept self.old)) }
 
-        ensures failed { OnErr result (Rose self.old.counts.disk self.new.counts.disk) }
+        ensures failed { CountsFault result self.old.counts.disk self.new.counts.disk }
         ensures attached { self.new.attached ≡ is_ok result }
         ensures file { Attaches name.now result (state_of self.new).tick
             (state_of self.old).disk (state_of self.new).disk }
@@ -323,7 +323,7 @@ impl Site for MemorySite {
         ensures ok { OnOk result (self.new ≡ called 16 Kept self.old) }
         ensures err { OnErr result (self.new ≡ disk_failed (called 16 Kept self.old)) }
 
-        ensures failed { OnErr result (Rose self.old.counts.disk self.new.counts.disk) }
+        ensures failed { CountsFault result self.old.counts.disk self.new.counts.disk }
         ensures attached { self.new.attached ≡ true }
         ensures value { IfOk result
             (λ count. OfFile (λ file. count ≡ length file) (state_of self.old).disk) }
@@ -355,7 +355,7 @@ impl Site for MemorySite {
         ensures ok { OnOk result (self.new ≡ read_into (length buf.old) self.old) }
         ensures err { OnErr result (self.new ≡ disk_failed (read_into (length buf.old) self.old)) }
 
-        ensures failed { OnErr result (Rose self.old.counts.disk self.new.counts.disk) }
+        ensures failed { CountsFault result self.old.counts.disk self.new.counts.disk }
         ensures attached { self.new.attached ≡ true }
         ensures value { IfOk result (λ count. OfFile
             (λ file. count ≡ min (length buf.old) (length file - at)) (state_of self.old).disk) }
@@ -394,7 +394,7 @@ impl Site for MemorySite {
             (self.new ≡ disk_failed (half_written (is_full self.old.plan (16 + length bytes.now))
             at bytes.now self.old)) }
 
-        ensures failed { OnErr result (Rose self.old.counts.disk self.new.counts.disk) }
+        ensures failed { CountsFault result self.old.counts.disk self.new.counts.disk }
         ensures attached { self.new.attached ≡ true }
         ensures file { Writes at bytes.now result
             (state_of self.old).disk (state_of self.new).disk }
@@ -434,7 +434,7 @@ impl Site for MemorySite {
         }) }
         ensures err { OnErr result (self.new ≡ disk_failed (called 16 Kept self.old)) }
 
-        ensures failed { OnErr result (Rose self.old.counts.disk self.new.counts.disk) }
+        ensures failed { CountsFault result self.old.counts.disk self.new.counts.disk }
         ensures attached { self.new.attached ≡ true }
         ensures file { Cuts length result (state_of self.old).disk (state_of self.new).disk }
         ensures now { LeavesBy (MaybeCut length) result
@@ -466,7 +466,7 @@ impl Site for MemorySite {
         ensures ok { OnOk result (self.new ≡ called 16 Synced self.old) }
         ensures err { OnErr result (self.new ≡ disk_failed (called 16 Kept self.old)) }
 
-        ensures failed { OnErr result (Rose self.old.counts.disk self.new.counts.disk) }
+        ensures failed { CountsFault result self.old.counts.disk self.new.counts.disk }
         ensures attached { self.new.attached ≡ true }
         ensures file { MakesFile Stays (state_of self.old).disk (state_of self.new).disk }
         ensures now { Settles result (state_of self.new).disk

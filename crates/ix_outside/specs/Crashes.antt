@@ -1,8 +1,8 @@
 -- What a crash may leave, and what the calls of a site make of that.
-use Rattle.std.specs.Prelude.{◌≡◌, ◌⊎◌, ◌↔◌, ℕ, ◌≤◌, List, [], ◌∷◌, ◌++◌}
+use Rattle.std.specs.Prelude.{◌≡◌, ◌⊎◌, ◌↔◌, ℕ, ◌≤◌, List, [], ◌∷◌, ◌++◌, false}
 use Rattle.std.specs.Prelude.{Option, Some, Result, Ok, Err}
 use Rattle.ix_outside.specs.Contents.{SentBytes, Sends}
-use Rattle.ix_outside.specs.Disk.{Disk, OfFile}
+use Rattle.ix_outside.specs.Disk.{Disk, HasNothingOpened, OfFile}
 use Rattle.ix_outside.specs.Sink.{IsFront}
 use Rattle.ix_outside.specs.SiteState.{SiteState}
 
@@ -22,10 +22,12 @@ pub record Crashes : Type 1 where
 abbrev pub nothing_left : Crashes
 nothing_left = record { now = λ image. ⊥; left = λ t image. ⊥; left_since = λ t left. ⊥ }
 
--- What holds at any moment of a site: the file as it reads may be left; since this very tick
--- nothing is left but what may be left now, beside all that was sent; what is left since a later
--- tick is left since an earlier one; and beside what had been sent just the same images are left.
+-- What holds at any moment of a site: where nothing is attached, nothing is told of an attach; the
+-- file as it reads may be left; since this very tick nothing is left but what may be left now,
+-- beside all that was sent; what is left since a later tick is left since an earlier one; and
+-- beside what had been sent just the same images are left.
 pub record AreLawful (site : SiteState) (crashes : Crashes) : Type 0 where
+  pub unattached : site.attached ≡ false → HasNothingOpened site.disk
   pub file : OfFile crashes.now site.disk
   pub left_now : (image : List ℕ) → crashes.left site.tick image ↔ crashes.now image
   pub left_earlier : (t u : ℕ) (image : List ℕ) → t ≤ u → crashes.left u image
@@ -84,9 +86,9 @@ pub record OneCall (old new : SiteState) (was is : Crashes) : Type 0 where
 abbrev pub LeavesTheSame : (List ℕ → Type 0) → (List ℕ → Type 0) → Type 0
 LeavesTheSame was is = (image : List ℕ) → is image ↔ was image
 
--- no image may be left that mightn't have been before
-abbrev pub LeavesNoMore : (List ℕ → Type 0) → (List ℕ → Type 0) → Type 0
-LeavesNoMore was is = (image : List ℕ) → is image → was image
+-- each image that might have been left before may still be left
+abbrev pub LeavesNoLess : (List ℕ → Type 0) → (List ℕ → Type 0) → Type 0
+LeavesNoLess was is = (image : List ℕ) → was image → is image
 
 -- each image that may be left is one that might have been before, after this step
 abbrev pub LeavesAtMost : (List ℕ → List ℕ → Type 0) → (List ℕ → Type 0) → (List ℕ → Type 0)
@@ -103,14 +105,15 @@ LeavesJust Step was is = (image : List ℕ)
 abbrev pub LeavesTheFile : Option Disk → (List ℕ → Type 0) → Type 0
 LeavesTheFile disk now = OfFile (λ file. (image : List ℕ) → now image ↔ (image ≡ file)) disk
 
--- after a call that steps so; one that failed may have stepped
+-- after a call that steps so; one that failed may have stepped, or not
 abbrev pub LeavesBy : {T E : Type 0} → (List ℕ → List ℕ → Type 0) → Result T E
     → (List ℕ → Type 0) → (List ℕ → Type 0) → Type 0
 LeavesBy Step (Ok done) was is = LeavesJust Step was is
-LeavesBy Step (Err fault) was is = LeavesAtMost Step was is
+LeavesBy Step (Err fault) was is = LeavesAtMost Step was is × LeavesNoLess was is
 
--- after a sync, or an attach, just the file may be left; one that failed adds nothing
+-- after a sync, or an attach, just the file may be left; one that failed changes nothing of what may
+-- be left
 abbrev pub Settles : {T E : Type 0} → Result T E → Option Disk → (List ℕ → Type 0)
     → (List ℕ → Type 0) → Type 0
 Settles (Ok done) disk was is = LeavesTheFile disk is
-Settles (Err fault) disk was is = LeavesNoMore was is
+Settles (Err fault) disk was is = LeavesTheSame was is

@@ -18,6 +18,11 @@ abbrev pub OfFile : (List ℕ → Type 0) → Option Disk → Type 0
 OfFile P None = ⊤
 OfFile P (Some disk) = P disk.file
 
+-- where the disk is told, no attach is told of
+abbrev pub HasNothingOpened : Option Disk → Type 0
+HasNothingOpened None = ⊤
+HasNothingOpened (Some disk) = disk.opened ≡ None
+
 -- where the disk is told, this holds of its file before and after; whether it is told stays, and so
 -- does what was attached
 abbrev pub MakesFile : (List ℕ → List ℕ → Type 0) → Option Disk → Option Disk → Type 0

@@ -3,7 +3,7 @@ ghost use Rattle.std.specs.Prelude.{◌≡◌, ◌≤◌, ◌<◌, ◌-◌, min,
 ghost use Rattle.std.specs.Prelude.{length as list_length};
 ghost use Rattle.std.specs.Prelude.{take, drop, is_ok, IfOk, OnOk, OnErr};
 ghost use Rattle.ix_outside.specs.Contents.{Listens, Gives, SendsBytes};
-ghost use Rattle.ix_outside.specs.Counts.{Rose};
+ghost use Rattle.ix_outside.specs.Counts.{CountsFault, Rose};
 ghost use Rattle.ix_outside.specs.Crashes.{AreLawful, Crashes, OneCall, nothing_left};
 ghost use Rattle.ix_outside.specs.Crashes.{LeavesBy, LeavesTheSame, Settles};
 ghost use Rattle.ix_outside.specs.Disk.{Attaches, Cuts, MakesFile, MaybeCut, OfFile, Stays, Torn};
@@ -68,8 +68,8 @@ pub trait Site {
     /// fault none is attached.
     fn attach(&mut self, name: &str) -> Result<(), DiskFailed>
         requires { (state self.old).attached ≡ false }
-        ensures failed { OnErr result
-            (Rose (state self.old).counts.disk (state self.new).counts.disk) }
+        ensures failed { CountsFault result
+            (state self.old).counts.disk (state self.new).counts.disk }
         ensures attached { (state self.new).attached ≡ is_ok result }
         ensures file { Attaches name.now result (state self.new).tick
             (state self.old).disk (state self.new).disk }
@@ -82,8 +82,8 @@ pub trait Site {
     /// How many bytes the attached file has.
     fn length(&mut self) -> Result<u64, DiskFailed>
         requires { (state self.old).attached ≡ true }
-        ensures failed { OnErr result
-            (Rose (state self.old).counts.disk (state self.new).counts.disk) }
+        ensures failed { CountsFault result
+            (state self.old).counts.disk (state self.new).counts.disk }
         ensures attached { (state self.new).attached ≡ true }
         ensures value { IfOk result
             (λ count. OfFile (λ file. count ≡ length file) (state self.old).disk) }
@@ -98,8 +98,8 @@ pub trait Site {
     fn read_at(&mut self, at: u64, buf: &mut [u8]) -> Result<usize, DiskFailed>
         requires { (state self.old).attached ≡ true }
         ensures within { IfOk result (λ count. count ≤ length buf.old) }
-        ensures failed { OnErr result
-            (Rose (state self.old).counts.disk (state self.new).counts.disk) }
+        ensures failed { CountsFault result
+            (state self.old).counts.disk (state self.new).counts.disk }
         ensures attached { (state self.new).attached ≡ true }
         ensures value { IfOk result (λ count. OfFile
             (λ file. count ≡ min (length buf.old) (length file - at)) (state self.old).disk) }
@@ -115,8 +115,8 @@ pub trait Site {
     fn write_at(&mut self, at: u64, bytes: &[u8]) -> Result<(), DiskFailed>
         requires attached { (state self.old).attached ≡ true }
         requires place { OfFile (λ file. at ≤ length file) (state self.old).disk }
-        ensures failed { OnErr result
-            (Rose (state self.old).counts.disk (state self.new).counts.disk) }
+        ensures failed { CountsFault result
+            (state self.old).counts.disk (state self.new).counts.disk }
         ensures attached { (state self.new).attached ≡ true }
         ensures file { Writes at bytes.now result (state self.old).disk (state self.new).disk }
         ensures now { LeavesBy (Torn at (length bytes.now)) result
@@ -129,8 +129,8 @@ pub trait Site {
     fn cut(&mut self, length: u64) -> Result<(), DiskFailed>
         requires attached { (state self.old).attached ≡ true }
         requires shorter { OfFile (λ file. length ≤ list_length file) (state self.old).disk }
-        ensures failed { OnErr result
-            (Rose (state self.old).counts.disk (state self.new).counts.disk) }
+        ensures failed { CountsFault result
+            (state self.old).counts.disk (state self.new).counts.disk }
         ensures attached { (state self.new).attached ≡ true }
         ensures file { Cuts length result (state self.old).disk (state self.new).disk }
         ensures now { LeavesBy (MaybeCut length) result
@@ -142,8 +142,8 @@ pub trait Site {
     /// Brings to the disk what was written before.
     fn sync(&mut self) -> Result<(), DiskFailed>
         requires { (state self.old).attached ≡ true }
-        ensures failed { OnErr result
-            (Rose (state self.old).counts.disk (state self.new).counts.disk) }
+        ensures failed { CountsFault result
+            (state self.old).counts.disk (state self.new).counts.disk }
         ensures attached { (state self.new).attached ≡ true }
         ensures file { MakesFile Stays (state self.old).disk (state self.new).disk }
         ensures now { Settles result (state self.new).disk

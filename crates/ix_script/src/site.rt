@@ -119,7 +119,7 @@ impl<'a, S: Site, K: Sink> Site for ScriptSite<'a, S, K> {
     ghost crashes = { λ it. without_sends (S.crashes (playing it).site) };
 
     ghost lawful = { λ it. lawful_without_sends (S.state (playing it).site) _
-        (S.crashes (playing it).site) refl refl refl (S.lawful (playing it).site) };
+        (S.crashes (playing it).site) refl refl refl refl (S.lawful (playing it).site) };
 
     fn listen(&mut self, _name: &str) -> Result<(), WireFailed> {
         Ok(())

@@ -2,7 +2,8 @@
 use Rattle.std.proofs.Common.{◌≡◌, ℕ, ◌+◌, ◌<◌, ◌≤◌, List, [], ◌∷◌, ◌++◌, length, Some}
 use Rattle.std.proofs.Common.{sym, ◌∙◌, ap, subst, arith, inl, inr}
 use Rattle.std.proofs.lemmas.List.{length_push}
-use Rattle.ix_values.specs.PlainAction.{PlainAction, Word}
+use Rattle.ix_values.specs.PlainAction.{PlainAction}
+use Rattle.ix_journal.specs.History.{PlainHistory}
 use Rattle.ix_values.specs.Texts.{IsAction}
 use Rattle.ix_outside.specs.Crashes.{Crashes, AreLawful, LeavesTheFile}
 use Rattle.ix_outside.specs.Disk.{Disk, OfFile, MakesFile, Overwrites, Torn}
@@ -18,7 +19,7 @@ use Rattle.ix_store.proofs.Calls.{now_has, calls_more, torn_has}
 use Rattle.ix_store.proofs.Appending.{torn_behind, staged, torn_gate, opened_gate}
 
 -- the file as it reads is the journal too
-fitting_file : (old : SiteState) (was : Crashes) (store : Keeping) (text : List ℕ) (history : Word)
+fitting_file : (old : SiteState) (was : Crashes) (store : Keeping) (text : List ℕ) (history : PlainHistory)
     → AreLawful old was → Fits old was store text history → (told : Disk) → old.disk ≡ Some told
     → IsJournal told.file text history store.gate
 fitting_file old was store text history lawful fits told is =
@@ -26,7 +27,7 @@ fitting_file old was store text history lawful fits told is =
 
 -- the place behind the gate is in the file
 pub place_behind : (old : SiteState) (was : Crashes) (store : Keeping) (text : List ℕ)
-    (history : Word)
+    (history : PlainHistory)
     → AreLawful old was → Fits old was store text history
     → OfFile (λ file. store.gate + 1 ≤ length file) old.disk
 place_behind old was store text history lawful fits =
@@ -37,7 +38,7 @@ place_behind old was store text history lawful fits =
 -- `mid` is behind the call that writes the record
 module _ (old mid : SiteState) (was then : Crashes) (calls : DiskCalls old mid was then)
     (lawful : AreLawful old was) (lawful' : AreLawful mid then)
-    (store : Keeping) (text : List ℕ) (history : Word) (fits : Fits old was store text history)
+    (store : Keeping) (text : List ℕ) (history : PlainHistory) (fits : Fits old was store text history)
     (bytes : List ℕ) (images : (disk : Disk) → old.disk ≡ Some disk
     → LeavesOnly (MaybeTorn (store.gate + 1) (length bytes) was.now) old then)
   where
@@ -114,7 +115,7 @@ module _ (old mid : SiteState) (was then : Crashes) (calls : DiskCalls old mid w
             → after.gate ≡ store.gate + length bytes
             → after.count ≡ store.count + 1 → Fits new is after text (history ++ action ∷ [])
         fits_more opened settled' after gate count =
-            let more : Word = history ++ action ∷ [] in
+            let more : PlainHistory = history ++ action ∷ [] in
             record {
               count = let counts = fits.count in omega (arith, length_push history action);
               images = λ last told image now.

@@ -6,7 +6,8 @@ use Rattle.std.proofs.lemmas.List.{append_assoc, drop_more, take-append-drop, ta
 use Rattle.std.proofs.lemmas.List.{take-take, take_at, drop_at, length-take-le, length-append}
 use Rattle.std.proofs.lemmas.Bool.{cases_eq}
 use Rattle.std.specs.Prelude.{slice_get}
-use Rattle.ix_values.specs.PlainAction.{PlainAction, Word}
+use Rattle.ix_values.specs.PlainAction.{PlainAction}
+use Rattle.ix_journal.specs.History.{PlainHistory}
 use Rattle.ix_values.specs.Texts.{IsAction}
 use Rattle.ix_outside.specs.Disk.{Torn, Overwrites}
 use Rattle.ix_journal.specs.Format.{record_of}
@@ -41,7 +42,7 @@ byte_behind [] byte rest (suc at) e = absurd (omega arith)
 byte_behind (x ∷ front) byte rest zero e = absurd (omega arith)
 byte_behind (x ∷ front) byte rest (suc at) e = byte_behind front byte rest at (omega arith)
 
-module _ (text : List ℕ) (history : Word) (gate : ℕ) where
+module _ (text : List ℕ) (history : PlainHistory) (gate : ℕ) where
   -- what is written behind the closed gate means nothing
   pub torn_behind : (count : ℕ) (before image : List ℕ) → IsJournal before text history gate
       → Torn (gate + 1) count before image → IsJournal image text history gate

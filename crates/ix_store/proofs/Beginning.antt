@@ -1,6 +1,6 @@
 -- What the steps that make a journal anew may leave.
 use Rattle.std.proofs.Common.{◌≡◌, ℕ, ◌+◌, ◌<◌, ◌≤◌, Bool, true, false, List, [], ◌∷◌, ◌++◌, length}
-use Rattle.std.proofs.Common.{get_or, take, drop, Option, Some, Result}
+use Rattle.std.proofs.Common.{get_or, take, drop, Option, Some, Result, Ok, Err}
 use Rattle.std.proofs.Common.{sym, ◌∙◌, ap, subst, arith, inl, inr}
 use Rattle.std.proofs.lemmas.List.{append-nil, drop_all, drop_more, length-append, length-take}
 use Rattle.std.proofs.lemmas.List.{length-drop}
@@ -54,13 +54,6 @@ module _ (text : List ℕ) (short : length text < 65536) where
       ∙ ap (λ (l : List ℕ). get_or image 0 0 ∷ drop 1 l) is in
       subst (IsBegun text) (sym whole)
       (begun_behind (get_or image 0 0) text unopened.gate short unopened.closed)
-
-  -- a cut behind the first byte
-  pub cutting : (before image : List ℕ) → IsBegun text before → MaybeCut 1 before image
-      → IsBegun text image
-  cutting before image begins (inl same) = subst (IsBegun text) (sym same) begins
-  cutting before image begins (inr cut) =
-      inl (inl (inl (let n = length-take 1 before in omega (arith, ap length cut))))
 
   -- the header is written behind 00
   pub heading : (count : ℕ) (image : List ℕ) → Torn 1 count (0 ∷ []) image → IsBegun text image
@@ -141,3 +134,19 @@ module _ (text : List ℕ) (short : length text < 65536) (disk : Option Disk) (t
             (subst (λ (f : List ℕ). Torn 0 1 f image)
             (just disk told was is settled torn.0 torn.1) torn.2)
       ]
+
+-- where a new or begun journal might have been left, and then it is cut behind its head gate
+cut_begun : (text before image : List ℕ) → IsBegun text before → MaybeCut 1 before image
+    → IsBegun text image
+cut_begun text before image begun (inl same) = subst (IsBegun text) (sym same) begun
+cut_begun text before image begun (inr short) =
+    let counted = ap length short in
+    let taken = length-take 1 before in inl (inl (inl (omega arith)))
+
+pub cut_now : {T E : Type 0} (text : List ℕ) (result : Result T E) (was is : List ℕ → Type 0)
+    → LeavesBy (MaybeCut 1) result was is → ((image : List ℕ) → was image → IsBegun text image)
+    → (image : List ℕ) → is image → IsBegun text image
+cut_now text (Ok done) was is leaves begun image now =
+    let left = (leaves image).0 now in cut_begun text left.0 image (begun left.0 left.1) left.2
+cut_now text (Err fault) was is leaves begun image now =
+    let left = leaves.0 image now in cut_begun text left.0 image (begun left.0 left.1) left.2

@@ -32,7 +32,7 @@ pub torn_now : {T E : Type 0} (at count : ℕ) (result : Result T E) (was is : L
     → LeavesBy (Torn at count) result was is → (image : List ℕ) → is image
     → MaybeTorn at count was image
 torn_now at count (Ok done) was is leaves image now = inr ((leaves image).0 now)
-torn_now at count (Err fault) was is leaves image now = inr (leaves image now)
+torn_now at count (Err fault) was is leaves image now = inr (leaves.0 image now)
 
 -- what holds of what might have been left before a sync holds of what may be left behind it
 pub sync_now : {T E : Type 0} (P : List ℕ → Type 0) (result : Result T E) (disk : Disk)
@@ -44,7 +44,7 @@ sync_now P (Ok done) disk old new was is told file stays settles has image now =
     let same = just new after.disk is after.told settles image now ∙ after.makes in
     has image (subst was (sym same) (of_told was old disk told file))
 sync_now P (Err fault) disk old new was is told file stays settles has image now =
-    has image (settles image now)
+    has image ((settles image).0 now)
 
 -- before and after the first call
 pub first_call : (P : List ℕ → Type 0) (old new : SiteState) (was is : Crashes) → AreLawful old was

@@ -6,4 +6,4 @@ mod Appended
 mod Reading
 mod Beginning
 mod Begun
-mod Opened
+pub mod Opened

@@ -1,19 +1,20 @@
 -- What a file is, from its first bytes, and what a start leaves of it.
 use Rattle.std.proofs.Common.{◌≡◌, ◌⊎◌, ℕ, ◌+◌, ◌<◌, List, [], ◌∷◌, ◌++◌, length, Some}
-use Rattle.std.proofs.Common.{◌*◌, ◌≤◌, Option, Vec, Result, Ok, Err, MatchResult, OnOk}
+use Rattle.std.proofs.Common.{◌≤◌, Option, Vec, Result, Ok, Err, MatchResult}
 use Rattle.std.proofs.Common.{sym, subst, arith, inl, inr}
 use Rattle.std.specs.Prelude.{All}
 use Rattle.std.specs.declared.alloc.Global.{Global}
 use Rattle.ix_values.specs.Texts.{IsAction}
-use Rattle.ix_values.specs.PlainAction.{Word}
+use Rattle.ix_journal.specs.History.{PlainHistory}
 use Rattle.ix_outside.specs.Crashes.{Crashes, LeavesTheFile}
 use Rattle.ix_outside.specs.Disk.{Disk, OfFile, MakesFile, Stays}
 use Rattle.ix_outside.specs.SiteState.{SiteState}
 use Rattle.ix_outside.specs.inside.DiskCalls.{DiskCalls, LeavesOnly}
-use Rattle.ix_journal.specs.Format.{header}
+use Rattle.ix_journal.specs.Format.{farthest_gate, header}
 use Rattle.ix_journal.specs.Kinds.{IsReady, unfinished, unopened, foreign, ready}
 use Rattle.ix_journal.specs.Records.{ClosesAt}
 use Rattle.ix_journal.specs.Recovery.{IsJournal, Recovers}
+use Rattle.ix_journal.proofs.KindLaws.{one_kind}
 use Rattle.ix_journal.proofs.OutcomeLaws.{one_history}
 use Rattle.ix_journal.proofs.WritingLaws.{opened}
 use Rattle.ix_store.specs.declared.fault.OpenFault.{OpenFault}
@@ -26,8 +27,8 @@ use Rattle.ix_store.specs.inside.Opens.{IsOwn, Opens}
 use Rattle.ix_store.specs.inside.Keeping.{Fits}
 use Rattle.ix_store.specs.Keeping.{Keeping}
 use Rattle.ix_store.specs.inside.Reading.{IsHeadOf}
-use Rattle.ix_store.specs.inside.Refusals.{Refuses}
-use Rattle.ix_store.specs.inside.Starting.{LeavesOnStart}
+use Rattle.ix_store.specs.inside.Refusals.{Refuses, TellsNothing}
+use Rattle.ix_store.specs.inside.Starting.{CountsOpening, LeavesOnStart, SettlesOpening}
 use Rattle.ix_store.specs.inside.Steps.{IsBegun, IsFound, IsSound, RefusesHead}
 use Rattle.ix_store.specs.inside.Steps.{StopsReading}
 use Rattle.ix_store.proofs.Calls.{calls_more}
@@ -60,7 +61,7 @@ found_new text found head file is found_so =
     let P : Found → Type 0 = λ f. IsFound text f file in subst P is found_so
 
 pub found_sound : (found : Found) (kept : Kept) → found ≡ fd.Journal kept → IsSound found
-    → (kept.gate ≤ 65542 + 168 * length kept.history.items) × All IsAction kept.history.items
+    → (kept.gate ≤ farthest_gate (length kept.history.items)) × All IsAction kept.history.items
 found_sound found kept is sound = subst IsSound is sound
 
 -- what was found of a file that stays was found of it before
@@ -75,10 +76,33 @@ found_before text (Ok found) old new stays holds =
 found_before text (Err fault) old new stays holds =
     stayed_of (λ file. Refuses file text fault) old new stays holds
 
--- what holds whatever is answered
-pub on_ok : {T E : Type 0} (P : Type 0) (result : Result T E) → P → OnOk result P
-on_ok P (Ok value) holds = holds
-on_ok P (Err fault) holds = tt
+-- where just the file may be left whatever is answered
+pub settles : {T : Type 0} (result : Result T OpenFault) (disk : Option Disk)
+    (now : List ℕ → Type 0) → LeavesTheFile disk now → SettlesOpening result disk now
+settles (Ok value) disk now only = only
+settles (Err why) disk now only = λ told. only
+
+-- what is counted from the same count on
+pub counts_on : {T : Type 0} (result : Result T OpenFault) (before then now : ℕ) → then ≡ before
+    → CountsOpening result then now → CountsOpening result before now
+counts_on result before then now same counts =
+    subst (λ n. CountsOpening result n now) same counts
+
+-- a fault that tells nothing of the file refuses any
+pub refuses_any : (why : OpenFault) (file text : List ℕ) → TellsNothing why → Refuses file text why
+refuses_any fault.NotJournal file text none = absurd none
+refuses_any (fault.OtherExpression kept) file text none = absurd none
+refuses_any (fault.Damaged at) file text none = absurd none
+refuses_any fault.Many file text none = absurd none
+refuses_any fault.Disk file text none = tt
+refuses_any fault.Memory file text none = tt
+
+-- a ready file isn't to be made anew
+pub ready_not_new : (file text : List ℕ) → IsReadyWith file text → ¬ IsNew file text
+ready_not_new file text is (inl new) =
+    let same = one_kind file unfinished (ready text is.0) new is.1 in cc
+ready_not_new file text is (inr new) =
+    let same = one_kind file (unopened text) (ready text is.0) new is.1 in cc
 
 -- the front of a file tells what it is
 module _ (head file text : List ℕ) (is_head : IsHeadOf head file) where
@@ -105,7 +129,7 @@ module _ (head file text : List ℕ) (is_head : IsHeadOf head file) where
     ready_there : IsReady file text first
     ready_there = is_head.kind (ready text first) is_ready
 
-    pub journal_read : (history : Word) (gate : ℕ) → ClosesAt file first history gate
+    pub journal_read : (history : PlainHistory) (gate : ℕ) → ClosesAt file first history gate
         → IsJournal file text history gate
     journal_read history gate closes =
         record { first = first; ready = ready_there; closes = closes }
@@ -128,7 +152,7 @@ module _ (head file text : List ℕ) (is_head : IsHeadOf head file) where
 pub opens_new : (file text : List ℕ) → IsNew file text → Opens file text []
 opens_new file text new = record { own = inl new; recovers = new_recovers file text new }
 
-pub opens_journal : (file text : List ℕ) (history : Word) (gate : ℕ)
+pub opens_journal : (file text : List ℕ) (history : PlainHistory) (gate : ℕ)
     → IsJournal file text history gate
     → Opens file text history
 opens_journal file text history gate journal = record {
@@ -138,7 +162,7 @@ opens_journal file text history gate journal = record {
 
 -- the store of a journal that alone may be left fits
 pub fits_only : (site : SiteState) (crashes : Crashes) (store : Keeping) (text : List ℕ)
-    (history : Word)
+    (history : PlainHistory)
     → store.count ≡ length history → LeavesTheFile site.disk crashes.now
     → ((disk : Disk) → site.disk ≡ Some disk → IsJournal disk.file text history store.gate)
     → Fits site crashes store text history

@@ -8,14 +8,19 @@ use Rattle.ix_store.specs.inside.Reading.{OnlyReads}
 use Rattle.ix_store.proofs.Calls.{one, first_call, calls_more}
 use Rattle.ix_store.proofs.Told.{of_told, to_told, came, just, stays_none}
 
+-- what is made of a file that stayed is made of it
+pub stays_then : (R : List ℕ → List ℕ → Type 0) (a b c : Option Disk) → MakesFile Stays a b
+    → MakesFile R b c → MakesFile R a c
+stays_then R None b c first second =
+    let P : Option Disk → Type 0 = λ disk. MakesFile R disk c in subst P first second
+stays_then R (Some a) None c first second = absurd first
+stays_then R (Some a) (Some b) None first second = absurd second
+stays_then R (Some a) (Some b) (Some c) first second =
+    (subst (λ file. R file c.file) first.0 second.0, second.1 ∙ first.1)
+
 pub stays_join : (a b c : Option Disk) → MakesFile Stays a b → MakesFile Stays b c
     → MakesFile Stays a c
-stays_join None b c first second =
-    let P : Option Disk → Type 0 = λ disk. MakesFile Stays disk c in subst P first second
-stays_join (Some a) None c first second = absurd first
-stays_join (Some a) (Some b) None first second = absurd second
-stays_join (Some a) (Some b) (Some c) first second =
-    (second.0 ∙ first.0, second.1 ∙ first.1)
+stays_join a b c first second = stays_then Stays a b c first second
 
 -- no call
 pub reads_none : (now : SiteState) (crashes : Crashes) → AreLawful now crashes

@@ -10,7 +10,8 @@ use Rattle.std.proofs.lemmas.List.{take-take, length-take, take_min}
 use Rattle.std.proofs.Math.Seq.{take-add}
 use Rattle.std.proofs.lemmas.List.Elements.{All-append, All-cons, All-nil}
 use Rattle.std.specs.Prelude.{All}
-use Rattle.ix_values.specs.PlainAction.{PlainAction, Word, text_of}
+use Rattle.ix_values.specs.PlainAction.{PlainAction, text_of}
+use Rattle.ix_journal.specs.History.{PlainHistory}
 use Rattle.ix_values.specs.Texts.{IsAction}
 use Rattle.ix_values.specs.Faults.{IsActionText}
 use Rattle.ix_outside.specs.Disk.{Disk, OfFile}
@@ -38,7 +39,7 @@ want_few (gate ∷ high ∷ low ∷ rest) want =
     let most = want.1 in let few = want.2 in omega arith
 
 -- a Slide behind these records, whatever the file: `at` is the place behind the kept bytes
-pub record IsOnWay (first at : ℕ) (history : Word) (kept : Kept) : Type 0 where
+pub record IsOnWay (first at : ℕ) (history : PlainHistory) (kept : Kept) : Type 0 where
   pub place : at ≡ kept.gate + length kept.bytes
   pub some : 0 < length kept.bytes
   pub room : length kept.bytes ≤ 4096
@@ -47,13 +48,13 @@ pub record IsOnWay (first at : ℕ) (history : Word) (kept : Kept) : Type 0 wher
   pub few : length history ≤ 1000000
 
 -- the records of the file are these up to the Slide's gate, and the kept bytes are the file's
-pub record Reached (first at : ℕ) (history : Word) (kept : Kept) (file : List ℕ) : Type 0 where
+pub record Reached (first at : ℕ) (history : PlainHistory) (kept : Kept) (file : List ℕ) : Type 0 where
   pub records : Holds file first history kept.gate
   pub here : kept.bytes ++ drop at file ≡ drop kept.gate file
   pub end : kept.ended ≡ true → drop at file ≡ []
 
 -- a number that falls from step to step
-abbrev pub steps_left : Word → Kept → ℕ
+abbrev pub steps_left : PlainHistory → Kept → ℕ
 steps_left history kept =
     (1000000 - length history) * 5000 + (4096 - length kept.bytes) + (if kept.ended then 0 else 1)
 
@@ -95,7 +96,7 @@ module _ (head : List ℕ) (first count : ℕ) (within : first < length head)
       }
 
 -- a record is lent
-module _ (first at : ℕ) (history : Word) (kept : Kept) (text : Bor (List ℕ))
+module _ (first at : ℕ) (history : PlainHistory) (kept : Kept) (text : Bor (List ℕ))
     (tells : Tells kept (slid.Record text)) where
   -- its text is an action's
   pub text_lent : IsActionText text.now
@@ -186,7 +187,7 @@ module _ (first at : ℕ) (history : Word) (kept : Kept) (text : Bor (List ℕ))
       }
 
 -- a closed gate is met, or damage
-module _ (first at : ℕ) (history : Word) (kept : Kept) (file : List ℕ)
+module _ (first at : ℕ) (history : PlainHistory) (kept : Kept) (file : List ℕ)
     (reached : Reached first at history kept file) (few : length history ≤ 1000000) where
   closed_here : (gate : ℕ) (new : Standing) → Gives (at_gate file gate) None new
       → IsClosed file gate
@@ -234,7 +235,7 @@ module _ (first at : ℕ) (history : Word) (kept : Kept) (file : List ℕ)
     }
 
 -- more bytes come, or the end is told
-module _ (first at : ℕ) (history : Word) (kept : Kept) (short : IsShort kept) where
+module _ (first at : ℕ) (history : PlainHistory) (kept : Kept) (short : IsShort kept) where
   short_few : length kept.bytes ≤ 168
   short_few = want_few kept.bytes short.1
 

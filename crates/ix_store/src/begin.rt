@@ -1,16 +1,17 @@
 //! A journal that is made anew.
 
-ghost use Rattle.std.specs.Prelude.{◌≡◌, ◌<◌, ◌≤◌, [], ◌∷◌, ◌++◌, true, ℕ, List, length, take};
-ghost use Rattle.std.specs.Prelude.{drop, OnOk, OnErr, IfErr, IsErrOf};
+ghost use Rattle.std.specs.Prelude.{◌≡◌, ◌<◌, ◌≤◌, [], ◌∷◌, true, ℕ, List, length, take};
+ghost use Rattle.std.specs.Prelude.{drop, OnOk, IfErr};
 ghost use Rattle.std.specs.Option.{ForSome};
-ghost use Rattle.ix_outside.specs.Counts.{Rose};
+ghost use Rattle.ix_outside.specs.Counts.{CountsFault};
 ghost use Rattle.ix_outside.specs.Crashes.{LeavesTheFile};
 ghost use Rattle.ix_outside.specs.Disk.{OfFile, MakesFile};
 ghost use Rattle.ix_outside.specs.inside.DiskCalls.{DiskCalls, LeavesOnly};
-ghost use Rattle.ix_journal.specs.Format.{header};
 ghost use Rattle.ix_store.specs.Opening.{IsNew};
 ghost use Rattle.ix_store.specs.inside.Reading.{IsHeadOf};
-ghost use Rattle.ix_store.specs.inside.Steps.{IsBegun, TellsNothing};
+ghost use Rattle.ix_store.specs.inside.Refusals.{TellsNothing};
+ghost use Rattle.ix_store.specs.inside.Starting.{CountsOpening, new_journal};
+ghost use Rattle.ix_store.specs.inside.Steps.{IsBegun};
 
 use crate::OpenFault;
 use crate::write::write_through;
@@ -32,15 +33,15 @@ pub(crate) fn begin<S: Site>(
     requires is_new { OfFile (λ file. IsNew file text.now) (S.state site.old).disk }
     requires settled { LeavesTheFile (S.state site.old).disk (S.crashes site.old).now }
     ensures begun { OnOk result (MakesFile
-        (λ _ file. file ≡ OPEN ∷ header text.now ++ CLOSED ∷ [])
+        (λ _ file. file ≡ new_journal text.now)
         (S.state site.old).disk (S.state site.new).disk) }
     ensures settled { OnOk result
         (LeavesTheFile (S.state site.new).disk (S.crashes site.new).now) }
     ensures images { ForSome (S.state site.old).disk (λ _.
         LeavesOnly (IsBegun text.now) (S.state site.old) (S.crashes site.new)) }
     ensures fault { IfErr result TellsNothing }
-    ensures failed { IsErrOf result OpenFault.Disk
-        → Rose (S.state site.old).counts.disk (S.state site.new).counts.disk }
+    ensures failed { CountsOpening result
+        (S.state site.old).counts.disk (S.state site.new).counts.disk }
     ensures calls { DiskCalls (S.state site.old) (S.state site.new)
         (S.crashes site.old) (S.crashes site.new) }
 {
@@ -71,8 +72,8 @@ fn clear<S: Site>(site: &mut S, bytes: &[u8]) -> Result<(), DiskFailed>
     ensures images { ForSome (S.state site.old).disk (λ disk. (text : List ℕ)
         → length text < 65536 → IsNew disk.file text
         → LeavesOnly (IsBegun text) (S.state site.old) (S.crashes site.new)) }
-    ensures failed { OnErr result
-        (Rose (S.state site.old).counts.disk (S.state site.new).counts.disk) }
+    ensures failed { CountsFault result
+        (S.state site.old).counts.disk (S.state site.new).counts.disk }
     ensures calls { DiskCalls (S.state site.old) (S.state site.new)
         (S.crashes site.old) (S.crashes site.new) }
 {
@@ -91,8 +92,8 @@ fn close_head<S: Site>(site: &mut S, bytes: &[u8]) -> Result<(), DiskFailed>
     ensures images { ForSome (S.state site.old).disk (λ disk. (text : List ℕ)
         → length text < 65536 → IsNew disk.file text
         → LeavesOnly (IsBegun text) (S.state site.old) (S.crashes site.new)) }
-    ensures failed { OnErr result
-        (Rose (S.state site.old).counts.disk (S.state site.new).counts.disk) }
+    ensures failed { CountsFault result
+        (S.state site.old).counts.disk (S.state site.new).counts.disk }
     ensures calls { DiskCalls (S.state site.old) (S.state site.new)
         (S.crashes site.old) (S.crashes site.new) }
 {
@@ -113,8 +114,8 @@ fn cut_behind_head<S: Site>(site: &mut S, bytes: &[u8]) -> Result<(), DiskFailed
     ensures images { (text : List ℕ)
         → ((image : List ℕ) → (S.crashes site.old).now image → IsBegun text image)
         → LeavesOnly (IsBegun text) (S.state site.old) (S.crashes site.new) }
-    ensures failed { OnErr result
-        (Rose (S.state site.old).counts.disk (S.state site.new).counts.disk) }
+    ensures failed { CountsFault result
+        (S.state site.old).counts.disk (S.state site.new).counts.disk }
     ensures calls { DiskCalls (S.state site.old) (S.state site.new)
         (S.crashes site.old) (S.crashes site.new) }
 {

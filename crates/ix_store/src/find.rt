@@ -1,13 +1,12 @@
 //! What the attached file is to a store.
 
-ghost use Rattle.std.specs.Prelude.{◌≡◌, true, IfOk, OnOk, IsErrOf, MatchResult};
+ghost use Rattle.std.specs.Prelude.{◌≡◌, true, IfOk, MatchResult};
 ghost use Rattle.std.specs.Option.{ForSome};
-ghost use Rattle.ix_outside.specs.Counts.{Rose};
-ghost use Rattle.ix_outside.specs.Crashes.{LeavesTheFile};
 ghost use Rattle.ix_outside.specs.Disk.{OfFile, MakesFile, Stays};
 ghost use Rattle.ix_outside.specs.inside.DiskCalls.{DiskCalls, LeavesOnly};
 ghost use Rattle.ix_store.specs.inside.Reading.{OnlyReads};
 ghost use Rattle.ix_store.specs.inside.Refusals.{Refuses};
+ghost use Rattle.ix_store.specs.inside.Starting.{CountsOpening, SettlesOpening};
 ghost use Rattle.ix_store.specs.inside.Steps.{IsFound, IsSound};
 
 use crate::OpenFault;
@@ -26,7 +25,7 @@ pub(crate) enum Found {
     Journal(Kept),
 }
 
-/// Syncs, and finds out what the file is. After Ok just the file may be left.
+/// Syncs, and finds out what the file is. Then just the file may be left.
 pub(crate) fn sync_and_find<S: Site>(
     alloc: Global,
     site: &mut S,
@@ -37,13 +36,12 @@ pub(crate) fn sync_and_find<S: Site>(
         (λ found. OfFile (IsFound text.now found) (S.state site.old).disk)
         (λ fault. OfFile (λ file. Refuses file text.now fault) (S.state site.old).disk) }
     ensures sound { IfOk result IsSound }
-    ensures settled { OnOk result
-        (LeavesTheFile (S.state site.new).disk (S.crashes site.new).now) }
+    ensures settled { SettlesOpening result (S.state site.new).disk (S.crashes site.new).now }
     ensures stays { MakesFile Stays (S.state site.old).disk (S.state site.new).disk }
     ensures images { ForSome (S.state site.old).disk (λ _.
         LeavesOnly (S.crashes site.old).now (S.state site.old) (S.crashes site.new)) }
-    ensures failed { IsErrOf result OpenFault.Disk
-        → Rose (S.state site.old).counts.disk (S.state site.new).counts.disk }
+    ensures failed { CountsOpening result
+        (S.state site.old).counts.disk (S.state site.new).counts.disk }
     ensures calls { DiskCalls (S.state site.old) (S.state site.new)
         (S.crashes site.old) (S.crashes site.new) }
 {
@@ -62,8 +60,8 @@ fn find<S: Site>(alloc: Global, site: &mut S, text: &[u8]) -> Result<Found, Open
     ensures sound { IfOk result IsSound }
     ensures reads { OnlyReads (S.state site.old) (S.state site.new)
         (S.crashes site.old) (S.crashes site.new) }
-    ensures failed { IsErrOf result OpenFault.Disk
-        → Rose (S.state site.old).counts.disk (S.state site.new).counts.disk }
+    ensures failed { CountsOpening result
+        (S.state site.old).counts.disk (S.state site.new).counts.disk }
 {
     let head = match read_head(alloc, site) {
         Ok(head) => head,

@@ -1,10 +1,10 @@
 //! The front of a file, as it stands on the disk.
 
-ghost use Rattle.std.specs.Prelude.{◌≡◌, ◌+◌, ℕ, true, take, IfOk, IfErr, OnOk, IsErrOf};
-ghost use Rattle.ix_outside.specs.Counts.{Rose};
+ghost use Rattle.std.specs.Prelude.{◌≡◌, ◌+◌, ℕ, true, take, IfOk, IfErr, OnOk};
 ghost use Rattle.ix_outside.specs.Disk.{OfFile};
 ghost use Rattle.ix_store.specs.inside.Reading.{IsHeadOf, OnlyReads};
-ghost use Rattle.ix_store.specs.inside.Steps.{TellsNothing};
+ghost use Rattle.ix_store.specs.inside.Refusals.{TellsNothing};
+ghost use Rattle.ix_store.specs.inside.Starting.{CountsOpening};
 
 use crate::OpenFault;
 use ix_journal::{FRONT_LENGTH, text_length};
@@ -19,8 +19,8 @@ pub(crate) fn read_head<S: Site>(alloc: Global, site: &mut S) -> Result<Vec<u8>,
     ensures reads { OnlyReads (S.state site.old) (S.state site.new)
         (S.crashes site.old) (S.crashes site.new) }
     ensures fault { IfErr result TellsNothing }
-    ensures failed { IsErrOf result OpenFault.Disk
-        → Rose (S.state site.old).counts.disk (S.state site.new).counts.disk }
+    ensures failed { CountsOpening result
+        (S.state site.old).counts.disk (S.state site.new).counts.disk }
 {
     let mut head = Vec::new(alloc);
     read_more(alloc, site, &mut head, FRONT_LENGTH)?;
@@ -46,8 +46,8 @@ fn read_more<S: Site>(
     ensures reads { OnlyReads (S.state site.old) (S.state site.new)
         (S.crashes site.old) (S.crashes site.new) }
     ensures fault { IfErr result TellsNothing }
-    ensures failed { IsErrOf result OpenFault.Disk
-        → Rose (S.state site.old).counts.disk (S.state site.new).counts.disk }
+    ensures failed { CountsOpening result
+        (S.state site.old).counts.disk (S.state site.new).counts.disk }
 {
     let Ok(mut piece) = vec![in alloc; 0; count] else {
         return Err(OpenFault::Memory);

@@ -1,12 +1,14 @@
 //! The records of a file, read in pieces.
 
-ghost use Rattle.std.specs.Prelude.{◌≡◌, ◌+◌, ◌*◌, ◌^◌, ◌<◌, ◌≤◌, true, false, length, All};
-ghost use Rattle.std.specs.Prelude.{IfOk, OnErr, IsErrOf, MatchResult};
+ghost use Rattle.std.specs.Prelude.{◌≡◌, ◌^◌, ◌<◌, ◌≤◌, true, false, length, All};
+ghost use Rattle.std.specs.Prelude.{IfOk, MatchResult};
 ghost use Rattle.ix_values.specs.Texts.{IsAction};
-ghost use Rattle.ix_outside.specs.Counts.{Rose};
+ghost use Rattle.ix_outside.specs.Counts.{CountsFault};
 ghost use Rattle.ix_outside.specs.Disk.{OfFile};
+ghost use Rattle.ix_journal.specs.Format.{farthest_gate};
 ghost use Rattle.ix_journal.specs.Records.{ClosesAt};
 ghost use Rattle.ix_store.specs.inside.Reading.{BeginsWith, Feeds, OnlyReads};
+ghost use Rattle.ix_store.specs.inside.Starting.{CountsOpening};
 ghost use Rattle.ix_store.specs.inside.Steps.{StopsReading};
 
 use crate::OpenFault;
@@ -32,19 +34,19 @@ pub(crate) fn read_records<S: Site>(
 ) -> Result<Kept, OpenFault>
     requires attached { (S.state site.old).attached ≡ true }
     requires within { first < length head.now }
-    requires near { first ≤ 65542 }
+    requires near { first ≤ farthest_gate 0 }
     requires head { OfFile (BeginsWith head.now) (S.state site.old).disk }
     ensures file { MatchResult result
         (λ kept. OfFile (λ file. ClosesAt file first kept.history.items kept.gate)
         (S.state site.old).disk)
         (λ fault. OfFile (StopsReading first fault) (S.state site.old).disk) }
     ensures near { IfOk result
-        (λ kept. kept.gate ≤ first + 168 * length kept.history.items) }
+        (λ kept. kept.gate ≤ farthest_gate (length kept.history.items)) }
     ensures valid { IfOk result (λ kept. All IsAction kept.history.items) }
     ensures reads { OnlyReads (S.state site.old) (S.state site.new)
         (S.crashes site.old) (S.crashes site.new) }
-    ensures failed { IsErrOf result OpenFault.Disk
-        → Rose (S.state site.old).counts.disk (S.state site.new).counts.disk }
+    ensures failed { CountsOpening result
+        (S.state site.old).counts.disk (S.state site.new).counts.disk }
 {
     let mut slide = Slide::new(first as u64);
     let mut at = (first + slide.take(&head[first..])) as u64;
@@ -82,8 +84,8 @@ fn feed<S: Site>(site: &mut S, slide: &mut Slide, at: u64) -> Result<u64, DiskFa
     ensures fed { IfOk result (λ next. Feeds (S.state site.old).disk at slide.old next slide.new) }
     ensures reads { OnlyReads (S.state site.old) (S.state site.new)
         (S.crashes site.old) (S.crashes site.new) }
-    ensures failed { OnErr result
-        (Rose (S.state site.old).counts.disk (S.state site.new).counts.disk) }
+    ensures failed { CountsFault result
+        (S.state site.old).counts.disk (S.state site.new).counts.disk }
 {
     let mut piece = [0; SLIDE_ROOM];
     let count = site.read_at(at, &mut piece)?;

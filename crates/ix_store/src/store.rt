@@ -1,13 +1,14 @@
 //! The store.
 
-ghost use Rattle.std.specs.Prelude.{◌≡◌, ◌+◌, ◌*◌, ◌<◌, ◌≤◌};
+ghost use Rattle.std.specs.Prelude.{◌≡◌, ◌<◌, ◌≤◌};
+ghost use Rattle.ix_journal.specs.Format.{farthest_gate};
 
 use crate::OpenFault;
 use crate::begin::begin;
 use crate::find::{Found, sync_and_find};
 use crate::write::write_through;
 use arrayvec::ArrayVec;
-use ix_journal::{MOST_RECORDS, OPEN, record_bytes};
+use ix_journal::{FRONT_LENGTH, MOST_RECORDS, OPEN, record_bytes};
 use ix_outside::{DiskFailed, Site};
 use ix_values::Action;
 use std::alloc::Global;
@@ -19,25 +20,28 @@ pub struct Store {
     gate: u64,
     count: usize,
     failed: bool,
-    ghost near: { gate ≤ 65542 + 168 * count },
+    ghost near: { gate ≤ farthest_gate count },
 }
 
 impl Store {
     ghost use Rattle.std.specs.Prelude.{ℕ, List, [], ◌∷◌, ◌++◌, true, false, length, IfOk, IfErr};
-    ghost use Rattle.std.specs.Prelude.{OnOk, OnErr, IsErrOf, All, is_err};
+    ghost use Rattle.std.specs.Prelude.{OnOk, All, is_err};
     ghost use Rattle.std.specs.Option.{ForSome};
-    ghost use Rattle.ix_values.specs.PlainAction.{Word};
+    ghost use Rattle.ix_journal.specs.History.{PlainHistory};
     ghost use Rattle.ix_values.specs.Texts.{IsAction};
-    ghost use Rattle.ix_outside.specs.Counts.{Rose};
+    ghost use Rattle.ix_outside.specs.Counts.{CountsFault};
+    ghost use Rattle.ix_outside.specs.Disk.{MakesFile};
     ghost use Rattle.ix_outside.specs.inside.DiskCalls.{DiskCalls, LeavesOnly};
     ghost use Rattle.ix_store.specs.inside.Opens.{Opens};
     ghost use Rattle.ix_store.specs.inside.Keeping.{Fits, IsWithOrWithout};
     ghost use Rattle.ix_store.specs.inside.KeptBy.{kept};
     ghost use Rattle.ix_store.specs.inside.Refusals.{Refuses};
-    ghost use Rattle.ix_store.specs.inside.Starting.{LeavesOnStart};
+    ghost use Rattle.ix_store.specs.inside.Starting.{CountsOpening, LeavesOnStart, MakesNew};
+    ghost use Rattle.ix_store.specs.inside.Starting.{SettlesOpening};
 
     /// Opens the attached file as the journal of an expression with this text, and gives the
-    /// history that it keeps. A journal that was never opened is made anew. Any other file stays.
+    /// history that it keeps. A journal that was never opened is made anew: a gate, the header of the
+    /// text and a closed gate. Any other file stays.
     ///
     /// What was left unsynced before is brought to the disk first. Then, in this order:
     /// - `NotJournal`: the file is no journal, nor the front of one;
@@ -47,7 +51,8 @@ impl Store {
     /// - `Many`: 1,000,000 records are open, and so is the gate behind them.
     ///
     /// `Disk` comes where a call of the disk failed, and `Memory` where memory was wanted, both at
-    /// any step. After them a journal that was to be made anew may be so in part.
+    /// any step. After them a journal that was to be made anew may be so in part; after any other
+    /// answer nothing is left unsynced.
     pub fn start<S: Site>(
         alloc: Global,
         site: &mut S,
@@ -69,10 +74,13 @@ impl Store {
         ensures valid { IfOk result (λ opened. All IsAction opened.1.items) }
 
         // What the disk is left with, whatever the answer.
+        ensures made { OnOk result (MakesFile (MakesNew text.now)
+            (S.state site.old).disk (S.state site.new).disk) }
+        ensures settled { SettlesOpening result (S.state site.new).disk (S.crashes site.new).now }
         ensures images { ForSome (S.state site.old).disk (λ disk. LeavesOnStart text.now disk.file
             (S.state site.old) (S.state site.new) (S.crashes site.old) (S.crashes site.new)) }
-        ensures failed { IsErrOf result OpenFault.Disk
-            → Rose (S.state site.old).counts.disk (S.state site.new).counts.disk }
+        ensures failed { CountsOpening result
+            (S.state site.old).counts.disk (S.state site.new).counts.disk }
         ensures calls { DiskCalls (S.state site.old) (S.state site.new)
             (S.crashes site.old) (S.crashes site.new) }
     {
@@ -88,7 +96,7 @@ impl Store {
             Ok(Found::New { head }) => match begin(alloc, site, &head, text) {
                 Ok(()) => {
                     let store = Store {
-                        gate: 7 + text.len() as u64,
+                        gate: (FRONT_LENGTH + text.len()) as u64,
                         count: 0,
                         failed: false,
                     };
@@ -106,23 +114,23 @@ impl Store {
         requires attached { (S.state site.old).attached ≡ true }
         requires works { (kept self.old).failed ≡ false }
         requires few { (kept self.old).count < MOST_RECORDS }
-        requires fits { (text : List ℕ) × (history : Word)
+        requires fits { (text : List ℕ) × (history : PlainHistory)
             × Fits (S.state site.old) (S.crashes site.old) (kept self.old) text history }
 
-        ensures appended { OnOk result ((text : List ℕ) (history : Word)
+        ensures appended { OnOk result ((text : List ℕ) (history : PlainHistory)
             → Fits (S.state site.old) (S.crashes site.old) (kept self.old) text history
             → Fits (S.state site.new) (S.crashes site.new) (kept self.new) text
             (history ++ action.now ∷ [])) }
         ensures works { (kept self.new).failed ≡ is_err result }
 
         // What the disk is left with, whatever the answer.
-        ensures images { (text : List ℕ) (history : Word)
+        ensures images { (text : List ℕ) (history : PlainHistory)
             → Fits (S.state site.old) (S.crashes site.old) (kept self.old) text history
             → ForSome (S.state site.old).disk (λ _.
             LeavesOnly (IsWithOrWithout text history action.now)
             (S.state site.old) (S.crashes site.new)) }
-        ensures failed { OnErr result
-            (Rose (S.state site.old).counts.disk (S.state site.new).counts.disk) }
+        ensures failed { CountsFault result
+            (S.state site.old).counts.disk (S.state site.new).counts.disk }
         ensures calls { DiskCalls (S.state site.old) (S.state site.new)
             (S.crashes site.old) (S.crashes site.new) }
     {

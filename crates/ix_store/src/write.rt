@@ -2,7 +2,7 @@
 
 ghost use Rattle.std.specs.Prelude.{◌≡◌, ◌≤◌, true, length, OnOk, OnErr};
 ghost use Rattle.std.specs.Option.{ForSome};
-ghost use Rattle.ix_outside.specs.Counts.{Rose};
+ghost use Rattle.ix_outside.specs.Counts.{CountsFault};
 ghost use Rattle.ix_outside.specs.Crashes.{LeavesTheFile};
 ghost use Rattle.ix_outside.specs.Disk.{OfFile, MakesFile, Overwrites};
 ghost use Rattle.ix_outside.specs.inside.DiskCalls.{DiskCalls, LeavesOnly};
@@ -21,8 +21,8 @@ pub(crate) fn write_through<S: Site>(site: &mut S, at: u64, bytes: &[u8]) -> Res
     ensures images { ForSome (S.state site.old).disk (λ _.
         LeavesOnly (MaybeTorn at (length bytes.now) (S.crashes site.old).now)
         (S.state site.old) (S.crashes site.new)) }
-    ensures failed { OnErr result
-        (Rose (S.state site.old).counts.disk (S.state site.new).counts.disk) }
+    ensures failed { CountsFault result
+        (S.state site.old).counts.disk (S.state site.new).counts.disk }
     ensures calls { DiskCalls (S.state site.old) (S.state site.new)
         (S.crashes site.old) (S.crashes site.new) }
 {

@@ -2,7 +2,7 @@
 use Rattle.std.specs.Prelude.{ℕ, ◌-◌, List, length}
 use Rattle.std.specs.Prelude.{Option, Some, None, if◌then◌else◌}
 use Rattle.std.specs.Iterator.{Count, at_most}
-use Rattle.ix_values.specs.PlainAction.{Word}
+use Rattle.ix_journal.specs.History.{PlainHistory}
 use Rattle.ix_journal.specs.declared.records.Records.{Records}
 use Rattle.ix_journal.specs.declared.outcome.JournalFault.{JournalFault}
 use Rattle.ix_journal.specs.declared.outcome.JournalFault.TheVariants as fault
@@ -23,7 +23,7 @@ items_left old = at_most (if old.damaged then 0 else length old.bytes - old.gate
 pub data IsScanned (bytes : List ℕ) : Option (List ℕ) → ℕ → ℕ → Type 0 where
   unfinished : IsUnfinished bytes → IsScanned bytes None 0 0
   unopened : (text : List ℕ) → IsUnopened bytes text → IsScanned bytes (Some text) 0 0
-  ready : (text : List ℕ) (history : Word) (gate : ℕ) → IsJournal bytes text history gate
+  ready : (text : List ℕ) (history : PlainHistory) (gate : ℕ) → IsJournal bytes text history gate
       → IsScanned bytes (Some text) (length history) gate
 
 -- the file has this fault

@@ -3,7 +3,7 @@ use Rattle.std.specs.Prelude.{◌≡◌, ◌⊎◌, Bool, true, false, ℕ, ◌+
 use Rattle.std.specs.Prelude.{length, Option, None, Some, Result}
 use Rattle.std.specs.Io.KnownBytes.{append_known}
 use Rattle.ix_words.specs.Each.{Each}
-use Rattle.ix_values.specs.PlainAction.{Word}
+use Rattle.ix_journal.specs.History.{PlainHistory}
 use Rattle.ix_outside.specs.Contents.{Contents, GivenEvent}
 use Rattle.ix_outside.specs.Counts.{Rose}
 use Rattle.ix_outside.specs.Crashes.{Crashes}
@@ -154,7 +154,7 @@ ReplaysOn opening turns script last stretch status whole part session =
     × ReplaysScript opening turns script taken last stretch status whole part session
 
 -- the line of the history was put
-pub record PutsHistory (history : Word) (old new : SinkState) : Type 0 where
+pub record PutsHistory (history : PlainHistory) (old new : SinkState) : Type 0 where
   pub put : new.written ≡ append_known old.written (history_line history)
   pub rest : OnlyPuts old new
 

@@ -2,7 +2,7 @@
 use Rattle.std.specs.Prelude.{◌≡◌, ◌⊎◌, ℕ, ◌+◌, ◌*◌, ◌≤◌, Bool, false, true, List, [], ◌∷◌, ◌++◌}
 use Rattle.std.specs.Prelude.{length, get_or, Option, None, Some, IsSome, Result, Ok, Err, codes}
 use Rattle.ix_words.specs.Each.{Each}
-use Rattle.ix_values.specs.PlainAction.{Word}
+use Rattle.ix_journal.specs.History.{PlainHistory}
 use Rattle.ix_outside.specs.Contents.{Contents, GivenEvent, Sends, with_event}
 use Rattle.ix_outside.specs.Counts.{Rose}
 use Rattle.ix_outside.specs.SiteState.{SiteState}
@@ -38,7 +38,7 @@ pub record OnlyServed (old new : SiteState) : Type 0 where
 
 -- These events were given since, and the replies to them are what was sent since; and what was
 -- acknowledged since a tick in front of all of it is kept.
-pub record SentFor (opening : Opening) (history : Word) (taken : List GivenEvent)
+pub record SentFor (opening : Opening) (history : PlainHistory) (taken : List GivenEvent)
     (answers : List (List (List Reply))) (marks : List Bool) (stretch : Stretch) : Type 0 where
   pub given : (new : List GivenEvent) → stretch.after.contents.given ≡ Some new
       → (old : List GivenEvent) × (stretch.before.contents.given ≡ Some old) × (new ≡ old ++ taken)

@@ -1,6 +1,7 @@
 -- A run as far as it went: what it started from, what an event's turn is, and what its journal keeps.
 use Rattle.std.specs.Prelude.{◌≡◌, ◌≢◌, ◌⊎◌, Bool, true, false}
-use Rattle.ix_values.specs.PlainAction.{PlainAction, Word}
+use Rattle.ix_values.specs.PlainAction.{PlainAction}
+use Rattle.ix_journal.specs.History.{PlainHistory}
 use Rattle.ix_outside.specs.Crashes.{Crashes}
 use Rattle.ix_outside.specs.SiteState.{SiteState}
 use Rattle.ix_outside.specs.declared.event.EventKind.{EventKind}
@@ -46,7 +47,7 @@ IsTurn lost ending kind Failed = (lost ≡ false) × ((a : PlainAction) × (endi
 
 -- over a stretch of calls the journal kept the history of a run that started from the opening, and
 -- goes on or ended so with this history
-abbrev pub SavesFrom : Opening → Ending → Word → Keeping → Stretch → Type 0
+abbrev pub SavesFrom : Opening → Ending → PlainHistory → Keeping → Stretch → Type 0
 SavesFrom opening ending history store stretch =
     Saves ending opening.form opening.history history store
     stretch.before stretch.after stretch.was stretch.is

@@ -1,7 +1,7 @@
 -- What calls on a site send by each moment, and what each image that a crash may leave since they
 -- began keeps beside that.
 use Rattle.std.specs.Prelude.{◌≡◌, ℕ, ◌≤◌, List, ◌++◌, length, Some, IsSome}
-use Rattle.ix_values.specs.PlainAction.{Word}
+use Rattle.ix_journal.specs.History.{PlainHistory}
 use Rattle.ix_expr.specs.Form.{Form}
 use Rattle.ix_outside.specs.Contents.{SentBytes, Sends}
 use Rattle.ix_outside.specs.Crashes.{Crashes, Left}
@@ -30,7 +30,8 @@ pub record SendsMore (old new : SiteState) (is : Crashes) : Type 0 where
 
 -- Over calls that sent these replies, in order: where the site still tells its disk and its sends,
 -- each image that a crash since they began may have left keeps what was acknowledged by then.
-abbrev pub Acknowledges : Form → ℕ → Word → List Reply → SiteState → SiteState → Crashes → Type 0
+abbrev pub Acknowledges : Form → ℕ → PlainHistory → List Reply → SiteState → SiteState → Crashes
+    → Type 0
 Acknowledges x least history replies before after is =
     IsSome after.disk → (sends sends' : Sends)
     → before.contents.sends ≡ Some sends → after.contents.sends ≡ Some sends'

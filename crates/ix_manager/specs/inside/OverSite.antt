@@ -1,7 +1,8 @@
 -- A manager over a site: when it fits, and what an event makes of both.
 use Rattle.std.specs.Prelude.{◌≡◌, ◌⊎◌, ◌≤◌, ℕ, false, List, length}
 use Rattle.std.specs.Prelude.{None, IsSome, Result, Ok, Err}
-use Rattle.ix_values.specs.PlainAction.{PlainAction, Word}
+use Rattle.ix_values.specs.PlainAction.{PlainAction}
+use Rattle.ix_journal.specs.History.{PlainHistory}
 use Rattle.ix_expr.specs.CanonicalText.{canonical_text}
 use Rattle.ix_expr.specs.Form.{Form}
 use Rattle.ix_outside.specs.Crashes.{Crashes}
@@ -22,7 +23,7 @@ use Rattle.ix_manager.specs.inside.Acknowledging.{Acknowledges, SendsMore}
 
 -- a store whose append hasn't failed fits the site with the expression's canonical text and the
 -- history
-pub record FitsWith (x : Form) (history : Word) (store : Keeping)
+pub record FitsWith (x : Form) (history : PlainHistory) (store : Keeping)
     (site : SiteState) (crashes : Crashes) : Type 0 where
   pub works : store.failed ≡ false
   pub fits : Fits site crashes store (canonical_text x) history

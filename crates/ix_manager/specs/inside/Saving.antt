@@ -1,7 +1,8 @@
 -- What calls on a site make of the journal, and of what a crash may leave.
 use Rattle.std.specs.Prelude.{◌≡◌, ◌⊎◌, ℕ, ◌<◌, ◌≤◌, List, ◌++◌, length}
 use Rattle.std.specs.Prelude.{None, IsSome, Result, Ok, Err, ⊤}
-use Rattle.ix_values.specs.PlainAction.{PlainAction, Word}
+use Rattle.ix_values.specs.PlainAction.{PlainAction}
+use Rattle.ix_journal.specs.History.{PlainHistory}
 use Rattle.ix_expr.specs.Form.{Form}
 use Rattle.ix_lease.specs.declared.Slot.{Slot}
 use Rattle.ix_lease.specs.declared.Slot.TheVariants.{Held}
@@ -57,13 +58,13 @@ pub record OnlySends (old new : SiteState) (was is : Crashes) : Type 0 where
 -- keeps the actions of the one before, and no others than those of the new one and the one whose
 -- confirm failed; what had been sent by each moment stands between. Unless one did, the store as it
 -- is then fits.
-pub record Saves (ending : Ending) (x : Form) (old new : Word) (store : Keeping)
+pub record Saves (ending : Ending) (x : Form) (old new : PlainHistory) (store : Keeping)
     (before after : SiteState) (was is : Crashes) : Type 0 where
   pub passes : Passes before after was is
   pub sends : SendsMore before after is
   pub count : before.counts.disk ≤ after.counts.disk
   pub told : IsSome after.disk → IsSome before.disk
-  pub rest : Word
+  pub rest : PlainHistory
   pub grows : old ++ rest ≡ with_failed ending new
   pub keeps : IsSome after.disk
       → LeavesOnly (Keeps x (length old) (with_failed ending new)) before is

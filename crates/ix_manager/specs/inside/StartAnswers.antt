@@ -1,7 +1,7 @@
 -- What starting a manager answers, and what a crash meanwhile may leave.
 use Rattle.std.specs.Prelude.{◌≡◌, ◌≢◌, ◌⊎◌, ℕ, List, ⊤}
 use Rattle.std.specs.Prelude.{Result, Ok, Err}
-use Rattle.ix_values.specs.PlainAction.{Word}
+use Rattle.ix_journal.specs.History.{PlainHistory}
 use Rattle.ix_expr.specs.CanonicalText.{canonical_text}
 use Rattle.ix_expr.specs.Form.{Form}
 use Rattle.ix_journal.specs.Kinds.{IsUnfinished, IsForeign}
@@ -27,9 +27,9 @@ IsFault x limit file (fault.Other kept) = HasText file kept.items × (kept.items
 IsFault x limit file (fault.Damaged at) = IsReadyWith file (canonical_text x) × IsDamaged file at
 IsFault x limit file fault.Many = IsReadyWith file (canonical_text x) × IsMany file
 IsFault x limit file (fault.Word number) =
-    (history : Word) × OpensAs x file history × IsNoWord x limit history number
+    (history : PlainHistory) × OpensAs x file history × IsNoWord x limit history number
 IsFault x limit file (fault.Heavy number l) =
-    (history : Word) × OpensAs x file history × IsHeavy x limit history number × (l ≡ limit)
+    (history : PlainHistory) × OpensAs x file history × IsHeavy x limit history number × (l ≡ limit)
 IsFault x limit file fault.Memory = ⊤
 
 -- what a start answers by the file, under a limit that the initial tree is within
@@ -43,10 +43,10 @@ StartsFrom x limit file (Err why) = IsFault x limit file why
 -- and nothing else may be left than before.
 pub record StartLeaves (x : Form) (limit : ℕ) (file : List ℕ)
     (old new : SiteState) (was is : Crashes) : Type 0 where
-  pub recovers : (history : Word) → Recovers file history
+  pub recovers : (history : PlainHistory) → Recovers file history
       → (image : List ℕ) → is.left old.tick image → was.now image ⊎ Recovers image history
   pub own : IsUnfinished file ⊎ HasText file (canonical_text x)
       → (image : List ℕ) → is.left old.tick image → was.now image ⊎ IsOwn x image
-  pub refused : ((history : Word) → ¬ IsStartable (opening_of x limit history) file)
+  pub refused : ((history : PlainHistory) → ¬ IsStartable (opening_of x limit history) file)
       → MakesFile Stays old.disk new.disk
       × ((image : List ℕ) → is.left old.tick image → was.now image)

@@ -74,6 +74,11 @@ opened_by name (call ∷ calls) =
     opened_behind call.effect
     (record { name = name; tick = length (call ∷ calls); file = call.file }) (opened_by name calls)
 
+-- where a file is attached, what these calls attached, under this name
+abbrev pub opened_where : Bool → List ℕ → List PastCall → Option Opened
+opened_where true name calls = opened_by name calls
+opened_where false name calls = None
+
 -- the file and what was attached, unless the site tells no contents
 abbrev pub told_disk : Bool → List ℕ → Option Opened → Option Disk
 told_disk true file opened = Some (record { file = file; opened = opened })
@@ -86,7 +91,7 @@ state_of site = record {
   attached = site.attached;
   tick = length site.past;
   contents = told_contents site.told site.given site.sends;
-  disk = told_disk site.told site.image (opened_by site.name site.past);
+  disk = told_disk site.told site.image (opened_where site.attached site.name site.past);
   held = free;
 }
 

@@ -5,9 +5,9 @@ use Rattle.std.proofs.Common.{inl, inr, refl, sym, ◌∙◌, ap, arith}
 use Rattle.std.proofs.lemmas.Option.{none-some}
 use Rattle.ix_outside.specs.Contents.{GivenEvent, SentBytes, Sends}
 use Rattle.ix_outside.specs.Crashes.{Left, AreLawful}
-use Rattle.ix_outside.specs.Disk.{Opened, OfFile}
+use Rattle.ix_outside.specs.Disk.{HasNothingOpened, Opened, OfFile}
 use Rattle.ix_memory.specs.inside.MemorySiteState.{MemorySiteState, told_contents, told_disk}
-use Rattle.ix_memory.specs.inside.MemorySiteState.{state_of, crashes_of}
+use Rattle.ix_memory.specs.inside.MemorySiteState.{opened_where, state_of, crashes_of}
 use Rattle.ix_memory.specs.inside.Moments.{Leaves, LeftSince}
 use Rattle.ix_memory.specs.inside.PastCalls.{PastCall}
 
@@ -64,8 +64,17 @@ told_file : (is_told : Bool) (now : List ℕ → Type 0) (file : List ℕ) (open
 told_file true now file opened reads = reads
 told_file false now file opened reads = tt
 
+-- where nothing is attached, nothing is told of an attach
+told_nothing_opened : (is_told attached : Bool) (file name : List ℕ) (calls : List PastCall)
+    → attached ≡ false
+    → HasNothingOpened (told_disk is_told file (opened_where attached name calls))
+told_nothing_opened true false file name calls none = refl
+told_nothing_opened true true file name calls none = absurd (let e : true ≡ false = none in cc)
+told_nothing_opened false attached file name calls none = tt
+
 pub memory_is_lawful : (site : MemorySiteState) → AreLawful (state_of site) (crashes_of site)
 memory_is_lawful site = record {
+  unattached = told_nothing_opened site.told site.attached site.image site.name site.past;
   file = told_file site.told (Leaves site.past site.image) site.image _ (inl refl);
   left_now = λ image. (
     (λ left. (LeftSince-now site.past site.image site.sends.sent _ left.1).0),

@@ -2,7 +2,7 @@
 use Rattle.std.specs.Prelude.{◌≡◌, None, Some, Option}
 use Rattle.std.proofs.Common.{sym, ◌∙◌, subst}
 use Rattle.ix_outside.specs.Crashes.{AreLawful, nothing_left}
-use Rattle.ix_outside.specs.Disk.{Disk, OfFile}
+use Rattle.ix_outside.specs.Disk.{Disk, HasNothingOpened, OfFile}
 use Rattle.ix_outside.specs.SiteState.{SiteState}
 
 none_is_not_some : {A : Type 0} (P : Type 0) (o : Option A) (x : A) → o ≡ None → o ≡ Some x → P
@@ -10,6 +10,7 @@ none_is_not_some P o x none some = absurd (let e : None ≡ Some x = sym none �
 
 pub untold_is_lawful : (site : SiteState) → site.disk ≡ None → site.contents.sends ≡ None → AreLawful site nothing_left
 untold_is_lawful site disk sends = record {
+  unattached = λ none. subst HasNothingOpened (sym disk) tt;
   file = let P : Option Disk → Type 0 = OfFile nothing_left.now in subst P (sym disk) tt;
   left_now = λ image. ((λ left. left), λ now. now);
   left_earlier = λ t u image le left. left;

@@ -3,14 +3,16 @@ use Rattle.std.specs.Prelude.{◌≡◌, Option, None}
 use Rattle.std.proofs.Common.{sym, ◌∙◌, subst}
 use Rattle.std.proofs.lemmas.Option.{none-some}
 use Rattle.ix_outside.specs.Crashes.{Crashes, AreLawful}
-use Rattle.ix_outside.specs.Disk.{Disk, OfFile}
+use Rattle.ix_outside.specs.Disk.{Disk, HasNothingOpened, OfFile}
 use Rattle.ix_outside.specs.SiteState.{SiteState}
 use Rattle.ix_script.specs.inside.WithoutSends.{without_sends}
 
 pub lawful_without_sends : (other site : SiteState) (crashes : Crashes) → site.tick ≡ other.tick
-    → site.disk ≡ other.disk → site.contents.sends ≡ None → AreLawful other crashes
+    → site.attached ≡ other.attached → site.disk ≡ other.disk → site.contents.sends ≡ None
+    → AreLawful other crashes
     → AreLawful site (without_sends crashes)
-lawful_without_sends other site crashes tick disk none lawful = record {
+lawful_without_sends other site crashes tick attached disk none lawful = record {
+  unattached = λ away. subst HasNothingOpened (sym disk) (lawful.unattached (sym attached ∙ away));
   file = let P : Option Disk → Type 0 = OfFile crashes.now in subst P (sym disk) lawful.file;
   left_now = λ image. (
     (λ left. (lawful.left_now image).0 (subst (λ t. crashes.left t image) tick left)),

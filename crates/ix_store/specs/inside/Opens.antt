@@ -1,6 +1,6 @@
 -- Files from which a store is opened.
 use Rattle.std.specs.Prelude.{◌⊎◌, ℕ, List}
-use Rattle.ix_values.specs.PlainAction.{Word}
+use Rattle.ix_journal.specs.History.{PlainHistory}
 use Rattle.ix_journal.specs.Recovery.{Recovers}
 use Rattle.ix_store.specs.Opening.{IsNew, IsReadyWith}
 
@@ -9,6 +9,6 @@ abbrev pub IsOwn : List ℕ → List ℕ → Type 0
 IsOwn file text = IsNew file text ⊎ IsReadyWith file text
 
 -- the journal of this text is opened from the file, with this history
-pub record Opens (file text : List ℕ) (history : Word) : Type 0 where
+pub record Opens (file text : List ℕ) (history : PlainHistory) : Type 0 where
   pub own : IsOwn file text
   pub recovers : Recovers file history

@@ -15,3 +15,12 @@ Refuses file text (fault.Damaged at) = IsReadyWith file text × IsDamaged file a
 Refuses file text fault.Many = IsReadyWith file text × IsMany file
 Refuses file text fault.Disk = ⊤
 Refuses file text fault.Memory = ⊤
+
+-- the fault tells nothing of the file: the disk failed, or memory ran out
+abbrev pub TellsNothing : OpenFault → Type 0
+TellsNothing fault.NotJournal = ⊥
+TellsNothing (fault.OtherExpression kept) = ⊥
+TellsNothing (fault.Damaged at) = ⊥
+TellsNothing fault.Many = ⊥
+TellsNothing fault.Disk = ⊤
+TellsNothing fault.Memory = ⊤

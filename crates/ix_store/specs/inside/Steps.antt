@@ -1,8 +1,10 @@
 -- What the parts of a start and an append come to.
-use Rattle.std.specs.Prelude.{◌≡◌, ◌≢◌, ◌⊎◌, ℕ, ◌+◌, ◌*◌, ◌≤◌, List, [], length, All, ⊤}
+use Rattle.std.specs.Prelude.{◌≡◌, ◌≢◌, ◌⊎◌, ℕ, ◌+◌, ◌≤◌, List, [], length, All, ⊤}
 use Rattle.std.specs.Prelude.{Option, Some, None}
 use Rattle.ix_values.specs.Texts.{IsAction}
 use Rattle.ix_outside.specs.Disk.{Torn}
+use Rattle.ix_journal.specs.declared.TheConstants.{FRONT_LENGTH}
+use Rattle.ix_journal.specs.Format.{farthest_gate}
 use Rattle.ix_journal.specs.Kinds.{IsForeign, IsReady, IsUnopened}
 use Rattle.ix_journal.specs.Records.{IsDamagedFrom, IsManyFrom}
 use Rattle.ix_journal.specs.Recovery.{IsJournal}
@@ -12,7 +14,6 @@ use Rattle.ix_store.specs.declared.find.Found.{Found}
 use Rattle.ix_store.specs.declared.find.Found.TheVariants as found
 use Rattle.ix_store.specs.Opening.{IsNew, IsReadyWith}
 use Rattle.ix_store.specs.inside.Reading.{IsHeadOf}
-use Rattle.ix_store.specs.inside.Refusals.{Refuses}
 
 -- an image that might have been left, or one after a write in this range that was cut short
 abbrev pub MaybeTorn : ℕ → ℕ → (List ℕ → Type 0) → List ℕ → Type 0
@@ -21,7 +22,7 @@ MaybeTorn at count was image =
 
 -- unfinished or unopened, or a journal of this text without records
 abbrev pub IsBegun : List ℕ → List ℕ → Type 0
-IsBegun text image = IsNew image text ⊎ IsJournal image text [] (7 + length text)
+IsBegun text image = IsNew image text ⊎ IsJournal image text [] (FRONT_LENGTH + length text)
 
 -- a file with this front is to be made anew, or is ready with the text and this first gate
 abbrev pub IsJudged : List ℕ → List ℕ → Option ℕ → Type 0
@@ -45,11 +46,7 @@ IsFound text (found.Journal kept) file = IsJournal file text kept.history.items 
 abbrev pub IsSound : Found → Type 0
 IsSound (found.New head) = ⊤
 IsSound (found.Journal kept) =
-    (kept.gate ≤ 65542 + 168 * length kept.history.items) × All IsAction kept.history.items
-
--- the fault says nothing of any file
-abbrev pub TellsNothing : OpenFault → Type 0
-TellsNothing fault = (file text : List ℕ) → Refuses file text fault
+    (kept.gate ≤ farthest_gate (length kept.history.items)) × All IsAction kept.history.items
 
 -- the text that is kept, unless memory ran out
 abbrev pub KeepsOther : List ℕ → OpenFault → Type 0

@@ -19,7 +19,8 @@ returns-in-Err-clause-stops g c = λ sink.
     let after = g.S.Site.state c.attach.new.self in
     let is = g.S.Site.crashes c.attach.new.self in
     disk_stops c.args.expression c.args.limit c.args.journal.now before after is
-    (λ files job it. none_opened files job before after is c.in-Err.ensures.file) sink
+    (λ files job it. none_opened files job before after is _
+    (g.met.S.Site.lawful c.args.site.now) c.requires.attached c.in-Err.ensures.file) sink
 
 -- no manager was started
 pub returns-in-Err-start-clause-stops : goal.returns-in-Err-start-clause-stops

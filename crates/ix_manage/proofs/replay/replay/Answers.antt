@@ -18,7 +18,8 @@ returns-in-Err-clause-leaves g c =
     (λ status whole part last. record {
       ends = expression_refused files (replay_of names) names.expression.now refl
           c.in-Err.refusal c.in-Err.ensures.err status whole part last site.disk;
-      journal = none_opened files (replay_of names) site site is refl;
+      journal = none_opened files (replay_of names) site site is is
+          (g.met.S.Site.lawful c.args.site.now) c.requires.attached refl;
       wire = λ socket none. absurd (none-some socket none);
     })
 
@@ -35,7 +36,8 @@ returns-in-Err-load_script-clause-leaves g c =
           c.in-Ok.expression c.in-Ok.ensures.ok refusal
           (subst (λ files. RefusesScript files names.script.now refusal) c.in-Ok.ensures.files.contents
           c.in-Err-load_script.ensures.err) status whole part last site.disk;
-      journal = none_opened files (replay_of names) site site is refl;
+      journal = none_opened files (replay_of names) site site is is
+          (g.met.S.Site.lawful c.args.site.now) c.requires.attached refl;
       wire = λ socket none. absurd (none-some socket none);
     })
 
@@ -56,7 +58,8 @@ returns-in-Err-read_script-clause-leaves g c =
           c.in-Ok-load_script.ensures.file)
           c.in-Ok-load_script.ensures.short c.deref.ensures.value refusal c.in-Err-read_script.ensures.err)
           status whole part last site.disk;
-      journal = none_opened files (replay_of names) site site is refl;
+      journal = none_opened files (replay_of names) site site is is
+          (g.met.S.Site.lawful c.args.site.now) c.requires.attached refl;
       wire = λ socket none. absurd (none-some socket none);
     })
 

@@ -14,7 +14,8 @@ returns-in-Err-clause-leaves g c =
     (λ status whole part last. record {
       ends = expression_refused (g.F.Files.state c.args.files.now).contents (serve_of names) names.expression.now refl
           c.in-Err.refusal c.in-Err.ensures.err status whole part last site.disk;
-      journal = none_opened (g.F.Files.state c.args.files.now).contents (serve_of names) site site (g.S.Site.crashes c.args.site.now) refl;
+      journal = none_opened (g.F.Files.state c.args.files.now).contents (serve_of names) site site
+          (g.S.Site.crashes c.args.site.now) _ (g.met.S.Site.lawful c.args.site.now) c.requires.attached refl;
       wire = λ socket same. refl;
     })
 

@@ -3,7 +3,7 @@ use Rattle.ix_store.specs.declared.find.Found.TheVariants as found
 use Rattle.ix_store.specs.inside.Reading.{IsHeadOf}
 use Rattle.ix_store.specs.inside.Refusals.{Refuses}
 use Rattle.ix_store.specs.inside.Steps.{IsFound, IsJudged}
-use Rattle.ix_store.proofs.Opened.{new_read, refusal_read}
+use Rattle.ix_store.proofs.Opened.{new_read, refusal_read, refuses_any}
 use Rattle.ix_store.proofs.Told.{of_told, to_told}
 use Rattle.ix_store.proofs.find.find.Goals as goal
 
@@ -12,7 +12,7 @@ pub returns-in-Err-clause-file : goal.returns-in-Err-clause-file
 returns-in-Err-clause-file g c =
     to_told (λ file. Refuses file c.args.text.now c.in-Err.fault)
     (g.S.Site.state c.args.site.now).disk (λ told is.
-    c.in-Err.ensures.fault told.file c.args.text.now)
+    refuses_any c.in-Err.fault told.file c.args.text.now c.in-Err.ensures.fault)
 
 pub returns-in-Ok-None-clause-file : goal.returns-in-Ok-None-clause-file
 returns-in-Ok-None-clause-file g c =

@@ -1,7 +1,6 @@
-use Rattle.std.proofs.Common.{arith}
 use Rattle.ix_outside.proofs.Passing.{DiskCalls-join, KeepsOpened-makes}
 use Rattle.ix_store.proofs.Calls.{one, first_call, calls_more, sync_now}
-use Rattle.ix_store.proofs.Opened.{found_before, on_ok}
+use Rattle.ix_store.proofs.Opened.{found_before, settles, counts_on}
 use Rattle.ix_store.proofs.ReadCalls.{reads_settled, stays_join}
 use Rattle.ix_store.proofs.find.sync_and_find.Goals as goal
 
@@ -23,7 +22,7 @@ returns-clause-file g c =
 
 pub returns-clause-settled : goal.returns-clause-settled
 returns-clause-settled g c =
-    on_ok _ c.find.result
+    settles c.find.result _ _
     (reads_settled _ _ _ _ c.find.ensures.reads c.in-Ok.ensures.now)
 
 pub returns-clause-stays : goal.returns-clause-stays
@@ -44,6 +43,5 @@ returns-clause-images g c told is =
     (λ image left. synced image (c.find.ensures.reads.images image left))
 
 pub returns-clause-failed : goal.returns-clause-failed
-returns-clause-failed g c disk =
-    let rose = c.find.ensures.failed disk in
-    let sync = c.sync.ensures.rest.disk in omega arith
+returns-clause-failed g c =
+    counts_on c.find.result _ _ _ c.in-Ok.ensures.failed c.find.ensures.failed

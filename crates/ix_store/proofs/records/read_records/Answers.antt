@@ -1,7 +1,7 @@
 use Rattle.std.proofs.Common.{◌≡◌, ◌+◌, ◌++◌, ◌∷◌, [], length, take, drop}
-use Rattle.std.proofs.Common.{sym, ◌∙◌, ap, subst, arith, rules}
+use Rattle.std.proofs.Common.{refl, sym, ◌∙◌, ap, subst, arith, rules}
 use Rattle.std.proofs.lemmas.List.{take_rest}
-use Rattle.ix_values.specs.PlainAction.{Word}
+use Rattle.ix_journal.specs.History.{PlainHistory}
 use Rattle.ix_journal.specs.Kept.{Kept, empty_at, extended}
 use Rattle.ix_journal.specs.Slide.{after}
 use Rattle.ix_journal.specs.Records.{ClosesAt}
@@ -35,12 +35,13 @@ records-init g c =
     let disk = (g.S.Site.state c.args.site.now).disk in
     record {
       reads = reads_none _ _ (g.met.S.Site.lawful c.args.site.now);
+      counts = refl;
       way = subst (IsOnWay first (first + count) items) (sym slide_is)
-          (subst (λ (w : Word). IsOnWay first (first + count) w first_slide) none
+          (subst (λ (w : PlainHistory). IsOnWay first (first + count) w first_slide) none
           (starts_on_way head first count within (omega arith)));
       reached = to_told (Reached first (first + count) items slide) disk (λ told is.
           subst (λ (k : Kept). Reached first (first + count) items k told.file) (sym slide_is)
-          (subst (λ (w : Word). Reached first (first + count) w first_slide told.file) none
+          (subst (λ (w : PlainHistory). Reached first (first + count) w first_slide told.file) none
           (starts_reached head first count within (omega arith) told.file
           (of_told _ _ told is c.requires.head))));
     }
@@ -67,6 +68,7 @@ records-preserved-in-Ok g c =
     record {
       reads = reads_join _ _ _ _ _ _ (g.met.S.Site.lawful c.feed.new.site) now.invariant.reads
           c.feed.ensures.reads;
+      counts = c.in-Ok.ensures.failed ∙ now.invariant.counts;
       way = fed_on_way c.args.first now.at items now.slide tells _ next new fed now.invariant.way;
       reached = to_told (Reached c.args.first next items new)
           (g.S.Site.state c.args.site.now).disk (λ told is.
@@ -90,7 +92,8 @@ records-preserved g c =
     c.if-len-eq-MOST_RECORDS.false (c.len.ensures ∙ (now.history.ok.0 ∙ e)) in
     record {
       reads = now.invariant.reads;
-      way = subst (λ (w : Word). IsOnWay c.args.first now.at w c.next.follows.lender-at-none)
+      counts = now.invariant.counts;
+      way = subst (λ (w : PlainHistory). IsOnWay c.args.first now.at w c.next.follows.lender-at-none)
           (sym pushed)
           (subst (IsOnWay c.args.first now.at (now.history.items ++ action ∷ [])) (sym same)
           (lent_on_way c.args.first now.at now.history.items now.slide text tells action valid
@@ -98,7 +101,7 @@ records-preserved g c =
       reached = to_told
           (Reached c.args.first now.at c.push.new.self.items c.next.follows.lender-at-none)
           (g.S.Site.state c.args.site.now).disk (λ told is.
-          subst (λ (w : Word).
+          subst (λ (w : PlainHistory).
           Reached c.args.first now.at w c.next.follows.lender-at-none told.file)
           (sym pushed)
           (subst (λ (k : Kept). Reached c.args.first now.at (now.history.items ++ action ∷ []) k

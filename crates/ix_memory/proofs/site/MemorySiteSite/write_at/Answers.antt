@@ -4,7 +4,7 @@ use Rattle.ix_outside.specs.Disk.{Torn}
 use Rattle.ix_memory.specs.declared.past.Effect.TheVariants.{Kept, Wrote}
 use Rattle.ix_memory.proofs.Moments.{quiet_call}
 use Rattle.ix_memory.proofs.Tearing.{torn_none, torn_by, torn_half}
-use Rattle.ix_memory.proofs.Tearing.{write_leaves, keeps_leaving, makes_told}
+use Rattle.ix_memory.proofs.Tearing.{write_leaves, part_leaves, keeps_leaving, makes_told, opened_stays}
 use Rattle.ix_memory.proofs.site.MemorySiteSite.write_at.Goals as goal
 use Rattle.ix_memory.proofs.site.MemorySiteSite.write_at.Goals.{in-Fails, in_default}
 
@@ -32,9 +32,11 @@ returns-clause-file c =
           let within : at ≤ length image =
           omega (arith, w.if-start-len-2.true, c.self.inside.image.ok.0) in
           rw (w.self-inside-is, w.write-in-Fails.ensures.items, w.add-in-Fails.ensures, ← c.self.view_is)
-          (makes_told (Torn at (length bytes)) _ _ _ _ _ (torn_half at bytes image within) refl)
+          (makes_told (Torn at (length bytes)) _ _ _ _ _ (torn_half at bytes image within)
+          (opened_stays (Wrote at (length bytes)) (λ opened before. refl) c.self.inside.attached _ _ _ _))
       | in_default w ↦ rw (w.self-inside-is, w.add-in_default.ensures, ← c.self.view_is)
-          (makes_told (Torn at (length bytes)) _ _ _ _ _ (torn_none at (length bytes) image) refl)
+          (makes_told (Torn at (length bytes)) _ _ _ _ _ (torn_none at (length bytes) image)
+          (opened_stays Kept (λ opened before. refl) c.self.inside.attached _ _ _ _))
     ]
 
 pub returns-clause-now : goal.returns-clause-now
@@ -48,7 +50,7 @@ returns-clause-now c =
           omega (arith, w.if-start-len-2.true, c.self.inside.image.ok.0) in
           let torn = torn_half at bytes image within in
           rw (w.self-inside-is, w.write-in-Fails.ensures.items, ← c.self.view_is)
-          (λ left. (write_leaves at (length bytes) _ _ _ _ _ w.add-in-Fails.ensures torn left).0)
+          (part_leaves at (length bytes) _ _ _ _ _ w.add-in-Fails.ensures torn)
       | in_default w ↦ rw (w.self-inside-is, ← c.self.view_is)
           (keeps_leaving (Torn at (length bytes)) _ _ _ _ w.add-in_default.ensures
           (torn_none at (length bytes)))

@@ -1,13 +1,16 @@
 use Rattle.std.proofs.Common.{◌≡◌, ◌+◌, ℕ, List, length, ◌∙◌, sym, ap, arith, subst}
 use Rattle.ix_journal.specs.Recovery.{IsJournal}
-use Rattle.ix_values.specs.PlainAction.{Word}
+use Rattle.ix_journal.specs.History.{PlainHistory}
 use Rattle.ix_store.specs.Opening.{IsNew}
 use Rattle.ix_store.specs.inside.Opens.{Opens}
+use Rattle.ix_outside.specs.Disk.{Stays}
 use Rattle.ix_store.specs.inside.Reading.{IsHeadOf}
+use Rattle.ix_store.specs.inside.Starting.{MakesNew, new_journal}
 use Rattle.ix_store.proofs.Opened.{found_journal, found_new, found_sound}
 use Rattle.ix_store.proofs.Opened.{opens_new, opens_journal, fits_only, leaves_same, leaves_begun}
-use Rattle.ix_store.proofs.Opened.{made_anew}
-use Rattle.ix_store.proofs.Told.{of_told, to_told, made, came}
+use Rattle.ix_store.proofs.Opened.{made_anew, ready_not_new, refuses_any}
+use Rattle.ix_store.proofs.ReadCalls.{stays_then}
+use Rattle.ix_store.proofs.Told.{of_told, to_told, made, came, makes_weaken}
 use Rattle.ix_store.proofs.store.Store.start.Goals as goal
 
 -- it is ready
@@ -48,6 +51,16 @@ returns-in-Ok-Journal-clause-images g c told is =
     leaves_same c.args.text.now told.file _ _ _ _ c.sync_and_find.ensures.stays
     (c.sync_and_find.ensures.images told is)
 
+pub returns-in-Ok-Journal-clause-made : goal.returns-in-Ok-Journal-clause-made
+returns-in-Ok-Journal-clause-made g c =
+    let kept = c.in-Ok-Journal.kept in
+    let text = c.args.text.now in
+    makes_weaken Stays (MakesNew text) _ _ (λ told is file same new.
+    let journal = found_journal text _ kept told.file c.in-Ok-Journal.field-0-is
+    (of_told _ _ told is c.in-Ok-Journal.ensures.file) in
+    absurd (ready_not_new told.file text (journal.first, journal.ready) new))
+    c.sync_and_find.ensures.stays
+
 -- it is to be made anew
 pub begin-requires-clause-read : goal.begin-requires-clause-read
 begin-requires-clause-read g c =
@@ -82,8 +95,15 @@ returns-in-Ok-clause-fits g c =
     fits_only _ _ _ text c.new.result.items (ap length none) c.in-Ok.ensures.settled
     (λ disk told.
     let before = came _ _ _ disk told c.in-Ok.ensures.begun in
-    subst (λ (w : Word). IsJournal disk.file text w (7 + length text)) none
+    subst (λ (w : PlainHistory). IsJournal disk.file text w (7 + length text)) none
     (made_anew text c.requires.short disk.file before.makes))
+
+pub returns-in-Ok-clause-made : goal.returns-in-Ok-clause-made
+returns-in-Ok-clause-made g c =
+    let text = c.args.text.now in
+    stays_then (MakesNew text) _ _ _ c.sync_and_find.ensures.stays
+    (makes_weaken (λ _ file. file ≡ new_journal text) (MakesNew text) _ _ (λ told is file made new.
+    made) c.in-Ok.ensures.begun)
 
 pub returns-in-Ok-clause-images : goal.returns-in-Ok-clause-images
 returns-in-Ok-clause-images g c told is =
@@ -96,7 +116,7 @@ returns-in-Ok-clause-images g c told is =
 
 pub returns-in-Ok-New-clause-refused : goal.returns-in-Ok-New-clause-refused
 returns-in-Ok-New-clause-refused g c told is =
-    c.in-Err-begin.ensures.fault told.file c.args.text.now
+    refuses_any _ told.file c.args.text.now c.in-Err-begin.ensures.fault
 
 pub returns-in-Ok-New-clause-images : goal.returns-in-Ok-New-clause-images
 returns-in-Ok-New-clause-images g c told is =
