@@ -4,11 +4,13 @@ use Rattle.std.proofs.Common.{length, refl, sym, subst}
 use Rattle.ix_expr.specs.Form.{Form}
 use Rattle.ix_parse.specs.Faults.{StandsFor, IsFirstFault}
 use Rattle.ix_outside.specs.Contents.{GivenEvent}
-use Rattle.ix_outside.specs.Disk.{Disk}
 use Rattle.ix_outside.specs.Files.{Listing, HasFile}
+use Rattle.ix_outside.specs.FilesState.{FilesState}
+use Rattle.ix_outside.specs.SiteState.{SiteState}
 use Rattle.ix_script.specs.Events.{HasEvents}
 use Rattle.ix_script.specs.Grammar.{IsFirstScriptFault}
 use Rattle.ix_cli.specs.Words.{Job, trace, replay}
+use Rattle.ix_manage.specs.Around.{around_of}
 use Rattle.ix_manage.specs.Command.{expression_of}
 use Rattle.ix_manage.specs.Ends.{JobEnds, bad_text, bad_actions, large, lost_expression, lost_actions, no_memory, traced, bad_script, lost_script}
 use Rattle.ix_manage.specs.inside.Refusal.{refusal_line, refusal_status, RefusesExpression, RefusesActions, RefusesScript, RefusesStart, RefusesText, IsBadScript}
@@ -46,53 +48,53 @@ start_refused files name limit LostExpression why = why
 start_refused files name limit Memory why = why
 start_refused files name limit _ why = absurd why
 
--- a job may end with the refusal's line alone
-abbrev EndsWith : Option Listing → Job → Refusal → Type 0
-EndsWith files job refusal =
+-- a job may end with the refusal's line alone, and leaves the site as it is
+abbrev EndsWith : FilesState → FilesState → Job → Refusal → Type 0
+EndsWith files later job refusal =
     (status : ℕ) (whole part : List ℕ)
     → LastLine (refusal_status refusal) [] (refusal_line refusal) status whole part
-    → (disk : Option Disk) → JobEnds files disk job status whole part None
+    → (site : SiteState) → JobEnds (around_of files later site site) job status whole part None
 
 -- what refuses the file of its expression refuses a job
-pub expression_refused : (files : Option Listing) (job : Job) (expression : List ℕ)
-    → expression_of job ≡ Some expression → (refusal : Refusal) → RefusesExpression files expression refusal
-    → EndsWith files job refusal
-expression_refused files job expression is (BadText code at) why status whole part last disk = bad_text is why last
-expression_refused files job expression is LostExpression why status whole part last disk = lost_expression is last
-expression_refused files job expression is Memory why status whole part last disk = no_memory last
-expression_refused files job expression is _ why _ _ _ _ _ = absurd why
+pub expression_refused : (files later : FilesState) (job : Job) (expression : List ℕ)
+    → expression_of job ≡ Some expression → (refusal : Refusal) → RefusesExpression files.contents expression refusal
+    → EndsWith files later job refusal
+expression_refused files later job expression is (BadText code at) why status whole part last site = bad_text is why refl last
+expression_refused files later job expression is LostExpression why status whole part last site = lost_expression is refl last
+expression_refused files later job expression is Memory why status whole part last site = no_memory last
+expression_refused files later job expression is _ why _ _ _ _ _ = absurd why
 
 -- how a trace ends, by what its parts say
-module _ (files : Option Listing) (expression actions : List ℕ) (limit : ℕ) where
+module _ (files later : FilesState) (expression actions : List ℕ) (limit : ℕ) where
   abbrev traces : Job
   traces = trace expression actions limit
 
-  pub refused_start : (refusal : Refusal) → RefusesStart files expression limit refusal
-      → EndsWith files traces refusal
-  refused_start (BadText code at) why status whole part last disk = bad_text refl why last
-  refused_start (Large most) why status whole part last disk =
+  pub refused_start : (refusal : Refusal) → RefusesStart files.contents expression limit refusal
+      → EndsWith files later traces refusal
+  refused_start (BadText code at) why status whole part last site = bad_text refl why refl last
+  refused_start (Large most) why status whole part last site =
       large refl tt why.1 (subst (λ l. LastLine 3 [] (large_line l) status whole part) why.0 last)
-  refused_start LostExpression why status whole part last disk = lost_expression refl last
-  refused_start Memory why status whole part last disk = no_memory last
+  refused_start LostExpression why status whole part last site = lost_expression refl refl last
+  refused_start Memory why status whole part last site = no_memory last
   refused_start _ why _ _ _ _ _ = absurd why
 
-  pub refused_actions : (x : Form) → Starts files expression limit x → (refusal : Refusal)
-      → RefusesActions files actions refusal → EndsWith files traces refusal
-  refused_actions x starts (BadActions code at) why status whole part last disk =
-      bad_actions starts why last
-  refused_actions x starts LostActions why status whole part last disk = lost_actions starts last
-  refused_actions x starts Memory why status whole part last disk = no_memory last
+  pub refused_actions : (x : Form) → Starts files.contents expression limit x → (refusal : Refusal)
+      → RefusesActions files.contents actions refusal → EndsWith files later traces refusal
+  refused_actions x starts (BadActions code at) why status whole part last site =
+      bad_actions starts why refl last
+  refused_actions x starts LostActions why status whole part last site = lost_actions starts refl last
+  refused_actions x starts Memory why status whole part last site = no_memory last
   refused_actions x starts _ why _ _ _ _ _ = absurd why
 
   pub trace_ends_run : (x : Form) (most : ℕ) (then : Option Listing) (bytes passed : List ℕ)
-      → Starts files expression limit x → most ≡ limit → then ≡ files
+      → Starts files.contents expression limit x → most ≡ limit → then ≡ files.contents
       → HasFile then actions bytes → length bytes ≤ 67108864 → passed ≡ bytes
       → (status : ℕ) (whole part : List ℕ) (session : Option Session)
       → TracesLines x most passed status whole part session
-      → (disk : Option Disk) → JobEnds files disk traces status whole part session
-  trace_ends_run x most then bytes passed starts same_limit same file short is status whole part session may disk =
+      → (site : SiteState) → JobEnds (around_of files later site site) traces status whole part session
+  trace_ends_run x most then bytes passed starts same_limit same file short is status whole part session may site =
       let read = subst (λ b. TracesLines x most b status whole part session) is may in
-      subst (JobEnds files disk traces status whole part) (sym read.no_session)
+      subst (JobEnds (around_of files later site site) traces status whole part) (sym read.no_session)
       (traced starts (record {
         bytes = bytes;
         file = subst (λ f. HasFile f actions bytes) same file;
@@ -102,26 +104,27 @@ module _ (files : Option Listing) (expression actions : List ℕ) (limit : ℕ) 
       (subst (λ l. Traces x l read.actions status whole part) same_limit read.traces))
 
 -- how a replay ends, by what its parts say
-module _ (files : Option Listing) (expression journal script : List ℕ) (limit turns : ℕ) where
+module _ (files later : FilesState) (expression journal script : List ℕ) (limit turns : ℕ) where
   abbrev replays : Job
   replays = replay expression journal script limit turns
 
-  pub replay_refused : (x : Form) → ReadsForm files expression x → (refusal : Refusal)
-      → RefusesScript files script refusal → EndsWith files replays refusal
-  replay_refused x reads (BadScript code at) why status whole part last disk = bad_script reads why last
-  replay_refused x reads LostScript why status whole part last disk = lost_script reads last
-  replay_refused x reads Memory why status whole part last disk = no_memory last
+  pub replay_refused : (x : Form) → ReadsForm files.contents expression x → (refusal : Refusal)
+      → RefusesScript files.contents script refusal → EndsWith files later replays refusal
+  replay_refused x reads (BadScript code at) why status whole part last site = bad_script reads why refl last
+  replay_refused x reads LostScript why status whole part last site = lost_script reads refl last
+  replay_refused x reads Memory why status whole part last site = no_memory last
   replay_refused x reads _ why _ _ _ _ _ = absurd why
 
-  pub replay_reads : (bytes passed : List ℕ) → HasFile files script bytes → length bytes ≤ 67108864
-      → passed ≡ bytes → (events : List GivenEvent) → HasEvents passed events
-      → ReadsEvents files script events
-  replay_reads bytes passed file short same events has = record {
-    bytes = bytes;
-    file = file;
-    short = short;
-    has = subst (λ b. HasEvents b events) same has;
-  }
+-- a script that was loaded is read
+pub replay_reads : (files : Option Listing) (script bytes passed : List ℕ) → HasFile files script bytes
+    → length bytes ≤ 67108864 → passed ≡ bytes → (events : List GivenEvent) → HasEvents passed events
+    → ReadsEvents files script events
+replay_reads files script bytes passed file short same events has = record {
+  bytes = bytes;
+  file = file;
+  short = short;
+  has = subst (λ b. HasEvents b events) same has;
+}
 
 -- a script's fault is one of its file
 pub script_refused : (files : Option Listing) (name bytes passed : List ℕ) → HasFile files name bytes → length bytes ≤ 67108864 → passed ≡ bytes

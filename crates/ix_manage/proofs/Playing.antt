@@ -12,6 +12,7 @@ use Rattle.ix_outside.specs.Contents.{GivenEvent}
 use Rattle.ix_outside.specs.Crashes.{Crashes}
 use Rattle.ix_outside.specs.Disk.{Disk as SiteDisk, Opened}
 use Rattle.ix_outside.specs.Files.{Listing}
+use Rattle.ix_outside.specs.FilesState.{FilesState}
 use Rattle.ix_outside.specs.SinkState.{SinkState}
 use Rattle.ix_outside.specs.SiteState.{SiteState}
 use Rattle.ix_outside.specs.inside.DiskCalls.{KeepsOpened}
@@ -26,6 +27,7 @@ use Rattle.ix_manager.specs.declared.faults.StartFault.{StartFault}
 use Rattle.ix_manager.specs.declared.faults.StartFault.TheVariants as fault
 use Rattle.ix_script.specs.Events.{HasEvents}
 use Rattle.ix_script.specs.inside.WithoutSends.{without_sends}
+use Rattle.ix_manage.specs.Around.{around_of}
 use Rattle.ix_manage.specs.Command.{limit_of}
 use Rattle.ix_manage.specs.Ends.{IsFrom, JobEnds, JobOver, KeepsJournal, large as job_large, lost_disk, no_memory, refused_journal, replayed}
 use Rattle.ix_manage.specs.Journal as journal
@@ -67,8 +69,8 @@ module _ (x : Form) (limit : ℕ) (name : List ℕ) (before after : SiteState) (
     May = EndsUnstarted x limit name before after is
 
     unstarted : (status : ℕ) (whole part : List ℕ)
-        → ((files : Option Listing) (job : Job) → IsJobOf x limit name files job
-        → JobEnds files after.disk job status whole part None)
+        → ((files later : FilesState) (job : Job) → IsJobOf x limit name files.contents job
+        → JobEnds (around_of files later before after) job status whole part None)
         → May status whole part None
     unstarted status whole part ends = record { none = refl; ends = ends; on_journal = uses }
 
@@ -91,14 +93,14 @@ module _ (x : Form) (limit : ℕ) (name : List ℕ) (before after : SiteState) (
     -- the disk failed
     pub disk_stops : StopsAfter May sink sink (Refused Disk)
     disk_stops = nothing_put Disk sink (λ status whole part last. unstarted status whole part
-        (λ files job it. lost_disk (kept_by files job it) it.reads last))
+        (λ files later job it. lost_disk (kept_by files.contents job it) it.reads last))
 
     journal_stops_of : (why line : List ℕ) → tree_size x [] ≤ limit → line ≡ journal_line why
         → OfJournal (λ file. RefusesFile x limit file why) after.disk
         → AwaitsLine May 8 line sink sink
     journal_stops_of why line small same refuses = nothing_put_of 8 line sink
         (λ status whole part last. unstarted status whole part
-        (λ files job it. refused_journal why (kept_by files job it) (starts files job it small)
+        (λ files later job it. refused_journal why (kept_by files.contents job it) (starts files.contents job it small)
         (subst (λ n. OfJournal (λ file. RefusesFile x n file why) after.disk) (sym it.limit_is) refuses)
         (subst (λ l. LastLine 8 [] l status whole part) same last)))
 
@@ -110,7 +112,7 @@ module _ (x : Form) (limit : ℕ) (name : List ℕ) (before after : SiteState) (
     large_stops : (l : ℕ) → (l ≡ limit) × (limit < tree_size x [])
         → StopsAfter May sink sink (Refused (Large l))
     large_stops l above = nothing_put (Large l) sink (λ status whole part last. unstarted status whole part
-        (λ files job it. job_large it.of_expression it.rest
+        (λ files later job it. job_large it.of_expression it.rest
         (record {
           form = x;
           reads = it.reads;
@@ -130,7 +132,7 @@ module _ (x : Form) (limit : ℕ) (name : List ℕ) (before after : SiteState) (
     start_stops (fault.Large l) large kind refuses = large_stops l (large l refl)
     start_stops fault.Disk large kind refuses = disk_stops
     start_stops fault.Memory large kind refuses = nothing_put Memory sink
-        (λ status whole part last. unstarted status whole part (λ files job it. no_memory last))
+        (λ status whole part last. unstarted status whole part (λ files later job it. no_memory last))
     start_stops fault.Foreign large (inl small) refuses = journal_stops Foreign small
         (along_journal _ _ (λ file why. journal.foreign why) after.disk (refuses small))
     start_stops fault.Foreign large (inr other) refuses = absurd (not_foreign other)
@@ -285,10 +287,11 @@ module _ (x : Form) (names : ReplayWords) (script : List ℕ) (before : SiteStat
     pub unstarted_plays : (after : SiteState) (is : Crashes) (status : ℕ) (whole part : List ℕ) (session : Option Session)
         → EndsUnstarted x names.limit names.journal.now before after is status whole part session
         → PlaysOver x names script before after is status whole part session
-    unstarted_plays after is status whole part session it = λ files reads has.
-        subst (JobOver files (replay_of names) before after is status whole part) (sym it.none) (record {
-          ends = it.ends files (replay_of names) (job_played files reads has);
-          journal = it.on_journal files (replay_of names) (job_played files reads has);
+    unstarted_plays after is status whole part session it = λ files later reads has.
+        let job = job_played files.contents reads has in
+        subst (JobOver (around_of files later before after) (replay_of names) is status whole part) (sym it.none) (record {
+          ends = it.ends files later (replay_of names) job;
+          journal = it.on_journal files.contents (replay_of names) job;
           wire = λ socket none. absurd (none-some socket none);
         })
 
@@ -301,9 +304,9 @@ module _ (x : Form) (names : ReplayWords) (script : List ℕ) (before : SiteStat
         (record { before = disk_alone mid; after = disk_alone end; was = without_sends q; is = without_sends r })
         status whole part session
         → PlaysOver x names script before end r status whole part session
-    session_plays mid end q r m start later final status whole part session on = λ files reads has.
+    session_plays mid end q r m start along final status whole part session on = λ files later reads has.
         let it = on.1 in
-        let job = job_played files reads has in
+        let job = job_played files.contents reads has in
         let opening_is = it.opening_is ∙ opening_fresh x names.limit m start.fresh in
         let form : m.form ≡ x = ap (λ (s : ManagerState). s.form) start.fresh in
         let history = ap (λ (s : MachineState). s.history) it.last_is in
@@ -313,12 +316,12 @@ module _ (x : Form) (names : ReplayWords) (script : List ℕ) (before : SiteStat
         (disk_alone mid) (disk_alone end) (without_sends q) (without_sends r)) (sym history)
         (subst (λ (y : Form). Saves it.played.ending y m.machine.history final.history it.store
         (disk_alone mid) (disk_alone end) (without_sends q) (without_sends r)) form it.saves) in
-        subst (JobOver files (replay_of names) before end r status whole part) (sym it.is)
+        subst (JobOver (around_of files later before end) (replay_of names) r status whole part) (sym it.is)
         (record {
           ends = replayed (record { reads = reads; small = start.small }) (has events.0 events.1)
               (opening_from x names.limit m start.fresh it.played it.opening_is)
               (it.plays events.0 events.1) it.ends;
-          journal = session_on_journal x names.limit names.journal.now before mid end q r m start files (replay_of names) job later
+          journal = session_on_journal x names.limit names.journal.now before mid end q r m start files.contents (replay_of names) job along
               (Some it.played) opening_is (it.plays events.0 events.1).takes.run
               (λ some. along_alone x m.machine.history it.played it.store mid end q r some saves);
           wire = λ socket none. absurd (none-some socket none);

@@ -30,6 +30,7 @@ use Rattle.ix_manager.specs.inside.Saving.{OnlySends, Saves}
 use Rattle.ix_manager.specs.inside.Serving.{ServesSince}
 use Rattle.ix_manager.proofs.AcknowledgedLemmas.{none_sent}
 use Rattle.ix_manager.proofs.SavingLemmas.{saves_join}
+use Rattle.ix_manage.specs.Around.{around_of}
 use Rattle.ix_manage.specs.Ends.{Ended, JobOver, no_wire, served as job_served}
 use Rattle.ix_manage.specs.Journal.{session_of}
 use Rattle.ix_manage.specs.Serve.{ServesWire, ends, with_heard}
@@ -275,10 +276,11 @@ module _ (x : Form) (names : ServeWords) (before : SiteState) where
       → (status : ℕ) (whole part : List ℕ) (session : Option Session)
       → EndsUnstarted x names.limit names.journal.now before after is status whole part session
       → ServesOver x names before after is status whole part session
-  unstarted_serves after is contents status whole part session it = λ files reads.
-      subst (JobOver files (serve_of names) before after is status whole part) (sym it.none) (record {
-        ends = it.ends files (serve_of names) (job_served_by files reads);
-        journal = it.on_journal files (serve_of names) (job_served_by files reads);
+  unstarted_serves after is contents status whole part session it = λ files later reads.
+      let job = job_served_by files.contents reads in
+      subst (JobOver (around_of files later before after) (serve_of names) is status whole part) (sym it.none) (record {
+        ends = it.ends files later (serve_of names) job;
+        journal = it.on_journal files.contents (serve_of names) job;
         wire = λ socket same. contents;
       })
 
@@ -326,15 +328,15 @@ module _ (x : Form) (names : ServeWords) (before : SiteState) where
           → ServesOn (stood.opening_of m) names.turns names.socket.now final
           (record { before = mid; after = end; was = q; is = r }) status whole part session
           → ServesOver x names before end r status whole part session
-      session_serves status whole part session (unheard store contents saves last) = λ files reads. record {
+      session_serves status whole part session (unheard store contents saves last) = λ files now reads. record {
         ends = no_wire (record { reads = reads; small = start.small }) last;
-        journal = session_on_journal x names.limit names.journal.now before mid end q r m start files (serve_of names)
-            (job_served_by files reads) later None refl run_begins
+        journal = session_on_journal x names.limit names.journal.now before mid end q r m start files.contents (serve_of names)
+            (job_served_by files.contents reads) later None refl run_begins
             (λ some. along_saves x m.machine.history (session_of (opening_of x names.limit m.machine.history) None) store mid end q r some
             (subst (λ y. Saves going y m.machine.history m.machine.history store mid end q r) form saves));
         wire = λ socket same. contents ∙ only.contents;
       }
-      session_serves status whole part session (served {session = played} it wire how) = λ files reads.
+      session_serves status whole part session (served {session = played} it wire how) = λ files now reads.
           let opening_is = it.opening_is ∙ opening_fresh x names.limit m start.fresh in
           let history = ap (λ (s : MachineState). s.history) it.last_is in
           let saves : Saves played.ending x m.machine.history played.last.history it.store mid end q r =
@@ -342,8 +344,8 @@ module _ (x : Form) (names : ServeWords) (before : SiteState) where
           (subst (λ y. Saves played.ending y m.machine.history final.history it.store mid end q r) form it.saves) in record {
             ends = job_served (record { reads = reads; small = start.small })
                 (opening_from x names.limit m start.fresh played it.opening_is) it.takes how;
-            journal = session_on_journal x names.limit names.journal.now before mid end q r m start files (serve_of names)
-                (job_served_by files reads) later (Some played) opening_is it.takes.run
+            journal = session_on_journal x names.limit names.journal.now before mid end q r m start files.contents (serve_of names)
+                (job_served_by files.contents reads) later (Some played) opening_is it.takes.run
                 (λ some. along_saves x m.machine.history played it.store mid end q r some saves);
             wire = λ socket same.
                 subst (λ name. ServesWire name played before end r) (some_is same) (wire_from names.socket.now played opening_is wire);

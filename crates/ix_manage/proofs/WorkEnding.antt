@@ -20,17 +20,17 @@ pub refused_work : (names : WorkWords) (refusal : Refusal) → RefusesWorkload n
     → (status : ℕ) (whole part : List ℕ)
     → LastLine (refusal_status refusal) [] (refusal_line refusal) status whole part
     → WorkEnds names status whole part None
-refused_work names (Large most) why status whole part last files disk =
+refused_work names (Large most) why status whole part last files site =
     worked (above why.1.1 why.1.2
     (subst (λ l. LastLine 3 [] (large_line l) status whole part) why.0 last))
-refused_work names Memory why status whole part last files disk = no_memory last
+refused_work names Memory why status whole part last files site = no_memory last
 refused_work names _ why _ _ _ _ _ _ = absurd why
 
 -- memory ran out at an ask
 pub short_work : (names : WorkWords) (status : ℕ) (whole part : List ℕ)
     → LastLine (refusal_status Memory) [] (refusal_line Memory) status whole part
     → WorkEnds names status whole part None
-short_work names status whole part last files disk = no_memory last
+short_work names status whole part last files site = no_memory last
 
 -- the asks were made
 module _ (names : WorkWords) (x : Form) (summary : Summary) (stands : StandsFor examinations x)
@@ -46,6 +46,6 @@ module _ (names : WorkWords) (x : Form) (summary : Summary) (stands : StandsFor 
         → line ≡ work_line summary.asked summary.granted summary.refused summary.nodes
         → (status : ℕ) (whole part : List ℕ) → LastLine 0 [] line status whole part
         → WorkEnds names status whole part None
-    work_ends line is status whole part last files disk =
+    work_ends line is status whole part last files site =
         worked (asked stands small sums.made
         (subst (λ l. LastLine 0 [] l status whole part) (is ∙ same_line) last))

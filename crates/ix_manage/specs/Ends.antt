@@ -6,11 +6,10 @@ use Rattle.ix_outside.specs.Contents.{GivenEvent}
 use Rattle.ix_outside.specs.Files.{Listing}
 use Rattle.ix_outside.specs.SinkState.{SinkState}
 use Rattle.ix_outside.specs.Crashes.{Crashes}
-use Rattle.ix_outside.specs.Disk.{Disk}
-use Rattle.ix_outside.specs.SiteState.{SiteState}
 use Rattle.ix_manager.specs.Runs.{Opening}
 use Rattle.ix_cli.specs.Words.{Job, Names, NamesNoJob, trace, replay, serve, work}
 use Rattle.ix_manage.specs.ActionLines.{line}
+use Rattle.ix_manage.specs.Around.{Around, SiteRests}
 use Rattle.ix_manage.specs.Command.{expression_of, journal_of, limit_of}
 use Rattle.ix_manage.specs.Puts.{LastLine, Puts}
 use Rattle.ix_manage.specs.Journal.{OfJournal, OnJournal, RefusesFile, journal_line}
@@ -40,104 +39,108 @@ pub record KeepsJournal (files : Option Listing) (job : Job) (expression : List 
   pub has_journal : journal_of job ≡ Some journal
   pub rest : ReadsRest files job
 
--- How a job may end, by the files and by the site's disk as it is told at the end: its status, what
--- it puts whole, what a put was to put that failed, and the session where the machine ran.
-pub data JobEnds (files : Option Listing) (disk : Option Disk)
+-- How a job may end, by what is around it: its status, what it puts whole, what a put was to put
+-- that failed, and the session where the machine ran. Where a file is lost or has a fault, the site
+-- is as it was.
+pub data JobEnds (around : Around)
     : Job → ℕ → List ℕ → List ℕ → Option Session → Type 0 where
   no_memory : {job : Job} {status : ℕ} {whole part : List ℕ}
       → LastLine 9 [] (line (codes "refused memory")) status whole part
-      → JobEnds files disk job status whole part None
+      → JobEnds around job status whole part None
   bad_text : {job : Job} {expression : List ℕ} {code at status : ℕ} {whole part : List ℕ}
-      → expression_of job ≡ Some expression → HasBadText files expression code at
+      → expression_of job ≡ Some expression → HasBadText around.files expression code at
+      → SiteRests around
       → LastLine 3 [] (fault_line (codes "expression") code at) status whole part
-      → JobEnds files disk job status whole part None
+      → JobEnds around job status whole part None
   lost_expression : {job : Job} {expression : List ℕ} {status : ℕ} {whole part : List ℕ}
-      → expression_of job ≡ Some expression
+      → expression_of job ≡ Some expression → SiteRests around
       → LastLine 4 [] (line (codes "refused file expression")) status whole part
-      → JobEnds files disk job status whole part None
+      → JobEnds around job status whole part None
   large : {job : Job} {expression : List ℕ} {status : ℕ} {whole part : List ℕ}
-      → expression_of job ≡ Some expression → ReadsRest files job
-      → StartsAbove files expression (limit_of job)
+      → expression_of job ≡ Some expression → ReadsRest around.files job
+      → StartsAbove around.files expression (limit_of job)
       → LastLine 3 [] (large_line (limit_of job)) status whole part
-      → JobEnds files disk job status whole part None
+      → JobEnds around job status whole part None
   lost_disk : {job : Job} {expression : List ℕ} {x : Form} {status : ℕ} {whole part : List ℕ}
-      → KeepsJournal files job expression → ReadsForm files expression x
+      → KeepsJournal around.files job expression → ReadsForm around.files expression x
       → LastLine 5 [] (line (codes "refused disk")) status whole part
-      → JobEnds files disk job status whole part None
+      → JobEnds around job status whole part None
   refused_journal : {job : Job} {expression : List ℕ} {x : Form} (why : List ℕ) {status : ℕ}
       {whole part : List ℕ}
-      → KeepsJournal files job expression → Starts files expression (limit_of job) x
-      → OfJournal (λ file. RefusesFile x (limit_of job) file why) disk
+      → KeepsJournal around.files job expression → Starts around.files expression (limit_of job) x
+      → OfJournal (λ file. RefusesFile x (limit_of job) file why) around.after.disk
       → LastLine 8 [] (journal_line why) status whole part
-      → JobEnds files disk job status whole part None
+      → JobEnds around job status whole part None
   bad_actions : {expression actions : List ℕ} {limit : ℕ} {x : Form} {code at status : ℕ}
       {whole part : List ℕ}
-      → Starts files expression limit x → HasBadActions files actions code at
+      → Starts around.files expression limit x → HasBadActions around.files actions code at
+      → SiteRests around
       → LastLine 3 [] (fault_line (codes "actions") code at) status whole part
-      → JobEnds files disk (trace expression actions limit) status whole part None
+      → JobEnds around (trace expression actions limit) status whole part None
   lost_actions : {expression actions : List ℕ} {limit : ℕ} {x : Form} {status : ℕ}
       {whole part : List ℕ}
-      → Starts files expression limit x
+      → Starts around.files expression limit x → SiteRests around
       → LastLine 4 [] (line (codes "refused file actions")) status whole part
-      → JobEnds files disk (trace expression actions limit) status whole part None
+      → JobEnds around (trace expression actions limit) status whole part None
   traced : {expression actions : List ℕ} {limit : ℕ} {x : Form} {word : Word} {status : ℕ}
       {whole part : List ℕ}
-      → Starts files expression limit x → ReadsActions files actions word
+      → Starts around.files expression limit x → ReadsActions around.files actions word
       → Traces x limit word status whole part
-      → JobEnds files disk (trace expression actions limit) status whole part None
+      → JobEnds around (trace expression actions limit) status whole part None
   bad_script : {expression journal script : List ℕ} {limit turns : ℕ} {x : Form}
       {code at status : ℕ} {whole part : List ℕ}
-      → ReadsForm files expression x → HasBadScript files script code at
+      → ReadsForm around.files expression x → HasBadScript around.files script code at
+      → SiteRests around
       → LastLine 3 [] (fault_line (codes "script") code at) status whole part
-      → JobEnds files disk (replay expression journal script limit turns) status whole part None
+      → JobEnds around (replay expression journal script limit turns) status whole part None
   lost_script : {expression journal script : List ℕ} {limit turns : ℕ} {x : Form} {status : ℕ}
       {whole part : List ℕ}
-      → ReadsForm files expression x
+      → ReadsForm around.files expression x → SiteRests around
       → LastLine 4 [] (line (codes "refused file script")) status whole part
-      → JobEnds files disk (replay expression journal script limit turns) status whole part None
+      → JobEnds around (replay expression journal script limit turns) status whole part None
   replayed : {expression journal script : List ℕ} {limit turns : ℕ} {x : Form}
       {events : List GivenEvent} {session : Session} {status : ℕ} {whole part : List ℕ}
-      → Starts files expression limit x → ReadsEvents files script events
+      → Starts around.files expression limit x → ReadsEvents around.files script events
       → IsFrom x limit session.opening → Plays turns events session
       → ReplayEnds turns session status whole part
-      → JobEnds files disk (replay expression journal script limit turns) status whole part
+      → JobEnds around (replay expression journal script limit turns) status whole part
       (Some session)
   no_wire : {expression journal socket : List ℕ} {limit turns : ℕ} {x : Form} {status : ℕ}
       {whole part : List ℕ}
-      → Starts files expression limit x
+      → Starts around.files expression limit x
       → LastLine 6 [] (line (codes "refused wire")) status whole part
-      → JobEnds files disk (serve expression journal socket limit turns) status whole part None
+      → JobEnds around (serve expression journal socket limit turns) status whole part None
   served : {expression journal socket : List ℕ} {limit turns : ℕ} {x : Form}
       {session : Session} {status : ℕ} {whole part : List ℕ}
-      → Starts files expression limit x
+      → Starts around.files expression limit x
       → IsFrom x limit session.opening → Takes turns session
       → ServeEnds turns session status whole part
-      → JobEnds files disk (serve expression journal socket limit turns) status whole part
+      → JobEnds around (serve expression journal socket limit turns) status whole part
       (Some session)
   worked : {count seed limit status : ℕ} {whole part : List ℕ}
       → Works count seed limit status whole part
-      → JobEnds files disk (work count seed limit) status whole part None
+      → JobEnds around (work count seed limit) status whole part None
 
 -- what a job may make of the files, the output and the site
-pub record JobOver (files : Option Listing) (job : Job) (before after : SiteState) (is : Crashes)
-    (status : ℕ) (whole part : List ℕ) (session : Option Session) : Type 0 where
-  pub ends : JobEnds files after.disk job status whole part session
-  pub journal : OnJournal files job before after is session
-  pub wire : OnWire job before after is session
+pub record JobOver (around : Around) (job : Job) (is : Crashes) (status : ℕ) (whole part : List ℕ)
+    (session : Option Session) : Type 0 where
+  pub ends : JobEnds around job status whole part session
+  pub journal : OnJournal around.files job around.before around.after is session
+  pub wire : OnWire job around.before around.after is session
 
 -- How a run over a site may end: words that name no job are refused with a text; memory may run out
 -- for them; and others end as their job may.
-pub data EndsOver (words : List (List ℕ)) (files : Option Listing) (before after : SiteState)
-    (is : Crashes) : ℕ → List ℕ → List ℕ → Option Session → Type 0 where
+pub data EndsOver (words : List (List ℕ)) (around : Around) (is : Crashes)
+    : ℕ → List ℕ → List ℕ → Option Session → Type 0 where
   other_words : {text : List ℕ} {status : ℕ} {whole part : List ℕ}
-      → NamesNoJob words → after ≡ before → LastLine 2 [] text status whole part
-      → EndsOver words files before after is status whole part None
+      → NamesNoJob words → SiteRests around → LastLine 2 [] text status whole part
+      → EndsOver words around is status whole part None
   no_memory : {status : ℕ} {whole part : List ℕ}
-      → after ≡ before → LastLine 9 [] (line (codes "refused memory")) status whole part
-      → EndsOver words files before after is status whole part None
+      → SiteRests around → LastLine 9 [] (line (codes "refused memory")) status whole part
+      → EndsOver words around is status whole part None
   named : {job : Job} {status : ℕ} {whole part : List ℕ} {session : Option Session}
-      → Names words job → JobOver files job before after is status whole part session
-      → EndsOver words files before after is status whole part session
+      → Names words job → JobOver around job is status whole part session
+      → EndsOver words around is status whole part session
 
 -- How a call ended with a status: there are texts and a session with which it may end so, and these
 -- texts went out, the second in part.

@@ -1,4 +1,5 @@
 pub mod Command
+pub mod Around
 pub mod ActionLines
 pub mod Trace
 pub mod Replay

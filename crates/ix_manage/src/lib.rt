@@ -6,6 +6,7 @@ ghost use Rattle.ix_outside.specs.Counts.{Rose};
 ghost use Rattle.ix_outside.specs.FilesState.{OnlyFaults};
 ghost use Rattle.ix_outside.specs.SinkState.{OnlyPuts};
 ghost use Rattle.ix_outside.specs.SiteState.{OnlyDisk};
+ghost use Rattle.ix_manage.specs.Around.{around_of};
 ghost use Rattle.ix_manage.specs.Command.{NamesNoJournal, NamesNoSocket};
 ghost use Rattle.ix_manage.specs.Ends.{Ended, EndsOver};
 ghost use Rattle.ix_outside.specs.Sink.{AppendsPart};
@@ -76,8 +77,9 @@ pub fn manage<F: Files, S: Site, K: Sink>(
 
     // With this status, a session and what went out, whole and in part, the run may end so; what it
     // leaves of its journal is that session's history, and what it sent the session's replies.
-    ensures ends { Ended (EndsOver (map string_bytes words.now) (F.state files.old).contents
-        (S.state site.old) (S.state site.new) (S.crashes site.new))
+    ensures ends { Ended (EndsOver (map string_bytes words.now)
+        (around_of (F.state files.old) (F.state files.new) (S.state site.old) (S.state site.new))
+        (S.crashes site.new))
         result (K.state out.old) (K.state out.new) }
 
     // A file is lost, the disk and the wire fail, and a put fails, only where the count rose.

@@ -7,6 +7,7 @@ ghost use Rattle.ix_outside.specs.SinkState.{OnlyPuts};
 ghost use Rattle.ix_outside.specs.SiteState.{OnlyDisk};
 ghost use Rattle.ix_manager.specs.inside.OverSite.{FitsSite};
 ghost use Rattle.ix_script.specs.Events.{HasEvents};
+ghost use Rattle.ix_manage.specs.Around.{around_of};
 ghost use Rattle.ix_manage.specs.Ends.{JobOver};
 ghost use Rattle.ix_manage.specs.inside.Jobs.{replay_of};
 ghost use Rattle.ix_manage.specs.inside.Leaves.{FailedWhere, IsNoLoss, Leaves, LostWhere};
@@ -40,8 +41,9 @@ pub(crate) fn replay<F: Files, S: Site, K: Sink>(
     requires attached { (S.state site.old).attached ≡ false }
 
     ensures leaves { Leaves
-        (JobOver (F.state files.old).contents (replay_of names.entry)
-        (S.state site.old) (S.state site.new) (S.crashes site.new))
+        (JobOver
+        (around_of (F.state files.old) (F.state files.new) (S.state site.old) (S.state site.new))
+        (replay_of names.entry) (S.crashes site.new))
         (K.state out.old) (K.state out.new) result }
     ensures lost { IfErr result (LostWhere (F.state files.old) (F.state files.new)) }
     ensures failed { IfErr result (FailedWhere (S.state site.old) (S.state site.new)) }

@@ -6,6 +6,7 @@ ghost use Rattle.ix_cli.specs.inside.Jobs.{job_of};
 ghost use Rattle.ix_outside.specs.FilesState.{OnlyFaults};
 ghost use Rattle.ix_outside.specs.SinkState.{OnlyPuts};
 ghost use Rattle.ix_outside.specs.SiteState.{OnlyDisk};
+ghost use Rattle.ix_manage.specs.Around.{around_of};
 ghost use Rattle.ix_manage.specs.Command.{NamesNoJournal, NamesNoSocket, journal_of, socket_of};
 ghost use Rattle.ix_manage.specs.Ends.{EndsOver, JobOver};
 ghost use Rattle.ix_manage.specs.Site.{OnlyCalls};
@@ -48,8 +49,9 @@ pub(crate) fn run<F: Files, S: Site, K: Sink>(
     requires { (S.state site.old).attached ≡ false }
 
     ensures leaves { Leaves
-        (EndsOver (map string_bytes words.now) (F.state files.old).contents
-        (S.state site.old) (S.state site.new) (S.crashes site.new))
+        (EndsOver (map string_bytes words.now)
+        (around_of (F.state files.old) (F.state files.new) (S.state site.old) (S.state site.new))
+        (S.crashes site.new))
         (K.state out.old) (K.state out.new) result }
     ensures lost { IfErr result (LostWhere (F.state files.old) (F.state files.new)) }
     ensures failed { IfErr result (FailedWhere (S.state site.old) (S.state site.new)) }
@@ -81,8 +83,9 @@ fn run_job<F: Files, S: Site, K: Sink>(
     requires attached { (S.state site.old).attached ≡ false }
 
     ensures leaves { Leaves
-        (JobOver (F.state files.old).contents (job_of job.now)
-        (S.state site.old) (S.state site.new) (S.crashes site.new))
+        (JobOver
+        (around_of (F.state files.old) (F.state files.new) (S.state site.old) (S.state site.new))
+        (job_of job.now) (S.crashes site.new))
         (K.state out.old) (K.state out.new) result }
     ensures lost { IfErr result (LostWhere (F.state files.old) (F.state files.new)) }
     ensures failed { IfErr result (FailedWhere (S.state site.old) (S.state site.new)) }
@@ -161,7 +164,7 @@ fn run_trace<F: Files, K: Sink>(
     requires most { names.limit ≤ most_nodes }
 
     ensures leaves { Leaves
-        (TraceEnds (F.state files.old).contents names.entry)
+        (TraceEnds (F.state files.old) (F.state files.new) names.entry)
         (K.state out.old) (K.state out.new) result }
     ensures lost { IfErr result (LostWhere (F.state files.old) (F.state files.new)) }
     ensures failed { IfErr result IsNoFailure }

@@ -4,6 +4,7 @@ ghost use Rattle.ix_cli.specs.Commands.{most_nodes, most_turns};
 ghost use Rattle.ix_outside.specs.FilesState.{OnlyFaults};
 ghost use Rattle.ix_outside.specs.SinkState.{OnlyPuts};
 ghost use Rattle.ix_manager.specs.inside.OverSite.{FitsSite};
+ghost use Rattle.ix_manage.specs.Around.{around_of};
 ghost use Rattle.ix_manage.specs.Ends.{JobOver};
 ghost use Rattle.ix_manage.specs.Site.{OnlyCalls};
 ghost use Rattle.ix_manage.specs.inside.Jobs.{serve_of};
@@ -38,8 +39,9 @@ pub(crate) fn serve<F: Files, S: Site, K: Sink>(
     requires attached { (S.state site.old).attached ≡ false }
 
     ensures leaves { Leaves
-        (JobOver (F.state files.old).contents (serve_of names.entry)
-        (S.state site.old) (S.state site.new) (S.crashes site.new))
+        (JobOver
+        (around_of (F.state files.old) (F.state files.new) (S.state site.old) (S.state site.new))
+        (serve_of names.entry) (S.crashes site.new))
         (K.state out.old) (K.state out.new) result }
     ensures lost { IfErr result (LostWhere (F.state files.old) (F.state files.new)) }
     ensures failed { IfErr result (FailedWhere (S.state site.old) (S.state site.new)) }

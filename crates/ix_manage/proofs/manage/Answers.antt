@@ -1,4 +1,5 @@
 use Rattle.std.proofs.Common.{sym, ap, subst, ◌∙◌, map, string_bytes}
+use Rattle.ix_manage.specs.Around.{around_of}
 use Rattle.ix_manage.specs.Ends.{Ended, EndsOver}
 use Rattle.ix_manage.specs.inside.Leaves.{StopsAfter}
 use Rattle.ix_manage.specs.Journal.{other_line}
@@ -8,8 +9,9 @@ use Rattle.ix_manage.proofs.manage.Goals as goal
 
 pub returns-in-Err-Output-clause-ends : goal.returns-in-Err-Output-clause-ends
 returns-in-Err-Output-clause-ends g c =
-    let may = EndsOver (map string_bytes c.args.words.now) (g.F.Files.state c.args.files.now).contents
-    (g.S.Site.state c.args.site.now) (g.S.Site.state c.run.new.site) (g.S.Site.crashes c.run.new.site) in
+    let may = EndsOver (map string_bytes c.args.words.now)
+    (around_of (g.F.Files.state c.args.files.now) (g.F.Files.state c.run.new.files)
+    (g.S.Site.state c.args.site.now) (g.S.Site.state c.run.new.site)) (g.S.Site.crashes c.run.new.site) in
     let stops = subst (StopsAfter may (g.K.Sink.state c.args.out.now) (g.K.Sink.state c.run.new.out))
     c.in-Err-Output.field-0-is c.in-Err-Output.ensures.leaves in
     stops.0
@@ -17,8 +19,9 @@ returns-in-Err-Output-clause-ends g c =
 -- the text that tells why the words name no job is put
 pub returns-in-Ok-put-clause-ends : goal.returns-in-Ok-put-clause-ends
 returns-in-Ok-put-clause-ends g c =
-    let may = EndsOver (map string_bytes c.args.words.now) (g.F.Files.state c.args.files.now).contents
-    (g.S.Site.state c.args.site.now) (g.S.Site.state c.run.new.site) (g.S.Site.crashes c.run.new.site) in
+    let may = EndsOver (map string_bytes c.args.words.now)
+    (around_of (g.F.Files.state c.args.files.now) (g.F.Files.state c.run.new.files)
+    (g.S.Site.state c.args.site.now) (g.S.Site.state c.run.new.site)) (g.S.Site.crashes c.run.new.site) in
     let old = g.K.Sink.state c.args.out.now in
     let between = g.K.Sink.state c.run.new.out in
     let before = subst (StopsAfter may old between) c.in-Err-Words.field-0-is c.in-Err-Words.ensures.leaves in
@@ -28,8 +31,9 @@ returns-in-Ok-put-clause-ends g c =
 -- its put fails
 pub returns-in-Err-Words-clause-ends : goal.returns-in-Err-Words-clause-ends
 returns-in-Err-Words-clause-ends g c =
-    let may = EndsOver (map string_bytes c.args.words.now) (g.F.Files.state c.args.files.now).contents
-    (g.S.Site.state c.args.site.now) (g.S.Site.state c.run.new.site) (g.S.Site.crashes c.run.new.site) in
+    let may = EndsOver (map string_bytes c.args.words.now)
+    (around_of (g.F.Files.state c.args.files.now) (g.F.Files.state c.run.new.files)
+    (g.S.Site.state c.args.site.now) (g.S.Site.state c.run.new.site)) (g.S.Site.crashes c.run.new.site) in
     let old = g.K.Sink.state c.args.out.now in
     let between = g.K.Sink.state c.run.new.out in
     let before = subst (StopsAfter may old between) c.in-Err-Words.field-0-is c.in-Err-Words.ensures.leaves in
@@ -39,8 +43,9 @@ returns-in-Err-Words-clause-ends g c =
 -- a refusal's line is put
 pub returns-in-Ok-put-2-clause-ends : goal.returns-in-Ok-put-2-clause-ends
 returns-in-Ok-put-2-clause-ends g c =
-    let may = EndsOver (map string_bytes c.args.words.now) (g.F.Files.state c.args.files.now).contents
-    (g.S.Site.state c.args.site.now) (g.S.Site.state c.run.new.site) (g.S.Site.crashes c.run.new.site) in
+    let may = EndsOver (map string_bytes c.args.words.now)
+    (around_of (g.F.Files.state c.args.files.now) (g.F.Files.state c.run.new.files)
+    (g.S.Site.state c.args.site.now) (g.S.Site.state c.run.new.site)) (g.S.Site.crashes c.run.new.site) in
     let old = g.K.Sink.state c.args.out.now in
     let between = g.K.Sink.state c.run.new.out in
     let new = g.K.Sink.state c.put-in-Err-Refused.new.self in
@@ -53,8 +58,9 @@ returns-in-Ok-put-2-clause-ends g c =
 -- the line that tells the other text is put
 pub returns-in-Ok-put_other-clause-ends : goal.returns-in-Ok-put_other-clause-ends
 returns-in-Ok-put_other-clause-ends g c =
-    let may = EndsOver (map string_bytes c.args.words.now) (g.F.Files.state c.args.files.now).contents
-    (g.S.Site.state c.args.site.now) (g.S.Site.state c.run.new.site) (g.S.Site.crashes c.run.new.site) in
+    let may = EndsOver (map string_bytes c.args.words.now)
+    (around_of (g.F.Files.state c.args.files.now) (g.F.Files.state c.run.new.files)
+    (g.S.Site.state c.args.site.now) (g.S.Site.state c.run.new.site)) (g.S.Site.crashes c.run.new.site) in
     let old = g.K.Sink.state c.args.out.now in
     let between = g.K.Sink.state c.run.new.out in
     let before = subst (StopsAfter may old between) c.in-Err-OtherExpression.field-0-is c.in-Err-OtherExpression.ensures.leaves in
@@ -64,8 +70,9 @@ returns-in-Ok-put_other-clause-ends g c =
 -- its put fails
 pub returns-in-Err-OtherExpression-clause-ends : goal.returns-in-Err-OtherExpression-clause-ends
 returns-in-Err-OtherExpression-clause-ends g c =
-    let may = EndsOver (map string_bytes c.args.words.now) (g.F.Files.state c.args.files.now).contents
-    (g.S.Site.state c.args.site.now) (g.S.Site.state c.run.new.site) (g.S.Site.crashes c.run.new.site) in
+    let may = EndsOver (map string_bytes c.args.words.now)
+    (around_of (g.F.Files.state c.args.files.now) (g.F.Files.state c.run.new.files)
+    (g.S.Site.state c.args.site.now) (g.S.Site.state c.run.new.site)) (g.S.Site.crashes c.run.new.site) in
     let old = g.K.Sink.state c.args.out.now in
     let between = g.K.Sink.state c.run.new.out in
     let before = subst (StopsAfter may old between) c.in-Err-OtherExpression.field-0-is c.in-Err-OtherExpression.ensures.leaves in
@@ -75,8 +82,9 @@ returns-in-Err-OtherExpression-clause-ends g c =
 -- the put of a refusal's line fails
 pub returns-clause-ends : goal.returns-clause-ends
 returns-clause-ends g c =
-    let may = EndsOver (map string_bytes c.args.words.now) (g.F.Files.state c.args.files.now).contents
-    (g.S.Site.state c.args.site.now) (g.S.Site.state c.run.new.site) (g.S.Site.crashes c.run.new.site) in
+    let may = EndsOver (map string_bytes c.args.words.now)
+    (around_of (g.F.Files.state c.args.files.now) (g.F.Files.state c.run.new.files)
+    (g.S.Site.state c.args.site.now) (g.S.Site.state c.run.new.site)) (g.S.Site.crashes c.run.new.site) in
     let old = g.K.Sink.state c.args.out.now in
     let between = g.K.Sink.state c.run.new.out in
     let new = g.K.Sink.state c.put-in-Err-Refused.new.self in

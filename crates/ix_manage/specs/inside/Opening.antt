@@ -8,6 +8,7 @@ use Rattle.ix_outside.specs.Contents.{Sends}
 use Rattle.ix_outside.specs.Crashes.{Crashes}
 use Rattle.ix_outside.specs.Disk.{IsOpened}
 use Rattle.ix_outside.specs.Files.{Listing}
+use Rattle.ix_outside.specs.FilesState.{FilesState}
 use Rattle.ix_outside.specs.SinkState.{SinkState}
 use Rattle.ix_outside.specs.SiteState.{SiteState}
 use Rattle.ix_outside.specs.inside.DiskCalls.{KeepsOpened}
@@ -17,6 +18,7 @@ use Rattle.ix_manager.specs.Runs.{opening_of}
 use Rattle.ix_manager.specs.Wire.{unmarked}
 use Rattle.ix_manager.specs.inside.OverSite.{FitsSite}
 use Rattle.ix_manager.specs.inside.Serving.{ServesSince}
+use Rattle.ix_manage.specs.Around.{around_of}
 use Rattle.ix_manage.specs.Command.{expression_of, journal_of, limit_of}
 use Rattle.ix_manage.specs.Ends.{JobEnds, ReadsRest}
 use Rattle.ix_manage.specs.Journal.{OnJournal}
@@ -40,8 +42,8 @@ pub record IsJobOf (x : Form) (limit : ℕ) (journal : List ℕ) (files : Option
 pub record EndsUnstarted (x : Form) (limit : ℕ) (journal : List ℕ) (before after : SiteState)
     (is : Crashes) (status : ℕ) (whole part : List ℕ) (session : Option Session) : Type 0 where
   pub none : session ≡ None
-  pub ends : (files : Option Listing) (job : Job) → IsJobOf x limit journal files job
-      → JobEnds files after.disk job status whole part None
+  pub ends : (files later : FilesState) (job : Job) → IsJobOf x limit journal files.contents job
+      → JobEnds (around_of files later before after) job status whole part None
   pub on_journal : (files : Option Listing) (job : Job) → IsJobOf x limit journal files job
       → OnJournal files job before after is None
 

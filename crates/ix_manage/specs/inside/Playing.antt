@@ -3,12 +3,12 @@ use Rattle.std.specs.Prelude.{ℕ, List, Option}
 use Rattle.ix_expr.specs.Form.{Form}
 use Rattle.ix_outside.specs.Contents.{GivenEvent}
 use Rattle.ix_outside.specs.Crashes.{Crashes}
-use Rattle.ix_outside.specs.Disk.{Disk as SiteDisk}
-use Rattle.ix_outside.specs.Files.{Listing}
+use Rattle.ix_outside.specs.FilesState.{FilesState}
 use Rattle.ix_outside.specs.SiteState.{SiteState}
 use Rattle.ix_manager.specs.declared.faults.StartFault.{StartFault}
 use Rattle.ix_manager.specs.declared.faults.StartFault.TheVariants as fault
 use Rattle.ix_script.specs.Events.{HasEvents}
+use Rattle.ix_manage.specs.Around.{around_of}
 use Rattle.ix_manage.specs.Ends.{JobEnds, JobOver}
 use Rattle.ix_manage.specs.Replay.{ReadsEvents}
 use Rattle.ix_manage.specs.Session.{Session}
@@ -34,23 +34,24 @@ stop_of (fault.Word number) = Refused (Journal (Word number))
 stop_of (fault.Heavy number limit) = Refused (Journal (Heavy number limit))
 stop_of fault.Memory = Refused Memory
 
--- how a trace may end, whatever the site's disk
-abbrev pub TraceEnds : Option Listing → TraceWords → ℕ → List ℕ → List ℕ → Option Session → Type 0
-TraceEnds files names status whole part session =
-    (disk : Option SiteDisk) → JobEnds files disk (trace_of names) status whole part session
+-- how a trace may end, whatever the site, which it leaves as it is
+abbrev pub TraceEnds : FilesState → FilesState → TraceWords
+    → ℕ → List ℕ → List ℕ → Option Session → Type 0
+TraceEnds files later names status whole part session = (site : SiteState)
+    → JobEnds (around_of files later site site) (trace_of names) status whole part session
 
 -- how a replay may end over a site, where files stand for the form and the script
 abbrev pub PlaysOver : Form → ReplayWords → List ℕ → SiteState → SiteState → Crashes
     → ℕ → List ℕ → List ℕ → Option Session → Type 0
 PlaysOver x names script before after is status whole part session =
-    (files : Option Listing) → ReadsForm files names.expression.now x
+    (files later : FilesState) → ReadsForm files.contents names.expression.now x
     → ((events : List GivenEvent) → HasEvents script events
-    → ReadsEvents files names.script.now events)
-    → JobOver files (replay_of names) before after is status whole part session
+    → ReadsEvents files.contents names.script.now events)
+    → JobOver (around_of files later before after) (replay_of names) is status whole part session
 
 -- how a serve may end over a site, where a file stands for the form
 abbrev pub ServesOver : Form → ServeWords → SiteState → SiteState → Crashes
     → ℕ → List ℕ → List ℕ → Option Session → Type 0
 ServesOver x names before after is status whole part session =
-    (files : Option Listing) → ReadsForm files names.expression.now x
-    → JobOver files (serve_of names) before after is status whole part session
+    (files later : FilesState) → ReadsForm files.contents names.expression.now x
+    → JobOver (around_of files later before after) (serve_of names) is status whole part session

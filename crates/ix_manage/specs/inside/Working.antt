@@ -5,11 +5,12 @@ use Rattle.ix_cli.specs.Commands.{most_asks, most_nodes}
 use Rattle.ix_expr.specs.Form.{Form}
 use Rattle.ix_can.specs.TreeOf.{tree_size}
 use Rattle.ix_engine.specs.inside.Engine.{Allows, EngineState, extended}
-use Rattle.ix_outside.specs.Disk.{Disk}
-use Rattle.ix_outside.specs.Files.{Listing}
+use Rattle.ix_outside.specs.FilesState.{FilesState}
+use Rattle.ix_outside.specs.SiteState.{SiteState}
 use Rattle.ix_generate.specs.Workload.{Ask, PlainWorkload, action_of, behind_draw, drawn}
 use Rattle.ix_generate.specs.Workload.{with_granted}
 use Rattle.ix_generate.specs.History.{Runs, generator_behind}
+use Rattle.ix_manage.specs.Around.{around_of}
 use Rattle.ix_manage.specs.Ends.{JobEnds}
 use Rattle.ix_manage.specs.Session.{Session}
 use Rattle.ix_manage.specs.Work.{Asked, history_of}
@@ -51,7 +52,7 @@ pub record Sums (x : Form) (names : WorkWords) (summary : Summary) : Type 0 wher
   pub granted_is : summary.granted ≡ length asks
   pub nodes_is : summary.nodes ≡ tree_size x (history_of asks)
 
--- how a work may end, whatever the files and the site's disk
+-- how a work may end, whatever the files and the site, which it leaves as they are
 abbrev pub WorkEnds : WorkWords → ℕ → List ℕ → List ℕ → Option Session → Type 0
-WorkEnds names status whole part session = (files : Option Listing) (disk : Option Disk)
-    → JobEnds files disk (work_of names) status whole part session
+WorkEnds names status whole part session = (files : FilesState) (site : SiteState)
+    → JobEnds (around_of files files site site) (work_of names) status whole part session

@@ -10,40 +10,40 @@ use Rattle.ix_manage.proofs.replay.replay.Goals as goal
 
 pub returns-in-Err-clause-leaves : goal.returns-in-Err-clause-leaves
 returns-in-Err-clause-leaves g c =
-    let files = (g.F.Files.state c.args.files.now).contents in
+    let files = g.F.Files.state c.args.files.now in
     let names = c.args.names in
     let site = g.S.Site.state c.args.site.now in
     let is = g.S.Site.crashes c.args.site.now in
     nothing_put c.in-Err.refusal (g.K.Sink.state c.args.out.now)
     (λ status whole part last. record {
-      ends = expression_refused files (replay_of names) names.expression.now refl
-          c.in-Err.refusal c.in-Err.ensures.err status whole part last site.disk;
-      journal = none_opened files (replay_of names) site site is is
+      ends = expression_refused files (g.F.Files.state c.load_expression.new.files) (replay_of names) names.expression.now refl
+          c.in-Err.refusal c.in-Err.ensures.err status whole part last site;
+      journal = none_opened files.contents (replay_of names) site site is is
           (g.met.S.Site.lawful c.args.site.now) c.requires.attached refl;
       wire = λ socket none. absurd (none-some socket none);
     })
 
 pub returns-in-Err-load_script-clause-leaves : goal.returns-in-Err-load_script-clause-leaves
 returns-in-Err-load_script-clause-leaves g c =
-    let files = (g.F.Files.state c.args.files.now).contents in
+    let files = g.F.Files.state c.args.files.now in
     let names = c.args.names in
     let site = g.S.Site.state c.args.site.now in
     let is = g.S.Site.crashes c.args.site.now in
     let refusal = c.in-Err-load_script.refusal in
     nothing_put refusal (g.K.Sink.state c.args.out.now)
     (λ status whole part last. record {
-      ends = replay_refused files names.expression.now names.journal.now names.script.now names.limit names.turns
+      ends = replay_refused files (g.F.Files.state c.load_script.new.files) names.expression.now names.journal.now names.script.now names.limit names.turns
           c.in-Ok.expression c.in-Ok.ensures.ok refusal
           (subst (λ files. RefusesScript files names.script.now refusal) c.in-Ok.ensures.files.contents
-          c.in-Err-load_script.ensures.err) status whole part last site.disk;
-      journal = none_opened files (replay_of names) site site is is
+          c.in-Err-load_script.ensures.err) status whole part last site;
+      journal = none_opened files.contents (replay_of names) site site is is
           (g.met.S.Site.lawful c.args.site.now) c.requires.attached refl;
       wire = λ socket none. absurd (none-some socket none);
     })
 
 pub returns-in-Err-read_script-clause-leaves : goal.returns-in-Err-read_script-clause-leaves
 returns-in-Err-read_script-clause-leaves g c =
-    let files = (g.F.Files.state c.args.files.now).contents in
+    let files = g.F.Files.state c.args.files.now in
     let names = c.args.names in
     let bytes = c.in-Ok-load_script.bytes.items in
     let site = g.S.Site.state c.args.site.now in
@@ -51,21 +51,21 @@ returns-in-Err-read_script-clause-leaves g c =
     let refusal = c.in-Err-read_script.refusal in
     nothing_put refusal (g.K.Sink.state c.args.out.now)
     (λ status whole part last. record {
-      ends = replay_refused files names.expression.now names.journal.now names.script.now names.limit names.turns
+      ends = replay_refused files (g.F.Files.state c.load_script.new.files) names.expression.now names.journal.now names.script.now names.limit names.turns
           c.in-Ok.expression c.in-Ok.ensures.ok refusal
-          (script_refused files names.script.now bytes c.deref.result.now
+          (script_refused files.contents names.script.now bytes c.deref.result.now
           (subst (λ files. HasFile files names.script.now bytes) c.in-Ok.ensures.files.contents
           c.in-Ok-load_script.ensures.file)
           c.in-Ok-load_script.ensures.short c.deref.ensures.value refusal c.in-Err-read_script.ensures.err)
-          status whole part last site.disk;
-      journal = none_opened files (replay_of names) site site is is
+          status whole part last site;
+      journal = none_opened files.contents (replay_of names) site site is is
           (g.met.S.Site.lawful c.args.site.now) c.requires.attached refl;
       wire = λ socket none. absurd (none-some socket none);
     })
 
 pub returns-clause-leaves : goal.returns-clause-leaves
 returns-clause-leaves g c =
-    let files = (g.F.Files.state c.args.files.now).contents in
+    let files = g.F.Files.state c.args.files.now in
     let names = c.args.names in
     let load = c.in-Ok-load_script in
     let bytes = load.bytes.items in
@@ -73,8 +73,8 @@ returns-clause-leaves g c =
     let file = subst (λ files. HasFile files names.script.now bytes) c.in-Ok.ensures.files.contents
     load.ensures.file in
     leaves_on
-    (λ status whole part session plays. plays files c.in-Ok.ensures.ok
-    (λ events has. replay_reads files names.expression.now names.journal.now names.script.now names.limit names.turns
+    (λ status whole part session plays. plays files (g.F.Files.state c.load_script.new.files) c.in-Ok.ensures.ok
+    (λ events has. replay_reads files.contents names.script.now
     bytes c.in-Ok-read_script.script file load.ensures.short (read.same ∙ c.deref.ensures.value) events has))
     (g.K.Sink.state c.args.out.now) (g.K.Sink.state c.play.new.out)
     c.play.result c.play.ensures.leaves

@@ -1,5 +1,6 @@
 use Rattle.std.proofs.Common.{ℕ, List, Option, map, string_bytes, refl, subst}
 use Rattle.ix_cli.specs.inside.Jobs.{Explains, job_of}
+use Rattle.ix_manage.specs.Around.{around_of}
 use Rattle.ix_manage.specs.Ends.{EndsOver, JobOver, other_words, no_memory, named}
 use Rattle.ix_manage.specs.Session.{Session}
 use Rattle.ix_manage.specs.declared.refusal.Refusal.TheVariants.{Memory}
@@ -12,13 +13,12 @@ run_job-requires-clause-named g c = (map string_bytes c.args.words.now, c.in-Ok.
 pub returns-in-Ok-clause-leaves : goal.returns-in-Ok-clause-leaves
 returns-in-Ok-clause-leaves g c =
     let words = map string_bytes c.args.words.now in
-    let files = (g.F.Files.state c.args.files.now).contents in
-    let before = g.S.Site.state c.args.site.now in
-    let after = g.S.Site.state c.run_job.new.site in
+    let around = around_of (g.F.Files.state c.args.files.now) (g.F.Files.state c.run_job.new.files)
+    (g.S.Site.state c.args.site.now) (g.S.Site.state c.run_job.new.site) in
     let crashes = g.S.Site.crashes c.run_job.new.site in
     let ends : (status : ℕ) (whole part : List ℕ) (session : Option Session)
-    → JobOver files (job_of c.in-Ok.job) before after crashes status whole part session
-    → EndsOver words files before after crashes status whole part session =
+    → JobOver around (job_of c.in-Ok.job) crashes status whole part session
+    → EndsOver words around crashes status whole part session =
     λ status whole part session end. named c.in-Ok.ensures end in
     leaves_on ends (g.K.Sink.state c.args.out.now) (g.K.Sink.state c.run_job.new.out)
     c.run_job.result c.run_job.ensures.leaves

@@ -2,6 +2,7 @@ use Rattle.std.proofs.Common.{◌≡◌, ℕ, List, Option, sym, ◌∙◌, ap, 
 use Rattle.std.proofs.lemmas.Option.{none-some}
 use Rattle.ix_cli.specs.Words.{Job, trace}
 use Rattle.ix_cli.specs.inside.Jobs.{job_of}
+use Rattle.ix_manage.specs.Around.{around_of}
 use Rattle.ix_manage.specs.Ends.{JobOver}
 use Rattle.ix_manage.specs.Session.{Session}
 use Rattle.ix_manage.specs.inside.Jobs.{work_of}
@@ -13,19 +14,20 @@ use Rattle.ix_manage.proofs.run.run_job.Goals as goal
 
 pub returns-in-Trace-clause-leaves : goal.returns-in-Trace-clause-leaves
 returns-in-Trace-clause-leaves g c =
-    let files = (g.F.Files.state c.args.files.now).contents in
+    let files = g.F.Files.state c.args.files.now in
+    let later = g.F.Files.state c.run_trace.new.files in
     let site = g.S.Site.state c.args.site.now in
     let crashes = g.S.Site.crashes c.args.site.now in
     let limit = c.in-Trace.nodes in
     let named : job_of c.args.job.now ≡ trace c.as_str.result.now c.as_str-in-Trace.result.now limit =
     ap job_of c.in-Trace.is ∙ (λ i. trace (sym c.as_str.ensures.value i) (sym c.as_str-in-Trace.ensures.value i) limit) in
     let ends : (status : ℕ) (whole part : List ℕ) (session : Option Session)
-    → TraceEnds files (record { expression = c.as_str.result; actions = c.as_str-in-Trace.result; limit = limit }) status whole part session
-    → JobOver files (job_of c.args.job.now) site site crashes status whole part session =
+    → TraceEnds files later (record { expression = c.as_str.result; actions = c.as_str-in-Trace.result; limit = limit }) status whole part session
+    → JobOver (around_of files later site site) (job_of c.args.job.now) crashes status whole part session =
     λ status whole part session end.
-    subst (λ (job : Job). JobOver files job site site crashes status whole part session) (sym named)
+    subst (λ (job : Job). JobOver (around_of files later site site) job crashes status whole part session) (sym named)
     (record {
-      ends = end site.disk;
+      ends = end site;
       journal = λ expression journal of_expression has_journal. absurd (none-some journal has_journal);
       wire = λ socket same. absurd (none-some socket same);
     }) in
@@ -34,7 +36,7 @@ returns-in-Trace-clause-leaves g c =
 
 pub returns-in-Work-clause-leaves : goal.returns-in-Work-clause-leaves
 returns-in-Work-clause-leaves g c =
-    let files = (g.F.Files.state c.args.files.now).contents in
+    let files = g.F.Files.state c.args.files.now in
     let site = g.S.Site.state c.args.site.now in
     let crashes = g.S.Site.crashes c.args.site.now in
     let names : WorkWords =
@@ -42,11 +44,11 @@ returns-in-Work-clause-leaves g c =
     let named : job_of c.args.job.now ≡ work_of names = ap job_of c.in-Work.is in
     let ends : (status : ℕ) (whole part : List ℕ) (session : Option Session)
     → WorkEnds names status whole part session
-    → JobOver files (job_of c.args.job.now) site site crashes status whole part session =
+    → JobOver (around_of files files site site) (job_of c.args.job.now) crashes status whole part session =
     λ status whole part session end.
-    subst (λ (job : Job). JobOver files job site site crashes status whole part session) (sym named)
+    subst (λ (job : Job). JobOver (around_of files files site site) job crashes status whole part session) (sym named)
     (record {
-      ends = end files site.disk;
+      ends = end files site;
       journal = λ expression journal of_expression has_journal. absurd (none-some journal has_journal);
       wire = λ socket same. absurd (none-some socket same);
     }) in

@@ -6,31 +6,31 @@ use Rattle.ix_manage.proofs.run.run_trace.Goals as goal
 
 pub returns-in-Err-clause-leaves : goal.returns-in-Err-clause-leaves
 returns-in-Err-clause-leaves g c =
-    let files = (g.F.Files.state c.args.files.now).contents in
+    let files = g.F.Files.state c.args.files.now in
     let names = c.args.names in
     nothing_put c.in-Err.refusal (g.K.Sink.state c.args.out.now)
-    (refused_start files names.expression.now names.actions.now names.limit
+    (refused_start files (g.F.Files.state c.start.new.files) names.expression.now names.actions.now names.limit
     c.in-Err.refusal c.in-Err.ensures.err)
 
 pub returns-in-Err-load_actions-clause-leaves : goal.returns-in-Err-load_actions-clause-leaves
 returns-in-Err-load_actions-clause-leaves g c =
-    let files = (g.F.Files.state c.args.files.now).contents in
+    let files = g.F.Files.state c.args.files.now in
     let names = c.args.names in
     let refusal = c.in-Err-load_actions.refusal in
     nothing_put refusal (g.K.Sink.state c.args.out.now)
-    (refused_actions files names.expression.now names.actions.now names.limit
+    (refused_actions files (g.F.Files.state c.load_actions.new.files) names.expression.now names.actions.now names.limit
     c.in-Ok.engine.form c.in-Ok.ensures.starts refusal
     (subst (λ files. RefusesActions files names.actions.now refusal)
     c.in-Ok.ensures.files.contents c.in-Err-load_actions.ensures.err))
 
 pub returns-clause-leaves : goal.returns-clause-leaves
 returns-clause-leaves g c =
-    let files = (g.F.Files.state c.args.files.now).contents in
+    let files = g.F.Files.state c.args.files.now in
     let names = c.args.names in
     let start = c.in-Ok in
     let load = c.in-Ok-load_actions in
     leaves_on
-    (trace_ends_run files names.expression.now names.actions.now names.limit
+    (trace_ends_run files (g.F.Files.state c.load_actions.new.files) names.expression.now names.actions.now names.limit
     start.engine.form start.engine.limit (g.F.Files.state c.start.new.files).contents
     load.actions.items c.deref.result.now
     start.ensures.starts start.ensures.limit start.ensures.files.contents

@@ -12,8 +12,8 @@ returns-in-Err-clause-leaves g c =
     let site = g.S.Site.state c.args.site.now in
     nothing_put c.in-Err.refusal (g.K.Sink.state c.args.out.now)
     (λ status whole part last. record {
-      ends = expression_refused (g.F.Files.state c.args.files.now).contents (serve_of names) names.expression.now refl
-          c.in-Err.refusal c.in-Err.ensures.err status whole part last site.disk;
+      ends = expression_refused (g.F.Files.state c.args.files.now) (g.F.Files.state c.load_expression.new.files) (serve_of names) names.expression.now refl
+          c.in-Err.refusal c.in-Err.ensures.err status whole part last site;
       journal = none_opened (g.F.Files.state c.args.files.now).contents (serve_of names) site site
           (g.S.Site.crashes c.args.site.now) _ (g.met.S.Site.lawful c.args.site.now) c.requires.attached refl;
       wire = λ socket same. refl;
@@ -25,7 +25,7 @@ returns-in-Err-clause-site g c = calls_still _
 pub returns-in-Ok-clause-leaves : goal.returns-in-Ok-clause-leaves
 returns-in-Ok-clause-leaves g c =
     leaves_on
-    (λ status whole part session serves. serves (g.F.Files.state c.args.files.now).contents c.in-Ok.ensures.ok)
+    (λ status whole part session serves. serves (g.F.Files.state c.args.files.now) (g.F.Files.state c.load_expression.new.files) c.in-Ok.ensures.ok)
     (g.K.Sink.state c.args.out.now) (g.K.Sink.state c.begin.new.out)
     c.begin.result c.begin.ensures.leaves
 
