@@ -64,10 +64,10 @@ module _ {e : Environment} where
   pub opt_asked : {y : Form} {b : Bool} {t : Plain} → CanAsk (opt y) e (opt_of b t) → CanAsk y e t
   opt_asked {y} h = record { fits = fits-operands (opt y) e h.fits; proper = h.proper }
 
-  pub seq_first : {y z : Form} {t s : Plain} → CanAsk (seq y z) e (seq_of t s) → CanAsk y e t
+  pub seq_first : {y z : Form} {t s : Plain} {b : Bool} → CanAsk (seq y z) e (seq_of t b s) → CanAsk y e t
   seq_first {y} {z} h = record { fits = (fits-operands (seq y z) e h.fits).0; proper = h.proper.0 }
 
-  pub seq_rest : {y z : Form} {t s : Plain} → CanAsk (seq y z) e (seq_of t s) → Fits z e × Each (IsProper z) (items_of s)
+  pub seq_rest : {y z : Form} {t s : Plain} {b : Bool} → CanAsk (seq y z) e (seq_of t b s) → Fits z e × Each (IsProper z) (items_of s)
   seq_rest {y} {z} h = ((fits-operands (seq y z) e h.fits).1, h.proper.1.each)
 
   pub star_rest : {y : Form} {b : Bool} {s : Plain} → CanAsk (star y) e (star_of b s) → Fits y e × Each (IsProper y) (items_of s)

@@ -120,6 +120,10 @@ module _ {A B : Type 0} (f : A → B) where
   taken_map (a ∷ u) first = (a, u, first, refl, refl)
   taken_map (a ∷ u) (later t) = let k = taken_map u t in (k.0, a ∷ k.1, later k.2, k.3, ap (λ x. f a ∷ x) k.4)
 
+  pub map_taken : {a : A} {u w : List A} → Taken a u w → Taken (f a) (map f u) (map f w)
+  map_taken first = first
+  map_taken (later t) = later (map_taken t)
+
   -- what is taken out of what a test keeps of a mapped list
   abbrev pub TakenKept : (B → Bool) → List A → B → List B → Type 0
   TakenKept test u b v = (a : A) × (w : List A) × Taken a u w × (b ≡ f a) × (v ≡ filter test (map f w))

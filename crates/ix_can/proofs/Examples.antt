@@ -3,9 +3,10 @@ use Rattle.std.specs.Prelude.{true, false, ◌≡◌, ℕ, List, [], ◌∷◌, 
 use Rattle.std.proofs.Common.{refl}
 use Rattle.ix_values.specs.PlainAction.{PlainAction, Word}
 use Rattle.ix_values.specs.inside.ActionOf.{action_of}
+use Rattle.ix_expr.specs.declared.arg.Arg.{Arg}
 use Rattle.ix_expr.specs.declared.arg.Arg.TheVariants.{Fixed, Param}
 use Rattle.ix_expr.specs.Form.{Form, atom, opt, seq, star, par, par_star, or, and, couple, any, every, sync, all}
-use Rattle.ix_tree.specs.Plain.{Plain, dead, start, done, opt as opt_tree, seq as seq_tree, star as star_tree, par as par_tree, par_star as par_star_tree, or as or_tree, and as and_tree, couple as couple_tree, any as any_tree, every as every_tree, sync as sync_tree, all as all_tree, pair, bag, map, entry}
+use Rattle.ix_tree.specs.Plain.{Plain, dead, start, done, opt as opt_tree, seq as seq_tree, star as star_tree, par as par_tree, par_star as par_star_tree, couple as couple_tree, sync as sync_tree, all as all_tree, pair, bag, map, entry}
 use Rattle.ix_can.specs.Nodes.{listed}
 use Rattle.ix_can.specs.TreeOf.{tree_of, tree_size}
 
@@ -29,6 +30,10 @@ many_once = refl
 pub many_twice : tree_size many (named (codes "a") ∷ named (codes "a") ∷ []) ≡ 8
 many_twice = refl
 
+-- a run that is over takes no nodes
+pub many_over : tree_size many (named (codes "a") ∷ named (codes "a") ∷ named (codes "b") ∷ named (codes "a") ∷ []) ≡ 8
+many_over = refl
+
 -- `(a - b) + (a - c)`
 pub both_once : tree_size (par (seq (plain (codes "a")) (plain (codes "b"))) (seq (plain (codes "a")) (plain (codes "c")))) (named (codes "a") ∷ []) ≡ 13
 both_once = refl
@@ -40,7 +45,7 @@ some_value = any (codes "p") (seq (plain (codes "a")) (atom (record { name = cod
 pub some_value_once : tree_size some_value (named (codes "a") ∷ []) ≡ 4
 some_value_once = refl
 
-pub some_value_twice : tree_size some_value (named (codes "a") ∷ action_of (codes "b") (codes "u" ∷ []) ∷ []) ≡ 6
+pub some_value_twice : tree_size some_value (named (codes "a") ∷ action_of (codes "b") (codes "u" ∷ []) ∷ []) ≡ 1
 some_value_twice = refl
 
 -- a call and then a performance of the patient and the examination
@@ -61,6 +66,60 @@ patients_called = refl
 
 pub both_called : tree_size (couple patients examinations) called ≡ 21
 both_called = refl
+
+-- `all $p *(a($p) - b($p))`
+abbrev with_name : List ℕ → Form
+with_name name = atom (record { name = name; arguments = Param (codes "p") ∷ [] })
+
+abbrev rounds : Form
+rounds = all (codes "p") (star (seq (with_name (codes "a")) (with_name (codes "b"))))
+
+abbrev acted : List ℕ → List ℕ → PlainAction
+acted name value = action_of name (value ∷ [])
+
+pub rounds_once : tree_size rounds (acted (codes "a") (codes "u") ∷ []) ≡ 7
+rounds_once = refl
+
+pub rounds_over : tree_size rounds (acted (codes "a") (codes "u") ∷ acted (codes "b") (codes "u") ∷ acted (codes "a") (codes "v") ∷ acted (codes "b") (codes "v") ∷ []) ≡ 2
+rounds_over = refl
+
+-- `any $p (b(u,v,w,x) @ (c | d - (b($p,v,w,x) | b(u,$p,w,x) | b(u,v,$p,x) | b(u,v,w,$p))))`
+abbrev fixed_or_p : Arg → Arg → Arg → Arg → Form
+fixed_or_p q r s t = atom (record { name = codes "b"; arguments = q ∷ r ∷ s ∷ t ∷ [] })
+
+abbrev the_u : Arg
+the_u = Fixed (codes "u")
+
+abbrev the_v : Arg
+the_v = Fixed (codes "v")
+
+abbrev the_w : Arg
+the_w = Fixed (codes "w")
+
+abbrev the_x : Arg
+the_x = Fixed (codes "x")
+
+abbrev the_p : Arg
+the_p = Param (codes "p")
+
+abbrev some_of_four : Form
+some_of_four = or (or (or (fixed_or_p the_p the_v the_w the_x) (fixed_or_p the_u the_p the_w the_x)) (fixed_or_p the_u the_v the_p the_x)) (fixed_or_p the_u the_v the_w the_p)
+
+abbrev four : Form
+four = any (codes "p") (couple (fixed_or_p the_u the_v the_w the_x) (or (plain (codes "c")) (seq (plain (codes "d")) some_of_four)))
+
+abbrev all_four : PlainAction
+all_four = action_of (codes "b") (codes "u" ∷ codes "v" ∷ codes "w" ∷ codes "x" ∷ [])
+
+pub four_before : tree_size four [] ≡ 7
+four_before = refl
+
+pub four_once : tree_size four (named (codes "c") ∷ []) ≡ 4
+four_once = refl
+
+-- the common tree is done, and the four entries are dead
+pub four_twice : tree_of four [] (named (codes "c") ∷ all_four ∷ []) ≡ done
+four_twice = refl
 
 -- Whole trees
 
@@ -111,18 +170,18 @@ atom_other = refl
 pub opt_before : after (opt only_a) [] ≡ opt_tree true start
 opt_before = refl
 
-pub opt_once : after (opt only_a) (do_a ∷ []) ≡ opt_tree false done
+pub opt_once : after (opt only_a) (do_a ∷ []) ≡ done
 opt_once = refl
 
 -- `a - b`
-pub seq_once : after (seq only_a only_b) (do_a ∷ []) ≡ seq_tree done (listed (start ∷ []))
+pub seq_once : after (seq only_a only_b) (do_a ∷ []) ≡ seq_tree dead false (listed (start ∷ []))
 seq_once = refl
 
-pub seq_twice : after (seq only_a only_b) (do_a ∷ do_b ∷ []) ≡ seq_tree dead (listed (done ∷ []))
+pub seq_twice : after (seq only_a only_b) (do_a ∷ do_b ∷ []) ≡ done
 seq_twice = refl
 
 -- `*(a - b)`
-pub star_thrice : after (star (seq only_a only_b)) (do_a ∷ do_b ∷ do_a ∷ []) ≡ star_tree false (listed (seq_tree done (listed (start ∷ [])) ∷ []))
+pub star_thrice : after (star (seq only_a only_b)) (do_a ∷ do_b ∷ do_a ∷ []) ≡ star_tree false (listed (seq_tree dead false (listed (start ∷ [])) ∷ []))
 star_thrice = refl
 
 -- `a + b` and `a + a`
@@ -133,19 +192,19 @@ pub par_either : after (par only_a only_a) (do_a ∷ []) ≡ par_tree (listed (p
 par_either = refl
 
 -- `#(a - b)`
-pub par_star_thrice : after many (do_a ∷ do_b ∷ do_a ∷ []) ≡ par_star_tree (listed (bag (listed (seq_tree dead (listed (done ∷ [])) ∷ seq_tree done (listed (start ∷ [])) ∷ [])) ∷ []))
+pub par_star_thrice : after many (do_a ∷ do_b ∷ do_a ∷ []) ≡ par_star_tree (listed (bag (listed (seq_tree dead false (listed (start ∷ [])) ∷ [])) ∷ []))
 par_star_thrice = refl
 
--- `#a`: a bag keeps repeats
-pub par_star_twice : after (par_star only_a) (do_a ∷ do_a ∷ []) ≡ par_star_tree (listed (bag (listed (done ∷ done ∷ [])) ∷ []))
+-- `#a`: a run that is over is left out
+pub par_star_twice : after (par_star only_a) (do_a ∷ do_a ∷ []) ≡ par_star_tree (listed (bag (listed []) ∷ []))
 par_star_twice = refl
 
 -- `a | b`
-pub or_once : after (or only_a only_b) (do_a ∷ []) ≡ or_tree done dead
+pub or_once : after (or only_a only_b) (do_a ∷ []) ≡ done
 or_once = refl
 
 -- `a & ?a`
-pub and_once : after (and only_a (opt only_a)) (do_a ∷ []) ≡ and_tree done (opt_tree false done)
+pub and_once : after (and only_a (opt only_a)) (do_a ∷ []) ≡ done
 and_once = refl
 
 -- `a @ b`
@@ -156,11 +215,11 @@ pub couple_other : after (couple only_a only_b) (do_c ∷ []) ≡ dead
 couple_other = refl
 
 -- `any $p (a - b($p))`
-pub any_twice : after some_value (do_a ∷ do_bu ∷ []) ≡ any_tree dead (listed (entry (codes "u") (seq_tree dead (listed (done ∷ []))) ∷ []))
+pub any_twice : after some_value (do_a ∷ do_bu ∷ []) ≡ done
 any_twice = refl
 
 -- `every $p (b(u) | b($p))`
-pub every_once : after (every (codes "p") (or with_u with_p)) (do_bu ∷ []) ≡ every_tree (or_tree done dead) (listed (entry (codes "u") (or_tree done done) ∷ []))
+pub every_once : after (every (codes "p") (or with_u with_p)) (do_bu ∷ []) ≡ done
 every_once = refl
 
 -- `sync $p b($p)`
@@ -170,6 +229,6 @@ sync_twice = refl
 pub sync_other : after (sync (codes "p") with_p) (do_a ∷ []) ≡ dead
 sync_other = refl
 
--- `all $p *b($p)`
-pub all_thrice : after (all (codes "p") (star with_p)) (do_bv ∷ do_bu ∷ do_bv ∷ []) ≡ all_tree (listed (map (listed (entry (codes "u") (star_tree true (listed (done ∷ []))) ∷ entry (codes "v") (star_tree true (listed (done ∷ []))) ∷ [])) ∷ []))
+-- `all $p *b($p)`: a value whose runs are over has no entry
+pub all_thrice : after (all (codes "p") (star with_p)) (do_bv ∷ do_bu ∷ do_bv ∷ []) ≡ all_tree (listed (map (listed []) ∷ []))
 all_thrice = refl

@@ -1,6 +1,7 @@
 pub mod Lists
 pub mod Testing
 pub mod Ways
+pub mod Spent
 pub mod Nodes
 pub mod OperatorsTell
 pub mod QuantifiersTell
@@ -23,6 +24,7 @@ pub mod Maps
 pub mod MayAll
 pub mod MovesAll
 pub mod MovesTell
+pub mod SpentTell
 pub mod Measures
 pub mod Children
 pub mod Keys

@@ -19,25 +19,20 @@ use Rattle.ix_expr.specs.Form.{PlainAtom, Form, atom, opt, seq, star, par, par_s
 use Rattle.ix_expr.specs.Environment.{Environment, Matches}
 use Rattle.ix_expr.specs.Meaning.{InAlphabet, IsOneMatch, IsComplete, IsPartial}
 use Rattle.ix_expr.proofs.LawsOfMeaning.{empty-partial, complete-partial, prefix-partial}
-use Rattle.ix_tree.specs.Plain.{Plain, dead, done, opt as opt_tree, seq as seq_tree, star as star_tree, par as par_tree, par_star as par_star_tree, or as or_tree, and as and_tree, couple as couple_tree, pair as pair_of, bag as bag_of}
+use Rattle.ix_tree.specs.Plain.{Plain, dead, done, opt as opt_tree, star as star_tree, par as par_tree, par_star as par_star_tree, or as or_tree, and as and_tree, couple as couple_tree, pair as pair_of, bag as bag_of}
 use Rattle.ix_tree.specs.Order.{first_part, second_part}
 use Rattle.ix_can.specs.Tests.{is_match, in_alphabet, accepts_empty}
 use Rattle.ix_can.specs.Ways.{is_empty, numberings, nonempty_parts, numbers_below}
-use Rattle.ix_can.specs.Nodes.{is_dead, is_live, listed, items_of, set_of, sorted, live, dead_if}
+use Rattle.ix_can.specs.Nodes.{is_dead, is_live, is_open, listed, items_of, set_of, sorted, live, dead_if, unless_done, settled, seq_parts}
 use Rattle.ix_can.specs.TreeOf.{tree_of}
 use Rattle.ix_can.specs.inside.May.{both_move, may_first, may}
 use Rattle.ix_can.proofs.Lists.{itself, both_iff, same_test, iff_trans, iff_sym, when_either, when_both, when_not, SomeWay, when_passes, one_passes, made_says, all_map, any_map, filled_says, filter-Member, Member-filter}
 use Rattle.ix_can.proofs.Testing.{match_says, alphabet_says, empty_complete}
 use Rattle.ix_can.proofs.Ways.{numbered_part, long_to, long_from, parts_to, parts_from, numbers_to, each_below, below_from, owner_or_none}
+use Rattle.ix_can.proofs.Spent.{may_dead, may_done, unless_may, settled_live, settled_may, any_open}
 use Rattle.ix_can.proofs.Nodes.{tree_live, any_set, any_sorted, projected_says}
 use Rattle.ix_can.proofs.OperatorsTell.{Tells, opt_told, seq_told, par_told, or_told, and_told, couple_told, star_told, par_star_told, again, again_says, seq_rest, seq_says, par_pair, star_rest, par_star_bag}
 use Rattle.ix_can.proofs.Ends.{joined_end, joined_more, split_end, repeated_end, filter_end}
-
--- A dead tree
-
-pub may_dead : (x : Form) (e : Environment) (a : PlainAction) → may x e dead a ≡ false
-may_dead (atom x) e a = refl
-may_dead _ e a = refl
 
 -- One action
 
@@ -298,9 +293,9 @@ module _ (a : PlainAction) where
   abbrev pub MayTells : Form → Environment → Type 0
   MayTells y e = (w : Word) → (may y e (tree_of y e w) a ≡ true) ↔ IsPartial y e (w ++ a ∷ [])
 
-  pub node_may : (x : Form) (e : Environment) (b : Bool) (t : Plain) {P Q : Type 0} → is_dead t ≡ false → (is_dead (dead_if b t) ≡ false) ↔ P → (Q → P) → (P → (may x e t a ≡ true) ↔ Q) → (may x e (dead_if b t) a ≡ true) ↔ Q
+  pub node_may : (x : Form) (e : Environment) (b : Bool) (t : Plain) {P Q : Type 0} → is_dead t ≡ false → (is_dead (dead_if b (settled t)) ≡ false) ↔ P → (Q → P) → (P → (may x e t a ≡ true) ↔ Q) → (may x e (dead_if b (settled t)) a ≡ true) ↔ Q
   node_may x e true t l p g c = (λ h. absurd (true≢false (sym h ∙ may_dead x e a)), λ q. absurd (true≢false (p.1 (g q))))
-  node_may x e false t l p g c = c (p.0 l)
+  node_may x e false t l p g c = same_test (settled_may x e t a) (c (p.0 (settled_live t l)))
 
   pub live_may : (y : Form) (e : Environment) → Tells y e → MayTells y e → (v : Word) → (list_any (λ s. may y e s a) (live (tree_of y e v)) ≡ true) ↔ IsPartial y e (v ++ a ∷ [])
   live_may y e k m v = iff_trans
@@ -343,10 +338,11 @@ module _ (a : PlainAction) where
     seq_may k l m n w =
         let test : Plain → Bool = λ s. may z e s a in
         let rest : List Plain = flat_map (seq_rest y z e) (cuts w) in
-        node_may (seq y z) e (is_dead (tree_of y e w) && is_empty rest) (seq_tree (tree_of y e w) (set_of rest)) refl (seq_told y z e k l w).partial (prefix-partial (seq y z) e w (a ∷ []))
+        node_may (seq y z) e (is_dead (tree_of y e w) && is_empty rest) (seq_parts (tree_of y e w) rest) refl (seq_told y z e k l w).partial (prefix-partial (seq y z) e w (a ∷ []))
         (λ p. iff_trans
-        (when_either (may y e (tree_of y e w) a) (list_any test (items_of (set_of rest))) (m w)
-        (same_test (any_set test rest) (made_says test (seq_rest y z e) (cuts w) (λ c i. seq_says y z e k test c (live_may z e l n c.1)))))
+        (when_either (may y e (unless_done (tree_of y e w)) a) (list_any test (items_of (set_of (filter is_open rest))))
+        (same_test (unless_may y e (tree_of y e w) a) (m w))
+        (same_test (any_set test (filter is_open rest) ∙ any_open test (may_dead z e a) (may_done z e a) rest) (made_says test (seq_rest y z e) (cuts w) (λ c i. seq_says y z e k test c (live_may z e l n c.1)))))
         (seq_end w))
 
     pub pair_may : Tells y e → Tells z e → MayTells y e → MayTells z e → (s : Word × Word) → (list_any (λ p. may y e (first_part p) a || may z e (second_part p) a) (par_pair y z e s) ≡ true) ↔ ((IsPartial y e (s.0 ++ a ∷ []) × IsPartial z e s.1) ⊎ (IsPartial y e s.0 × IsPartial z e (s.1 ++ a ∷ [])))
@@ -416,11 +412,11 @@ module _ (a : PlainAction) where
     star_may k f m w =
         let test : Plain → Bool = λ s. may y e s a in
         let rest : List Plain = flat_map (star_rest y e) (cuts w) in
-        node_may (star y) e (not (again y e w) && is_empty rest) (star_tree (again y e w) (set_of rest)) refl (star_told y e k w).partial (prefix-partial (star y) e w (a ∷ []))
+        node_may (star y) e (not (again y e w) && is_empty rest) (star_tree (again y e w) (set_of (filter is_open rest))) refl (star_told y e k w).partial (prefix-partial (star y) e w (a ∷ []))
         (λ p. iff_trans
-        (when_either (again y e w && may_first y e a) (list_any test (items_of (set_of rest)))
+        (when_either (again y e w && may_first y e a) (list_any test (items_of (set_of (filter is_open rest))))
         (when_both (again y e w) (may_first y e a) (again_says y e k w) f)
-        (same_test (any_set test rest) (made_says test (star_rest y e) (cuts w) (λ c i. rest_may k m c))))
+        (same_test (any_set test (filter is_open rest) ∙ any_open test (may_dead y e a) (may_done y e a) rest) (made_says test (star_rest y e) (cuts w) (λ c i. rest_may k m c))))
         (star_end w))
 
     pub bag_may : Tells y e → (may_first y e a ≡ true) ↔ IsPartial y e (a ∷ []) → MayTells y e → (w : Word) (owners : List ℕ) → (list_any (λ b. may_first y e a || list_any (λ s. may y e s a) (items_of (first_part b))) (par_star_bag y e w owners) ≡ true) ↔ Goes (IsPartial y e) (prefix-partial y e) w a owners
@@ -428,12 +424,13 @@ module _ (a : PlainAction) where
         let test : Plain → Bool = λ b. may_first y e a || list_any (λ s. may y e s a) (items_of (first_part b)) in
         let parts : List Word = nonempty_parts owners w in
         let trees : List Plain = map (tree_of y e) parts in
-        iff_trans (when_passes test (list_all is_live trees) (bag_of (listed (sorted trees)) ∷ []))
+        let kept : List Plain = filter is_open trees in
+        iff_trans (when_passes test (list_all is_live trees) (bag_of (listed (sorted kept)) ∷ []))
         (both_iff
         (all_map is_live (tree_of y e) parts (λ u i. tree_live (tree_of y e u) (k u)))
-        (iff_trans (one_passes test (bag_of (listed (sorted trees))))
-        (when_either (may_first y e a) (list_any (λ s. may y e s a) (items_of (listed (sorted trees)))) f
-        (same_test (any_sorted (λ s. may y e s a) trees) (any_map (λ s. may y e s a) (tree_of y e) parts (λ u i. m u))))))
+        (iff_trans (one_passes test (bag_of (listed (sorted kept))))
+        (when_either (may_first y e a) (list_any (λ s. may y e s a) (items_of (listed (sorted kept)))) f
+        (same_test (any_sorted (λ s. may y e s a) kept ∙ any_open (λ s. may y e s a) (may_dead y e a) (may_done y e a) trees) (any_map (λ s. may y e s a) (tree_of y e) parts (λ u i. m u))))))
 
     pub par_star_may : Tells y e → (may_first y e a ≡ true) ↔ IsPartial y e (a ∷ []) → MayTells y e → MayTells (par_star y) e
     par_star_may k f m w =

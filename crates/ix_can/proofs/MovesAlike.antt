@@ -1,6 +1,6 @@
 -- Environments under which the atoms of an expression match an action alike let it come next alike, and move each tree
 -- alike.
-use Rattle.std.proofs.Common.{◌≡◌, false, not, ◌&&◌, ◌||◌, [], ◌∷◌, ◌++◌, Some, None, flat_map, refl, ap, if◌then◌else◌}
+use Rattle.std.proofs.Common.{◌≡◌, false, not, ◌&&◌, ◌||◌, [], ◌∷◌, ◌++◌, Some, None, flat_map, filter, refl, ap, if◌then◌else◌}
 use Rattle.std.specs.List.{list_any, list_all}
 use Rattle.ix_words.specs.Canon.{when}
 use Rattle.ix_values.specs.PlainAction.{PlainAction}
@@ -11,7 +11,7 @@ use Rattle.ix_expr.proofs.AgreeingAtoms.{atoms-back, alphabet-same}
 use Rattle.ix_tree.specs.Plain.{Plain, dead, start, done, opt as opt_of, seq as seq_of, star as star_of, par as par_of, par_star as par_star_of, or as or_of, and as and_of, couple as couple_of, any as any_of, every as every_of, sync as sync_of, all as all_of, pair as pair_of}
 use Rattle.ix_tree.specs.Order.{key, first_part, second_part}
 use Rattle.ix_can.specs.Tests.{in_alphabet, values_and_outside, accepts_empty}
-use Rattle.ix_can.specs.Nodes.{is_dead, is_live, items_of, set_of, live, dead_if}
+use Rattle.ix_can.specs.Nodes.{is_dead, is_live, is_open, items_of, set_of, live, dead_if, settled, seq_parts}
 use Rattle.ix_can.specs.TreeOf.{is_final, tree_of}
 use Rattle.ix_can.specs.inside.May.{both_move, moves_within, tree_at, may_first, may}
 use Rattle.ix_can.specs.inside.Moved.{picks, bag_with, entry_with, map_with, or_initial, moved_inside, moved}
@@ -48,7 +48,7 @@ module _ (a : PlainAction) where
   pub may_alike : (x : Form) (t : Plain) (e f : Environment) → AtomsAgreeAt x e f a → may x e t a ≡ may x f t a
   may_alike (atom x) start e f k = atoms_alphabet (atom x) e f k
   may_alike (opt y) (opt_of empty t) e f k = may_alike y t e f k
-  may_alike (seq y z) (seq_of t rest) e f k = (λ i. may_alike y t e f k.0 i || list_any (λ s. may_alike z s e f k.1 i) (items_of rest))
+  may_alike (seq y z) (seq_of t ended rest) e f k = (λ i. may_alike y t e f k.0 i || list_any (λ s. may_alike z s e f k.1 i) (items_of rest))
   may_alike (star y) (star_of again rest) e f k = (λ i. (again && first_alike y e f k i) || list_any (λ s. may_alike y s e f k i) (items_of rest))
   may_alike (par y z) (par_of pairs) e f k = (λ i. list_any (λ p. may_alike y (first_part p) e f k.0 i || may_alike z (second_part p) e f k.1 i) (items_of pairs))
   may_alike (par_star y) (par_star_of bags) e f k = (λ i. list_any (λ b. first_alike y e f k i || list_any (λ s. may_alike y s e f k i) (items_of (first_part b))) (items_of bags))
@@ -75,43 +75,43 @@ module _ (a : PlainAction) where
   -- the action moves each tree alike
   pub moved_alike : (x : Form) (t : Plain) (e f : Environment) → AtomsAgreeAt x e f a → moved x e t a ≡ moved x f t a
   moved_alike (atom x) start e f k = ap (λ b. if b then done else dead) (atoms_alphabet (atom x) e f k)
-  moved_alike (opt y) (opt_of empty t) e f k = (λ i. dead_if (not (may_alike (opt y) (opt_of empty t) e f k i)) (opt_of false (moved_alike y t e f k i)))
-  moved_alike (seq y z) (seq_of t rest) e f k =
-      (λ i. dead_if (not (may_alike (seq y z) (seq_of t rest) e f k i)) (seq_of (moved_alike y t e f k.0 i)
-      (set_of (flat_map (λ s. live (moved_alike z s e f k.1 i)) (items_of rest) ++ when (is_final y (moved_alike y t e f k.0 i)) (tree_of z [] [] ∷ [])))))
+  moved_alike (opt y) (opt_of empty t) e f k = (λ i. dead_if (not (may_alike (opt y) (opt_of empty t) e f k i)) (settled (opt_of false (moved_alike y t e f k i))))
+  moved_alike (seq y z) (seq_of t ended rest) e f k =
+      (λ i. dead_if (not (may_alike (seq y z) (seq_of t ended rest) e f k i)) (settled (seq_parts (moved_alike y t e f k.0 i)
+      (flat_map (λ s. live (moved_alike z s e f k.1 i)) (items_of rest) ++ when (is_final y (moved_alike y t e f k.0 i)) (tree_of z [] [] ∷ [])))))
   moved_alike (star y) (star_of again rest) e f k =
       (λ i. dead_if (not (may_alike (star y) (star_of again rest) e f k i)) (star_of
       (list_any (is_final y) (flat_map (λ s. live (moved_alike y s e f k i)) (items_of rest) ++ when again (live (moved_alike y (tree_of y [] []) e f k i))))
-      (set_of (flat_map (λ s. live (moved_alike y s e f k i)) (items_of rest) ++ when again (live (moved_alike y (tree_of y [] []) e f k i))))))
+      (set_of (filter is_open (flat_map (λ s. live (moved_alike y s e f k i)) (items_of rest) ++ when again (live (moved_alike y (tree_of y [] []) e f k i)))))))
   moved_alike (par y z) (par_of pairs) e f k =
-      (λ i. dead_if (not (may_alike (par y z) (par_of pairs) e f k i)) (par_of (set_of (flat_map (λ p.
+      (λ i. dead_if (not (may_alike (par y z) (par_of pairs) e f k i)) (settled (par_of (set_of (flat_map (λ p.
       when (is_live (moved_alike y (first_part p) e f k.0 i)) (pair_of (moved_alike y (first_part p) e f k.0 i) (second_part p) ∷ [])
-      ++ when (is_live (moved_alike z (second_part p) e f k.1 i)) (pair_of (first_part p) (moved_alike z (second_part p) e f k.1 i) ∷ [])) (items_of pairs)))))
+      ++ when (is_live (moved_alike z (second_part p) e f k.1 i)) (pair_of (first_part p) (moved_alike z (second_part p) e f k.1 i) ∷ [])) (items_of pairs))))))
   moved_alike (par_star y) (par_star_of bags) e f k =
       (λ i. dead_if (not (may_alike (par_star y) (par_star_of bags) e f k i)) (par_star_of (set_of (flat_map (λ b.
       flat_map (λ p. bag_with (moved_alike y p.0 e f k i) p.1) (picks (items_of (first_part b)))
       ++ bag_with (moved_alike y (tree_of y [] []) e f k i) (items_of (first_part b))) (items_of bags)))))
-  moved_alike (or y z) (or_of t u) e f k = (λ i. dead_if (not (may_alike (or y z) (or_of t u) e f k i)) (or_of (moved_alike y t e f k.0 i) (moved_alike z u e f k.1 i)))
-  moved_alike (and y z) (and_of t u) e f k = (λ i. dead_if (not (may_alike (and y z) (and_of t u) e f k i)) (and_of (moved_alike y t e f k.0 i) (moved_alike z u e f k.1 i)))
+  moved_alike (or y z) (or_of t u) e f k = (λ i. dead_if (not (may_alike (or y z) (or_of t u) e f k i)) (settled (or_of (moved_alike y t e f k.0 i) (moved_alike z u e f k.1 i))))
+  moved_alike (and y z) (and_of t u) e f k = (λ i. dead_if (not (may_alike (and y z) (and_of t u) e f k i)) (settled (and_of (moved_alike y t e f k.0 i) (moved_alike z u e f k.1 i))))
   moved_alike (couple y z) (couple_of t u) e f k =
-      (λ i. dead_if (not (may_alike (couple y z) (couple_of t u) e f k i)) (couple_of
+      (λ i. dead_if (not (may_alike (couple y z) (couple_of t u) e f k i)) (settled (couple_of
       (moved_inside (atoms_alphabet y e f k.0 i) (moved_alike y t e f k.0 i) t)
-      (moved_inside (atoms_alphabet z e f k.1 i) (moved_alike z u e f k.1 i) u)))
+      (moved_inside (atoms_alphabet z e f k.1 i) (moved_alike z u e f k.1 i) u))))
   moved_alike (any p y) (any_of common entries) e f k =
-      (λ i. dead_if (not (may_alike (any p y) (any_of common entries) e f k i)) (any_of (moved_alike y common (bind p None e) (bind p None f) (k None) i)
+      (λ i. dead_if (not (may_alike (any p y) (any_of common entries) e f k i)) (settled (any_of (moved_alike y common (bind p None e) (bind p None f) (k None) i)
       (set_of (flat_map (λ x. entry_with (moved_alike y common (bind p None e) (bind p None f) (k None) i) (key x) (moved_alike y (first_part x) (bind p (Some (key x)) e) (bind p (Some (key x)) f) (k (Some (key x))) i)) (items_of entries)
-      ++ flat_map (λ v. entry_with (moved_alike y common (bind p None e) (bind p None f) (k None) i) v (moved_alike y (tree_at v common (items_of entries)) (bind p (Some v) e) (bind p (Some v) f) (k (Some v)) i)) a.values))))
+      ++ flat_map (λ v. entry_with (moved_alike y common (bind p None e) (bind p None f) (k None) i) v (moved_alike y (tree_at v common (items_of entries)) (bind p (Some v) e) (bind p (Some v) f) (k (Some v)) i)) a.values)))))
   moved_alike (every p y) (every_of common entries) e f k =
-      (λ i. dead_if (not (may_alike (every p y) (every_of common entries) e f k i)) (every_of (moved_alike y common (bind p None e) (bind p None f) (k None) i)
+      (λ i. dead_if (not (may_alike (every p y) (every_of common entries) e f k i)) (settled (every_of (moved_alike y common (bind p None e) (bind p None f) (k None) i)
       (set_of (flat_map (λ x. entry_with (moved_alike y common (bind p None e) (bind p None f) (k None) i) (key x) (moved_alike y (first_part x) (bind p (Some (key x)) e) (bind p (Some (key x)) f) (k (Some (key x))) i)) (items_of entries)
-      ++ flat_map (λ v. entry_with (moved_alike y common (bind p None e) (bind p None f) (k None) i) v (moved_alike y (tree_at v common (items_of entries)) (bind p (Some v) e) (bind p (Some v) f) (k (Some v)) i)) a.values))))
+      ++ flat_map (λ v. entry_with (moved_alike y common (bind p None e) (bind p None f) (k None) i) v (moved_alike y (tree_at v common (items_of entries)) (bind p (Some v) e) (bind p (Some v) f) (k (Some v)) i)) a.values)))))
   moved_alike (sync p y) (sync_of common entries) e f k =
-      (λ i. dead_if (not (may_alike (sync p y) (sync_of common entries) e f k i)) (sync_of
+      (λ i. dead_if (not (may_alike (sync p y) (sync_of common entries) e f k i)) (settled (sync_of
       (moved_inside (atoms_alphabet y (bind p None e) (bind p None f) (k None) i) (moved_alike y common (bind p None e) (bind p None f) (k None) i) common)
       (set_of (flat_map (λ x. entry_with (moved_inside (atoms_alphabet y (bind p None e) (bind p None f) (k None) i) (moved_alike y common (bind p None e) (bind p None f) (k None) i) common) (key x)
       (moved_inside (atoms_alphabet y (bind p (Some (key x)) e) (bind p (Some (key x)) f) (k (Some (key x))) i) (moved_alike y (first_part x) (bind p (Some (key x)) e) (bind p (Some (key x)) f) (k (Some (key x))) i) (first_part x))) (items_of entries)
       ++ flat_map (λ v. entry_with (moved_inside (atoms_alphabet y (bind p None e) (bind p None f) (k None) i) (moved_alike y common (bind p None e) (bind p None f) (k None) i) common) v
-      (moved_inside (atoms_alphabet y (bind p (Some v) e) (bind p (Some v) f) (k (Some v)) i) (moved_alike y (tree_at v common (items_of entries)) (bind p (Some v) e) (bind p (Some v) f) (k (Some v)) i) (tree_at v common (items_of entries)))) a.values))))
+      (moved_inside (atoms_alphabet y (bind p (Some v) e) (bind p (Some v) f) (k (Some v)) i) (moved_alike y (tree_at v common (items_of entries)) (bind p (Some v) e) (bind p (Some v) f) (k (Some v)) i) (tree_at v common (items_of entries)))) a.values)))))
   moved_alike (all p y) (all_of maps) e f k =
       (λ i. dead_if (not (may_alike (all p y) (all_of maps) e f k i)) (all_of (set_of (flat_map (λ m. flat_map (λ v.
       map_with (tree_of y [] []) v (moved_alike y (or_initial (tree_of y [] []) (tree_at v dead (items_of (first_part m)))) (bind p (Some v) e) (bind p (Some v) f) (k (Some v)) i) (items_of (first_part m))) a.values) (items_of maps)))))

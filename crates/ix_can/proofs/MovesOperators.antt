@@ -14,17 +14,18 @@ use Rattle.ix_expr.specs.Meaning.{IsComplete}
 use Rattle.ix_tree.specs.Plain.{Plain, dead, done, opt as opt_of, seq as seq_of, star as star_of, or as or_of, and as and_of, couple as couple_of}
 use Rattle.ix_can.specs.Tests.{is_match, in_alphabet}
 use Rattle.ix_can.specs.Ways.{is_empty}
-use Rattle.ix_can.specs.Nodes.{is_dead, items_of, set_of, live}
+use Rattle.ix_can.specs.Nodes.{is_dead, is_done, is_open, unless_done, items_of, set_of, live, seq_parts}
 use Rattle.ix_can.specs.TreeOf.{is_final, tree_of}
 use Rattle.ix_can.specs.inside.Moved.{moved, moved_inside, Moves}
 use Rattle.ix_can.proofs.Lists.{iff_trans, iff_sym, both_iff, one_test, when_both, when_not, when_passes, made_says, any_same, filled_says}
 use Rattle.ix_can.proofs.Ways.{joined_says}
 use Rattle.ix_can.proofs.Ends.{filter_end, repeated_end}
+use Rattle.ix_can.proofs.Spent.{unless_moved}
 use Rattle.ix_can.proofs.Nodes.{live_final}
 use Rattle.ix_can.proofs.Agreeing.{flat_map-alike, empty_tree}
 use Rattle.ix_can.proofs.OperatorsTell.{Tells, opt_told, seq_told, or_told, and_told, couple_told, star_told, again, again_says, seq_rest, star_rest}
 use Rattle.ix_can.proofs.MayTell.{Begins, MayTells, opt_may, seq_may, or_may, and_may, couple_may, star_may}
-use Rattle.ix_can.proofs.MovesShared.{node_moves, empty_live, flat_map-when, flat_map-both, cuts_more, last_cut, set_same, set_made, live_moved}
+use Rattle.ix_can.proofs.MovesShared.{node_moves, empty_live, flat_map-when, flat_map-both, cuts_more, last_cut, open_set_same, open_moved, live_moved}
 
 longer : (w : Word) (a : PlainAction) → false ≡ is_empty (w ++ a ∷ [])
 longer [] a = refl
@@ -89,29 +90,33 @@ module _ (a : PlainAction) where
         (couple_may a y z e k l m n w) refl (couple_told y z e k l (w ++ a ∷ [])).partial
         (λ b p. (λ i. couple_of (side_moves y e (in_alphabet y e) v w i) (side_moves z e (in_alphabet z e) u w i)))
 
+    -- the first part, which has dead in place of done, moves
+    first_moves : Moves y e a → (w : Word) → moved y e (unless_done (tree_of y e w)) a ≡ tree_of y e (w ++ a ∷ [])
+    first_moves v w = unless_moved y e (tree_of y e w) a ∙ v w
+
     -- the alternatives of the second part, and one of the empty word where the first part is complete
     abbrev seq_moved : Word → List Plain
     seq_moved w =
-        flat_map (λ s. live (moved z e s a)) (items_of (set_of (flat_map (seq_rest y z e) (cuts w))))
-        ++ when (is_final y (moved y e (tree_of y e w) a)) (tree_of z [] [] ∷ [])
+        flat_map (λ s. live (moved z e s a)) (items_of (set_of (filter is_open (flat_map (seq_rest y z e) (cuts w)))))
+        ++ when (is_final y (moved y e (unless_done (tree_of y e w)) a)) (tree_of z [] [] ∷ [])
 
     rest_moved : Moves z e a → (c : Word × Word) → flat_map (λ s. live (moved z e s a)) (seq_rest y z e c) ≡ seq_rest y z e (with_end a c)
     rest_moved u c =
         flat_map-when (λ s. live (moved z e s a)) (is_final y (tree_of y e c.0)) (live (tree_of z e c.1))
         ∙ ap (when (is_final y (tree_of y e c.0))) (live_moved z e a (tree_of z e c.1) ∙ ap live (u c.1))
 
-    second_begins : Tells z e → Moves y e a → (w : Word) → when (is_final y (moved y e (tree_of y e w) a)) (tree_of z [] [] ∷ []) ≡ seq_rest y z e (w ++ a ∷ [], [])
+    second_begins : Tells z e → Moves y e a → (w : Word) → when (is_final y (moved y e (unless_done (tree_of y e w)) a)) (tree_of z [] [] ∷ []) ≡ seq_rest y z e (w ++ a ∷ [], [])
     second_begins l v w =
         let begun : tree_of z [] [] ∷ [] ≡ live (tree_of z e []) =
         ap (λ t. t ∷ []) (empty_tree z [] e) ∙ ap (λ t. when t (tree_of z e [] ∷ [])) (sym (empty_live z e e l)) in
-        (λ i. when (is_final y (v w i)) (begun i))
+        (λ i. when (is_final y (first_moves v w i)) (begun i))
 
     seq_same : Tells z e → Moves y e a → Moves z e a → (w : Word) → SameMembers (seq_moved w) (flat_map (seq_rest y z e) (cuts (w ++ a ∷ [])))
     seq_same l v u w =
         let test : Plain → List Plain = λ s. live (moved z e s a) in
         SameMembers-trans
         (SameMembers-append
-        (SameMembers-trans (set_made test (seq_rest y z e) (cuts w))
+        (SameMembers-trans (open_moved z e a (seq_rest y z e) (cuts w))
         (SameMembers-eq (flat_map-alike {f = λ c. flat_map test (seq_rest y z e c)} {g = λ c. seq_rest y z e (with_end a c)} (cuts w) (λ c i. rest_moved u c))))
         (SameMembers-eq (second_begins l v w)))
         (SameMembers-eq (sym (cuts_more (seq_rest y z e) w a)))
@@ -121,16 +126,17 @@ module _ (a : PlainAction) where
         let rest : Word → List Plain = λ x. flat_map (seq_rest y z e) (cuts x) in
         node_moves (seq y z) e a
         (is_dead (tree_of y e w) && is_empty (rest w)) (is_dead (tree_of y e (w ++ a ∷ [])) && is_empty (rest (w ++ a ∷ [])))
-        (seq_of (tree_of y e w) (set_of (rest w))) (seq_of (tree_of y e (w ++ a ∷ [])) (set_of (rest (w ++ a ∷ []))))
-        (seq_of (moved y e (tree_of y e w) a) (set_of (seq_moved w))) refl
+        (seq_parts (tree_of y e w) (rest w)) (seq_parts (tree_of y e (w ++ a ∷ [])) (rest (w ++ a ∷ [])))
+        (seq_parts (moved y e (unless_done (tree_of y e w)) a) (seq_moved w)) refl
         (seq_may a y z e k l m n w) refl (seq_told y z e k l (w ++ a ∷ [])).partial
-        (λ b p. (λ i. seq_of (v w i) (set_same (seq_moved w) (rest (w ++ a ∷ [])) (seq_same l v u w) i)))
+        (λ b p. let same = seq_same l v u w in
+        (λ i. seq_of (unless_done (first_moves v w i)) (any_same is_done (seq_moved w) (rest (w ++ a ∷ [])) same i) (open_set_same (seq_moved w) (rest (w ++ a ∷ [])) same i)))
 
   module _ (y : Form) (e : Environment) where
     -- the alternatives of the last piece, and one that begins with the action where the word is a concatenation
     abbrev star_moved : Word → List Plain
     star_moved w =
-        flat_map (λ s. live (moved y e s a)) (items_of (set_of (flat_map (star_rest y e) (cuts w))))
+        flat_map (λ s. live (moved y e s a)) (items_of (set_of (filter is_open (flat_map (star_rest y e) (cuts w)))))
         ++ when (again y e w) (live (moved y e (tree_of y [] []) a))
 
     -- a piece that is there goes on
@@ -162,7 +168,7 @@ module _ (a : PlainAction) where
         let last : Word × Word → List Plain = λ c. when (is_empty c.1) (piece_new c) in
         SameMembers-trans
         (SameMembers-append
-        (SameMembers-trans (set_made test rest (cuts w))
+        (SameMembers-trans (open_moved y e a rest (cuts w))
         (SameMembers-eq (flat_map-alike {f = λ c. flat_map test (rest c)} {g = piece_more} (cuts w) (λ c i. piece_moved v c))))
         (SameMembers-eq (first_piece v w)))
         (SameMembers-trans
@@ -211,7 +217,7 @@ module _ (a : PlainAction) where
         let rest : Word → List Plain = λ x. flat_map (star_rest y e) (cuts x) in
         node_moves (star y) e a
         (not (again y e w) && is_empty (rest w)) (not (again y e (w ++ a ∷ [])) && is_empty (rest (w ++ a ∷ [])))
-        (star_of (again y e w) (set_of (rest w))) (star_of (again y e (w ++ a ∷ [])) (set_of (rest (w ++ a ∷ []))))
-        (star_of (list_any (is_final y) (star_moved w)) (set_of (star_moved w))) refl
+        (star_of (again y e w) (set_of (filter is_open (rest w)))) (star_of (again y e (w ++ a ∷ [])) (set_of (filter is_open (rest (w ++ a ∷ [])))))
+        (star_of (list_any (is_final y) (star_moved w)) (set_of (filter is_open (star_moved w)))) refl
         (star_may a y e k f m w) refl (star_told y e k (w ++ a ∷ [])).partial
-        (λ b p. (λ i. star_of (again_moved k v w i) (set_same (star_moved w) (rest (w ++ a ∷ [])) (star_same v w) i)))
+        (λ b p. (λ i. star_of (again_moved k v w i) (open_set_same (star_moved w) (rest (w ++ a ∷ [])) (star_same v w) i)))

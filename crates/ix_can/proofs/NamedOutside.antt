@@ -93,7 +93,7 @@ module _ (p : List ℕ) (a : PlainAction) where
   pub none_next : (x : Form) (e : Environment) (t : Plain) → EachAtomNames p x → value_in e p ≡ None → may x e t a ≡ false
   none_next (atom x) e start k n = none_matches x e k n
   none_next (opt y) e (opt_of empty t) k n = none_next y e t k n
-  none_next (seq y z) e (seq_of t rest) k n = or_false (none_next y e t k.0 n) (none_from (λ s. may z e s a) (λ s. none_next z e s k.1 n) (items_of rest))
+  none_next (seq y z) e (seq_of t ended rest) k n = or_false (none_next y e t k.0 n) (none_from (λ s. may z e s a) (λ s. none_next z e s k.1 n) (items_of rest))
   none_next (star y) e (star_of again rest) k n = or_false (ap (λ b. again && b) (none_first y e k n) ∙ and_none again) (none_from (λ s. may y e s a) (λ s. none_next y e s k n) (items_of rest))
   none_next (par y z) e (par_of pairs) k n = none_from (λ s. may y e (first_part s) a || may z e (second_part s) a) (λ s. or_false (none_next y e (first_part s) k.0 n) (none_next z e (second_part s) k.1 n)) (items_of pairs)
   none_next (par_star y) e (par_star_of bags) k n =

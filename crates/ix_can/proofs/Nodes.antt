@@ -16,9 +16,10 @@ use Rattle.ix_tree.specs.Plain.{Plain, dead, entry}
 use Rattle.ix_tree.specs.Order.{tree_cmp, first_part}
 use Rattle.ix_tree.specs.lemmas.TreeOrder.{tree_order, tree_cmp-same}
 use Rattle.ix_can.specs.Ways.{is_empty}
-use Rattle.ix_can.specs.Nodes.{is_dead, is_live, same_tree, listed, items_of, set_of, put_in, sorted, live, dead_if, has_dead_entry}
+use Rattle.ix_can.specs.Nodes.{is_dead, is_live, is_spent, settled, same_tree, listed, items_of, set_of, put_in, sorted, live, dead_if, has_dead_entry}
 use Rattle.ix_can.specs.TreeOf.{is_final, entries_of}
-use Rattle.ix_can.proofs.Lists.{itself, iff_trans, iff_sym, when_either, when_both, unless_either, unless_both, when_not, SomeWay, any_from, any_same, all_same, none_says, when_passes, one_passes, made_says, passes_all, filled, all_to, all_from}
+use Rattle.ix_can.proofs.Spent.{dead_is, settled_live, settled_final, or_turn}
+use Rattle.ix_can.proofs.Lists.{itself, iff_trans, iff_sym, same_test, when_either, when_both, unless_either, unless_both, when_not, SomeWay, any_from, any_same, all_same, none_says, when_passes, one_passes, made_says, passes_all, filled, all_to, all_from}
 
 -- Dead and final
 
@@ -26,10 +27,6 @@ use Rattle.ix_can.proofs.Lists.{itself, iff_trans, iff_sym, when_either, when_bo
 pub never_dead : (x : Form) → is_final x dead ≡ false
 never_dead (atom x) = refl
 never_dead _ = refl
-
-pub dead_is : (t : Plain) → is_dead t ≡ true → t ≡ dead
-dead_is dead e = refl
-dead_is _ e = absurd (true≢false (sym e))
 
 pub live_says : (t : Plain) → (is_live t ≡ true) ↔ (is_dead t ≡ false)
 live_says t = when_not (is_dead t) itself
@@ -43,17 +40,27 @@ pub record Told (C P : Type 0) (x : Form) (t : Plain) : Type 0 where
   pub partial : (is_dead t ≡ false) ↔ P
   pub complete : (is_final x t ≡ true) ↔ C
 
--- a node that is dead where the test holds, and else is asked whether it is final, tells
-pub node_tells : (x : Form) {C P : Type 0} (b : Bool) (t : Plain) → is_dead t ≡ false → (b ≡ false) ↔ P → (P → (is_final x t ≡ true) ↔ C) → (C → P) → Told C P x (dead_if b t)
-node_tells x true t l p c g = record {
+-- a node that is dead where the test holds, done where it is spent, and else is asked whether it is final, tells; what is
+-- spent is final
+pub node_tells : (x : Form) {C P : Type 0} (b : Bool) (t : Plain) → is_dead t ≡ false → (b ≡ false) ↔ P → (P → (is_final x t ≡ true) ↔ C) → (C → P) → (P → is_spent t ≡ true → is_final x t ≡ true) → Told C P x (dead_if b (settled t))
+node_tells x true t l p c g s = record {
   partial = (λ e. absurd (true≢false e), λ h. absurd (true≢false (p.1 h)));
   complete = (λ e. absurd (true≢false (sym e ∙ never_dead x)), λ h. absurd (true≢false (p.1 (g h))));
 }
-node_tells x false t l p c g = record { partial = (λ e. p.0 refl, λ h. l); complete = c (p.0 refl) }
+node_tells x false t l p c g s = record {
+  partial = (λ e. p.0 refl, λ h. settled_live t l);
+  complete = same_test (settled_final x t (s (p.0 refl))) (c (p.0 refl));
+}
 
 -- what is listed of the tree where it is live
 pub live_listed : {C P : Type 0} {x : Form} (t : Plain) → Told C P x t → (list_any passes_all (live t) ≡ true) ↔ P
 live_listed t k = iff_trans (when_passes passes_all (is_live t) (t ∷ [])) (λ h. k.partial.0 ((live_says t).0 h.0), λ p. ((live_says t).1 (k.partial.1 p), refl))
+
+pub live_lives : {C P : Type 0} {x : Form} (t : Plain) → Told C P x t → (list_any is_live (live t) ≡ true) ↔ P
+live_lives t k = iff_trans (when_passes is_live (is_live t) (t ∷ [])) (
+  λ h. k.partial.0 ((live_says t).0 h.0),
+  λ p. let l = (live_says t).1 (k.partial.1 p) in (l, (one_passes is_live t).1 l),
+)
 
 pub live_final : {C P : Type 0} (x : Form) (t : Plain) → Told C P x t → (list_any (is_final x) (live t) ≡ true) ↔ C
 live_final x t k = iff_trans (when_passes (is_final x) (is_live t) (t ∷ [])) (
@@ -103,12 +110,6 @@ all_sorted test xs = ap (list_all test) (items_listed (sorted xs)) ∙ same xs
     same : (ys : List Plain) → list_all test (sorted ys) ≡ list_all test ys
     same [] = refl
     same (y ∷ ys) = put_all test y (sorted ys) ∙ ap (λ b. test y && b) (same ys)
-
-or_turn : (a b c : Bool) → a || (b || c) ≡ b || (a || c)
-or_turn true true c = refl
-or_turn true false c = refl
-or_turn false true c = refl
-or_turn false false c = refl
 
 put_any : (test : Plain → Bool) (x : Plain) (xs : List Plain) → list_any test (put_in x xs) ≡ test x || list_any test xs
 put_any test x [] = refl

@@ -13,14 +13,15 @@ use Rattle.ix_values.specs.lemmas.Order.{text_cmp-same}
 use Rattle.ix_values.specs.PlainAction.{Word, values_of}
 use Rattle.ix_expr.specs.Form.{Form, atom, opt, seq, star, par, par_star, or, and, couple, any, every, sync, all}
 use Rattle.ix_expr.specs.Environment.{Environment, bind}
-use Rattle.ix_tree.specs.Plain.{Plain, dead, none, opt as opt_tree, seq as seq_tree, star as star_tree, par as par_tree, par_star as par_star_tree, or as or_tree, and as and_tree, couple as couple_tree, any as any_tree, every as every_tree, sync as sync_tree, all as all_tree, pair as pair_of, bag as bag_of, map as map_of, entry}
+use Rattle.ix_tree.specs.Plain.{Plain, dead, done, none, opt as opt_tree, seq as seq_tree, star as star_tree, par as par_tree, par_star as par_star_tree, or as or_tree, and as and_tree, couple as couple_tree, any as any_tree, every as every_tree, sync as sync_tree, all as all_tree, pair as pair_of, bag as bag_of, map as map_of, entry}
 use Rattle.ix_tree.specs.Order.{key, tree_cmp, first_part, second_part}
 use Rattle.ix_tree.specs.lemmas.TreeOrder.{tree_order}
 use Rattle.ix_can.specs.Tests.{in_alphabet}
 use Rattle.ix_can.specs.Ways.{is_empty, is_concatenation, numberings, nonempty_parts, ownings}
-use Rattle.ix_can.specs.Nodes.{is_dead, is_live, same_tree, listed, items_of, set_of, put_in, sorted, live, dead_if}
+use Rattle.ix_can.specs.Nodes.{is_dead, is_done, is_live, is_open, same_tree, listed, items_of, set_of, put_in, sorted, live, dead_if, done_if, is_spent, settled}
 use Rattle.ix_can.specs.TreeOf.{is_final, tree_of, live_pair, live_bag, entries_of, live_map}
 use Rattle.ix_can.specs.Laws.{EachOnce, ProperEntries, IsRising, IsProper}
+use Rattle.ix_can.proofs.Lists.{Member-filter}
 use Rattle.ix_can.proofs.Nodes.{items_listed, same_from, entry_is}
 use Rattle.ix_can.proofs.Agreeing.{empty_tree}
 
@@ -153,10 +154,34 @@ proper_dead (every p y) = (proper_none y, no_entries)
 proper_dead (sync p y) = (proper_none y, no_entries)
 proper_dead (all p y) = nothing_once
 
--- a node that is dead where a test holds
-proper_if : (x : Form) (b : Bool) (t : Plain) → IsProper x t → IsProper x (dead_if b t)
+proper_done : (x : Form) → IsProper x done
+proper_done (atom x) = tt
+proper_done (opt y) = proper_none y
+proper_done (seq y z) = (proper_none y, nothing_once)
+proper_done (star y) = nothing_once
+proper_done (par y z) = nothing_once
+proper_done (par_star y) = nothing_once
+proper_done (or y z) = (proper_none y, proper_none z)
+proper_done (and y z) = (proper_none y, proper_none z)
+proper_done (couple y z) = (proper_none y, proper_none z)
+proper_done (any p y) = (proper_none y, no_entries)
+proper_done (every p y) = (proper_none y, no_entries)
+proper_done (sync p y) = (proper_none y, no_entries)
+proper_done (all p y) = nothing_once
+
+-- a tree that is done where a test holds, or dead in place of done
+proper_unless : (x : Form) (b : Bool) (t : Plain) → IsProper x t → IsProper x (done_if b t) × IsProper x (dead_if b t)
+proper_unless x true t h = (proper_done x, proper_dead x)
+proper_unless x false t h = (h, h)
+
+-- a node that is dead where a test holds, and done where it is spent
+proper_if : (x : Form) (b : Bool) (t : Plain) → IsProper x t → IsProper x (dead_if b (settled t))
 proper_if x true t h = proper_dead x
-proper_if x false t h = h
+proper_if x false t h = (proper_unless x (is_spent t) t h).0
+
+-- what is kept of a list
+each_kept : {A : Type 0} {G : A → Type 0} (test : A → Bool) (xs : List A) → Each G xs → Each G (filter test xs)
+each_kept test xs h = Each-members (filter test xs) (λ x m. Each-member h (Member-filter test xs m).0)
 
 -- the lists of the nodes
 each_live : (G : Plain → Type 0) (b : Bool) (t : Plain) → G t → (x : Plain) → Member x (when b (live t)) → G x
@@ -164,8 +189,9 @@ each_live G b t g x m = subst G (sym (one_listed (is_live t) t (Member-when b (l
 
 each_bag : (y : Form) (trees : List Plain) → Each (IsProper y) trees → (b : Plain) → Member b (live_bag trees) → IsRising (items_of (first_part b)) × Each (IsProper y) (items_of (first_part b))
 each_bag y trees h b m =
-    let is_bag : items_of (first_part b) ≡ sorted trees = ap (λ x. items_of (first_part x)) (one_listed (list_all is_live trees) (bag_of (listed (sorted trees))) m) ∙ items_listed (sorted trees) in
-    (subst IsRising (sym is_bag) (sorted_rises trees), subst (Each (IsProper y)) (sym is_bag) (each_sorted h))
+    let kept : List Plain = filter is_open trees in
+    let is_bag : items_of (first_part b) ≡ sorted kept = ap (λ x. items_of (first_part x)) (one_listed (list_all is_live trees) (bag_of (listed (sorted kept))) m) ∙ items_listed (sorted kept) in
+    (subst IsRising (sym is_bag) (sorted_rises kept), subst (Each (IsProper y)) (sym is_bag) (each_sorted (each_kept is_open trees h)))
 
 each_pair : (y z : Form) (t u : Plain) → IsProper y t → IsProper z u → (p : Plain) → Member p (live_pair t u) → IsProper y (first_part p) × IsProper z (second_part p)
 each_pair y z t u g h p m =
@@ -185,11 +211,11 @@ pub proper : (x : Form) (e : Environment) (w : Word) → IsProper x (tree_of x e
 proper (atom x) e w = tt
 proper (opt y) e w = proper_if (opt y) (is_dead (tree_of y e w)) (opt_tree (is_empty w) (tree_of y e w)) (proper y e w)
 proper (seq y z) e w =
-    proper_if (seq y z) _ (seq_tree _ _)
-    (proper y e w, each_once _ (each_made (λ c. when (is_final y (tree_of y e c.0)) (live (tree_of z e c.1))) (cuts w) (λ c x m. each_live (IsProper z) (is_final y (tree_of y e c.0)) (tree_of z e c.1) (proper z e c.1) x m)))
+    proper_if (seq y z) _ (seq_tree _ _ _)
+    ((proper_unless y (is_done (tree_of y e w)) (tree_of y e w) (proper y e w)).1, each_once _ (each_kept is_open _ (each_made (λ c. when (is_final y (tree_of y e c.0)) (live (tree_of z e c.1))) (cuts w) (λ c x m. each_live (IsProper z) (is_final y (tree_of y e c.0)) (tree_of z e c.1) (proper z e c.1) x m))))
 proper (star y) e w =
     proper_if (star y) _ (star_tree _ _)
-    (each_once _ (each_made (λ c. when (not (is_empty c.1) && is_concatenation (λ u. is_final y (tree_of y e u)) c.0) (live (tree_of y e c.1))) (cuts w) (λ c x m. each_live (IsProper y) (not (is_empty c.1) && is_concatenation (λ u. is_final y (tree_of y e u)) c.0) (tree_of y e c.1) (proper y e c.1) x m)))
+    (each_once _ (each_kept is_open _ (each_made (λ c. when (not (is_empty c.1) && is_concatenation (λ u. is_final y (tree_of y e u)) c.0) (live (tree_of y e c.1))) (cuts w) (λ c x m. each_live (IsProper y) (not (is_empty c.1) && is_concatenation (λ u. is_final y (tree_of y e u)) c.0) (tree_of y e c.1) (proper y e c.1) x m))))
 proper (par y z) e w =
     proper_if (par y z) _ (par_tree _)
     (each_once _ (each_made (λ s. live_pair (tree_of y e s.0) (tree_of z e s.1)) (splits w) (λ s p m. each_pair y z (tree_of y e s.0) (tree_of z e s.1) (proper y e s.0) (proper z e s.1) p m)))

@@ -1,5 +1,5 @@
 -- Of each quantifier: where the trees of its operand tell under every value, so do its own.
-use Rattle.std.proofs.Common.{◌≡◌, ◌↔◌, ◌⊎◌, inl, inr, ℕ, Bool, true, false, not, ◌&&◌, ◌||◌, List, [], ◌∷◌, Option, Some, None, flat_map, filter, refl, sym, ap, subst}
+use Rattle.std.proofs.Common.{◌≡◌, ◌↔◌, ◌⊎◌, inl, inr, ℕ, Bool, true, false, not, ◌&&◌, ◌||◌, List, [], ◌∷◌, Option, Some, None, flat_map, filter, refl, sym, ap, ◌∙◌, subst, true≢false}
 use Rattle.std.specs.List.{list_any, list_all}
 use Rattle.ix_words.specs.Each.{Each, Member}
 use Rattle.ix_words.specs.Parts.{part}
@@ -21,17 +21,30 @@ use Rattle.ix_tree.specs.Plain.{Plain, any as any_tree, every as every_tree, syn
 use Rattle.ix_tree.specs.Order.{first_part}
 use Rattle.ix_can.specs.Tests.{in_alphabet, values_and_outside, accepts_empty}
 use Rattle.ix_can.specs.Ways.{is_empty, ownings}
-use Rattle.ix_can.specs.Nodes.{is_dead, is_live, items_of, set_of, has_dead_entry}
+use Rattle.ix_can.specs.Nodes.{is_dead, is_live, is_ended, items_of, set_of, has_dead_entry}
 use Rattle.ix_can.specs.TreeOf.{is_final, tree_of, entries_of, live_map}
-use Rattle.ix_can.proofs.Lists.{itself, both_iff, either_iff, each_iff, same_test, iff_trans, iff_sym, when_both, unless_either, unless_not, SomeWay, all_are, when_passes, one_passes, made_says, way_says, passes_all, filled}
+use Rattle.ix_can.proofs.Lists.{itself, both_iff, either_iff, each_iff, same_test, iff_trans, iff_sym, when_either, when_both, unless_either, unless_not, SomeWay, all_are, when_passes, one_passes, made_says, way_says, passes_all, filled}
 use Rattle.ix_can.proofs.OperatorsTell.{Tells}
 use Rattle.ix_can.proofs.Testing.{alphabet_says, empty_complete}
 use Rattle.ix_can.proofs.Ways.{ownings_to, ownings_from}
+use Rattle.ix_can.proofs.Spent.{final_is_done, live_ended, common_final, ended_any}
 use Rattle.ix_can.proofs.Nodes.{node_tells, tree_live, any_set, all_set, entries_any, entries_all, entries_live, entries_some, fresh, fresh-new, some_value, every_value, projected_says}
 
 -- a value that no action of the word has
 unused_value : (w : Word) (v : List ℕ) → ¬ Member v (values_of w) → IsFresh v w
 unused_value w v n = Each-members w (λ a m i. n (flat_map-Member (λ b. b.values) m i))
+
+-- where the common tree and all entries' are ended and one of them is live, one is final
+entries_ended : (y : Form) (common : Plain) (xs : List Plain) → is_ended common && list_all (λ x. is_ended (first_part x)) (items_of (set_of xs)) ≡ true →
+    is_live common || list_any (λ x. is_live (first_part x)) xs ≡ true → is_final y common || list_any (λ x. is_final y (first_part x)) (items_of (set_of xs)) ≡ true
+entries_ended y common xs s l =
+    let items : List Plain = items_of (set_of xs) in
+    let h = (when_both (is_ended common) (list_all (λ x. is_ended (first_part x)) items) itself itself).0 s in
+    (when_either (is_final y common) (list_any (λ x. is_final y (first_part x)) items) itself itself).1
+    (elim ((when_either (is_live common) (list_any (λ x. is_live (first_part x)) xs) itself itself).0 l) [
+      | inl c ↦ inl (final_is_done y common (live_ended common c h.0))
+      | inr k ↦ inr (ended_any y items h.1 (any_set (λ x. is_live (first_part x)) xs ∙ k))
+    ])
 
 module _ (p : List ℕ) (y : Form) (e : Environment) where
   -- the operand's trees tell under every value and outside
@@ -52,17 +65,18 @@ module _ (p : List ℕ) (y : Form) (e : Environment) where
 
   pub any_told : TellAll → Tells (any p y) e
   any_told k w =
-      node_tells (any p y) (is_dead (given None w) && is_empty (entries w)) (any_tree (given None w) (set_of (entries w))) refl
-      (iff_trans (entries_some (given None w) (λ v. given (Some v) w) (values_of w))
-      (iff_trans
+      let some_live : ((is_live (given None w) ≡ true) ⊎ SomeWay (λ v. is_live (given (Some v) w) ≡ true) (values_of w)) ↔ IsPartial (any p y) e w = iff_trans
       (either_iff (tree_live (given None w) (k None w)) (way_says (λ v m. tree_live (given (Some v) w) (k (Some v) w))))
-      (some_value (λ v. IsPartial y (bind p v e) w) (values_of w) (partial_outside w))))
+      (some_value (λ v. IsPartial y (bind p v e) w) (values_of w) (partial_outside w)) in
+      node_tells (any p y) (is_dead (given None w) && is_empty (entries w)) (any_tree (given None w) (set_of (entries w))) refl
+      (iff_trans (entries_some (given None w) (λ v. given (Some v) w) (values_of w)) some_live)
       (λ h. same_test (ap (λ b. is_final y (given None w) || b) (any_set (λ x. is_final y (first_part x)) (entries w)))
       (iff_trans (entries_any (given None w) (λ v. given (Some v) w) (is_final y) (values_of w))
       (iff_trans
       (either_iff (k None w).complete (way_says (λ v m. (k (Some v) w).complete)))
       (some_value (λ v. IsComplete y (bind p v e) w) (values_of w) (complete_outside w)))))
       (complete-partial (any p y) e w)
+      (λ h s. entries_ended y (given None w) (entries w) s ((entries_any (given None w) (λ v. given (Some v) w) is_live (values_of w)).1 (some_live.1 h)))
 
   pub every_told : TellAll → Tells (every p y) e
   every_told k w =
@@ -77,6 +91,7 @@ module _ (p : List ℕ) (y : Form) (e : Environment) where
       (both_iff (k None w).complete (each_iff (λ v. (k (Some v) w).complete)))
       (every_value (λ v. IsComplete y (bind p v e) w) (values_of w) (complete_outside w)))))
       (complete-partial (every p y) e w)
+      (λ h s. common_final y (given None w) (set_of (entries w)) s)
 
   -- the word projected to the operand's alphabet under a value
   abbrev pub own : Option (List ℕ) → Word → Word
@@ -139,6 +154,7 @@ module _ (p : List ℕ) (y : Form) (e : Environment) where
       (both_iff (final_says None) (each_iff (λ v. final_says (Some v))))
       (iff_trans (every_value (Own IsComplete w) (values_of w) (own_complete_outside w)) (λ g. (h.0, g), λ g. g.1)))))
       (complete-partial (sync p y) e w)
+      (λ h s. common_final y (own_tree w None) (set_of (own_entries w)) s)
 
   -- Owners
 
@@ -238,3 +254,4 @@ module _ (p : List ℕ) (y : Form) (e : Environment) where
       )
       (iff_sym (owners-among p y e w n).complete)))
       (complete-partial (all p y) e w)
+      (λ h s. absurd (true≢false (sym s)))

@@ -1,5 +1,5 @@
 -- The laws of the tests and of the trees of words, as statements.
-use Rattle.std.specs.Prelude.{◌≡◌, ◌≢◌, ◌↔◌, true, false, List, [], ◌∷◌}
+use Rattle.std.specs.Prelude.{◌≡◌, ◌≢◌, ◌↔◌, true, false, List, [], ◌∷◌, ◌++◌}
 use Rattle.std.specs.Ordering.{is_gt}
 use Rattle.ix_words.specs.Each.{Each}
 use Rattle.ix_words.specs.Canon.{Ascending}
@@ -11,7 +11,7 @@ use Rattle.ix_expr.specs.Environment.{Environment, Matches}
 use Rattle.ix_expr.specs.FormFaults.{Fits}
 use Rattle.ix_expr.specs.Meaning.{InAlphabet, IsComplete, IsPartial}
 use Rattle.ix_expr.specs.Laws.{AgreeOn, EachAtomNames}
-use Rattle.ix_tree.specs.Plain.{Plain}
+use Rattle.ix_tree.specs.Plain.{Plain, done}
 use Rattle.ix_tree.specs.Order.{key, first_part, second_part, tree_cmp}
 use Rattle.ix_can.specs.Tests.{is_match, in_alphabet, accepts_empty}
 use Rattle.ix_can.specs.Nodes.{is_dead, items_of}
@@ -115,3 +115,17 @@ IsProper (all p y) t = EachOnce
 -- the tree of every word is proper
 abbrev pub TreesAreProper : Type 0
 TreesAreProper = (x : Form) (e : Environment) (w : Word) → IsProper x (tree_of x e w)
+
+-- the word is complete, and with no action more is it partial
+pub record IsCompleteAndStuck (x : Form) (e : Environment) (w : Word) : Type 0 where
+  pub complete : IsComplete x e w
+  pub stuck : (a : PlainAction) → ¬ IsPartial x e (w ++ a ∷ [])
+
+-- a word of an expression that fits its environment is complete and stuck where its tree is done
+abbrev pub SpentStatesAreCompleteAndStuck : Type 0
+SpentStatesAreCompleteAndStuck = (x : Form) (e : Environment) (w : Word) → Fits x e
+    → tree_of x e w ≡ done → IsCompleteAndStuck x e w
+
+-- the tree of the empty word is never done
+abbrev pub EmptyWordsAreNeverSpent : Type 0
+EmptyWordsAreNeverSpent = (x : Form) (e : Environment) → tree_of x e [] ≢ done

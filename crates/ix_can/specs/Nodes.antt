@@ -1,17 +1,25 @@
--- The nodes of trees: how each is made of its parts, and when it is dead instead.
-use Rattle.std.specs.Prelude.{Bool, not, ◌&&◌, ◌||◌, List, [], ◌∷◌, if◌then◌else◌}
-use Rattle.std.specs.List.{list_any}
+-- The nodes of trees: how each is made of its parts, and when it is dead or done instead.
+use Rattle.std.specs.Prelude.{Bool, false, not, ◌&&◌, ◌||◌, List, [], ◌∷◌, if◌then◌else◌, filter}
+use Rattle.std.specs.List.{list_any, list_all}
 use Rattle.std.specs.Ordering.{is_eq, is_gt}
 use Rattle.ix_words.specs.Canon.{canon, when}
-use Rattle.ix_tree.specs.Plain.{Plain, dead, opt, seq, star, par, par_star, or, and, couple, any}
+use Rattle.ix_tree.specs.Plain.{Plain, dead, done, opt, seq, star, par, par_star, or, and, couple, any}
 use Rattle.ix_tree.specs.Plain.{every, sync, all}
-use Rattle.ix_tree.specs.Order.{tree_cmp, first_part}
+use Rattle.ix_tree.specs.Order.{tree_cmp, first_part, second_part}
 use Rattle.ix_can.specs.Ways.{is_empty}
-pub use Rattle.ix_tree.specs.Plain.{is_dead, listed, items_of}
+pub use Rattle.ix_tree.specs.Plain.{is_dead, is_done, listed, items_of}
 
 -- whether the tree is live
 abbrev pub is_live : Plain → Bool
 is_live x = not (is_dead x)
+
+-- whether no action moves the tree, as it is dead or done
+abbrev pub is_ended : Plain → Bool
+is_ended x = is_dead x || is_done x
+
+-- whether the tree is live and other than done
+abbrev pub is_open : Plain → Bool
+is_open x = not (is_ended x)
 
 -- whether two trees are the same
 abbrev pub same_tree : Plain → Plain → Bool
@@ -39,35 +47,75 @@ live x = when (is_live x) (x ∷ [])
 abbrev pub dead_if : Bool → Plain → Plain
 dead_if test x = if test then dead else x
 
+-- done where the test holds
+abbrev pub done_if : Bool → Plain → Plain
+done_if test x = if test then done else x
+
+-- the tree, with dead in place of done
+abbrev pub unless_done : Plain → Plain
+unless_done x = if is_done x then dead else x
+
+-- whether there is one pair alone, of two trees that are done
+abbrev pub only_pair_done : List Plain → Bool
+only_pair_done (p ∷ []) = is_done (first_part p) && is_done (second_part p)
+only_pair_done pairs = false
+
+-- whether a live node is spent: its word is complete, and no action moves it
+abbrev pub is_spent : Plain → Bool
+is_spent (opt empty x) = is_done x
+is_spent (seq x ended alternatives) = is_dead x && is_empty (items_of alternatives)
+is_spent (par pairs) = only_pair_done (items_of pairs)
+is_spent (or x y) = is_ended x && is_ended y
+is_spent (and x y) = is_done x && is_done y
+is_spent (couple x y) = is_done x && is_done y
+is_spent (any common entries) = is_ended common
+    && list_all (λ x. is_ended (first_part x)) (items_of entries)
+is_spent (every common entries) = is_done common && is_empty (items_of entries)
+is_spent (sync common entries) = is_done common && is_empty (items_of entries)
+is_spent x = false
+
+-- done where the node is spent
+abbrev pub settled : Plain → Plain
+settled x = done_if (is_spent x) x
+
 abbrev pub opt_node : Bool → Plain → Plain
-opt_node empty x = dead_if (is_dead x) (opt empty x)
+opt_node empty x = dead_if (is_dead x) (settled (opt empty x))
 
--- a first part, and the alternatives for the second
+-- a first part with dead in place of done, whether an alternative for the second is done, and the
+-- other alternatives
+abbrev pub seq_parts : Plain → List Plain → Plain
+seq_parts x alternatives = seq (unless_done x) (list_any is_done alternatives)
+    (set_of (filter is_open alternatives))
+
+-- a first part, and the live alternatives for the second
 abbrev pub seq_node : Plain → List Plain → Plain
-seq_node x alternatives = dead_if (is_dead x && is_empty alternatives) (seq x (set_of alternatives))
+seq_node x alternatives = dead_if (is_dead x && is_empty alternatives)
+    (settled (seq_parts x alternatives))
 
+-- the live alternatives for the last piece, of which those that are done aren't listed
 abbrev pub star_node : Bool → List Plain → Plain
 star_node again alternatives = dead_if (not again && is_empty alternatives)
-    (star again (set_of alternatives))
+    (star again (set_of (filter is_open alternatives)))
 
 abbrev pub par_node : List Plain → Plain
-par_node pairs = dead_if (is_empty pairs) (par (set_of pairs))
+par_node pairs = dead_if (is_empty pairs) (settled (par (set_of pairs)))
 
 abbrev pub par_star_node : List Plain → Plain
 par_star_node bags = dead_if (is_empty bags) (par_star (set_of bags))
 
 abbrev pub or_node : Plain → Plain → Plain
-or_node x y = dead_if (is_dead x && is_dead y) (or x y)
+or_node x y = dead_if (is_dead x && is_dead y) (settled (or x y))
 
 abbrev pub and_node : Plain → Plain → Plain
-and_node x y = dead_if (is_dead x || is_dead y) (and x y)
+and_node x y = dead_if (is_dead x || is_dead y) (settled (and x y))
 
 -- inside: each action is in the alphabet of one of the two
 abbrev pub couple_node : Bool → Plain → Plain → Plain
-couple_node inside x y = dead_if (not inside || (is_dead x || is_dead y)) (couple x y)
+couple_node inside x y = dead_if (not inside || (is_dead x || is_dead y)) (settled (couple x y))
 
 abbrev pub any_node : Plain → List Plain → Plain
-any_node common entries = dead_if (is_dead common && is_empty entries) (any common (set_of entries))
+any_node common entries = dead_if (is_dead common && is_empty entries)
+    (settled (any common (set_of entries)))
 
 -- whether some entry's tree is dead
 abbrev pub has_dead_entry : List Plain → Bool
@@ -75,13 +123,13 @@ has_dead_entry entries = list_any (λ x. is_dead (first_part x)) entries
 
 abbrev pub every_node : Plain → List Plain → Plain
 every_node common entries = dead_if (is_dead common || has_dead_entry entries)
-    (every common (set_of entries))
+    (settled (every common (set_of entries)))
 
 -- inside: each action is in the alphabet for some value
 abbrev pub sync_node : Bool → Plain → List Plain → Plain
 sync_node inside common entries =
     dead_if (not inside || (is_dead common || has_dead_entry entries))
-    (sync common (set_of entries))
+    (settled (sync common (set_of entries)))
 
 abbrev pub all_node : List Plain → Plain
 all_node maps = dead_if (is_empty maps) (all (set_of maps))

@@ -18,16 +18,16 @@ use Rattle.ix_tree.specs.Order.{first_part, second_part}
 use Rattle.ix_tree.specs.Size.{size_of}
 use Rattle.ix_can.specs.Tests.{is_match, in_alphabet, values_and_outside, accepts_empty}
 use Rattle.ix_can.specs.Ways.{is_empty, is_concatenation, numberings, nonempty_parts, ownings}
-use Rattle.ix_can.specs.Nodes.{is_live, same_tree, listed, items_of, set_of, sorted, live, opt_node}
+use Rattle.ix_can.specs.Nodes.{is_live, is_open, same_tree, listed, items_of, set_of, sorted, live, opt_node}
 use Rattle.ix_can.specs.Nodes.{seq_node, star_node, par_node, par_star_node, or_node, and_node}
 use Rattle.ix_can.specs.Nodes.{couple_node, any_node, every_node, sync_node, all_node}
 
--- whether the word whose tree this is is complete in the expression; a tree of another form tells
--- of no word
+-- whether the word whose tree this is is complete in the expression; a tree of another form that
+-- isn't done tells of no word
 abbrev pub is_final : Form → Plain → Bool
-is_final (atom x) done = true
+is_final x done = true
 is_final (opt y) (opt_of empty t) = empty || is_final y t
-is_final (seq y z) (seq_of t rest) = list_any (is_final z) (items_of rest)
+is_final (seq y z) (seq_of t ended rest) = ended || list_any (is_final z) (items_of rest)
 is_final (star y) (star_of again rest) = again
 is_final (par y z) (par_of pairs) = list_any
     (λ p. is_final y (first_part p) && is_final z (second_part p)) (items_of pairs)
@@ -57,9 +57,9 @@ atom_tree x e (a ∷ b ∷ w) = dead
 abbrev pub live_pair : Plain → Plain → List Plain
 live_pair x y = when (is_live x && is_live y) (pair_of x y ∷ [])
 
--- the bag of the trees, if all are live
+-- the bag of the trees that aren't done, if all are live
 abbrev pub live_bag : List Plain → List Plain
-live_bag xs = when (list_all is_live xs) (bag_of (listed (sorted xs)) ∷ [])
+live_bag xs = when (list_all is_live xs) (bag_of (listed (sorted (filter is_open xs))) ∷ [])
 
 -- for each value its tree, where it differs from the common tree
 abbrev pub entries_of : Plain → (List ℕ → Plain) → List (List ℕ) → List Plain

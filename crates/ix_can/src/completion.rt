@@ -33,9 +33,9 @@ pub fn completes(expr: &Expr, state: &Knot) -> bool
     ensures { result ≡ is_final (form_of expr.now) state.now }
 {
     match (expr, state.node()) {
-        (Expr::Atom(_), Node::Done) => true,
+        (_, Node::Done) => true,
         (Expr::Opt(y), Node::Opt(empty, x)) => *empty || completes(y, x),
-        (Expr::Seq(_, z), Node::Seq(_, rest)) => some_completes(z, rest),
+        (Expr::Seq(_, z), Node::Seq(_, ended, rest)) => *ended || some_completes(z, rest),
         (Expr::Star(_), Node::Star(again, _)) => *again,
         (Expr::Par(y, z), Node::Par(pairs)) => some_pair_completes(y, z, pairs),
         (Expr::ParStar(y), Node::ParStar(bags)) => some_bag_completes(y, bags),

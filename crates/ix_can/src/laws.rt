@@ -3,7 +3,8 @@
 ghost use Rattle.ix_can.specs.Laws.{MatchTestsDecide, AlphabetTestsDecide, EmptyTestsDecide};
 ghost use Rattle.ix_can.specs.Laws.{FittingExpressionsName, TreesTell};
 ghost use Rattle.ix_can.specs.Laws.{AgreeingEnvironmentsGiveOneTree, EmptyWordsHaveOneTree};
-ghost use Rattle.ix_can.specs.Laws.{TreesAreProper};
+ghost use Rattle.ix_can.specs.Laws.{TreesAreProper, SpentStatesAreCompleteAndStuck};
+ghost use Rattle.ix_can.specs.Laws.{EmptyWordsAreNeverSpent};
 
 /// The test of matching is true exactly where the atom matches the action.
 pub fn match_tests_decide()
@@ -47,4 +48,14 @@ pub fn empty_words_have_one_tree()
 /// tree of the empty word.
 pub fn trees_are_proper()
     ensures { TreesAreProper }
+{}
+
+/// Where the tree of a word is done, the word is complete and with no action more is it partial.
+pub fn spent_states_are_complete_and_stuck()
+    ensures { SpentStatesAreCompleteAndStuck }
+{}
+
+/// The tree of the empty word is never done.
+pub fn empty_words_are_never_spent()
+    ensures { EmptyWordsAreNeverSpent }
 {}

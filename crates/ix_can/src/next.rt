@@ -64,7 +64,7 @@ pub fn goes_on(expr: &Expr, env: &Env, state: &Knot, action: &Action) -> bool
     match (expr, state.node()) {
         (Expr::Atom(atom), Node::Start) => is_match(atom, env, action),
         (Expr::Opt(y), Node::Opt(_, x)) => goes_on(y, env, x, action),
-        (Expr::Seq(y, z), Node::Seq(x, rest)) => {
+        (Expr::Seq(y, z), Node::Seq(x, _, rest)) => {
             goes_on(y, env, x, action) || some_goes_on(z, env, rest, action)
         }
         (Expr::Star(y), Node::Star(again, rest)) => {

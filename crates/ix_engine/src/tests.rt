@@ -6,7 +6,7 @@ ghost use Rattle.std.specs.Prelude.{◌≤◌};
 use super::*;
 use ix_expr::{Arg, Atom, Expr, Expression};
 use ix_step::BuildFault;
-use ix_values::{Action, Name};
+use ix_values::{Action, Name, Value};
 use std::alloc::{AllocError, Global};
 use std::test::Fail;
 
@@ -172,7 +172,7 @@ fn a_coupling_waits_for_neither_side(rt: HostRuntime) -> Result<(), Fail> {
     let alloc = rt.alloc();
     let texts: [&[u8]; 5] = [b"c", b"a", b"a", b"b", b"a"];
     let both = new_engine_answers(alloc, coupled(alloc)?, 3, &texts)?;
-    assert!(rt; answers_so(both, b"nynyn", 3, 2, true));
+    assert!(rt; answers_so(both, b"nynyn", 1, 2, true));
     let texts: [&[u8]; 2] = [b"b", b"b"];
     let right = new_engine_answers(alloc, coupled(alloc)?, 3, &texts)?;
     assert!(rt; answers_so(right, b"yn", 3, 1, false));
@@ -204,6 +204,129 @@ fn trees_have_their_sizes_and_limits(rt: HostRuntime) -> Result<(), Fail> {
     }
     let above = new_engine_answers(alloc, nested(alloc)?, 6, &texts)?;
     assert!(rt; above.is_none());
+    Ok(())
+}
+
+/// `b` with four arguments, of which the one at the place is `$p` and the others are fixed: at no
+/// place for 4.
+fn one_of_four(place: usize) -> Result<Expr, Fail> {
+    let mut args = [Arg::Param(name(b"p")?); 4];
+    let values: [&[u8]; 4] = [b"u", b"v", b"w", b"x"];
+    for (at, text) in values.into_iter().enumerate() {
+        if at != place {
+            args[at] = Arg::Fixed(Value::read(text).ok_or("not a value")?);
+        }
+    }
+    atom(b"b", &args)
+}
+
+/// `left | right`.
+fn either(alloc: Global, left: Expr, right: Expr) -> Result<Expr, Fail> {
+    Ok(Expr::Or(boxed(alloc, left)?, boxed(alloc, right)?))
+}
+
+/// `any $p (b(u,v,w,x) @ (c | d - (b($p,v,w,x) | b(u,$p,w,x) | b(u,v,$p,x) | b(u,v,w,$p))))`.
+fn four_entries(alloc: Global) -> Result<Expr, Fail> {
+    let mut some = one_of_four(0)?;
+    for place in 1..4_usize {
+        some = either(alloc, some, one_of_four(place)?)?;
+    }
+    let later = in_turn(alloc, atom(b"d", &[])?, some)?;
+    let right = either(alloc, atom(b"c", &[])?, later)?;
+    let both = Expr::Couple(boxed(alloc, one_of_four(4)?)?, boxed(alloc, right)?);
+    Ok(Expr::Any(name(b"p")?, boxed(alloc, both)?))
+}
+
+// After `c` the coupling has Start beside Done. After both its common tree is Done, and for each of
+// the four values it is Dead: so the whole is Done, though on the way the entries are 8 nodes.
+#[test]
+fn a_finished_state_is_one_node(rt: HostRuntime) -> Result<(), Fail> {
+    let alloc = rt.alloc();
+    let texts: [&[u8]; 3] = [b"c", b"b(u,v,w,x)", b"b(u,v,w,x)"];
+    let seen = new_engine_answers(alloc, four_entries(alloc)?, 7, &texts)?;
+    assert!(rt; answers_so(seen, b"yyn", 1, 2, true));
+    Ok(())
+}
+
+/// `text($p)`.
+fn of_p(text: &[u8]) -> Result<Expr, Fail> {
+    atom(text, &[Arg::Param(name(b"p")?)])
+}
+
+/// `all $p *(a($p) - b($p))`.
+fn rounds(alloc: Global) -> Result<Expr, Fail> {
+    let round = in_turn(alloc, of_p(b"a")?, of_p(b"b")?)?;
+    let again = Expr::Star(boxed(alloc, round)?);
+    Ok(Expr::All(name(b"p")?, boxed(alloc, again)?))
+}
+
+// A value in a round is 5: its entry 1, the iteration 1, `a - b` 1 + 1 + 1. One whose round is over
+// is as it was at the start, and has no entry.
+#[test]
+fn a_finished_value_costs_nothing(rt: HostRuntime) -> Result<(), Fail> {
+    let alloc = rt.alloc();
+    let texts: [&[u8]; 4] = [b"a(u)", b"b(u)", b"a(v)", b"b(v)"];
+    let over = new_engine_answers(alloc, rounds(alloc)?, 8, &texts)?;
+    assert!(rt; answers_so(over, b"yyyy", 2, 4, true));
+    let large = new_engine_answers(alloc, rounds(alloc)?, 4, &texts[..1])?;
+    assert!(rt; answers_so(large, b"l", 2, 0, true));
+    Ok(())
+}
+
+/// `#(a - b)`.
+fn many(alloc: Global) -> Result<Expr, Fail> {
+    let run = in_turn(alloc, atom(b"a", &[])?, atom(b"b", &[])?)?;
+    Ok(Expr::ParStar(boxed(alloc, run)?))
+}
+
+/// `#(a - ?a - b)`.
+fn many_with_two(alloc: Global) -> Result<Expr, Fail> {
+    let again = Expr::Opt(boxed(alloc, atom(b"a", &[])?)?);
+    let begun = in_turn(alloc, atom(b"a", &[])?, again)?;
+    let run = in_turn(alloc, begun, atom(b"b", &[])?)?;
+    Ok(Expr::ParStar(boxed(alloc, run)?))
+}
+
+// A run of `a - b` that has begun is 3, and one that is over is left out. Of `a - ?a - b` a run
+// after one `a` is 1 + (1 + 1 + 2) + 1, and one after two is 1 + 1 + 1. After `a`, `a`, `b` either
+// one run is over, or one of two, and the other has had one `a`.
+#[test]
+fn finished_runs_are_left_out(rt: HostRuntime) -> Result<(), Fail> {
+    let alloc = rt.alloc();
+    let texts: [&[u8]; 4] = [b"a", b"a", b"b", b"a"];
+    let seen = new_engine_answers(alloc, many(alloc)?, 8, &texts)?;
+    assert!(rt; answers_so(seen, b"yyyy", 8, 4, false));
+    let seen = new_engine_answers(alloc, many_with_two(alloc)?, 100, &texts[..2])?;
+    assert!(rt; answers_so(seen, b"yy", 18, 2, false));
+    let seen = new_engine_answers(alloc, many_with_two(alloc)?, 100, &texts[..3])?;
+    assert!(rt; answers_so(seen, b"yyy", 9, 3, true));
+    let runs = Expr::ParStar(boxed(alloc, repeated(alloc)?)?);
+    let texts: [&[u8]; 3] = [b"a", b"b", b"a"];
+    let seen = new_engine_answers(alloc, runs, 100, &texts)?;
+    assert!(rt; answers_so(seen, b"yyy", 12, 3, false));
+    Ok(())
+}
+
+// `sync $p *(a | b($p))`, where no value ever differs from the others, `every $p (b(u) | b($p))`,
+// which `b(u)` ends for every value, and `*(a @ b)`, of which one pass is over and one has begun.
+#[test]
+fn what_is_done_is_not_listed(rt: HostRuntime) -> Result<(), Fail> {
+    let alloc = rt.alloc();
+    let choice = either(alloc, atom(b"a", &[])?, of_p(b"b")?)?;
+    let again = Expr::Star(boxed(alloc, choice)?);
+    let each = Expr::Sync(name(b"p")?, boxed(alloc, again)?);
+    let texts: [&[u8]; 3] = [b"b(u)", b"b(v)", b"a"];
+    let seen = new_engine_answers(alloc, each, 100, &texts)?;
+    assert!(rt; answers_so(seen, b"yyy", 2, 3, true));
+    let fixed = atom(b"b", &[Arg::Fixed(Value::read(b"u").ok_or("not a value")?)])?;
+    let choice = either(alloc, fixed, of_p(b"b")?)?;
+    let every = Expr::Every(name(b"p")?, boxed(alloc, choice)?);
+    let seen = new_engine_answers(alloc, every, 100, &texts[..2])?;
+    assert!(rt; answers_so(seen, b"yn", 1, 1, true));
+    let passes = Expr::Star(boxed(alloc, coupled(alloc)?)?);
+    let texts: [&[u8]; 3] = [b"a", b"b", b"b"];
+    let seen = new_engine_answers(alloc, passes, 100, &texts)?;
+    assert!(rt; answers_so(seen, b"yyy", 4, 3, false));
     Ok(())
 }
 

@@ -50,10 +50,10 @@ module _ {e : Environment} where
   pub couple_second : {y z : Form} {t u : Plain} → Ready (couple y z) e (couple_of t u) → Ready z e u
   couple_second {y} {z} r = record { fits = (fits-operands (couple y z) e r.fits).1; proper = r.proper.1; small = omega (arith, r.small) }
 
-  pub seq_first : {y z : Form} {t us : Plain} → Ready (seq y z) e (seq_of t us) → Ready y e t
+  pub seq_first : {y z : Form} {t us : Plain} {b : Bool} → Ready (seq y z) e (seq_of t b us) → Ready y e t
   seq_first {y} {z} r = record { fits = (fits-operands (seq y z) e r.fits).0; proper = r.proper.0; small = omega (arith, r.small) }
 
-  pub seq_rest : {y z : Form} {t : Plain} (us : List Plain) → Ready (seq y z) e (seq_of t (listed us)) → Each (Ready z e) us
+  pub seq_rest : {y z : Form} {t : Plain} {b : Bool} (us : List Plain) → Ready (seq y z) e (seq_of t b (listed us)) → Each (Ready z e) us
   seq_rest {y} {z} {t} us r =
       alike_ready z e us (fits-operands (seq y z) e r.fits).1 (subst (Each (IsProper z)) (items_of-listed us) r.proper.1.each) (omega (arith, r.small))
 

@@ -8,8 +8,8 @@ use Rattle.std.proofs.lemmas.List.{get_or-map, length-map}
 use Rattle.ix_tree.specs.Plain.{Plain, listed}
 use Rattle.ix_tree.specs.Order.{tree_cmp}
 use Rattle.ix_tree.specs.Size.{size_of}
-use Rattle.ix_can.specs.Nodes.{put_in}
-use Rattle.ix_can.specs.inside.Moved.{picks}
+use Rattle.ix_can.specs.Nodes.{is_done, put_in}
+use Rattle.ix_can.specs.inside.Moved.{picks, put_unless_done}
 
 -- Each item with the others
 
@@ -114,3 +114,18 @@ size-put_in x (y ∷ ys) = by_test (is_gt (tree_cmp x y)) (size-put_in x ys)
     by_test : (b : Bool) → size_of (listed (put_in x ys)) ≡ size_of x + size_of (listed ys) → size_of (listed (if b then y ∷ put_in x ys else x ∷ y ∷ ys)) ≡ size_of x + size_of (listed (y ∷ ys))
     by_test true h = omega (arith, h)
     by_test false h = omega arith
+
+-- a tree that is put in unless it is done adds at most its Size
+pub size-unless_done : (x : Plain) (ys : List Plain) → size_of (listed (put_unless_done x ys)) ≤ size_of x + size_of (listed ys)
+size-unless_done x ys = by_test (is_done x)
+  where
+    by_test : (b : Bool) → size_of (listed (if b then ys else put_in x ys)) ≤ size_of x + size_of (listed ys)
+    by_test true = omega arith
+    by_test false = omega (arith, size-put_in x ys)
+
+-- a list without the item at a place is what stands before it and behind it
+pub remove_is : {A : Type 0} (xs : List A) (i : ℕ) → remove xs i ≡ take i xs ++ drop (suc i) xs
+remove_is [] zero = refl
+remove_is [] (suc i) = refl
+remove_is (x ∷ xs) zero = refl
+remove_is (x ∷ xs) (suc i) = ap (λ l. x ∷ l) (remove_is xs i)

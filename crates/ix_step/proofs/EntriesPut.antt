@@ -149,6 +149,26 @@ put_counts y (x ∷ xs) =
       | inr h ↦ inr (omega (arith, h.0), omega (arith, h.1))
     ])
 
+-- as many at most as are put
+put_all_counts : (ys xs : List Plain) → length (put_all ys xs) ≤ length ys + length xs
+put_all_counts [] xs = omega arith
+put_all_counts (y ∷ ys) xs = elim (put_counts y xs) [
+  | inl h ↦ omega (arith, put_all_counts ys (put_once tree_cmp y xs), ap length h)
+  | inr h ↦ omega (arith, put_all_counts ys (put_once tree_cmp y xs), h.0)
+]
+
+-- a value has at most one entry
+pub entries_few : (common : Plain) (tree : List ℕ → Plain) (values : List (List ℕ)) → length (entries_put common tree values) ≤ length values
+entries_few common tree values = omega (arith, put_all_counts (entries_of common tree values) [], made values)
+  where
+    one : (b : Bool) (x : Plain) (xs : List Plain) → length (when b (x ∷ []) ++ xs) ≤ suc (length xs)
+    one true x xs = omega arith
+    one false x xs = omega arith
+
+    made : (vs : List (List ℕ)) → length (entries_of common tree vs) ≤ length vs
+    made [] = omega arith
+    made (v ∷ vs) = omega (arith, one (not (same_tree (tree v) common)) (entry v (tree v)) (entries_of common tree vs), made vs)
+
 -- what the entries are after one more value: they are more by the entry's Size where they are more
 pub record Entered (common : Plain) (tree : List ℕ → Plain) (values : List (List ℕ)) (old : List (List ℕ × Plain)) (total : ℕ) (new : List (List ℕ × Plain)) (x : Plain) : Type 0 where
   pub items : map plain_entry new ≡ entries_put common tree values

@@ -1,13 +1,13 @@
 -- Lists into which trees are put one by one: what they hold at last, and that they only grow.
-use Rattle.std.proofs.Common.{◌||◌, inl, inr, not, ◌≡◌, ℕ, ◌<◌, ◌≤◌, ◌+◌, Bool, true, false, List, [], ◌∷◌, ◌++◌, map, drop, get_or, length, add-one, drop-cons, Result, Ok, Err, refl, sym, ap, ◌∙◌, subst, arith, append_assoc, append-nil, map-id, Ordering, Equal}
+use Rattle.std.proofs.Common.{◌||◌, inl, inr, not, ◌≡◌, ℕ, ◌<◌, ◌≤◌, ◌+◌, Bool, true, false, List, [], ◌∷◌, ◌++◌, map, take, drop, get_or, length, add-one, drop-cons, Result, Ok, Err, refl, sym, ap, ◌∙◌, subst, arith, append_assoc, append-nil, map-id, Ordering, Equal}
 use Rattle.ix_words.specs.Each.{Member, here, there}
 use Rattle.ix_words.specs.Canon.{put_once, canon, when}
 use Rattle.std.specs.List.{list_any, sum_by}
 use Rattle.ix_tree.proofs.PlainLists.{size_of-listed}
-use Rattle.std.proofs.lemmas.List.{drop_all}
+use Rattle.std.proofs.lemmas.List.{drop_all, take_more}
 use Rattle.ix_words.proofs.Canon.{Member-cases, canon-end, canon-members, by_order-has}
-use Rattle.ix_can.specs.Nodes.{is_live}
-use Rattle.ix_can.proofs.Nodes.{dead_is}
+use Rattle.ix_can.specs.Nodes.{is_live, is_ended, is_open}
+use Rattle.ix_can.proofs.Spent.{Kind, is_the_dead, is_the_done, stays_open, kind, open_live}
 use Rattle.ix_can.proofs.Lists.{any_same}
 use Rattle.ix_tree.proofs.Alternatives.{insert_key-put_once, Member-HasItem, weight_of-list}
 use Rattle.ix_alts.specs.inside.Alternatives.{Alternatives, HasItem}
@@ -16,6 +16,7 @@ use Rattle.ix_tree.specs.Order.{tree_cmp}
 use Rattle.ix_tree.specs.Size.{size_of}
 use Rattle.ix_tree.specs.lemmas.TreeOrder.{tree_order, tree_cmp-same}
 use Rattle.ix_step.specs.inside.Makes.{put_all, Gathers, Puts}
+use Rattle.ix_step.specs.inside.Moves.{if_open}
 use Rattle.ix_step.specs.declared.fault.Unbuilt.{Unbuilt}
 
 -- What the list holds
@@ -91,13 +92,18 @@ module _ {T : Type 0} (f : T → Plain) (cmp : T → T → Ordering) (is : (x y 
 
 -- Trees that may be dead
 
--- a tree above the limit is live
-pub above_lives : (limit : ℕ) (x : Plain) → 1 ≤ limit → limit < size_of x → is_dead x ≡ false
-above_lives limit x le lt = by_test (is_dead x) refl
+-- a tree above the limit is open
+pub above_open : (limit : ℕ) (x : Plain) → 1 ≤ limit → limit < size_of x → is_open x ≡ true
+above_open limit x le lt = by_kind (kind x)
   where
-    by_test : (b : Bool) → is_dead x ≡ b → b ≡ false
-    by_test false e = refl
-    by_test true e = let s : size_of x ≡ 1 = ap size_of (dead_is x e) in absurd (omega arith)
+    by_kind : Kind x → is_open x ≡ true
+    by_kind (is_the_dead e) = let s : size_of x ≡ 1 = ap size_of e in absurd (omega arith)
+    by_kind (is_the_done e) = let s : size_of x ≡ 1 = ap size_of e in absurd (omega arith)
+    by_kind (stays_open o l n) = o
+
+-- so it is live
+pub above_lives : (limit : ℕ) (x : Plain) → 1 ≤ limit → limit < size_of x → is_dead x ≡ false
+above_lives limit x le lt = open_live x (above_open limit x le lt)
 
 -- so what is made of it is put into the list, which is then above the limit
 pub live_over : (limit : ℕ) (x made : Plain) (old : List Plain) → 1 ≤ limit → size_of x ≤ size_of made → limit < size_of x → limit < size_all (put_all (when (is_live x) (made ∷ [])) old)
@@ -105,6 +111,20 @@ live_over limit x made old le grows lt =
     let k : size_of made ≤ size_all (put_all (made ∷ []) old) = put_all_holds made (made ∷ []) old here in
     let e : size_all (put_all (when (is_live x) (made ∷ [])) old) ≡ size_all (put_all (made ∷ []) old) = ap (λ b. size_all (put_all (when (not b) (made ∷ [])) old)) (above_lives limit x le lt) in
     omega arith
+
+-- and where it is listed if it is open, the list is above the limit
+pub open_over : (limit : ℕ) (x : Plain) (old : List Plain) → 1 ≤ limit → limit < size_of x → limit < size_all (put_all (if_open x) old)
+open_over limit x old le lt =
+    let k : size_of x ≤ size_all (put_all (x ∷ []) old) = put_all_holds x (x ∷ []) old here in
+    let e : size_all (put_all (if_open x) old) ≡ size_all (put_all (x ∷ []) old) = ap (λ b. size_all (put_all (when b (x ∷ [])) old)) (above_open limit x le lt) in
+    omega arith
+
+-- an ended tree adds nothing to the open ones, and an open one adds itself
+pub ended_adds : (limit : ℕ) (x : Plain) (old : List Plain) → is_ended x ≡ true → Gathers limit (if_open x) old old (Ok tt)
+ended_adds limit x old e = sym (ap (λ b. put_all (when (not b) (x ∷ [])) old) e)
+
+pub open_adds : (limit : ℕ) (x : Plain) (old new : List Plain) (r : Result (Unit {0}) Unbuilt) → is_ended x ≡ false → Gathers limit (x ∷ []) old new r → Gathers limit (if_open x) old new r
+open_adds limit x old new r e h = subst (λ ys. Gathers limit ys old new r) (sym (ap (λ b. when (not b) (x ∷ [])) e)) h
 
 module _ (limit : ℕ) (x made : Plain) (old : List Plain) where
   -- a dead tree adds nothing
@@ -122,6 +142,14 @@ any_of_set test us = any_same test (canon tree_cmp us) us (canon-members tree_or
 
 -- Tests of the trees of a list, one by one
 
+pub or_assoc : (a b c : Bool) → (a || (b || c)) ≡ ((a || b) || c)
+or_assoc true b c = refl
+or_assoc false b c = refl
+
+pub or_false : (b : Bool) → (b || false) ≡ b
+or_false true = refl
+or_false false = refl
+
 module _ (test : Plain → Bool) (ts : List Plain) (i : ℕ) where
   one_more : (d : Plain) → i < length ts → d ≡ get_or ts i d → list_any test ((drop i ts)) ≡ (test d || list_any test ((drop (i + 1) ts)))
   one_more d lt is =
@@ -136,6 +164,15 @@ module _ (test : Plain → Bool) (ts : List Plain) (i : ℕ) where
 
   pub any_none : length ts ≤ i → false ≡ list_any test ((drop i ts))
   any_none le = ap (λ l. list_any test l) (sym (drop_all i ts le))
+
+any_after : (test : Plain → Bool) (us : List Plain) (x : Plain) → list_any test (us ++ x ∷ []) ≡ (list_any test us || test x)
+any_after test [] x = or_false (test x)
+any_after test (u ∷ us) x = ap (λ b. test u || b) (any_after test us x) ∙ or_assoc (test u) (list_any test us) (test x)
+
+-- of one tree more
+pub any_more : (test : Plain → Bool) (ts : List Plain) (i : ℕ) (t : Plain) → i < length ts → t ≡ get_or ts i t → list_any test (take (i + 1) ts) ≡ (list_any test (take i ts) || test t)
+any_more test ts i t lt is =
+    ap (list_any test) (take_more ts i t lt ∙ ap (λ u. take i ts ++ u ∷ []) (sym is)) ∙ any_after test (take i ts) t
 
 -- a tree put into a set of trees
 pub gathers_tree : (set : Alternatives Plain) (new : List Plain) (item : Plain) (r : Result (Unit {0}) Unbuilt) → Puts tree_cmp size_of set new item r → Gathers set.budget (item ∷ []) set.items new r

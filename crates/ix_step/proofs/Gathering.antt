@@ -1,5 +1,5 @@
 -- Lists into which several lots of trees are put, one lot after another.
-use Rattle.std.proofs.Common.{◌≡◌, ℕ, zero, suc, ◌<◌, ◌≤◌, ◌+◌, List, [], ◌∷◌, ◌++◌, map, flat_map, length, get_or, take, drop, Result, Ok, Err, refl, sym, ap, ◌∙◌, subst, arith, append-nil}
+use Rattle.std.proofs.Common.{◌≡◌, ℕ, zero, suc, ◌<◌, ◌≤◌, ◌+◌, List, [], ◌∷◌, ◌++◌, map, flat_map, length, get_or, take, drop, Result, Ok, Err, refl, sym, ap, ◌∙◌, subst, arith, append-nil, if◌then◌else◌}
 use Rattle.std.proofs.lemmas.List.{take-append-drop, take_more}
 use Rattle.std.proofs.Math.ListN.{get_or-map}
 use Rattle.std.proofs.Math.Seq.{take-length}
@@ -13,14 +13,15 @@ use Rattle.ix_tree.specs.Order.{first_part}
 use Rattle.ix_tree.specs.Plain.{Plain, listed, items_of, pair, bag}
 use Rattle.ix_tree.specs.Size.{size_of}
 use Rattle.ix_tree.proofs.PlainLists.{items_of-listed}
-use Rattle.ix_can.specs.Nodes.{is_live, live, put_in, set_of}
-use Rattle.ix_can.specs.inside.Moved.{bag_with}
+use Rattle.ix_can.specs.Nodes.{is_live, put_in, set_of}
+use Rattle.ix_can.proofs.Spent.{open_not_done}
+use Rattle.ix_can.specs.inside.Moved.{put_unless_done, bag_with}
 use Rattle.ix_step.specs.inside.Makes.{IsOver, put_all, Gathers}
-use Rattle.ix_step.specs.inside.Moves.{begun}
+use Rattle.ix_step.specs.inside.Moves.{if_open, begun}
 use Rattle.ix_step.specs.inside.ParallelMoves.{pairs_of, pick_moves, bag_moves}
 use Rattle.ix_step.specs.declared.fault.Unbuilt.{Unbuilt}
 use Rattle.ix_step.proofs.BagsPut.{size-put_in}
-use Rattle.ix_step.proofs.Gathered.{put_all-nothing, put_all-append, put_all_grows, live_over, size_all}
+use Rattle.ix_step.proofs.Gathered.{put_all-nothing, put_all-append, put_all_grows, live_over, above_open, open_over, size_all}
 
 -- an item of a list, and what stands for it in the list's image
 pub image_at : {M K : Type 0} (view : M → K) (xs : List M) (i : ℕ) (x : M) → x ≡ get_or xs i x → view x ≡ get_or (map view xs) i (view x)
@@ -89,9 +90,9 @@ pub front_of_set : (us vs : List Plain) → size_all (put_all us []) ≤ size_of
 front_of_set us vs = subst (λ l. size_all (put_all us []) ≤ size_all l) (put_all-nothing (us ++ vs)) (front_size us vs [])
 
 -- a tree of the second lot that is above the limit puts the set above it
-pub live_in_set : (limit : ℕ) (us : List Plain) (x : Plain) → 1 ≤ limit → limit < size_of x → limit < size_of (set_of (us ++ live x))
-live_in_set limit us x le lt =
-    subst (λ l. limit < size_of l) (set_is us (live x) (put_all us []) refl) (live_over limit x x (put_all us []) le (omega arith) lt)
+pub open_in_set : (limit : ℕ) (us : List Plain) (x : Plain) → 1 ≤ limit → limit < size_of x → limit < size_of (set_of (us ++ if_open x))
+open_in_set limit us x le lt =
+    subst (λ l. limit < size_of l) (set_is us (if_open x) (put_all us []) refl) (open_over limit x (put_all us []) le lt)
 
 -- the set of what is made of the items of a list
 pub made_set : (f : Plain → List Plain) (xs : List Plain) → listed (put_all (flat_map f xs) []) ≡ set_of (flat_map f (items_of (listed xs)))
@@ -128,13 +129,19 @@ module _ (y : Form) (e : Environment) (a : PlainAction) (ts us : List Plain) (sa
       ∙ ap (put_all (bag_with (begun y e a) (items_of (listed ts)))) (so_far ∙ picks_same)
       ∙ sym (put_all-append (pick_moves y e a (items_of (listed ts))) (bag_with (begun y e a) (items_of (listed ts))) old)
 
+-- a tree above the limit isn't left out of its bag, so this puts the list above the limit
+pub bag_over : (limit : ℕ) (x : Plain) (others old : List Plain) → 1 ≤ limit → limit < size_of x → limit < size_all (put_all (bag_with x others) old)
+bag_over limit x others old le lt =
+    let starts = open_not_done x (above_open limit x le lt) in
+    live_over limit x (bag (listed (put_unless_done x others))) old le
+    (omega (arith, size-put_in x others, ap (λ b. size_of (listed (if b then others else put_in x others))) starts)) lt
+
 -- where there is a bag, a first run above the limit puts the set above it
 pub first_over : (limit : ℕ) (y : Form) (e : Environment) (a : PlainAction) (bs : List Plain) → 0 < length bs → 1 ≤ limit → limit < size_of (begun y e a) → limit < size_of (set_of (flat_map (bag_moves y e a) bs))
 first_over limit y e a [] some le lt = absurd (omega arith)
 first_over limit y e a (b ∷ bs) some le lt =
     let k : limit < size_all (put_all (bag_with (begun y e a) (items_of (first_part b))) (put_all (pick_moves y e a (items_of (first_part b))) [])) =
-    live_over limit (begun y e a) (bag (listed (put_in (begun y e a) (items_of (first_part b))))) (put_all (pick_moves y e a (items_of (first_part b))) []) le
-    (omega (arith, size-put_in (begun y e a) (items_of (first_part b)))) lt in
+    bag_over limit (begun y e a) (items_of (first_part b)) (put_all (pick_moves y e a (items_of (first_part b))) []) le lt in
     let s : size_all (put_all (bag_moves y e a b) []) ≡ size_all (put_all (bag_with (begun y e a) (items_of (first_part b))) (put_all (pick_moves y e a (items_of (first_part b))) [])) =
     ap size_all (put_all-append (pick_moves y e a (items_of (first_part b))) (bag_with (begun y e a) (items_of (first_part b))) []) in
     omega (arith, front_of_set (bag_moves y e a b) (flat_map (bag_moves y e a) bs))

@@ -12,7 +12,7 @@ use Rattle.ix_can.specs.inside.May.{may}
 use Rattle.ix_can.specs.inside.Moved.{moved}
 use Rattle.ix_can.proofs.Lists.{one_test, iff_trans, iff_sym}
 use Rattle.ix_can.proofs.Testing.{alphabet_says}
-use Rattle.ix_can.proofs.Nodes.{dead_is}
+use Rattle.ix_can.proofs.Spent.{dead_is}
 use Rattle.ix_can.proofs.MovesShared.{moved_live}
 use Rattle.ix_step.specs.inside.Makes.{IsOver}
 use Rattle.ix_step.specs.declared.fault.Unbuilt.{Unbuilt}

@@ -1,6 +1,6 @@
--- The moved tree is the node of what its parts become, dead where none of them is live.
-use Rattle.std.proofs.Common.{◌≡◌, ℕ, Bool, true, false, not, ◌&&◌, ◌||◌, List, [], ◌∷◌, ◌++◌, flat_map, Some, None, refl, sym, ap, ◌∙◌, true≢false, if◌then◌else◌}
-use Rattle.std.specs.List.{list_any}
+-- The moved tree is the node of what its parts become, dead where none of them is live and done where it is spent.
+use Rattle.std.proofs.Common.{◌≡◌, ℕ, Bool, true, false, not, ◌&&◌, ◌||◌, List, [], ◌∷◌, ◌++◌, flat_map, filter, cond, append_assoc, Some, None, refl, sym, ap, ◌∙◌, true≢false, if◌then◌else◌}
+use Rattle.std.specs.List.{list_any, list_all}
 use Rattle.ix_words.specs.Canon.{canon, when}
 use Rattle.ix_values.specs.PlainAction.{PlainAction}
 use Rattle.ix_expr.specs.Form.{Form, atom, opt, seq, star, par, par_star, or, and, couple, any, every, sync, all}
@@ -10,24 +10,25 @@ use Rattle.ix_expr.specs.FormFaults.{Fits}
 use Rattle.ix_expr.proofs.Parts.{fits-operands}
 use Rattle.ix_tree.specs.Plain.{Plain, dead, start, done, is_dead, listed, items_of, pair, bag, entry, opt as opt_of, seq as seq_of, star as star_of, par as par_of, par_star as par_star_of, or as or_of, and as and_of, couple as couple_of, any as any_of, every as every_of, sync as sync_of, all as all_of}
 use Rattle.ix_tree.specs.Order.{tree_cmp, key, first_part, second_part}
-use Rattle.ix_can.specs.Nodes.{is_live, same_tree, set_of, put_in, live, dead_if}
+use Rattle.ix_can.specs.Nodes.{is_done, is_live, is_open, unless_done, same_tree, set_of, live, dead_if, settled, seq_parts}
 use Rattle.ix_can.specs.TreeOf.{is_final, tree_of}
 use Rattle.ix_can.specs.Ways.{is_empty}
 use Rattle.ix_can.specs.inside.May.{may, may_first, tree_at}
-use Rattle.ix_can.specs.inside.Moved.{moved, picks, bag_with, entry_with, or_initial}
+use Rattle.ix_can.specs.inside.Moved.{moved, picks, put_unless_done, bag_with, entry_with, or_initial}
 use Rattle.ix_can.proofs.Children.{any_made}
 use Rattle.ix_can.proofs.Lists.{one_test}
 use Rattle.ix_can.proofs.MovesShared.{moved_live, first_may}
 use Rattle.ix_can.proofs.MovesTell.{each_step}
-use Rattle.ix_can.proofs.Nodes.{dead_is, never_dead, same_is, same_from}
+use Rattle.ix_can.proofs.Nodes.{never_dead, same_is, same_from}
+use Rattle.ix_can.proofs.Spent.{Kind, is_the_dead, is_the_done, stays_open, kind, dead_is, open_live, open_not_done, final_done, any_ended}
 use Rattle.ix_step.specs.inside.Initial.{initial_tree}
 use Rattle.ix_step.specs.inside.MapsAfter.{maps_after, map_after, begun_tree, with_tree}
 use Rattle.ix_step.specs.inside.MovedNode.{moved_node}
-use Rattle.ix_step.specs.inside.Moves.{live_move, live_moves, begun, begun_again, second_parts, last_runs}
+use Rattle.ix_step.specs.inside.Moves.{if_open, open_moves, some_ends, begun, begun_again, second_parts, last_runs, runs_end}
 use Rattle.ix_step.specs.inside.ParallelMoves.{pair_moves, pick_move, pick_moves, bag_moves}
-use Rattle.ix_step.specs.inside.Pruned.{passes, is_none, pruned}
-use Rattle.ix_step.proofs.Beginnings.{initial_is}
-use Rattle.ix_step.proofs.Gathered.{any_of_set}
+use Rattle.ix_step.specs.inside.Pruned.{passes, is_none, has_died, pruned}
+use Rattle.ix_step.proofs.Beginnings.{initial_open, initial_is}
+use Rattle.ix_step.proofs.Gathered.{any_of_set, or_assoc, or_false}
 
 -- Tests
 
@@ -105,6 +106,90 @@ atom_done : (b : Bool) → b ≡ true → (if b then done else dead) ≡ done
 atom_done true h = refl
 atom_done false h = absurd (true≢false (sym h))
 
+-- What is listed of trees where they are live, and what it holds of the open and of the done
+
+and_none : (b : Bool) → (b && false) ≡ false
+and_none true = refl
+and_none false = refl
+
+open_after : (t : Plain) (xs : List Plain) → filter is_open (live t ++ xs) ≡ if_open t ++ filter is_open xs
+open_after dead xs = refl
+open_after done xs = refl
+open_after _ xs = refl
+
+done_after : (t : Plain) (xs : List Plain) → list_any is_done (live t ++ xs) ≡ (is_done t || list_any is_done xs)
+done_after dead xs = refl
+done_after done xs = refl
+done_after _ xs = refl
+
+live_after : (t : Plain) (xs : List Plain) → list_all is_live (live t ++ xs) ≡ list_all is_live xs
+live_after dead xs = refl
+live_after done xs = refl
+live_after _ xs = refl
+
+open_alone : (t : Plain) → filter is_open (live t) ≡ if_open t
+open_alone dead = refl
+open_alone done = refl
+open_alone _ = refl
+
+done_alone : (t : Plain) → list_any is_done (live t) ≡ is_done t
+done_alone dead = refl
+done_alone done = refl
+done_alone _ = refl
+
+live_alone : (t : Plain) → list_all is_live (live t) ≡ true
+live_alone dead = refl
+live_alone done = refl
+live_alone _ = refl
+
+module _ (f : Plain → Plain) (tail : List Plain) where
+  opens : (us : List Plain) → filter is_open (flat_map (λ u. live (f u)) us ++ tail) ≡ flat_map (λ u. if_open (f u)) us ++ filter is_open tail
+  opens [] = refl
+  opens (u ∷ us) =
+      let rest : List Plain = flat_map (λ v. live (f v)) us in
+      ap (filter is_open) (append_assoc (live (f u)) rest tail) ∙ open_after (f u) (rest ++ tail) ∙ ap (λ l. if_open (f u) ++ l) (opens us)
+      ∙ sym (append_assoc (if_open (f u)) (flat_map (λ v. if_open (f v)) us) (filter is_open tail))
+
+  dones : (us : List Plain) → list_any is_done (flat_map (λ u. live (f u)) us ++ tail) ≡ (list_any (λ u. is_done (f u)) us || list_any is_done tail)
+  dones [] = refl
+  dones (u ∷ us) =
+      let rest : List Plain = flat_map (λ v. live (f v)) us in
+      ap (list_any is_done) (append_assoc (live (f u)) rest tail) ∙ done_after (f u) (rest ++ tail) ∙ ap (λ b. is_done (f u) || b) (dones us)
+      ∙ or_assoc (is_done (f u)) (list_any (λ v. is_done (f v)) us) (list_any is_done tail)
+
+  all_live : (us : List Plain) → list_all is_live (flat_map (λ u. live (f u)) us ++ tail) ≡ list_all is_live tail
+  all_live [] = refl
+  all_live (u ∷ us) =
+      let rest : List Plain = flat_map (λ v. live (f v)) us in
+      ap (list_all is_live) (append_assoc (live (f u)) rest tail) ∙ live_after (f u) (rest ++ tail) ∙ all_live us
+
+-- of live trees none is left exactly where none passes a test that the done pass, and none is open
+module _ (test : Plain → Bool) (passes_done : test done ≡ true) where
+  none_left : (xs : List Plain) → list_all is_live xs ≡ true → (not (list_any test xs) && is_none (set_of (filter is_open xs))) ≡ is_empty xs
+  none_left [] h = refl
+  none_left (x ∷ xs) h = by_kind (kind x)
+    where
+      by_kind : Kind x → (not (list_any test (x ∷ xs)) && is_none (set_of (filter is_open (x ∷ xs)))) ≡ false
+      by_kind (is_the_dead e) = absurd (true≢false (sym h ∙ ap (λ t. is_live t && list_all is_live xs) e))
+      by_kind (is_the_done e) = ap (λ b. not (b || list_any test xs) && is_none (set_of (filter is_open (x ∷ xs)))) (ap test e ∙ passes_done)
+      by_kind (stays_open o l n) =
+          ap (λ b. not (list_any test (x ∷ xs)) && b) (set_none (filter is_open (x ∷ xs)) ∙ ap (λ b. is_empty (cond b (x ∷ filter is_open xs) (filter is_open xs))) o)
+          ∙ and_none (not (list_any test (x ∷ xs)))
+
+-- The beginning of a second part
+
+first_open : (b : Bool) (x : Form) → filter is_open (when b (initial_tree x ∷ [])) ≡ when b (initial_tree x ∷ [])
+first_open true x = ap (λ b. cond b (initial_tree x ∷ []) []) (initial_open x)
+first_open false x = refl
+
+first_not_done : (b : Bool) (x : Form) → list_any is_done (when b (initial_tree x ∷ [])) ≡ false
+first_not_done true x = ap (λ b. b || false) (open_not_done (initial_tree x) (initial_open x))
+first_not_done false x = refl
+
+first_live : (b : Bool) (x : Form) → list_all is_live (when b (initial_tree x ∷ [])) ≡ true
+first_live true x = ap (λ b. not b && true) (open_live (initial_tree x) (initial_open x))
+first_live false x = refl
+
 again_live : (b : Bool) (x : Form) (e : Environment) (a : PlainAction) → when b (live (begun x e a)) ≡ live (begun_again b x e a)
 again_live true x e a = refl
 again_live false x e a = refl
@@ -127,8 +212,12 @@ module _ (x : Form) (e : Environment) (a : PlainAction) where
   unmoved : (t : Plain) → not (is_live (moved x e t a)) ≡ not (may x e t a)
   unmoved t = ap not (moved_live x e t a)
 
-  none_moved : (ts : List Plain) → is_empty (live_moves x e a ts) ≡ not (list_any (λ t. may x e t a) ts)
-  none_moved = none_made (λ t. may x e t a) (live_move x e a) (λ t. empty_when (is_live (moved x e t a)) (moved x e t a) ∙ unmoved t)
+  -- the moved trees that are live
+  abbrev live_moves : List Plain → List Plain
+  live_moves ts = flat_map (λ t. live (moved x e t a)) ts
+
+  none_moved : (ts : List Plain) → is_empty (live_moves ts) ≡ not (list_any (λ t. may x e t a) ts)
+  none_moved = none_made (λ t. may x e t a) (λ t. live (moved x e t a)) (λ t. empty_when (is_live (moved x e t a)) (moved x e t a) ∙ unmoved t)
 
   -- the first action may come exactly where it moves the tree of the empty word
   begins : Fits x e → is_live (begun x e a) ≡ may_first x e a
@@ -143,17 +232,45 @@ module _ (x : Form) (e : Environment) (a : PlainAction) where
 -- Forms: where none of its parts moves
 
 module _ (y z : Form) (e : Environment) (a : PlainAction) where
-  seq_died : (t : Plain) (us : List Plain) → not (may y e t a || list_any (λ s. may z e s a) us) ≡ (is_dead (moved y e t a) && is_none (set_of (second_parts y z e a (moved y e t a) us)))
+  -- the live alternatives for the second part, m being the moved first part
+  abbrev seconds : Plain → List Plain → List Plain
+  seconds m us = live_moves z e a us ++ when (is_final y m) (initial_tree z ∷ [])
+
+  -- what is made of them
+  seq_is : (m : Plain) (us : List Plain) → seq_parts m (seconds m us) ≡ seq_of (unless_done m) (some_ends z e a us) (set_of (second_parts y z e a m us))
+  seq_is m us =
+      let begins : List Plain = when (is_final y m) (initial_tree z ∷ []) in
+      let ended : list_any is_done (seconds m us) ≡ some_ends z e a us = dones (λ s. moved z e s a) begins us ∙ ap (λ b. some_ends z e a us || b) (first_not_done (is_final y m) z) ∙ or_false (some_ends z e a us) in
+      let opened : filter is_open (seconds m us) ≡ second_parts y z e a m us = opens (λ s. moved z e s a) begins us ∙ ap (λ l. open_moves z e a us ++ l) (first_open (is_final y m) z) in
+      (λ i. seq_of (unless_done m) (ended i) (set_of (opened i)))
+
+  -- a first part that is done has let the second begin
+  begun_second : (m : Plain) (us : List Plain) → (is_dead m && is_empty (seconds m us)) ≡ (is_dead (unless_done m) && is_empty (seconds m us))
+  begun_second m us = by_kind (kind m)
+    where
+      by_kind : Kind m → (is_dead m && is_empty (seconds m us)) ≡ (is_dead (unless_done m) && is_empty (seconds m us))
+      by_kind (is_the_dead d) = ap (λ t. is_dead t && is_empty (seconds m us)) d ∙ sym (ap (λ t. is_dead (unless_done t) && is_empty (seconds m us)) d)
+      by_kind (is_the_done d) =
+          let filled : is_empty (seconds m us) ≡ false = empty_both (live_moves z e a us) (when (is_final y m) (initial_tree z ∷ []))
+          ∙ ap (λ b. is_empty (live_moves z e a us) && is_empty (when b (initial_tree z ∷ []))) (ap (is_final y) d ∙ final_done y)
+          ∙ and_none (is_empty (live_moves z e a us)) in
+          ap (λ b. is_dead m && b) filled ∙ and_none (is_dead m) ∙ sym (ap (λ b. is_dead (unless_done m) && b) filled ∙ and_none (is_dead (unless_done m)))
+      by_kind (stays_open o l n) = ap (λ b. is_dead (if b then dead else m) && is_empty (seconds m us)) (sym n)
+
+  seq_died : (t : Plain) (us : List Plain) → not (may y e t a || list_any (λ s. may z e s a) us) ≡ has_died (seq_parts (moved y e t a) (seconds (moved y e t a) us))
   seq_died t us =
       let m : Plain = moved y e t a in
       let some : Bool = list_any (λ s. may z e s a) us in
+      let begins : List Plain = when (is_final y m) (initial_tree z ∷ []) in
       sym (neither (may y e t a) some)
       ∙ ap (λ b. b && not some) (died y e a t)
       ∙ only_where (is_dead m) (λ d.
       sym (and_true (not some))
       ∙ ap (λ b. not some && not b) (sym (dead_not_final y m d))
-      ∙ both_are (not some) (not (is_final y m)) (is_empty (live_moves z e a us)) (is_empty (when (is_final y m) (initial_tree z ∷ []))) (sym (none_moved z e a us)) (sym (empty_when (is_final y m) (initial_tree z)))
-      ∙ sym (sets_none (live_moves z e a us) (when (is_final y m) (initial_tree z ∷ []))))
+      ∙ both_are (not some) (not (is_final y m)) (is_empty (live_moves z e a us)) (is_empty begins) (sym (none_moved z e a us)) (sym (empty_when (is_final y m) (initial_tree z)))
+      ∙ sym (empty_both (live_moves z e a us) begins))
+      ∙ begun_second m us
+      ∙ ap (λ b. is_dead (unless_done m) && b) (sym (none_left is_done refl (seconds m us) (all_live (λ s. moved z e s a) begins us ∙ first_live (is_final y m) z)))
 
   none_paired : (p : Plain) → is_empty (pair_moves y z e a p) ≡ not (may y e (first_part p) a || may z e (second_part p) a)
   none_paired p =
@@ -182,18 +299,32 @@ picked test (t ∷ ts) =
     ap (λ b. test t || b) (sym (any_made (λ (p : Plain × List Plain). test p.0) (λ (p : Plain × List Plain). (p.0, t ∷ p.1)) (λ (p : Plain × List Plain). test p.0) (λ p. refl) (picks ts)) ∙ picked test ts)
 
 module _ (y : Form) (e : Environment) (a : PlainAction) (f : Fits y e) where
-  star_died : (again : Bool) (us : List Plain) → not ((again && may_first y e a) || list_any (λ s. may y e s a) us) ≡ is_none (set_of (last_runs y e a again us))
+  -- the live alternatives for the last run
+  abbrev runs : Bool → List Plain → List Plain
+  runs again us = live_moves y e a us ++ live (begun_again again y e a)
+
+  -- what is made of them
+  star_is : (again : Bool) (us : List Plain) → star_of (list_any (is_final y) (runs again us)) (set_of (filter is_open (runs again us))) ≡ star_of (runs_end y e a again us) (set_of (last_runs y e a again us))
+  star_is again us =
+      let first : Plain = begun_again again y e a in
+      let ended : list_any is_done (runs again us) ≡ (some_ends y e a us || is_done first) = dones (λ s. moved y e s a) (live first) us ∙ ap (λ b. some_ends y e a us || b) (done_alone first) in
+      let opened : filter is_open (runs again us) ≡ last_runs y e a again us = opens (λ s. moved y e s a) (live first) us ∙ ap (λ l. open_moves y e a us ++ l) (open_alone first) in
+      ap (λ b. star_of b (set_of (filter is_open (runs again us)))) (sym (any_ended (is_final y) (never_dead y) (final_done y) (runs again us)))
+      ∙ (λ i. star_of (ended i || list_any (is_final y) (opened i)) (set_of (opened i)))
+
+  star_died : (again : Bool) (us : List Plain) → not ((again && may_first y e a) || list_any (λ s. may y e s a) us) ≡ has_died (star_of (list_any (is_final y) (runs again us)) (set_of (filter is_open (runs again us))))
   star_died again us =
       let first : Plain = begun_again again y e a in
       let begin : Bool = again && may_first y e a in
       let some : Bool = list_any (λ s. may y e s a) us in
       sym (neither_back begin some)
       ∙ both_are (not some) (not begin) (is_empty (live_moves y e a us)) (is_empty (live first)) (sym (none_moved y e a us)) (ap not (sym (begins_again y e a again f)) ∙ sym (empty_when (is_live first) first))
-      ∙ sym (sets_none (live_moves y e a us) (live first))
+      ∙ sym (empty_both (live_moves y e a us) (live first))
+      ∙ sym (none_left (is_final y) (final_done y) (runs again us) (all_live (λ s. moved y e s a) (live first) us ∙ live_alone first))
 
   none_picked : (ts : List Plain) → is_empty (pick_moves y e a ts) ≡ not (list_any (λ s. may y e s a) ts)
   none_picked ts =
-      none_made (λ (p : Plain × List Plain). may y e p.0 a) (pick_move y e a) (λ p. empty_when (is_live (moved y e p.0 a)) (bag (listed (put_in (moved y e p.0 a) p.1))) ∙ unmoved y e a p.0) (picks ts)
+      none_made (λ (p : Plain × List Plain). may y e p.0 a) (pick_move y e a) (λ p. empty_when (is_live (moved y e p.0 a)) (bag (listed (put_unless_done (moved y e p.0 a) p.1))) ∙ unmoved y e a p.0) (picks ts)
       ∙ ap not (picked (λ s. may y e s a) ts)
 
   none_bagged : (b : Plain) → is_empty (bag_moves y e a b) ≡ not (may_first y e a || list_any (λ s. may y e s a) (items_of (first_part b)))
@@ -202,7 +333,7 @@ module _ (y : Form) (e : Environment) (a : PlainAction) (f : Fits y e) where
       let some : Bool = list_any (λ s. may y e s a) ts in
       empty_both (pick_moves y e a ts) (bag_with (begun y e a) ts)
       ∙ both_are (is_empty (pick_moves y e a ts)) (is_empty (bag_with (begun y e a) ts)) (not some) (not (may_first y e a)) (none_picked ts)
-      (empty_when (is_live (begun y e a)) (bag (listed (put_in (begun y e a) ts))) ∙ ap not (begins y e a f))
+      (empty_when (is_live (begun y e a)) (bag (listed (put_unless_done (begun y e a) ts))) ∙ ap not (begins y e a f))
       ∙ neither_back (may_first y e a) some
 
   par_star_died : (bs : List Plain) → not (list_any (λ b. may_first y e a || list_any (λ s. may y e s a) (items_of (first_part b))) bs) ≡ is_none (set_of (flat_map (bag_moves y e a) bs))
@@ -271,21 +402,26 @@ module _ (p : List ℕ) (y : Form) (e : Environment) (a : PlainAction) where
 
 pub moved_is : (x : Form) (e : Environment) (t : Plain) (a : PlainAction) → Fits x e → passes x e t a ≡ true → moved x e t a ≡ pruned (moved_node x e t a)
 moved_is (atom x) e start a f h = atom_done (may (atom x) e start a) h
-moved_is (opt y) e (opt_of b t) a f h = ap (λ d. dead_if d (opt_of false (moved y e t a))) (died y e a t)
-moved_is (seq y z) e (seq_of t rest) a f h =
-    ap (λ u. dead_if (not (may (seq y z) e (seq_of t rest) a)) (seq_of (moved y e t a) (set_of (live_moves z e a (items_of rest) ++ when (is_final y (moved y e t a)) (u ∷ []))))) (initial_is z [])
-    ∙ ap (λ d. dead_if d (moved_node (seq y z) e (seq_of t rest) a)) (seq_died y z e a t (items_of rest))
+moved_is (opt y) e (opt_of b t) a f h = ap (λ d. dead_if d (settled (opt_of false (moved y e t a)))) (died y e a t)
+moved_is (seq y z) e (seq_of t ended rest) a f h =
+    let m : Plain = moved y e t a in
+    let us : List Plain = items_of rest in
+    ap (λ u. dead_if (not (may (seq y z) e (seq_of t ended rest) a)) (settled (seq_parts (moved y e t a) (live_moves z e a (items_of rest) ++ when (is_final y (moved y e t a)) (u ∷ []))))) (initial_is z [])
+    ∙ ap (λ d. dead_if d (settled (seq_parts (moved y e t a) (seconds y z e a (moved y e t a) (items_of rest))))) (seq_died y z e a t us)
+    ∙ ap pruned (seq_is y z e a m us)
 moved_is (star y) e (star_of again rest) a f h =
-    ap (λ more. dead_if (not (may (star y) e (star_of again rest) a)) (star_of (list_any (is_final y) (live_moves y e a (items_of rest) ++ more)) (set_of (live_moves y e a (items_of rest) ++ more)))) (again_live again y e a)
-    ∙ ap (λ d. dead_if d (moved_node (star y) e (star_of again rest) a)) (star_died y e a (fits-operands (star y) e f) again (items_of rest))
-moved_is (par y z) e (par_of pairs) a f h = ap (λ d. dead_if d (moved_node (par y z) e (par_of pairs) a)) (par_died y z e a (items_of pairs))
+    let fits = fits-operands (star y) e f in
+    ap (λ more. dead_if (not (may (star y) e (star_of again rest) a)) (star_of (list_any (is_final y) (live_moves y e a (items_of rest) ++ more)) (set_of (filter is_open (live_moves y e a (items_of rest) ++ more))))) (again_live again y e a)
+    ∙ ap (λ d. dead_if d (star_of (list_any (is_final y) (live_moves y e a (items_of rest) ++ live (begun_again again y e a))) (set_of (filter is_open (live_moves y e a (items_of rest) ++ live (begun_again again y e a)))))) (star_died y e a fits again (items_of rest))
+    ∙ ap pruned (star_is y e a fits again (items_of rest))
+moved_is (par y z) e (par_of pairs) a f h = ap (λ d. dead_if d (settled (moved_node (par y z) e (par_of pairs) a))) (par_died y z e a (items_of pairs))
 moved_is (par_star y) e (par_star_of bags) a f h =
     ap (λ d. dead_if d (moved_node (par_star y) e (par_star_of bags) a)) (par_star_died y e a (fits-operands (par_star y) e f) (items_of bags))
-moved_is (or y z) e (or_of t u) a f h = ap (λ d. dead_if d (moved_node (or y z) e (or_of t u) a)) (or_died y z e a t u)
+moved_is (or y z) e (or_of t u) a f h = ap (λ d. dead_if d (settled (moved_node (or y z) e (or_of t u) a))) (or_died y z e a t u)
 moved_is (and y z) e (and_of t u) a f h = lives (may (and y z) e (and_of t u) a) _ h
 moved_is (couple y z) e (couple_of t u) a f h = lives (may (couple y z) e (couple_of t u) a) _ h
 moved_is (any p y) e (any_of common entries) a f h =
-    ap (λ d. dead_if d (moved_node (any p y) e (any_of common entries) a)) (any_died p y e a common (items_of entries))
+    ap (λ d. dead_if d (settled (moved_node (any p y) e (any_of common entries) a))) (any_died p y e a common (items_of entries))
 moved_is (every p y) e (every_of common entries) a f h = lives (may (every p y) e (every_of common entries) a) _ h
 moved_is (sync p y) e (sync_of common entries) a f h = lives (may (sync p y) e (sync_of common entries) a) _ h
 moved_is (all p y) e (all_of maps) a f h =

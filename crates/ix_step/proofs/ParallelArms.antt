@@ -20,7 +20,7 @@ use Rattle.ix_step.proofs.Arms.{first_ready}
 
 first_size : (t : Plain) → size_of (first_part t) ≤ size_of t
 first_size (opt_of b x) = omega arith
-first_size (seq_of x y) = omega arith
+first_size (seq_of x b y) = omega arith
 first_size (star_of b x) = omega arith
 first_size (par_of x) = omega arith
 first_size (par_star_of x) = omega arith
@@ -43,7 +43,7 @@ first_size none = omega arith
 
 second_size : (t : Plain) → size_of (second_part t) ≤ size_of t
 second_size (opt_of b x) = omega arith
-second_size (seq_of x y) = omega arith
+second_size (seq_of x b y) = omega arith
 second_size (star_of b x) = omega arith
 second_size (par_of x) = omega arith
 second_size (par_star_of x) = omega arith

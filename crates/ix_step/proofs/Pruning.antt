@@ -1,14 +1,14 @@
 -- What is asked before a tree is moved, and nodes above the limit, which are live.
-use Rattle.std.proofs.Common.{◌≡◌, ℕ, ◌<◌, ◌≤◌, ◌+◌, ◌==◌, Bool, true, false, ◌&&◌, ◌||◌, List, [], ◌∷◌, map, length, refl, sym, ap, ◌∙◌, subst, true≢false, arith, ne_eqb}
+use Rattle.std.proofs.Common.{◌≡◌, ℕ, ◌<◌, ◌≤◌, ◌==◌, Bool, true, false, ◌&&◌, ◌||◌, List, [], ◌∷◌, map, length, refl, sym, ap, ◌∙◌, subst, true≢false, arith, ne_eqb}
 use Rattle.ix_values.specs.PlainAction.{PlainAction}
 use Rattle.ix_expr.specs.Form.{Form, atom, and, couple, every, sync}
 use Rattle.ix_expr.specs.Environment.{Environment}
-use Rattle.ix_tree.specs.Plain.{Plain, is_dead, none, listed, and as and_of, couple as couple_of}
+use Rattle.ix_tree.specs.Plain.{Plain, none, listed, items_of, and as and_of, couple as couple_of}
 use Rattle.ix_tree.specs.Size.{size_of}
 use Rattle.ix_can.specs.Nodes.{dead_if}
 use Rattle.ix_can.specs.Tests.{in_alphabet}
+use Rattle.ix_can.specs.Ways.{is_empty}
 use Rattle.ix_can.specs.inside.May.{moves_within, may}
-use Rattle.ix_can.proofs.Nodes.{dead_is}
 use Rattle.ix_step.specs.inside.Pruned.{passes, is_none}
 
 -- What is asked
@@ -78,6 +78,14 @@ pub parts_none : {A : Type 0} (f : A → Plain) (xs : List A) → (length xs == 
 parts_none f [] = refl
 parts_none f (x ∷ xs) = ne_eqb (length (x ∷ xs)) 0 (λ e. absurd (omega arith))
 
+pub trees_empty : (xs : List Plain) → (length xs == 0) ≡ is_empty (items_of (listed xs))
+trees_empty [] = refl
+trees_empty (x ∷ xs) = ne_eqb (length (x ∷ xs)) 0 (λ e. absurd (omega arith))
+
+pub parts_empty : {A : Type 0} (f : A → Plain) (xs : List A) → (length xs == 0) ≡ is_empty (items_of (listed (map f xs)))
+parts_empty f [] = refl
+parts_empty f (x ∷ xs) = ne_eqb (length (x ∷ xs)) 0 (λ e. absurd (omega arith))
+
 pub no_items : {A : Type 0} (xs : List A) → (length xs == 0) ≡ true → xs ≡ []
 no_items [] e = refl
 no_items (x ∷ xs) e = absurd (true≢false (sym e ∙ ne_eqb (length (x ∷ xs)) 0 (λ k. absurd (omega arith))))
@@ -99,15 +107,3 @@ module _ (limit : ℕ) (n : Plain) where
       by_test : (b : Bool) → is_none rest ≡ b → b ≡ false
       by_test false e = refl
       by_test true e = let s : size_of rest ≡ 0 = ap size_of (none_is rest e) in absurd (omega arith)
-
-  -- a part and a list of parts together
-  pub beside_over : (positive : 1 ≤ limit) (x rest : Plain) → limit < size_of x + size_of rest → size_of x + size_of rest ≤ size_of n → limit < size_of (dead_if (is_dead x && is_none rest) n)
-  beside_over positive x rest lt le = kept_over (is_dead x && is_none rest) (by_tests (is_dead x) refl (is_none rest) refl) (omega arith)
-    where
-      by_tests : (b : Bool) → is_dead x ≡ b → (c : Bool) → is_none rest ≡ c → (b && c) ≡ false
-      by_tests false d c k = refl
-      by_tests true d false k = refl
-      by_tests true d true k =
-          let s : size_of x ≡ 1 = ap size_of (dead_is x d) in
-          let u : size_of rest ≡ 0 = ap size_of (none_is rest k) in
-          absurd (omega arith)

@@ -10,8 +10,8 @@ use Rattle.ix_expr.specs.Form.{Form}
 use Rattle.ix_tree.specs.Order.{tree_cmp}
 use Rattle.ix_tree.specs.Plain.{Plain, bag, dead, listed}
 use Rattle.ix_tree.specs.lemmas.TreeOrder.{tree_order}
-use Rattle.ix_can.specs.Nodes.{is_live, put_in}
-use Rattle.ix_can.specs.inside.Moved.{moved, picks}
+use Rattle.ix_can.specs.Nodes.{is_live}
+use Rattle.ix_can.specs.inside.Moved.{moved, picks, put_unless_done}
 use Rattle.ix_step.specs.inside.Makes.{put_all}
 use Rattle.ix_step.specs.inside.ParallelMoves.{pick_move, IsRepeat}
 use Rattle.ix_step.proofs.BagsPut.{length-picks, get-picks}
@@ -59,7 +59,7 @@ picked_again y e a items before t start old lt first second so_far =
     (omega (arith, length-picks items)) is refl refl ∙ sym so_far in
     ap (λ r. put_all (pick_move y e a (t, r)) old) (sym same)
     ∙ ap (put_all (pick_move y e a (t, remove items before))) (sym put)
-    ∙ put_again (is_live (moved y e t a)) (bag (listed (put_in (moved y e t a) (remove items before)))) (put_all (flat_map (pick_move y e a) (take before (picks items))) start)
+    ∙ put_again (is_live (moved y e t a)) (bag (listed (put_unless_done (moved y e t a) (remove items before)))) (put_all (flat_map (pick_move y e a) (take before (picks items))) start)
     ∙ put
 
 -- so it adds nothing to the bags so far

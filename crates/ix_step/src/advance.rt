@@ -1,30 +1,35 @@
 //! The tree of a word moved by one action.
 
-ghost use Rattle.std.specs.Prelude.{◌≡◌, ◌≤◌, true};
+ghost use Rattle.std.specs.Prelude.{◌≡◌, ◌≤◌, ◌||◌, true, false};
 ghost use Rattle.std.specs.List.{list_any};
 ghost use Rattle.ix_words.specs.Each.{Each};
 ghost use Rattle.ix_expr.specs.inside.FormOf.{form_of};
 ghost use Rattle.ix_expr.specs.Form.{seq, star};
-ghost use Rattle.ix_tree.specs.Plain.{listed, seq as seq_of, star as star_of};
+ghost use Rattle.ix_tree.specs.Plain.{is_done, listed, seq as seq_of, star as star_of};
 ghost use Rattle.ix_can.specs.Tests.{in_alphabet};
 ghost use Rattle.ix_can.specs.TreeOf.{is_final as is_final_by};
 ghost use Rattle.ix_can.specs.inside.May.{may, moves_within};
 ghost use Rattle.ix_can.specs.inside.Moved.{moved, moved_inside};
-ghost use Rattle.ix_step.specs.inside.Makes.{Makes, Collects};
+ghost use Rattle.ix_tree.specs.Size.{size_of};
+ghost use Rattle.ix_step.specs.inside.Initial.{initial_tree};
+ghost use Rattle.ix_step.specs.inside.Limits.{most_size};
+ghost use Rattle.ix_step.specs.inside.Makes.{Makes, CollectsOpen};
 ghost use Rattle.ix_step.specs.inside.MovedNode.{moved_node};
-ghost use Rattle.ix_step.specs.inside.Moves.{live_moves};
+ghost use Rattle.ix_step.specs.inside.Moves.{open_moves, some_ends};
 ghost use Rattle.ix_step.specs.inside.Pruned.{passes, pruned};
 ghost use Rattle.ix_step.specs.inside.Ready.{Ready};
 
 use crate::beginning::advance_again;
-use crate::bodies::{Body, Reach};
+use crate::bodies::Body;
 use crate::fault::Unbuilt;
 use crate::maps::advance_all;
-use crate::nodes::{bounded, dead_knot, sized_if_live, within, within_if_live};
+use crate::nodes::{
+    bounded, dead_knot, done_knot, settled_within, sized_if_live, unless_done, within_if_live,
+};
 use crate::one_step::Step;
 use crate::parallel::{advance_par, advance_par_star};
-use crate::quantifiers::{advance_sync, advance_values};
-use crate::sets::{put_first, put_live};
+use crate::quantifiers::{advance_any, advance_every, advance_sync};
+use crate::sets::{put_first, put_open};
 use ix_alts::AltSet;
 use ix_can::{completes, goes_on};
 use ix_expr::{Expr, contains};
@@ -82,13 +87,13 @@ fn advance_node(step: Step, expr: &Expr, tree: &Knot) -> Result<Knot, Unbuilt>
         tree.now step.entry.action.now)) result }
 {
     match (expr, tree.node()) {
-        (Expr::Atom(_), Node::Start) => within(step, Node::Done),
+        (Expr::Atom(_), Node::Start) => done_knot(step),
         (Expr::Opt(y), Node::Opt(_, x)) => {
             // The flag is false: after an action the word isn't empty.
             let x = advance(step, y, x)?;
             within_if_live(step, Node::Opt(false, x))
         }
-        (Expr::Seq(y, z), Node::Seq(first, rest)) => advance_seq(step, y, z, first, rest),
+        (Expr::Seq(y, z), Node::Seq(first, _, rest)) => advance_seq(step, y, z, first, rest),
         (Expr::Star(y), Node::Star(again, rest)) => advance_star(step, y, *again, rest),
         (Expr::Par(y, z), Node::Par(pairs)) => advance_par(step, y, z, pairs),
         (Expr::ParStar(y), Node::ParStar(bags)) => advance_par_star(step, y, bags),
@@ -100,22 +105,18 @@ fn advance_node(step: Step, expr: &Expr, tree: &Knot) -> Result<Knot, Unbuilt>
         (Expr::And(y, z), Node::And(left, right)) => {
             let left = advance_asked(step, y, left)?;
             let right = advance_asked(step, z, right)?;
-            within(step, Node::And(left, right))
+            settled_within(step, Node::And(left, right))
         }
         (Expr::Couple(y, z), Node::Couple(left, right)) => {
             let left = advance_inside(step, y, left)?;
             let right = advance_inside(step, z, right)?;
-            within(step, Node::Couple(left, right))
+            settled_within(step, Node::Couple(left, right))
         }
         (Expr::Any(parameter, expr), Node::Any(common, entries)) => {
-            let body = Body { parameter, expr };
-            let (common, entries) = advance_values(step, body, Reach::All, common, entries)?;
-            within_if_live(step, Node::Any(common, entries))
+            advance_any(step, Body { parameter, expr }, common, entries)
         }
         (Expr::Every(parameter, expr), Node::Every(common, entries)) => {
-            let body = Body { parameter, expr };
-            let (common, entries) = advance_values(step, body, Reach::Must, common, entries)?;
-            within(step, Node::Every(common, entries))
+            advance_every(step, Body { parameter, expr }, common, entries)
         }
         (Expr::Sync(parameter, expr), Node::Sync(common, entries)) => {
             advance_sync(step, Body { parameter, expr }, common, entries)
@@ -144,23 +145,28 @@ pub(crate) fn advance_inside(step: Step, expr: &Expr, tree: &Knot) -> Result<Kno
 }
 
 /// Beside the moved alternatives for z stands one more where the first part is final: z may begin.
+/// The flag says whether a moved alternative is done, whatever it was before: one that is done
+/// doesn't move.
 #[cycle(advance)]
 fn advance_seq(step: Step, y: &Expr, z: &Expr, first: &Knot, rest: &[Knot]) -> Result<Knot, Unbuilt>
-    requires { Ready (seq (form_of y.now) (form_of z.now)) step.env.now
-        (seq_of first.now (listed rest.now)) }
+    requires first { Ready (form_of y.now) step.env.now first.now }
+    requires rest { Each (Ready (form_of z.now) step.env.now) rest.now }
+    requires second { size_of (initial_tree (form_of z.now)) ≤ most_size }
     ensures { Makes step.entry.limit (pruned (moved_node (seq (form_of y.now) (form_of z.now))
-        step.entry.env.now (seq_of first.now (listed rest.now)) step.entry.action.now)) result }
+        step.entry.env.now (seq_of first.now false (listed rest.now)) step.entry.action.now))
+        result }
 {
     let first = advance(step, y, first)?;
-    let mut set = advance_each(step, z, rest)?;
+    let (mut set, ended) = advance_each(step, z, rest)?;
     put_first(step.alloc, &mut set, completes(y, &first), z)?;
-    let size = 1 + first.size() + set.total();
-    sized_if_live(step, Node::Seq(first, set.into_items()), size)
+    let left = unless_done(step, first)?;
+    let size = 1 + left.size() + set.total();
+    sized_if_live(step, Node::Seq(left, ended, set.into_items()), size)
 }
 
 /// Beside the moved alternatives stands one more: the run that begins with the action. The flag
 /// says whether the word is a concatenation of complete words, so that another run may begin. That
-/// is so where an alternative for the last run is final.
+/// is so where an alternative for the last run is done or final.
 #[cycle(advance)]
 fn advance_star(step: Step, y: &Expr, again: bool, rest: &[Knot]) -> Result<Knot, Unbuilt>
     requires { Ready (star (form_of y.now)) step.env.now (star_of again (listed rest.now)) }
@@ -168,11 +174,12 @@ fn advance_star(step: Step, y: &Expr, again: bool, rest: &[Knot]) -> Result<Knot
         (star_of again (listed rest.now)) step.entry.action.now)) result }
 {
     let begun = advance_again(step, y, again)?;
-    let mut set = advance_each(step, y, rest)?;
-    put_live(&mut set, begun)?;
+    let (mut set, ended) = advance_each(step, y, rest)?;
+    let ended = or_done(ended, &begun);
+    put_open(&mut set, begun)?;
     let size = 1 + set.total();
     let items = set.into_items();
-    let again = some_completes(y, &items);
+    let again = runs_end(ended, y, &items);
     sized_if_live(step, Node::Star(again, items), size)
 }
 
@@ -187,16 +194,35 @@ fn some_completes(y: &Expr, trees: &[Knot]) -> bool
     false
 }
 
+/// Whether an alternative is done, or one that isn't is final.
+fn runs_end(ended: bool, y: &Expr, trees: &[Knot]) -> bool
+    ensures { result ≡ (ended || list_any (is_final_by (form_of y.now)) trees.now) }
+{
+    ended || some_completes(y, trees)
+}
+
+/// Whether some tree so far was done, or this one is.
+fn or_done(ended: bool, tree: &Knot) -> bool
+    ensures { result ≡ (ended || is_done tree.now) }
+{
+    ended || tree.is_done()
+}
+
+/// The open alternatives among the moved ones, and whether one of them is done.
 #[cycle(advance)]
-fn advance_each(step: Step, expr: &Expr, trees: &[Knot]) -> Result<AltSet<Knot>, Unbuilt>
+fn advance_each(step: Step, expr: &Expr, trees: &[Knot]) -> Result<(AltSet<Knot>, bool), Unbuilt>
     requires { Each (Ready (form_of expr.now) step.env.now) trees.now }
-    ensures { Collects (λ xs. xs) step.entry.limit (live_moves (form_of expr.now) step.entry.env.now
-        step.entry.action.now trees.now) result }
+    ensures { CollectsOpen step.entry.limit
+        (open_moves (form_of expr.now) step.entry.env.now step.entry.action.now trees.now)
+        (some_ends (form_of expr.now) step.entry.env.now step.entry.action.now trees.now)
+        result }
 {
     let mut set = AltSet::new(step.alloc, step.limit);
+    let mut ended = false;
     for tree in trees {
         let tree = advance(step, expr, tree)?;
-        put_live(&mut set, tree)?;
+        ended = or_done(ended, &tree);
+        put_open(&mut set, tree)?;
     }
-    Ok(set)
+    Ok((set, ended))
 }

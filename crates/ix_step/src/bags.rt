@@ -8,14 +8,14 @@ ghost use Rattle.ix_tree.specs.PlainOf.{plain_bag};
 ghost use Rattle.ix_tree.specs.Size.{size_of};
 ghost use Rattle.ix_can.specs.Laws.{IsRising};
 ghost use Rattle.ix_can.specs.Nodes.{put_in};
-ghost use Rattle.ix_can.specs.inside.Moved.{bag_with};
-ghost use Rattle.ix_step.specs.inside.Limits.{most_size};
+ghost use Rattle.ix_can.specs.inside.Moved.{bag_with, put_unless_done};
+ghost use Rattle.ix_step.specs.inside.Limits.{most_size, most_limit};
 ghost use Rattle.ix_step.specs.inside.Makes.{Gathers};
 
 use crate::fault::Unbuilt;
 use crate::sets::put;
 use ix_alts::AltSet;
-use ix_tree::{Bag, Knot, push_shared};
+use ix_tree::{Bag, Knot, push_shared, share_knots};
 use std::alloc::{AllocError, Global};
 
 /// The place that keeps the trees in ascending order: before the first that isn't below this one.
@@ -91,8 +91,47 @@ fn with_more(alloc: Global, tree: Knot, items: &[Knot]) -> Result<Vec<Knot>, All
     Ok(all)
 }
 
+/// The trees without the one at the place.
+fn without(alloc: Global, items: &[Knot], place: usize) -> Result<Vec<Knot>, AllocError>
+    requires { place < length items.now }
+    ensures { IfOk result (λ v. v.items ≡ remove items.now place) }
+{
+    let mut all = Vec::with_capacity(alloc, items.len())?;
+    push_shared(&mut all, &items[..place])?;
+    push_shared(&mut all, &items[place + 1..])?;
+    Ok(all)
+}
+
+/// The trees without the one at the place and, unless it is done, with one more in its own place.
+fn moved_unless_done(
+    alloc: Global,
+    tree: Knot,
+    items: &[Knot],
+    place: usize,
+) -> Result<Vec<Knot>, AllocError>
+    requires rising { IsRising items.now }
+    requires place { place < length items.now }
+    ensures { IfOk result (λ v. v.items ≡ put_unless_done tree (remove items.now place)) }
+{
+    if tree.is_done() {
+        return without(alloc, items, place);
+    }
+    with_moved(alloc, tree, items, place)
+}
+
+/// The trees and, unless it is done, one more in its place.
+fn more_unless_done(alloc: Global, tree: Knot, items: &[Knot]) -> Result<Vec<Knot>, AllocError>
+    requires { IsRising items.now }
+    ensures { IfOk result (λ v. v.items ≡ put_unless_done tree items.now) }
+{
+    if tree.is_done() {
+        return share_knots(alloc, items);
+    }
+    with_more(alloc, tree, items)
+}
+
 fn put_bag(set: &mut AltSet<Bag>, items: Vec<Knot>) -> Result<(), Unbuilt>
-    requires small { size_of (listed items.items) ≤ 2000000 }
+    requires small { size_of (listed items.items) ≤ 4000000 }
     requires within { size_of (listed (map plain_bag set.old.items)) ≤ set.old.budget }
     ensures gathers { Gathers set.old.budget (bag (listed items.items) ∷ [])
         (map plain_bag set.old.items) (map plain_bag set.new.items) result }
@@ -102,7 +141,8 @@ fn put_bag(set: &mut AltSet<Bag>, items: Vec<Knot>) -> Result<(), Unbuilt>
     put(set, Bag { items })
 }
 
-/// The bag with the tree at the place moved. A dead tree gives no bag.
+/// The bag with the tree at the place moved. A dead tree gives no bag, and one that is done is left
+/// out of it.
 pub(crate) fn put_moved(
     alloc: Global,
     set: &mut AltSet<Bag>,
@@ -110,7 +150,7 @@ pub(crate) fn put_moved(
     items: &[Knot],
     place: usize,
 ) -> Result<(), Unbuilt>
-    requires tree { size_of tree ≤ most_size }
+    requires tree { size_of tree ≤ most_limit }
     requires items { size_of (listed items.now) ≤ most_size }
     requires rising { IsRising items.now }
     requires place { place < length items.now }
@@ -123,18 +163,19 @@ pub(crate) fn put_moved(
     if tree.is_dead() {
         return Ok(());
     }
-    let all = with_moved(alloc, tree, items, place)?;
+    let all = moved_unless_done(alloc, tree, items, place)?;
     put_bag(set, all)
 }
 
-/// The bag with one run more, whose tree is `more`. A dead tree gives no bag.
+/// The bag with one run more, whose tree is `more`. A dead tree gives no bag, and one that is done
+/// is left out of it.
 pub(crate) fn put_more(
     alloc: Global,
     set: &mut AltSet<Bag>,
     more: &Knot,
     items: &[Knot],
 ) -> Result<(), Unbuilt>
-    requires more { size_of more.now ≤ most_size }
+    requires more { size_of more.now ≤ most_limit }
     requires items { size_of (listed items.now) ≤ most_size }
     requires rising { IsRising items.now }
     requires within { size_of (listed (map plain_bag set.old.items)) ≤ set.old.budget }
@@ -147,6 +188,6 @@ pub(crate) fn put_more(
         return Ok(());
     }
     let tree = more.share()?;
-    let all = with_more(alloc, tree, items)?;
+    let all = more_unless_done(alloc, tree, items)?;
     put_bag(set, all)
 }

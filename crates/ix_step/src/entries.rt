@@ -8,7 +8,7 @@ ghost use Rattle.ix_expr.specs.inside.FormOf.{form_of};
 ghost use Rattle.ix_tree.specs.Plain.{Plain};
 ghost use Rattle.ix_tree.specs.Size.{size_of};
 ghost use Rattle.ix_step.specs.inside.EnterTrees.{HoldTrees, EnterTrees};
-ghost use Rattle.ix_step.specs.inside.Limits.{most_size};
+ghost use Rattle.ix_step.specs.inside.Limits.{most_limit};
 ghost use Rattle.ix_step.specs.inside.ValueTrees.{AddsSeen, TakesIn};
 
 use crate::bodies::Body;
@@ -30,9 +30,9 @@ pub(crate) fn put_tree(
     limit: usize,
 ) -> Result<usize, Unbuilt>
     requires proper { IsProper text_cmp ⟦<Knot as PartialEq>⟧.eq common.now entries.old.items }
-    requires small { size_of tree ≤ most_size }
+    requires small { size_of tree ≤ most_limit }
     requires within { total ≤ limit }
-    requires bounded { limit ≤ most_size }
+    requires bounded { limit ≤ most_limit }
     ensures proper { IsProper text_cmp ⟦<Knot as PartialEq>⟧.eq common.now entries.new.items }
     ensures entered { (trees : List ℕ → Plain) (values : List (List ℕ))
         → HoldTrees common.now trees values entries.old.items total

@@ -1,6 +1,6 @@
 //! The tree of the empty word.
 
-ghost use Rattle.std.specs.Prelude.{◌≡◌, ◌≤◌, ◌∷◌, [], true, IfOk};
+ghost use Rattle.std.specs.Prelude.{◌≡◌, ◌≤◌, ◌∷◌, [], true, false, IfOk};
 ghost use Rattle.ix_expr.specs.inside.FormOf.{form_of};
 ghost use Rattle.ix_tree.specs.Plain.{seq, par, par_star, all, pair, bag, map, none, listed};
 ghost use Rattle.ix_tree.specs.Size.{size_of};
@@ -60,7 +60,7 @@ fn first_seq(alloc: Global, y: &Expr, z: &Expr) -> Result<Knot, AllocError>
         most_size }
     ensures { IfOk result
         (λ t. t
-        ≡ seq (initial_tree (form_of y.now))
+        ≡ seq (initial_tree (form_of y.now)) false
         (listed (when (accepts (form_of y.now)) (initial_tree (form_of z.now) ∷ [])))) }
 {
     let first = first_tree(alloc, y)?;
@@ -68,7 +68,7 @@ fn first_seq(alloc: Global, y: &Expr, z: &Expr) -> Result<Knot, AllocError>
     if is_complete(y) {
         rest.push(first_tree(alloc, z)?)?;
     }
-    Knot::new(alloc, Node::Seq(first, rest))
+    Knot::new(alloc, Node::Seq(first, false, rest))
 }
 
 fn is_complete(expr: &Expr) -> bool

@@ -1,6 +1,6 @@
 //! The moved tree of the quantifier `all`.
 
-ghost use Rattle.std.specs.Prelude.{◌≡◌, ℕ, ◌≤◌, List, IfOk, MatchResult, map, flat_map};
+ghost use Rattle.std.specs.Prelude.{◌≡◌, ◌≤◌, List, IfOk, MatchResult, map, flat_map};
 ghost use Rattle.ix_words.specs.Each.{Each};
 ghost use Rattle.ix_expr.specs.inside.FormOf.{form_of};
 ghost use Rattle.ix_expr.specs.Form.{Form, all};
@@ -12,7 +12,7 @@ ghost use Rattle.ix_can.specs.inside.May.{tree_at};
 ghost use Rattle.ix_can.specs.inside.Moved.{map_with, or_initial};
 ghost use Rattle.ix_entries.specs.inside.Entries.{KeysAscend};
 ghost use Rattle.ix_values.specs.Order.{text_cmp};
-ghost use Rattle.ix_step.specs.inside.Limits.{most_size};
+ghost use Rattle.ix_step.specs.inside.Limits.{most_limit};
 ghost use Rattle.ix_step.specs.inside.Makes.{Makes, Collects, Gathers, IsOver, put_all};
 ghost use Rattle.ix_step.specs.inside.MovedNode.{moved_node};
 ghost use Rattle.ix_step.specs.inside.Pruned.{pruned};
@@ -25,7 +25,7 @@ use crate::bodies::Body;
 use crate::fault::Unbuilt;
 use crate::first::first_tree;
 use crate::nodes::{dead_knot, sized_if_live};
-use crate::one_step::Step;
+use crate::one_step::{Step, larger};
 use crate::sets::put as put_alternative;
 use ix_alts::AltSet;
 use ix_can::state_of;
@@ -117,7 +117,7 @@ fn advance_owner(
         (tree
         ≡ begun_tree body.entry.parameter.now
         (form_of body.entry.expr.now) step.entry.env.now step.entry.action.now first.now
-        (plain_map state.now) value.now) × (size_of tree ≤ most_size))
+        (plain_map state.now) value.now) × (size_of tree ≤ most_limit))
         (λ fault. (old : List Plain)
         → IsOver step.entry.limit
         (listed
@@ -139,14 +139,6 @@ fn advance_owner(
         dead: step.dead,
     };
     advance(inside, body.expr, or_first(&state.entries, first, value))
-}
-
-fn larger(a: usize, b: usize) -> usize
-    ensures first { a ≤ result }
-    ensures second { b ≤ result }
-    ensures bound { (n : ℕ) → a ≤ n → b ≤ n → result ≤ n }
-{
-    if a < b { b } else { a }
 }
 
 /// The state of the value, or the first tree where the value has no live one.
@@ -171,7 +163,7 @@ fn put_owner(
     tree: Knot,
 ) -> Result<(), Unbuilt>
     requires held { (y : Form) × HoldsWell y first.now (plain_map state.now) }
-    requires small { size_of tree ≤ most_size }
+    requires small { size_of tree ≤ most_limit }
     requires within { size_of (listed (map plain_map set.old.items)) ≤ set.old.budget }
     ensures gathers { Gathers set.old.budget
         (map_with first.now value tree (items_of (first_part (plain_map state.now))))

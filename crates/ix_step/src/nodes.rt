@@ -1,15 +1,22 @@
 //! The making of nodes within a limit.
 
-ghost use Rattle.std.specs.Prelude.{◌≡◌, ◌≤◌, ◌^◌};
-ghost use Rattle.ix_tree.specs.Plain.{dead};
+ghost use Rattle.std.specs.Prelude.{◌≡◌, ◌≤◌, ◌^◌, ◌&&◌, not, map, IfOk};
+ghost use Rattle.std.specs.List.{list_all};
+ghost use Rattle.ix_tree.specs.Order.{first_part};
+ghost use Rattle.ix_tree.specs.Plain.{dead, done, is_done, listed, items_of};
+ghost use Rattle.ix_tree.specs.PlainOf.{plain_pair, plain_entries};
 ghost use Rattle.ix_tree.specs.inside.PlainNode.{plain_node};
 ghost use Rattle.ix_tree.specs.Size.{size_of};
+ghost use Rattle.ix_can.specs.Nodes.{is_ended, is_spent, only_pair_done, settled, unless_done};
+ghost use Rattle.ix_can.specs.Ways.{is_empty};
 ghost use Rattle.ix_step.specs.inside.Makes.{Makes};
-ghost use Rattle.ix_step.specs.inside.Pruned.{has_died, pruned};
+ghost use Rattle.ix_step.specs.inside.Pruned.{has_died, is_none, pruned};
 
 use crate::fault::Unbuilt;
 use crate::one_step::Step;
-use ix_tree::{Knot, Node};
+use ix_tree::{Knot, Node, Pair};
+use ix_values::Value;
+use std::alloc::AllocError;
 
 /// The knot of the node, whose Size is added up from what its parts keep.
 pub(crate) fn within(step: Step, node: Node) -> Result<Knot, Unbuilt>
@@ -33,6 +40,46 @@ fn sized(step: Step, node: Node, size: usize) -> Result<Knot, Unbuilt>
     Ok(Knot::sized(step.alloc, node, size)?)
 }
 
+/// The knot of the node, whose Size is added up from what its parts keep, or the tree that is done
+/// where the node is spent.
+pub(crate) fn settled_within(step: Step, node: Node) -> Result<Knot, Unbuilt>
+    requires { size_of (plain_node node) ≤ 2 ^ 32 }
+    ensures { Makes step.entry.limit (settled (plain_node node)) result }
+{
+    let size = node.size();
+    settled_sized(step, node, size)
+}
+
+/// The knot of the node, whose Size is known, or the tree that is done where the node is spent.
+/// That is asked first: the Size of a spent node doesn't count.
+fn settled_sized(step: Step, node: Node, size: usize) -> Result<Knot, Unbuilt>
+    requires size { size ≡ size_of (plain_node node) }
+    requires most { size ≤ 2 ^ 32 }
+    ensures { Makes step.entry.limit (settled (plain_node node)) result }
+{
+    if is_spent(&node) {
+        return done_knot(step);
+    }
+    sized(step, node, size)
+}
+
+/// The tree that is done.
+pub(crate) fn done_knot(step: Step) -> Result<Knot, Unbuilt>
+    ensures { Makes step.entry.limit done result }
+{
+    within(step, Node::Done)
+}
+
+/// The dead tree in place of one that is done, and else the tree itself.
+pub(crate) fn unless_done(step: Step, tree: Knot) -> Result<Knot, AllocError>
+    ensures { IfOk result (λ t. t ≡ unless_done tree) }
+{
+    if tree.is_done() {
+        return step.dead.share();
+    }
+    Ok(tree)
+}
+
 /// The dead tree.
 pub(crate) fn dead_knot(step: Step) -> Result<Knot, Unbuilt>
     ensures { Makes step.entry.limit dead result }
@@ -40,7 +87,8 @@ pub(crate) fn dead_knot(step: Step) -> Result<Knot, Unbuilt>
     Ok(step.dead.share()?)
 }
 
-/// The knot of the node or, where none of its parts is live, the dead one.
+/// The knot of the node or, where none of its parts is live, the dead one, or the one that is done
+/// where the node is spent.
 pub(crate) fn within_if_live(step: Step, node: Node) -> Result<Knot, Unbuilt>
     requires { size_of (plain_node node) ≤ 2 ^ 32 }
     ensures { Makes step.entry.limit (pruned (plain_node node)) result }
@@ -49,7 +97,8 @@ pub(crate) fn within_if_live(step: Step, node: Node) -> Result<Knot, Unbuilt>
     sized_if_live(step, node, size)
 }
 
-/// The knot of the node, whose Size is known, or, where none of its parts is live, the dead one.
+/// The knot of the node, whose Size is known, or, where none of its parts is live, the dead one, or
+/// the one that is done where the node is spent.
 pub(crate) fn sized_if_live(step: Step, node: Node, size: usize) -> Result<Knot, Unbuilt>
     requires size { size ≡ size_of (plain_node node) }
     requires most { size ≤ 2 ^ 32 }
@@ -58,7 +107,7 @@ pub(crate) fn sized_if_live(step: Step, node: Node, size: usize) -> Result<Knot,
     if has_died(&node) {
         return dead_knot(step);
     }
-    sized(step, node, size)
+    settled_sized(step, node, size)
 }
 
 /// Whether no part of the node is live, where it is enough that one is.
@@ -67,8 +116,8 @@ fn has_died(node: &Node) -> bool
 {
     match node {
         Node::Opt(_, x) => x.is_dead(),
-        Node::Seq(first, rest) => first.is_dead() && rest.as_slice().is_empty(),
-        Node::Star(_, rest) => rest.as_slice().is_empty(),
+        Node::Seq(first, ended, rest) => first.is_dead() && none_left(*ended, rest),
+        Node::Star(again, rest) => none_left(*again, rest),
         Node::Par(pairs) => pairs.as_slice().is_empty(),
         Node::ParStar(bags) => bags.as_slice().is_empty(),
         Node::Or(left, right) => left.is_dead() && right.is_dead(),
@@ -76,6 +125,67 @@ fn has_died(node: &Node) -> bool
         Node::All(maps) => maps.as_slice().is_empty(),
         _ => false,
     }
+}
+
+/// Whether there is neither a part that is done nor one that is open.
+fn none_left(ended: bool, trees: &[Knot]) -> bool
+    ensures { result ≡ (not ended && is_none (listed trees.now)) }
+{
+    !ended && trees.is_empty()
+}
+
+/// Whether the live node is spent: its word is complete, and no action moves it.
+fn is_spent(node: &Node) -> bool
+    ensures { result ≡ is_spent (plain_node node.now) }
+{
+    match node {
+        Node::Opt(_, x) => x.is_done(),
+        Node::Seq(first, _, rest) => first.is_dead() && rest.as_slice().is_empty(),
+        Node::Par(pairs) => only_pair_done(pairs),
+        Node::Or(left, right) => is_ended(left) && is_ended(right),
+        Node::And(left, right) | Node::Couple(left, right) => left.is_done() && right.is_done(),
+        Node::Any(common, entries) => is_ended(common) && each_ended(entries),
+        Node::Every(common, entries) | Node::Sync(common, entries) => alone_done(common, entries),
+        _ => false,
+    }
+}
+
+/// Whether no action moves the tree, as it is dead or done.
+pub(crate) fn is_ended(tree: &Knot) -> bool
+    ensures { result ≡ is_ended tree.now }
+{
+    tree.is_dead() || tree.is_done()
+}
+
+/// Whether there is one pair alone, of two trees that are done.
+fn only_pair_done(pairs: &[Pair]) -> bool
+    ensures { result ≡ only_pair_done (items_of (listed (map plain_pair pairs.now))) }
+{
+    match pairs {
+        [pair] => pair.first.is_done() && pair.second.is_done(),
+        [_first, _second, _rest @ ..] => false,
+        [] => false,
+    }
+}
+
+/// Whether the common tree is done and there is no entry.
+fn alone_done(common: &Knot, entries: &[(Value, Knot)]) -> bool
+    ensures { result ≡ (is_done common.now && is_empty (items_of (plain_entries entries.now))) }
+{
+    common.is_done() && entries.is_empty()
+}
+
+/// Whether no action moves the tree of any entry.
+fn each_ended(entries: &[(Value, Knot)]) -> bool
+    ensures { result
+        ≡ list_all (λ x. is_ended (first_part x)) (items_of (plain_entries entries.now)) }
+{
+    for entry in entries {
+        if !is_ended(&entry.1) {
+            return false;
+        }
+    }
+    true
 }
 
 /// The tree itself, if its Size is at most the limit.

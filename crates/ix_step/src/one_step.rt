@@ -1,8 +1,8 @@
 //! What each part of a step needs.
 
-ghost use Rattle.std.specs.Prelude.{◌≡◌, ◌≤◌};
+ghost use Rattle.std.specs.Prelude.{◌≡◌, ℕ, ◌≤◌};
 ghost use Rattle.ix_tree.specs.Plain.{dead as dead_tree};
-ghost use Rattle.ix_step.specs.inside.Limits.{most_size};
+ghost use Rattle.ix_step.specs.inside.Limits.{most_limit};
 
 use ix_expr::Env;
 use ix_tree::Knot;
@@ -20,5 +20,14 @@ pub(crate) struct Step<'a> {
     pub(crate) dead: &'a Knot,
     ghost ends: { dead.now ≡ dead_tree },
     ghost positive: { 1 ≤ limit },
-    ghost bounded: { limit ≤ most_size },
+    ghost bounded: { limit ≤ most_limit },
+}
+
+/// The larger of two numbers.
+pub(crate) fn larger(a: usize, b: usize) -> usize
+    ensures first { a ≤ result }
+    ensures second { b ≤ result }
+    ensures bound { (n : ℕ) → a ≤ n → b ≤ n → result ≤ n }
+{
+    if a < b { b } else { a }
 }

@@ -6,7 +6,7 @@ ghost use Rattle.ix_tree.specs.Plain.{pair, listed};
 ghost use Rattle.ix_tree.specs.PlainOf.{plain_pair};
 ghost use Rattle.ix_tree.specs.Size.{size_of};
 ghost use Rattle.ix_can.specs.Nodes.{is_live};
-ghost use Rattle.ix_step.specs.inside.Limits.{most_size};
+ghost use Rattle.ix_step.specs.inside.Limits.{most_size, most_limit};
 ghost use Rattle.ix_step.specs.inside.Makes.{Gathers};
 ghost use Rattle.ix_step.specs.inside.ParallelMoves.{pairs_of};
 
@@ -23,8 +23,8 @@ pub(crate) fn put_pairs(
     right: Knot,
 ) -> Result<(), Unbuilt>
     requires small { size_of (plain_pair pair.now) ≤ most_size }
-    requires left { size_of left ≤ most_size }
-    requires right { size_of right ≤ most_size }
+    requires left { size_of left ≤ most_limit }
+    requires right { size_of right ≤ most_limit }
     requires within { size_of (listed (map plain_pair set.old.items)) ≤ set.old.budget }
     ensures gathers { Gathers set.old.budget (pairs_of pair.now.first pair.now.second left right)
         (map plain_pair set.old.items) (map plain_pair set.new.items) result }
@@ -36,7 +36,7 @@ pub(crate) fn put_pairs(
 }
 
 fn put_left(set: &mut AltSet<Pair>, first: Knot, right: &Knot) -> Result<(), Unbuilt>
-    requires first { size_of first ≤ most_size }
+    requires first { size_of first ≤ most_limit }
     requires right { size_of right.now ≤ most_size }
     requires within { size_of (listed (map plain_pair set.old.items)) ≤ set.old.budget }
     ensures gathers { Gathers set.old.budget (when (is_live first) (pair first right.now ∷ []))
@@ -53,7 +53,7 @@ fn put_left(set: &mut AltSet<Pair>, first: Knot, right: &Knot) -> Result<(), Unb
 
 fn put_right(set: &mut AltSet<Pair>, left: &Knot, second: Knot) -> Result<(), Unbuilt>
     requires left { size_of left.now ≤ most_size }
-    requires second { size_of second ≤ most_size }
+    requires second { size_of second ≤ most_limit }
     requires within { size_of (listed (map plain_pair set.old.items)) ≤ set.old.budget }
     ensures gathers { Gathers set.old.budget (when (is_live second) (pair left.now second ∷ []))
         (map plain_pair set.old.items) (map plain_pair set.new.items) result }

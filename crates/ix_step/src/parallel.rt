@@ -8,7 +8,7 @@ ghost use Rattle.ix_tree.specs.Plain.{listed, par as par_of, par_star as par_sta
 ghost use Rattle.ix_tree.specs.PlainOf.{plain_pair, plain_bag};
 ghost use Rattle.ix_tree.specs.Size.{size_of};
 ghost use Rattle.ix_can.specs.Laws.{IsRising};
-ghost use Rattle.ix_step.specs.inside.Limits.{most_size};
+ghost use Rattle.ix_step.specs.inside.Limits.{most_size, most_limit};
 ghost use Rattle.ix_step.specs.inside.Makes.{Makes, Collects, Gathers};
 ghost use Rattle.ix_step.specs.inside.MovedNode.{moved_node};
 ghost use Rattle.ix_step.specs.inside.Moves.{begun};
@@ -22,12 +22,14 @@ use crate::bags::{put_more, put_moved};
 use crate::beginning::advance_again;
 use crate::fault::Unbuilt;
 use crate::nodes::{dead_knot, sized_if_live};
-use crate::one_step::Step;
+use crate::one_step::{Step, larger};
 use crate::pairs::put_pairs;
 use ix_alts::AltSet;
 use ix_expr::Expr;
 use ix_tree::{Bag, Knot, Node, Pair};
 
+/// The alternatives are built within at least 65, and only the finished node is compared with the
+/// limit: where it becomes done, its alternatives don't count.
 #[cycle(advance)]
 pub(crate) fn advance_par(step: Step, y: &Expr, z: &Expr, pairs: &[Pair]) -> Result<Knot, Unbuilt>
     requires { Ready (par (form_of y.now) (form_of z.now)) step.env.now
@@ -36,7 +38,15 @@ pub(crate) fn advance_par(step: Step, y: &Expr, z: &Expr, pairs: &[Pair]) -> Res
         step.entry.env.now (par_of (listed (map plain_pair pairs.now))) step.entry.action.now))
         result }
 {
-    let set = advance_pairs(step, y, z, pairs)?;
+    // The one pair of a node that becomes done may be above the limit while it is built.
+    let wide = Step {
+        action: step.action,
+        env: step.env,
+        alloc: step.alloc,
+        limit: larger(step.limit, 65),
+        dead: step.dead,
+    };
+    let set = advance_pairs(wide, y, z, pairs)?;
     let size = 1 + set.total();
     sized_if_live(step, Node::Par(set.into_items()), size)
 }
@@ -82,7 +92,7 @@ pub(crate) fn advance_par_star(step: Step, y: &Expr, bags: &[Bag]) -> Result<Kno
 fn advance_bags(step: Step, y: &Expr, first: &Knot, bags: &[Bag]) -> Result<AltSet<Bag>, Unbuilt>
     requires ready { Each (IsReadyBag (form_of y.now) step.env.now) (map plain_bag bags.now) }
     requires first { first.now ≡ begun (form_of y.now) step.env.now step.action.now }
-    requires small { size_of first.now ≤ most_size }
+    requires small { size_of first.now ≤ most_limit }
     ensures { Collects (map plain_bag) step.entry.limit (flat_map (bag_moves (form_of y.now)
         step.entry.env.now step.entry.action.now) (map plain_bag bags.now)) result }
 {

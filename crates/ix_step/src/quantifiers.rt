@@ -3,17 +3,19 @@
 ghost use Rattle.std.specs.Prelude.{◌≡◌, ◌≤◌, true, false, None, Some, map};
 ghost use Rattle.ix_expr.specs.Environment.{bind};
 ghost use Rattle.ix_expr.specs.Fitting.{FitsInside};
-ghost use Rattle.ix_expr.specs.Form.{sync};
+ghost use Rattle.ix_expr.specs.Form.{any, every, sync};
 ghost use Rattle.ix_expr.specs.inside.FormOf.{form_of};
-ghost use Rattle.ix_tree.specs.Plain.{sync as sync_of};
+ghost use Rattle.ix_tree.specs.Plain.{any as any_of, every as every_of, sync as sync_of};
 ghost use Rattle.ix_tree.specs.PlainOf.{plain_entry, plain_entries};
 ghost use Rattle.ix_tree.specs.Size.{size_of};
 ghost use Rattle.ix_can.specs.Laws.{IsProper};
+ghost use Rattle.ix_can.specs.Nodes.{settled};
 ghost use Rattle.ix_can.specs.Tests.{in_alphabet};
-ghost use Rattle.ix_step.specs.declared.bodies.Reach.TheVariants.{OwnAlphabet};
+ghost use Rattle.ix_step.specs.declared.bodies.Reach.TheVariants.{Must, OwnAlphabet};
 ghost use Rattle.ix_step.specs.inside.Limits.{most_size};
 ghost use Rattle.ix_step.specs.inside.Makes.{Makes};
 ghost use Rattle.ix_step.specs.inside.MovedNode.{moved_node};
+ghost use Rattle.ix_step.specs.inside.Pruned.{pruned};
 ghost use Rattle.ix_step.specs.inside.ValueTrees.{ReadyInside, part_may, EachMay, moved_part};
 ghost use Rattle.ix_step.specs.inside.ValueTrees.{common_after, entries_after, MakesEntries};
 ghost use Rattle.ix_step.specs.inside.ValueTrees.{MakesParts, MakesOwn};
@@ -22,8 +24,8 @@ use crate::advance::{advance, advance_asked, advance_inside};
 use crate::bodies::{Body, Reach};
 use crate::entries::{put_tree, touched_values};
 use crate::fault::Unbuilt;
-use crate::nodes::within;
-use crate::one_step::Step;
+use crate::nodes::{settled_within, within_if_live};
+use crate::one_step::{Step, larger};
 use ix_can::state_at;
 use ix_entries::put;
 use ix_expr::contains;
@@ -34,7 +36,7 @@ use ix_values::Value;
 /// values that have entries and the action's own are looked at: every other one moves as the
 /// common state does.
 #[cycle(advance)]
-pub(crate) fn advance_values(
+fn advance_values(
     step: Step,
     body: Body,
     reach: Reach,
@@ -91,6 +93,61 @@ fn advance_entries(
     Ok(built)
 }
 
+/// The moved tree of `any`. Where it becomes done, its common state and the states of its values
+/// are each dead or done, but together they may be above the limit. So they are built within what
+/// so many of them may take, and only the finished node is compared with the limit.
+#[cycle(advance)]
+pub(crate) fn advance_any(
+    step: Step,
+    body: Body,
+    common: &Knot,
+    entries: &[(Value, Knot)],
+) -> Result<Knot, Unbuilt>
+    requires { ReadyInside body.parameter.now (form_of body.expr.now) step.env.now common.now
+        (map plain_entry entries.now) }
+    ensures { Makes step.entry.limit
+        (pruned
+        (moved_node (any body.entry.parameter.now (form_of body.entry.expr.now)) step.entry.env.now
+        (any_of common.now (plain_entries entries.now)) step.entry.action.now))
+        result }
+{
+    let room = 2 * (entries.len() + step.action.values().len()) + 1;
+    let wide = Step {
+        action: step.action,
+        env: step.env,
+        alloc: step.alloc,
+        limit: larger(step.limit, room),
+        dead: step.dead,
+    };
+    let (common, entries) = advance_values(wide, body, Reach::All, common, entries)?;
+    within_if_live(step, Node::Any(common, entries))
+}
+
+/// The moved tree of `every`.
+#[cycle(advance)]
+pub(crate) fn advance_every(
+    step: Step,
+    body: Body,
+    common: &Knot,
+    entries: &[(Value, Knot)],
+) -> Result<Knot, Unbuilt>
+    requires ready { ReadyInside body.parameter.now (form_of body.expr.now) step.env.now common.now
+        (map plain_entry entries.now) }
+    requires common { part_may Must (form_of body.expr.now) (bind body.parameter.now None
+        step.env.now) step.action.now common.now ≡ true }
+    requires each { EachMay Must body.parameter.now (form_of body.expr.now) step.env.now
+        step.action.now common.now entries.now }
+    ensures { Makes step.entry.limit
+        (settled
+        (moved_node (every body.entry.parameter.now (form_of body.entry.expr.now))
+        step.entry.env.now (every_of common.now (plain_entries entries.now))
+        step.entry.action.now))
+        result }
+{
+    let (common, entries) = advance_values(step, body, Reach::Must, common, entries)?;
+    settled_within(step, Node::Every(common, entries))
+}
+
 /// The moved tree of `sync`. Where outside isn't in the alphabet, the common state stays, and of
 /// the values only the action's own may move.
 #[cycle(advance)]
@@ -107,8 +164,9 @@ pub(crate) fn advance_sync(
     requires each { EachMay OwnAlphabet body.parameter.now (form_of body.expr.now) step.env.now
         step.action.now common.now entries.now }
     ensures { Makes step.entry.limit
+        (settled
         (moved_node (sync body.entry.parameter.now (form_of body.entry.expr.now)) step.entry.env.now
-        (sync_of common.now (plain_entries entries.now)) step.entry.action.now)
+        (sync_of common.now (plain_entries entries.now)) step.entry.action.now))
         result }
 {
     let mut outside = *step.env;
@@ -116,10 +174,10 @@ pub(crate) fn advance_sync(
     if contains(body.expr, &outside, step.action) {
         let own = Reach::OwnAlphabet;
         let (common, entries) = advance_values(step, body, own, common, entries)?;
-        return within(step, Node::Sync(common, entries));
+        return settled_within(step, Node::Sync(common, entries));
     }
     let entries = advance_own(step, body, common, entries)?;
-    within(step, Node::Sync(common.share()?, entries))
+    settled_within(step, Node::Sync(common.share()?, entries))
 }
 
 /// The states of `sync` where outside isn't in the alphabet.

@@ -6,13 +6,14 @@ ghost use Rattle.ix_words.specs.Canon.{when};
 ghost use Rattle.ix_expr.specs.inside.FormOf.{form_of};
 ghost use Rattle.ix_tree.specs.Plain.{Plain, listed};
 ghost use Rattle.ix_tree.specs.Size.{size_of};
-ghost use Rattle.ix_can.specs.Nodes.{live};
 ghost use Rattle.ix_step.specs.inside.Initial.{initial_tree};
 ghost use Rattle.ix_step.specs.inside.Limits.{most_size};
 ghost use Rattle.ix_step.specs.inside.Makes.{Gathers, Puts};
+ghost use Rattle.ix_step.specs.inside.Moves.{if_open};
 
 use crate::fault::Unbuilt;
 use crate::first::first_tree;
+use crate::nodes::is_ended;
 use ix_alts::{AltFault, AltSet, Weight};
 use ix_expr::Expr;
 use ix_tree::Knot;
@@ -31,14 +32,14 @@ pub(crate) fn put<T: Ord + Weight + Drop>(set: &mut AltSet<T>, item: T) -> Resul
     }
 }
 
-/// A dead tree is no alternative.
-pub(crate) fn put_live(set: &mut AltSet<Knot>, tree: Knot) -> Result<(), Unbuilt>
+/// A tree that is dead or done is no open alternative.
+pub(crate) fn put_open(set: &mut AltSet<Knot>, tree: Knot) -> Result<(), Unbuilt>
     requires within { size_of (listed set.old.items) ≤ set.old.budget }
-    ensures gathers { Gathers set.old.budget (live tree) set.old.items set.new.items result }
+    ensures gathers { Gathers set.old.budget (if_open tree) set.old.items set.new.items result }
     ensures within { size_of (listed set.new.items) ≤ set.old.budget }
     ensures budget { set.new.budget ≡ set.old.budget }
 {
-    if tree.is_dead() {
+    if is_ended(&tree) {
         return Ok(());
     }
     put(set, tree)

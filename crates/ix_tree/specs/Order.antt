@@ -13,7 +13,7 @@ place dead = 0
 place start = 1
 place done = 2
 place (opt empty x) = 3
-place (seq x xs) = 4
+place (seq x ended xs) = 4
 place (star again xs) = 5
 place (par pairs) = 6
 place (par_star bags) = 7
@@ -31,7 +31,7 @@ place (entry v x) = 18
 place none = 19
 place (more x xs) = 20
 
--- what a node has beside trees, as bytes: false before true, and an entry's value
+-- what a node has before its trees, as bytes: false before true, and an entry's value
 abbrev pub key : Plain → List ℕ
 key (opt true x) = 1 ∷ []
 key (opt false x) = 0 ∷ []
@@ -41,7 +41,7 @@ key (entry v x) = v
 key dead = []
 key start = []
 key done = []
-key (seq x xs) = []
+key (seq x ended xs) = []
 key (par pairs) = []
 key (par_star bags) = []
 key (or x y) = []
@@ -60,7 +60,7 @@ key (more x xs) = []
 -- the first tree or list in a node
 abbrev pub first_part : Plain → Plain
 first_part (opt empty x) = x
-first_part (seq x xs) = x
+first_part (seq x ended xs) = x
 first_part (star again xs) = xs
 first_part (par pairs) = pairs
 first_part (par_star bags) = bags
@@ -81,9 +81,34 @@ first_part start = none
 first_part done = none
 first_part none = none
 
+-- what a node has between its two parts, as bytes
+abbrev pub between : Plain → List ℕ
+between (seq x true xs) = 1 ∷ []
+between (seq x false xs) = 0 ∷ []
+between dead = []
+between start = []
+between done = []
+between (opt empty x) = []
+between (star again xs) = []
+between (par pairs) = []
+between (par_star bags) = []
+between (or x y) = []
+between (and x y) = []
+between (couple x y) = []
+between (any common entries) = []
+between (every common entries) = []
+between (sync common entries) = []
+between (all maps) = []
+between (pair x y) = []
+between (bag xs) = []
+between (map entries) = []
+between (entry v x) = []
+between none = []
+between (more x xs) = []
+
 -- the second tree or list in a node
 abbrev pub second_part : Plain → Plain
-second_part (seq x xs) = xs
+second_part (seq x ended xs) = xs
 second_part (or x y) = y
 second_part (and x y) = y
 second_part (couple x y) = y
@@ -105,18 +130,19 @@ second_part start = none
 second_part done = none
 second_part none = none
 
--- by form, then by what stands beside the trees, then as the first parts compare, then as the
--- second do
+-- by form, then by what stands before the trees, then as the first parts compare, then by what
+-- stands between the parts, then as the second parts do
 abbrev pub in_turn : Plain → Plain → Ordering → Ordering → Ordering
 in_turn x y first second =
     ordering_then (nat_cmp (place x) (place y))
-    (ordering_then (text_cmp (key x) (key y)) (ordering_then first second))
+    (ordering_then (text_cmp (key x) (key y))
+    (ordering_then first (ordering_then (text_cmp (between x) (between y)) second)))
 
 -- the order; a proper prefix of a list stands before the longer list, since the empty list stands
 -- before any other
 abbrev pub tree_cmp : Plain → Plain → Ordering
 tree_cmp (opt empty x) y = in_turn (opt empty x) y (tree_cmp x (first_part y)) Equal
-tree_cmp (seq x xs) y = in_turn (seq x xs) y (tree_cmp x (first_part y))
+tree_cmp (seq x ended xs) y = in_turn (seq x ended xs) y (tree_cmp x (first_part y))
     (tree_cmp xs (second_part y))
 tree_cmp (star again xs) y = in_turn (star again xs) y (tree_cmp xs (first_part y)) Equal
 tree_cmp (par pairs) y = in_turn (par pairs) y (tree_cmp pairs (first_part y)) Equal

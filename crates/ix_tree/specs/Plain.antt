@@ -8,7 +8,7 @@ pub data Plain : Type 0 where
   start : Plain
   done : Plain
   opt : Bool → Plain → Plain
-  seq : Plain → Plain → Plain
+  seq : Plain → Bool → Plain → Plain
   star : Bool → Plain → Plain
   par : Plain → Plain
   par_star : Plain → Plain
@@ -32,7 +32,7 @@ is_dead dead = true
 is_dead start = false
 is_dead done = false
 is_dead (opt empty x) = false
-is_dead (seq x xs) = false
+is_dead (seq x ended xs) = false
 is_dead (star again xs) = false
 is_dead (par pairs) = false
 is_dead (par_star bags) = false
@@ -50,6 +50,30 @@ is_dead (entry v x) = false
 is_dead none = false
 is_dead (more x xs) = false
 
+-- whether the tree is done
+abbrev pub is_done : Plain → Bool
+is_done done = true
+is_done dead = false
+is_done start = false
+is_done (opt empty x) = false
+is_done (seq x ended xs) = false
+is_done (star again xs) = false
+is_done (par pairs) = false
+is_done (par_star bags) = false
+is_done (or x y) = false
+is_done (and x y) = false
+is_done (couple x y) = false
+is_done (any common entries) = false
+is_done (every common entries) = false
+is_done (sync common entries) = false
+is_done (all maps) = false
+is_done (pair x y) = false
+is_done (bag xs) = false
+is_done (map entries) = false
+is_done (entry v x) = false
+is_done none = false
+is_done (more x xs) = false
+
 -- a list of trees or parts as one part
 abbrev pub listed : List Plain → Plain
 listed [] = none
@@ -62,7 +86,7 @@ items_of dead = []
 items_of start = []
 items_of done = []
 items_of (opt empty x) = []
-items_of (seq x xs) = []
+items_of (seq x ended xs) = []
 items_of (star again xs) = []
 items_of (par pairs) = []
 items_of (par_star bags) = []

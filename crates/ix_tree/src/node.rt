@@ -1,7 +1,7 @@
 //! State trees in memory: nodes, the knots that share them, and their parts.
 
 ghost use Rattle.std.specs.Prelude.{◌≡◌, ◌≤◌, ◌^◌, IfOk};
-ghost use Rattle.ix_tree.specs.Plain.{is_dead};
+ghost use Rattle.ix_tree.specs.Plain.{is_dead, is_done};
 ghost use Rattle.ix_tree.specs.inside.PlainNode.{plain_node};
 ghost use Rattle.ix_tree.specs.Size.{size_of};
 
@@ -18,12 +18,14 @@ pub enum Node {
     Dead,
     /// An atom before its action.
     Start,
-    /// An atom after its action.
+    /// The word is complete and no action may come: an atom after its action, or another state
+    /// that is spent.
     Done,
     /// `?y`: whether the word is empty, and the state of y.
     Opt(bool, Knot),
-    /// `y - z`: the state of y, and the alternatives for z.
-    Seq(Knot, Vec<Knot>),
+    /// `y - z`: the state of y, with Dead in place of Done; whether an alternative for z is Done;
+    /// and the other alternatives for z.
+    Seq(Knot, bool, Vec<Knot>),
     /// `*y`: whether the word is a concatenation of complete words, and the
     /// alternatives for the last part.
     Star(bool, Vec<Knot>),
@@ -157,5 +159,12 @@ impl Knot {
         ensures { result ≡ is_dead self.now }
     {
         matches!(self.node(), Node::Dead)
+    }
+
+    /// Whether the word is complete and no action may come, as the state tells it.
+    pub fn is_done(&self) -> bool
+        ensures { result ≡ is_done self.now }
+    {
+        matches!(self.node(), Node::Done)
     }
 }

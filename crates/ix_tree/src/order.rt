@@ -333,7 +333,7 @@ fn place(node: &Node) -> u8
         Node::Start => 1,
         Node::Done => 2,
         Node::Opt(_, _) => 3,
-        Node::Seq(_, _) => 4,
+        Node::Seq(_, _, _) => 4,
         Node::Star(_, _) => 5,
         Node::Par(_) => 6,
         Node::ParStar(_) => 7,
@@ -359,8 +359,8 @@ fn compare(left: &Knot, right: &Knot) -> Ordering
             Node::Opt(b, y) => a.cmp(b).then(compare(x, y)),
             _ => places,
         },
-        Node::Seq(x, xs) => match right.node() {
-            Node::Seq(y, ys) => compare(x, y).then(compare_knots(xs, ys)),
+        Node::Seq(x, a, xs) => match right.node() {
+            Node::Seq(y, b, ys) => compare(x, y).then(a.cmp(b)).then(compare_knots(xs, ys)),
             _ => places,
         },
         Node::Star(a, xs) => match right.node() {

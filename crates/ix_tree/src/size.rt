@@ -18,7 +18,7 @@ impl Node {
         match self {
             Node::Dead | Node::Start | Node::Done => 1,
             Node::Opt(_, x) => 1 + x.size(),
-            Node::Seq(x, xs) => 1 + x.size() + knots_size(xs),
+            Node::Seq(x, _, xs) => 1 + x.size() + knots_size(xs),
             Node::Star(_, xs) => 1 + knots_size(xs),
             Node::Par(pairs) => 1 + pairs_size(pairs),
             Node::ParStar(bags) => 1 + bags_size(bags),

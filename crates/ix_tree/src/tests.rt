@@ -1,7 +1,8 @@
 //! Sizes of trees that were built by hand, worked out from what a tree is, and copies of them.
 
 ghost use Rattle.std.specs.Prelude.{◌≡◌, IfOk, [], ◌∷◌};
-ghost use Rattle.ix_tree.specs.Plain.{start, done, dead, seq, par, par_star, any, pair, bag, entry};
+ghost use Rattle.std.specs.Prelude.{false};
+ghost use Rattle.ix_tree.specs.Plain.{start, dead, seq, par, par_star, any, pair, bag, entry};
 ghost use Rattle.ix_tree.specs.Plain.{none, more};
 
 use super::*;
@@ -11,20 +12,20 @@ use std::test::Fail;
 
 /// `a - b` after `a`.
 fn half(alloc: Global) -> Result<Knot, AllocError>
-    ensures { IfOk result (λ t. t ≡ seq done (more start none)) }
+    ensures { IfOk result (λ t. t ≡ seq dead false (more start none)) }
 {
     let mut rest = Vec::new(alloc);
     rest.push(Knot::new(alloc, Node::Start)?)?;
-    let first = Knot::new(alloc, Node::Done)?;
-    Knot::new(alloc, Node::Seq(first, rest))
+    let first = Knot::new(alloc, Node::Dead)?;
+    Knot::new(alloc, Node::Seq(first, false, rest))
 }
 
 /// `a - c` before any action.
 fn ready(alloc: Global) -> Result<Knot, AllocError>
-    ensures { IfOk result (λ t. t ≡ seq start none) }
+    ensures { IfOk result (λ t. t ≡ seq start false none) }
 {
     let first = Knot::new(alloc, Node::Start)?;
-    Knot::new(alloc, Node::Seq(first, Vec::new(alloc)))
+    Knot::new(alloc, Node::Seq(first, false, Vec::new(alloc)))
 }
 
 /// `#(a - b)` before any action.
@@ -41,7 +42,7 @@ fn none_begun(alloc: Global) -> Result<Knot, AllocError>
 /// `#(a - b)` after `a`.
 fn one_begun(alloc: Global) -> Result<Knot, AllocError>
     ensures { IfOk result (λ t. t
-        ≡ par_star (more (bag (more (seq done (more start none)) none)) none)) }
+        ≡ par_star (more (bag (more (seq dead false (more start none)) none)) none)) }
 {
     let mut items = Vec::new(alloc);
     items.push(half(alloc)?)?;
@@ -55,7 +56,7 @@ fn two_begun(alloc: Global) -> Result<Knot, AllocError>
     ensures { IfOk result (λ t. t
         ≡ par_star
         (more
-        (bag (more (seq done (more start none)) (more (seq done (more start none)) none))) none)) }
+        (bag (more (seq dead false (more start none)) (more (seq dead false (more start none)) none))) none)) }
 {
     let mut items = Vec::new(alloc);
     items.push(half(alloc)?)?;
@@ -68,40 +69,36 @@ fn two_begun(alloc: Global) -> Result<Knot, AllocError>
 /// `(a - b) + (a - c)` after `a`.
 fn two_sides(alloc: Global) -> Result<Knot, AllocError>
     ensures { IfOk result (λ t. t
-        ≡ par (more (pair (seq start none) (seq done (more start none)))
-        (more (pair (seq done (more start none)) (seq start none)) none))) }
+        ≡ par (more (pair (seq dead false (more start none)) (seq start false none))
+        (more (pair (seq start false none) (seq dead false (more start none))) none))) }
 {
     let mut pairs = Vec::new(alloc);
     pairs.push(Pair {
-        first: ready(alloc)?,
-        second: half(alloc)?,
-    })?;
-    pairs.push(Pair {
         first: half(alloc)?,
         second: ready(alloc)?,
+    })?;
+    pairs.push(Pair {
+        first: ready(alloc)?,
+        second: half(alloc)?,
     })?;
     Knot::new(alloc, Node::Par(pairs))
 }
 
 /// `any $p (a - b($p))` after `a`.
 fn no_value(alloc: Global) -> Result<Knot, AllocError>
-    ensures { IfOk result (λ t. t ≡ any (seq done (more start none)) none) }
+    ensures { IfOk result (λ t. t ≡ any (seq dead false (more start none)) none) }
 {
     let common = half(alloc)?;
     Knot::new(alloc, Node::Any(common, Vec::new(alloc)))
 }
 
-/// `any $p (a - b($p))` after `a`, `b(u)`, for the value `u`.
+/// `any $p (a - b($p) - c)` after `a`, `b(u)`, for the value `u`.
 fn one_value(alloc: Global, value: Value) -> Result<Knot, AllocError>
     ensures { IfOk result (λ t. t
-        ≡ any dead (more (entry value (seq dead (more done none))) none)) }
+        ≡ any dead (more (entry value (seq dead false (more start none))) none)) }
 {
-    let mut rest = Vec::new(alloc);
-    rest.push(Knot::new(alloc, Node::Done)?)?;
     let mut entries = Vec::new(alloc);
-    let first = Knot::new(alloc, Node::Dead)?;
-    let own = Knot::new(alloc, Node::Seq(first, rest))?;
-    entries.push((value, own))?;
+    entries.push((value, half(alloc)?))?;
     let common = Knot::new(alloc, Node::Dead)?;
     Knot::new(alloc, Node::Any(common, entries))
 }

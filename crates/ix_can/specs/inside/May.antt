@@ -45,7 +45,7 @@ may_first (all p y) e a = list_any (λ v. may_first y (bind p (Some v) e) a) a.v
 abbrev pub may : Form → Environment → Plain → PlainAction → Bool
 may (atom x) e start a = is_match x e a
 may (opt y) e (opt_of empty t) a = may y e t a
-may (seq y z) e (seq_of t rest) a = may y e t a || list_any (λ s. may z e s a) (items_of rest)
+may (seq y z) e (seq_of t ended rest) a = may y e t a || list_any (λ s. may z e s a) (items_of rest)
 may (star y) e (star_of again rest) a = (again && may_first y e a) || list_any (λ s. may y e s a) (items_of rest)
 may (par y z) e (par_of pairs) a = list_any (λ p. may y e (first_part p) a || may z e (second_part p) a) (items_of pairs)
 may (par_star y) e (par_star_of bags) a = list_any (λ b. may_first y e a || list_any (λ s. may y e s a) (items_of (first_part b))) (items_of bags)

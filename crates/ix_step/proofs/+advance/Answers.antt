@@ -1,5 +1,5 @@
 -- The parts of a step: what each asks of the next, and what it makes.
-use Rattle.std.proofs.Common.{◌+◌, ◌-◌, ◌<◌, ◌≡◌, ◌≤◌, true, refl, sym, ap, ◌∙◌, subst, arith, [], ◌∷◌, ◌++◌, map, length, flat_map, take, drop, get_or, Some, None, true≢false}
+use Rattle.std.proofs.Common.{◌||◌, ◌+◌, ◌-◌, ◌<◌, ◌≡◌, ◌≤◌, true, refl, sym, ap, ◌∙◌, subst, arith, [], ◌∷◌, ◌++◌, map, length, flat_map, take, drop, get_or, Some, None, true≢false}
 use Rattle.std.specs.List.{list_any, remove}
 use Rattle.std.specs.Map.{keys_of}
 use Rattle.std.proofs.lemmas.List.{length-map}
@@ -10,8 +10,8 @@ use Rattle.ix_words.specs.Canon.{canon, when}
 use Rattle.ix_expr.specs.inside.FormOf.{form_of}
 use Rattle.ix_expr.specs.Environment.{bind}
 use Rattle.ix_expr.specs.FormFaults.{Fits}
-use Rattle.ix_expr.specs.Form.{opt, or, and, couple, any, every, sync}
-use Rattle.ix_tree.specs.Plain.{dead, bag, listed, items_of, seq as seq_of, star as star_of, par as par_of, par_star as par_star_of, any as any_of, every as every_of, sync as sync_of, all as all_of}
+use Rattle.ix_expr.specs.Form.{opt, seq, or, and, couple, any, every, sync}
+use Rattle.ix_tree.specs.Plain.{dead, listed, items_of, seq as seq_of, star as star_of, par as par_of, par_star as par_star_of, any as any_of, every as every_of, sync as sync_of, all as all_of}
 use Rattle.ix_tree.specs.PlainOf.{plain_pair, plain_bag, plain_map, plain_entry, plain_entries}
 use Rattle.ix_tree.specs.inside.PlainNode.{plain_node}
 use Rattle.ix_tree.specs.Order.{first_part, tree_cmp}
@@ -19,7 +19,7 @@ use Rattle.ix_tree.specs.Size.{size_of}
 use Rattle.ix_tree.specs.contracts.order.KnotPartialEq.TheImpl.{ghosts as tree_ghosts}
 use Rattle.ix_tree.proofs.Alternatives.{weight_of-list}
 use Rattle.ix_tree.proofs.PlainLists.{items_of-listed}
-use Rattle.ix_can.specs.Nodes.{live, put_in, set_of}
+use Rattle.ix_can.specs.Nodes.{is_done, unless_done, settled, set_of}
 use Rattle.ix_can.specs.Laws.{IsProper, IsRising}
 use Rattle.ix_can.specs.Tests.{in_alphabet}
 use Rattle.ix_can.specs.inside.May.{may, moves_within, tree_at}
@@ -29,7 +29,7 @@ use Rattle.ix_step.specs.inside.EnterTrees.{entries_put}
 use Rattle.ix_step.specs.inside.Initial.{initial_tree}
 use Rattle.ix_step.specs.inside.Makes.{Makes, Gathers, put_all}
 use Rattle.ix_step.specs.inside.MapsAfter.{HoldsWell, begun_tree, map_after, maps_after}
-use Rattle.ix_step.specs.inside.Moves.{live_move, live_moves, begun, begun_again, last_runs, second_parts}
+use Rattle.ix_step.specs.inside.Moves.{if_open, open_move, open_moves, ends, some_ends, begun, begun_again, last_runs, runs_end, second_parts}
 use Rattle.ix_step.specs.inside.ParallelMoves.{pairs_of, pair_moves, pick_move, bag_moves, IsReadyPair, IsReadyBag}
 use Rattle.ix_step.specs.inside.Pruned.{pruned}
 use Rattle.ix_step.specs.inside.Ready.{Ready}
@@ -37,16 +37,17 @@ use Rattle.ix_step.specs.declared.bodies.Reach.TheVariants.{OwnAlphabet}
 use Rattle.ix_step.specs.inside.ValueTrees.{part_may, common_after, tree_after, touched, TakesIn}
 use Rattle.ix_step.proofs.Arms.{asked, opt_ready, or_first, or_second, and_first, and_second, couple_first, couple_second, seq_first, seq_rest, second_small, star_begins, star_rest}
 use Rattle.ix_step.proofs.Beginnings.{initial_is}
-use Rattle.ix_step.proofs.BagsPut.{length-picks, get-picks, size-put_in}
+use Rattle.ix_step.proofs.BagsPut.{length-picks, get-picks}
 use Rattle.ix_step.proofs.EntriesPut.{nothing_proper, nothing_held, after_put, upto_size, value_size, keys_ascend}
 use Rattle.ix_step.proofs.Exits.{exit_over}
-use Rattle.ix_step.proofs.Gathered.{live_over, size_all, any_of_set, tree_weights}
-use Rattle.ix_step.proofs.Gathering.{each_at, image_at, lot_over, lots_more, lots_end, set_is, front_of_set, live_in_set, left_over, right_over, first_over, made_set, picks_size, bag_put}
+use Rattle.ix_step.proofs.Gathered.{open_over, any_more, size_all, any_of_set, tree_weights}
+use Rattle.ix_step.proofs.Gathering.{each_at, image_at, lot_over, lots_more, lots_end, set_is, front_of_set, open_in_set, bag_over, left_over, right_over, first_over, made_set, picks_size, bag_put}
 use Rattle.ix_step.proofs.Limits.{moved_is_dead, same_alphabet}
 use Rattle.ix_step.proofs.Measure.{form_size}
 use Rattle.ix_step.proofs.MovedIs.{moved_is, begun_dead, begun_or}
+use Rattle.ix_step.proofs.Overs.{unless_over, seq_over, star_over, par_over, entries_count, any_above, every_above, sync_above}
 use Rattle.ix_step.proofs.ParallelArms.{pairs_ready, pairs_small, bags_ready, run_begins}
-use Rattle.ix_step.proofs.Pruning.{passed, refused, same_passes, and_first_may, and_second_may, couple_first_may, couple_second_may, no_items, some_items, list_over, beside_over}
+use Rattle.ix_step.proofs.Pruning.{passed, refused, same_passes, and_first_may, and_second_may, couple_first_may, couple_second_may, no_items, some_items, list_over}
 use Rattle.ix_step.proofs.Repeats.{run_adds_none}
 use Rattle.ix_step.proofs.Quantifying.{any_ready, every_ready, sync_ready, any_each, every_common, every_each, sync_common, sync_each, value_ready, entries_touched, value_moves, at_ready}
 use Rattle.ix_step.proofs.Mapping.{begin_small, begin_ready, all_held, map_keys, start_ready, owner_made, dead_owner, copy_proper}
@@ -197,17 +198,17 @@ advance::advance_node-advance_inside-requires-in-Couple-Couple t c =
       ),
     )
 
-pub advance::advance_node-advance_values-requires : goal.advance::advance_node-advance_values-requires
-advance::advance_node-advance_values-requires t c =
+pub advance::advance_node-advance_any-requires : goal.advance::advance_node-advance_any-requires
+advance::advance_node-advance_any-requires t c =
     let is : form_of c.args.expr.now ≡ any c.in-Any-Any.parameter (form_of c.deref-in-Any-Any.result.now) = ap form_of c.in-Any-Any.is-0 ∙ ap (λ v. any c.in-Any-Any.parameter (form_of v)) (sym c.deref-in-Any-Any.ensures) in
     let tree = sym c.node.ensures ∙ ap plain_node c.in-Any-Any.is-1 ∙ ap (λ v. any_of c.in-Any-Any.common (plain_entries v)) (sym c.deref-in-Any-Any-2.ensures.value) in
     let size = ap form_size is in (
       omega (arith, size),
-      (any_ready c.deref-in-Any-Any-2.result.now (asked is refl tree c.requires.ready), (refl, any_each c.in-Any-Any.parameter (form_of c.deref-in-Any-Any.result.now) c.args.step.env.now c.args.step.action.now c.in-Any-Any.common c.deref-in-Any-Any-2.result.now)),
+      any_ready c.deref-in-Any-Any-2.result.now (asked is refl tree c.requires.ready),
     )
 
-pub advance::advance_node-advance_values-requires-in-Every-Every : goal.advance::advance_node-advance_values-requires-in-Every-Every
-advance::advance_node-advance_values-requires-in-Every-Every t c =
+pub advance::advance_node-advance_every-requires : goal.advance::advance_node-advance_every-requires
+advance::advance_node-advance_every-requires t c =
     let is : form_of c.args.expr.now ≡ every c.in-Every-Every.parameter (form_of c.deref-in-Every-Every.result.now) = ap form_of c.in-Every-Every.is-0 ∙ ap (λ v. every c.in-Every-Every.parameter (form_of v)) (sym c.deref-in-Every-Every.ensures) in
     let tree = sym c.node.ensures ∙ ap plain_node c.in-Every-Every.is-1 ∙ ap (λ v. every_of c.in-Every-Every.common (plain_entries v)) (sym c.deref-in-Every-Every-2.ensures.value) in
     let ready = every_ready c.deref-in-Every-Every-2.result.now (asked is refl tree c.requires.ready) in
@@ -228,42 +229,55 @@ advance::advance_node-advance_sync-requires t c =
       (ready, (sync_common c.in-Sync-Sync.parameter (form_of c.deref-in-Sync-Sync.result.now) c.args.step.env.now c.args.step.action.now c.in-Sync-Sync.common c.deref-in-Sync-Sync-2.result.now come, sync_each c.in-Sync-Sync.parameter (form_of c.deref-in-Sync-Sync.result.now) c.args.step.env.now c.args.step.action.now c.in-Sync-Sync.common c.deref-in-Sync-Sync-2.result.now ready come)),
     )
 
+pub advance::advance_node-advance_seq-requires : goal.advance::advance_node-advance_seq-requires
+advance::advance_node-advance_seq-requires t c =
+    let is : form_of c.args.expr.now ≡ seq (form_of c.deref-in-Seq-Seq.result.now) (form_of c.deref-in-Seq-Seq-2.result.now) = ap form_of c.in-Seq-Seq.is-0 ∙ ap (λ v. seq (form_of v) (form_of c.in-Seq-Seq.z.value)) (sym c.deref-in-Seq-Seq.ensures) ∙ ap (λ v. seq (form_of c.deref-in-Seq-Seq.result.now) (form_of v)) (sym c.deref-in-Seq-Seq-2.ensures) in
+    let tree = sym c.node.ensures ∙ ap plain_node c.in-Seq-Seq.is-1 ∙ ap (λ v. seq_of c.in-Seq-Seq.first c.in-Seq-Seq.field-1-1 (listed v)) (sym c.deref-in-Seq-Seq-3.ensures.value) in
+    let ready = asked is refl tree c.requires.ready in
+    let size = ap form_size is in (
+      omega (arith, size),
+      (seq_first ready, (seq_rest c.deref-in-Seq-Seq-3.result.now ready, second_small ready)),
+    )
+
 pub advance::advance_seq-advance-requires : goal.advance::advance_seq-advance-requires
 advance::advance_seq-advance-requires t c =
-    (omega arith, seq_first c.requires)
+    (omega arith, c.requires.first)
 
 pub advance::advance_seq-advance_each-requires : goal.advance::advance_seq-advance_each-requires
 advance::advance_seq-advance_each-requires t c =
-    (omega arith, seq_rest c.args.rest.now c.requires)
-
-pub advance::advance_seq-put_first-requires-clause-small : goal.advance::advance_seq-put_first-requires-clause-small
-advance::advance_seq-put_first-requires-clause-small t c =
-    second_small c.requires
+    (omega arith, c.requires.rest)
 
 pub advance::advance_seq-returns-in_err-first : goal.advance::advance_seq-returns-in_err-first
 advance::advance_seq-returns-in_err-first t c =
+    let z = form_of c.args.z.now in
+    let m = moved (form_of c.args.y.now) c.args.step.env.now c.args.first.now c.args.step.action.now in
+    let rest = items_of (listed c.args.rest.now) in
     exit_over _ c.from_residual.result _ c.from_residual.ensures.1 c.in_err-first.ensures (λ lt.
-    beside_over c.args.step.limit (seq_of (moved (form_of c.args.y.now) c.args.step.env.now c.args.first.now c.args.step.action.now) (set_of (second_parts (form_of c.args.y.now) (form_of c.args.z.now) c.args.step.env.now c.args.step.action.now (moved (form_of c.args.y.now) c.args.step.env.now c.args.first.now c.args.step.action.now) (items_of (listed c.args.rest.now))))) c.args.step.positive (moved (form_of c.args.y.now) c.args.step.env.now c.args.first.now c.args.step.action.now) (set_of (second_parts (form_of c.args.y.now) (form_of c.args.z.now) c.args.step.env.now c.args.step.action.now (moved (form_of c.args.y.now) c.args.step.env.now c.args.first.now c.args.step.action.now) (items_of (listed c.args.rest.now)))) (omega arith) (omega arith))
+    seq_over c.args.step.limit c.args.step.positive (unless_done m) (some_ends z c.args.step.env.now c.args.step.action.now rest) (canon tree_cmp (second_parts (form_of c.args.y.now) z c.args.step.env.now c.args.step.action.now m rest)) (omega (arith, unless_over c.args.step.limit c.args.step.positive m lt)))
 
 pub advance::advance_seq-returns-in_err-set : goal.advance::advance_seq-returns-in_err-set
 advance::advance_seq-returns-in_err-set t c =
-    let ms = live_moves (form_of c.args.z.now) c.args.step.env.now c.args.step.action.now (items_of (listed c.args.rest.now)) in
-    let more = when (is_final (form_of c.args.y.now) (moved (form_of c.args.y.now) c.args.step.env.now c.args.first.now c.args.step.action.now)) (initial_tree (form_of c.args.z.now) ∷ []) in
-    let same = ap (λ l. size_all (put_all (live_moves (form_of c.args.z.now) c.args.step.env.now c.args.step.action.now l) [])) (items_of-listed c.args.rest.now) in
+    let z = form_of c.args.z.now in
+    let m = moved (form_of c.args.y.now) c.args.step.env.now c.args.first.now c.args.step.action.now in
+    let rest = items_of (listed c.args.rest.now) in
+    let ms = open_moves z c.args.step.env.now c.args.step.action.now rest in
+    let more = when (is_final (form_of c.args.y.now) m) (initial_tree z ∷ []) in
+    let same = ap (λ l. size_all (put_all (open_moves z c.args.step.env.now c.args.step.action.now l) [])) (items_of-listed c.args.rest.now) in
     let k = front_of_set ms more in
     exit_over _ c.from_residual-in_err-set.result _ c.from_residual-in_err-set.ensures.1 c.in_err-set.ensures (λ lt.
-    beside_over c.args.step.limit (seq_of (moved (form_of c.args.y.now) c.args.step.env.now c.args.first.now c.args.step.action.now) (set_of (second_parts (form_of c.args.y.now) (form_of c.args.z.now) c.args.step.env.now c.args.step.action.now (moved (form_of c.args.y.now) c.args.step.env.now c.args.first.now c.args.step.action.now) (items_of (listed c.args.rest.now))))) c.args.step.positive (moved (form_of c.args.y.now) c.args.step.env.now c.args.first.now c.args.step.action.now) (set_of (second_parts (form_of c.args.y.now) (form_of c.args.z.now) c.args.step.env.now c.args.step.action.now (moved (form_of c.args.y.now) c.args.step.env.now c.args.first.now c.args.step.action.now) (items_of (listed c.args.rest.now)))) (omega (arith, same, k)) (omega arith))
+    seq_over c.args.step.limit c.args.step.positive (unless_done m) (some_ends z c.args.step.env.now c.args.step.action.now rest) (canon tree_cmp (second_parts (form_of c.args.y.now) z c.args.step.env.now c.args.step.action.now m rest)) (omega (arith, same, k, lt)))
 
 pub advance::advance_seq-returns-in_err-put_first : goal.advance::advance_seq-returns-in_err-put_first
 advance::advance_seq-returns-in_err-put_first t c =
     let z = form_of c.args.z.now in
     let m = moved (form_of c.args.y.now) c.args.step.env.now c.args.first.now c.args.step.action.now in
+    let rest = items_of (listed c.args.rest.now) in
     let begins = c.completes.ensures ∙ ap (is_final (form_of c.args.y.now)) c.in_ok-first.ensures.0 in
-    let whole = set_is (live_moves z c.args.step.env.now c.args.step.action.now c.args.rest.now) (when c.completes.result (initial_tree z ∷ [])) c.in_ok-set.set.items c.in_ok-set.ensures.0
-    ∙ ap (λ b. set_of (live_moves z c.args.step.env.now c.args.step.action.now c.args.rest.now ++ when b (initial_tree z ∷ []))) begins
-    ∙ ap (λ l. set_of (second_parts (form_of c.args.y.now) z c.args.step.env.now c.args.step.action.now (moved (form_of c.args.y.now) c.args.step.env.now c.args.first.now c.args.step.action.now) l)) (sym (items_of-listed c.args.rest.now)) in
+    let whole = set_is (open_moves z c.args.step.env.now c.args.step.action.now c.args.rest.now) (when c.completes.result (initial_tree z ∷ [])) _ c.in_ok-set.ensures.0
+    ∙ ap (λ b. set_of (open_moves z c.args.step.env.now c.args.step.action.now c.args.rest.now ++ when b (initial_tree z ∷ []))) begins
+    ∙ ap (λ l. set_of (second_parts (form_of c.args.y.now) z c.args.step.env.now c.args.step.action.now m l)) (sym (items_of-listed c.args.rest.now)) in
     exit_over _ c.from_residual-in_err-put_first.result _ c.from_residual-in_err-put_first.ensures.1 c.in_err-put_first.ensures.gathers (λ lt.
-    beside_over c.args.step.limit (seq_of (moved (form_of c.args.y.now) c.args.step.env.now c.args.first.now c.args.step.action.now) (set_of (second_parts (form_of c.args.y.now) (form_of c.args.z.now) c.args.step.env.now c.args.step.action.now (moved (form_of c.args.y.now) c.args.step.env.now c.args.first.now c.args.step.action.now) (items_of (listed c.args.rest.now))))) c.args.step.positive (moved (form_of c.args.y.now) c.args.step.env.now c.args.first.now c.args.step.action.now) (set_of (second_parts (form_of c.args.y.now) (form_of c.args.z.now) c.args.step.env.now c.args.step.action.now (moved (form_of c.args.y.now) c.args.step.env.now c.args.first.now c.args.step.action.now) (items_of (listed c.args.rest.now)))) (omega (arith, ap size_of whole, c.in_ok-set.ensures.1)) (omega arith))
+    seq_over c.args.step.limit c.args.step.positive (unless_done m) (some_ends z c.args.step.env.now c.args.step.action.now rest) (canon tree_cmp (second_parts (form_of c.args.y.now) z c.args.step.env.now c.args.step.action.now m rest)) (omega (arith, ap size_of whole, lt, c.in_ok-set.ensures.1)))
 
 pub advance::advance_seq-sized_if_live-requires-clause-size : goal.advance::advance_seq-sized_if_live-requires-clause-size
 advance::advance_seq-sized_if_live-requires-clause-size t c =
@@ -273,13 +287,18 @@ pub advance::advance_seq-returns : goal.advance::advance_seq-returns
 advance::advance_seq-returns t c =
     let z = form_of c.args.z.now in
     let m = moved (form_of c.args.y.now) c.args.step.env.now c.args.first.now c.args.step.action.now in
+    let rest = items_of (listed c.args.rest.now) in
     let begins = c.completes.ensures ∙ ap (is_final (form_of c.args.y.now)) c.in_ok-first.ensures.0 in
-    let whole = set_is (live_moves z c.args.step.env.now c.args.step.action.now c.args.rest.now) (when c.completes.result (initial_tree z ∷ [])) c.in_ok-set.set.items c.in_ok-set.ensures.0
-    ∙ ap (λ b. set_of (live_moves z c.args.step.env.now c.args.step.action.now c.args.rest.now ++ when b (initial_tree z ∷ []))) begins
-    ∙ ap (λ l. set_of (second_parts (form_of c.args.y.now) z c.args.step.env.now c.args.step.action.now (moved (form_of c.args.y.now) c.args.step.env.now c.args.first.now c.args.step.action.now) l)) (sym (items_of-listed c.args.rest.now)) in
+    let whole = set_is (open_moves z c.args.step.env.now c.args.step.action.now c.args.rest.now) (when c.completes.result (initial_tree z ∷ [])) _ c.in_ok-set.ensures.0
+    ∙ ap (λ b. set_of (open_moves z c.args.step.env.now c.args.step.action.now c.args.rest.now ++ when b (initial_tree z ∷ []))) begins
+    ∙ ap (λ l. set_of (second_parts (form_of c.args.y.now) z c.args.step.env.now c.args.step.action.now m l)) (sym (items_of-listed c.args.rest.now)) in
     let items = ap listed (c.into_items.ensures.items ∙ c.in_ok-put_first.ensures.gathers) ∙ whole in
+    let left = c.in_ok-left.ensures ∙ ap unless_done c.in_ok-first.ensures.0 in
+    let ended = c.in_ok-set.ensures.3 ∙ ap (some_ends z c.args.step.env.now c.args.step.action.now) (sym (items_of-listed c.args.rest.now)) in
     subst (λ x. Makes c.args.step.limit (pruned x) c.sized_if_live.result)
-    (ap (λ x. seq_of x (listed c.into_items.result.items)) c.in_ok-first.ensures.0 ∙ ap (seq_of (moved (form_of c.args.y.now) c.args.step.env.now c.args.first.now c.args.step.action.now)) items) c.sized_if_live.ensures
+    (ap (λ x. seq_of x c.in_ok-set.ended (listed c.into_items.result.items)) left
+    ∙ ap (λ b. seq_of (unless_done m) b (listed c.into_items.result.items)) ended
+    ∙ ap (seq_of (unless_done m) (some_ends z c.args.step.env.now c.args.step.action.now rest)) items) c.sized_if_live.ensures
 
 pub advance::advance_star-advance_again-requires : goal.advance::advance_star-advance_again-requires
 advance::advance_star-advance_again-requires t c =
@@ -291,38 +310,56 @@ advance::advance_star-advance_each-requires t c =
 
 pub advance::advance_star-returns-in_err-begun : goal.advance::advance_star-returns-in_err-begun
 advance::advance_star-returns-in_err-begun t c =
+    let y = form_of c.args.y.now in
+    let rest = items_of (listed c.args.rest.now) in
     exit_over _ c.from_residual.result _ c.from_residual.ensures.1 c.in_err-begun.ensures (λ lt.
-    let k = live_in_set c.args.step.limit (live_moves (form_of c.args.y.now) c.args.step.env.now c.args.step.action.now (items_of (listed c.args.rest.now))) (begun_again c.args.again (form_of c.args.y.now) c.args.step.env.now c.args.step.action.now) c.args.step.positive lt in
-    list_over c.args.step.limit (star_of (list_any (is_final (form_of c.args.y.now)) (last_runs (form_of c.args.y.now) c.args.step.env.now c.args.step.action.now c.args.again (items_of (listed c.args.rest.now)))) (set_of (last_runs (form_of c.args.y.now) c.args.step.env.now c.args.step.action.now c.args.again (items_of (listed c.args.rest.now))))) (set_of (last_runs (form_of c.args.y.now) c.args.step.env.now c.args.step.action.now c.args.again (items_of (listed c.args.rest.now)))) k (omega arith))
+    let k = open_in_set c.args.step.limit (open_moves y c.args.step.env.now c.args.step.action.now rest) (begun_again c.args.again y c.args.step.env.now c.args.step.action.now) c.args.step.positive lt in
+    star_over c.args.step.limit c.args.step.positive (runs_end y c.args.step.env.now c.args.step.action.now c.args.again rest) (canon tree_cmp (last_runs y c.args.step.env.now c.args.step.action.now c.args.again rest)) k)
 
 pub advance::advance_star-returns-in_err-set : goal.advance::advance_star-returns-in_err-set
 advance::advance_star-returns-in_err-set t c =
-    let same = ap (λ l. size_all (put_all (live_moves (form_of c.args.y.now) c.args.step.env.now c.args.step.action.now l) [])) (items_of-listed c.args.rest.now) in
-    let k = front_of_set (live_moves (form_of c.args.y.now) c.args.step.env.now c.args.step.action.now (items_of (listed c.args.rest.now))) (live (begun_again c.args.again (form_of c.args.y.now) c.args.step.env.now c.args.step.action.now)) in
+    let y = form_of c.args.y.now in
+    let rest = items_of (listed c.args.rest.now) in
+    let same = ap (λ l. size_all (put_all (open_moves y c.args.step.env.now c.args.step.action.now l) [])) (items_of-listed c.args.rest.now) in
+    let k = front_of_set (open_moves y c.args.step.env.now c.args.step.action.now rest) (if_open (begun_again c.args.again y c.args.step.env.now c.args.step.action.now)) in
     exit_over _ c.from_residual-in_err-set.result _ c.from_residual-in_err-set.ensures.1 c.in_err-set.ensures (λ lt.
-    list_over c.args.step.limit (star_of (list_any (is_final (form_of c.args.y.now)) (last_runs (form_of c.args.y.now) c.args.step.env.now c.args.step.action.now c.args.again (items_of (listed c.args.rest.now)))) (set_of (last_runs (form_of c.args.y.now) c.args.step.env.now c.args.step.action.now c.args.again (items_of (listed c.args.rest.now))))) (set_of (last_runs (form_of c.args.y.now) c.args.step.env.now c.args.step.action.now c.args.again (items_of (listed c.args.rest.now)))) (omega (arith, same, k)) (omega arith))
+    star_over c.args.step.limit c.args.step.positive (runs_end y c.args.step.env.now c.args.step.action.now c.args.again rest) (canon tree_cmp (last_runs y c.args.step.env.now c.args.step.action.now c.args.again rest)) (omega (arith, same, k, lt)))
 
-pub advance::advance_star-returns-in_err-put_live : goal.advance::advance_star-returns-in_err-put_live
-advance::advance_star-returns-in_err-put_live t c =
-    let whole = set_is (live_moves (form_of c.args.y.now) c.args.step.env.now c.args.step.action.now c.args.rest.now) (live c.in_ok-begun.begun) c.in_ok-set.set.items c.in_ok-set.ensures.0
-    ∙ ap (λ x. set_of (live_moves (form_of c.args.y.now) c.args.step.env.now c.args.step.action.now c.args.rest.now ++ live x)) c.in_ok-begun.ensures.0
-    ∙ ap (λ l. set_of (last_runs (form_of c.args.y.now) c.args.step.env.now c.args.step.action.now c.args.again l)) (sym (items_of-listed c.args.rest.now)) in
-    exit_over _ c.from_residual-in_err-put_live.result _ c.from_residual-in_err-put_live.ensures.1 c.in_err-put_live.ensures.gathers (λ lt.
-    list_over c.args.step.limit (star_of (list_any (is_final (form_of c.args.y.now)) (last_runs (form_of c.args.y.now) c.args.step.env.now c.args.step.action.now c.args.again (items_of (listed c.args.rest.now)))) (set_of (last_runs (form_of c.args.y.now) c.args.step.env.now c.args.step.action.now c.args.again (items_of (listed c.args.rest.now))))) (set_of (last_runs (form_of c.args.y.now) c.args.step.env.now c.args.step.action.now c.args.again (items_of (listed c.args.rest.now)))) (omega (arith, ap size_of whole, c.in_ok-set.ensures.1)) (omega arith))
+pub advance::advance_star-returns-in_err-put_open : goal.advance::advance_star-returns-in_err-put_open
+advance::advance_star-returns-in_err-put_open t c =
+    let y = form_of c.args.y.now in
+    let rest = items_of (listed c.args.rest.now) in
+    let whole = set_is (open_moves y c.args.step.env.now c.args.step.action.now c.args.rest.now) (if_open c.in_ok-begun.begun) _ c.in_ok-set.ensures.0
+    ∙ ap (λ x. set_of (open_moves y c.args.step.env.now c.args.step.action.now c.args.rest.now ++ if_open x)) c.in_ok-begun.ensures.0
+    ∙ ap (λ l. set_of (last_runs y c.args.step.env.now c.args.step.action.now c.args.again l)) (sym (items_of-listed c.args.rest.now)) in
+    exit_over _ c.from_residual-in_err-put_open.result _ c.from_residual-in_err-put_open.ensures.1 c.in_err-put_open.ensures.gathers (λ lt.
+    star_over c.args.step.limit c.args.step.positive (runs_end y c.args.step.env.now c.args.step.action.now c.args.again rest) (canon tree_cmp (last_runs y c.args.step.env.now c.args.step.action.now c.args.again rest)) (omega (arith, ap size_of whole, lt, c.in_ok-set.ensures.1)))
 
 pub advance::advance_star-sized_if_live-requires-clause-size : goal.advance::advance_star-sized_if_live-requires-clause-size
 advance::advance_star-sized_if_live-requires-clause-size t c =
-    omega (arith, tree_weights c.put_live.new.set.items, ap size_all c.into_items-items.ensures.items)
+    omega (arith, tree_weights c.put_open.new.set.items, ap size_all c.into_items-items.ensures.items)
 
 pub advance::advance_star-returns : goal.advance::advance_star-returns
 advance::advance_star-returns t c =
-    let whole = set_is (live_moves (form_of c.args.y.now) c.args.step.env.now c.args.step.action.now c.args.rest.now) (live c.in_ok-begun.begun) c.in_ok-set.set.items c.in_ok-set.ensures.0
-    ∙ ap (λ x. set_of (live_moves (form_of c.args.y.now) c.args.step.env.now c.args.step.action.now c.args.rest.now ++ live x)) c.in_ok-begun.ensures.0
-    ∙ ap (λ l. set_of (last_runs (form_of c.args.y.now) c.args.step.env.now c.args.step.action.now c.args.again l)) (sym (items_of-listed c.args.rest.now)) in
-    let items = ap listed (c.into_items-items.ensures.items ∙ c.in_ok-put_live.ensures.gathers) ∙ whole in
-    let again = c.some_completes-again.ensures ∙ ap (list_any (is_final (form_of c.args.y.now))) (c.deref.ensures.value ∙ sym (items_of-listed c.into_items-items.result.items) ∙ ap items_of items ∙ items_of-listed (canon tree_cmp (last_runs (form_of c.args.y.now) c.args.step.env.now c.args.step.action.now c.args.again (items_of (listed c.args.rest.now))))) ∙ any_of_set (is_final (form_of c.args.y.now)) (last_runs (form_of c.args.y.now) c.args.step.env.now c.args.step.action.now c.args.again (items_of (listed c.args.rest.now))) in
+    let y = form_of c.args.y.now in
+    let rest = items_of (listed c.args.rest.now) in
+    let runs = last_runs y c.args.step.env.now c.args.step.action.now c.args.again rest in
+    let some = some_ends y c.args.step.env.now c.args.step.action.now rest in
+    let first = begun_again c.args.again y c.args.step.env.now c.args.step.action.now in
+    let whole = set_is (open_moves y c.args.step.env.now c.args.step.action.now c.args.rest.now) (if_open c.in_ok-begun.begun) _ c.in_ok-set.ensures.0
+    ∙ ap (λ x. set_of (open_moves y c.args.step.env.now c.args.step.action.now c.args.rest.now ++ if_open x)) c.in_ok-begun.ensures.0
+    ∙ ap (λ l. set_of (last_runs y c.args.step.env.now c.args.step.action.now c.args.again l)) (sym (items_of-listed c.args.rest.now)) in
+    let items = ap listed (c.into_items-items.ensures.items ∙ c.in_ok-put_open.ensures.gathers) ∙ whole in
+    let ended = c.or_done-ended.ensures
+    ∙ ap (λ b. b || is_done c.in_ok-begun.begun) (c.in_ok-set.ensures.3 ∙ ap (some_ends y c.args.step.env.now c.args.step.action.now) (sym (items_of-listed c.args.rest.now)))
+    ∙ ap (λ x. some || is_done x) c.in_ok-begun.ensures.0 in
+    let finals = c.deref.ensures.value ∙ sym (items_of-listed c.into_items-items.result.items) ∙ ap items_of items ∙ items_of-listed (canon tree_cmp runs) in
+    let again = c.runs_end-again.ensures
+    ∙ ap (λ b. b || list_any (is_final y) c.deref.result.now) ended
+    ∙ ap (λ l. (some || is_done first) || list_any (is_final y) l) finals
+    ∙ ap (λ b. (some || is_done first) || b) (any_of_set (is_final y) runs) in
     subst (λ x. Makes c.args.step.limit (pruned x) c.sized_if_live.result)
-    (ap (λ b. star_of b (listed c.into_items-items.result.items)) again ∙ ap (star_of (list_any (is_final (form_of c.args.y.now)) (last_runs (form_of c.args.y.now) c.args.step.env.now c.args.step.action.now c.args.again (items_of (listed c.args.rest.now))))) items) c.sized_if_live.ensures
+    (ap (λ b. star_of b (listed c.into_items-items.result.items)) again ∙ ap (star_of (runs_end y c.args.step.env.now c.args.step.action.now c.args.again rest)) items) c.sized_if_live.ensures
 
 pub advance::advance_each-advance-requires : goal.advance::advance_each-advance-requires
 advance::advance_each-advance-requires t c =
@@ -332,24 +369,26 @@ pub advance::advance_each-returns-in_err-tree : goal.advance::advance_each-retur
 advance::advance_each-returns-in_err-tree t c =
     let m = moved (form_of c.args.expr.now) c.args.step.env.now c.tree-item.result c.args.step.action.now in
     exit_over _ c.from_residual.result _ c.from_residual.ensures.1 c.in_err-tree.ensures (λ lt.
-    lot_over (live_move (form_of c.args.expr.now) c.args.step.env.now c.args.step.action.now) c.args.step.limit c.args.trees.now c.loop-tree.tree-index c.tree-item.result [] c.loop-tree.set.items (omega arith) c.tree-item.is c.loop-tree.invariant.items
-    (live_over c.args.step.limit m m c.loop-tree.set.items c.args.step.positive (omega arith) lt))
+    lot_over (open_move (form_of c.args.expr.now) c.args.step.env.now c.args.step.action.now) c.args.step.limit c.args.trees.now c.loop-tree.tree-index c.tree-item.result [] c.loop-tree.set.items (omega arith) c.tree-item.is c.loop-tree.invariant.items
+    (open_over c.args.step.limit m c.loop-tree.set.items c.args.step.positive lt))
 
-pub advance::advance_each-returns-in_err-put_live : goal.advance::advance_each-returns-in_err-put_live
-advance::advance_each-returns-in_err-put_live t c =
-    let m = moved (form_of c.args.expr.now) c.args.step.env.now c.tree-item.result c.args.step.action.now in
-    let same = ap (λ x. size_all (put_all (live x) c.loop-tree.set.items)) c.in_ok-tree.ensures.0 in
-    exit_over _ c.from_residual-in_err-put_live.result _ c.from_residual-in_err-put_live.ensures.1 c.in_err-put_live.ensures.gathers (λ lt.
-    lot_over (live_move (form_of c.args.expr.now) c.args.step.env.now c.args.step.action.now) c.args.step.limit c.args.trees.now c.loop-tree.tree-index c.tree-item.result [] c.loop-tree.set.items (omega arith) c.tree-item.is c.loop-tree.invariant.items
+pub advance::advance_each-returns-in_err-put_open : goal.advance::advance_each-returns-in_err-put_open
+advance::advance_each-returns-in_err-put_open t c =
+    let same = ap (λ x. size_all (put_all (if_open x) c.loop-tree.set.items)) c.in_ok-tree.ensures.0 in
+    exit_over _ c.from_residual-in_err-put_open.result _ c.from_residual-in_err-put_open.ensures.1 c.in_err-put_open.ensures.gathers (λ lt.
+    lot_over (open_move (form_of c.args.expr.now) c.args.step.env.now c.args.step.action.now) c.args.step.limit c.args.trees.now c.loop-tree.tree-index c.tree-item.result [] c.loop-tree.set.items (omega arith) c.tree-item.is c.loop-tree.invariant.items
     (omega (arith, same, lt, c.loop-tree.invariant.budget)))
 
 pub advance::advance_each-loop-tree-preserved : goal.advance::advance_each-loop-tree-preserved
 advance::advance_each-loop-tree-preserved t c =
     record {
-      items = lots_more (live_move (form_of c.args.expr.now) c.args.step.env.now c.args.step.action.now) c.args.trees.now c.loop-tree.tree-index c.tree-item.result [] c.loop-tree.set.items c.put_live.new.set.items (omega arith) c.tree-item.is c.loop-tree.invariant.items
-          (c.in_ok-put_live.ensures.gathers ∙ ap (λ x. put_all (live x) c.loop-tree.set.items) c.in_ok-tree.ensures.0);
-      within = omega (arith, c.put_live.ensures.within, c.loop-tree.invariant.budget);
-      budget = c.put_live.ensures.budget ∙ c.loop-tree.invariant.budget;
+      items = lots_more (open_move (form_of c.args.expr.now) c.args.step.env.now c.args.step.action.now) c.args.trees.now c.loop-tree.tree-index c.tree-item.result [] c.loop-tree.set.items c.put_open.new.set.items (omega arith) c.tree-item.is c.loop-tree.invariant.items
+          (c.in_ok-put_open.ensures.gathers ∙ ap (λ x. put_all (if_open x) c.loop-tree.set.items) c.in_ok-tree.ensures.0);
+      within = omega (arith, c.put_open.ensures.within, c.loop-tree.invariant.budget);
+      budget = c.put_open.ensures.budget ∙ c.loop-tree.invariant.budget;
+      ended = c.or_done-ended.ensures ∙ ap (λ b. b || is_done c.in_ok-tree.tree) c.loop-tree.invariant.ended
+          ∙ ap (λ x. some_ends (form_of c.args.expr.now) c.args.step.env.now c.args.step.action.now (take c.loop-tree.tree-index c.args.trees.now) || is_done x) c.in_ok-tree.ensures.0
+          ∙ sym (any_more (ends (form_of c.args.expr.now) c.args.step.env.now c.args.step.action.now) c.args.trees.now c.loop-tree.tree-index c.tree-item.result (omega arith) c.tree-item.is);
     }
 
 pub parallel::advance_pairs-advance-requires : goal.parallel::advance_pairs-advance-requires
@@ -396,11 +435,19 @@ pub parallel::advance_par-advance_pairs-requires : goal.parallel::advance_par-ad
 parallel::advance_par-advance_pairs-requires t c =
     (omega arith, (pairs_ready (map plain_pair c.args.pairs.now) c.requires, pairs_small (map plain_pair c.args.pairs.now) c.requires))
 
+pub parallel::advance_par-invariant_of-wide : goal.parallel::advance_par-invariant_of-wide
+parallel::advance_par-invariant_of-wide t c = record {
+  ends = c.args.step.ends;
+  positive = omega (arith, c.larger.ensures.second);
+  bounded = c.larger.ensures.bound 2000010 c.args.step.bounded (omega arith);
+}
+
 pub parallel::advance_par-returns-in_err-set : goal.parallel::advance_par-returns-in_err-set
 parallel::advance_par-returns-in_err-set t c =
+    let moves = flat_map (pair_moves (form_of c.args.y.now) (form_of c.args.z.now) c.args.step.env.now c.args.step.action.now) (items_of (listed (map plain_pair c.args.pairs.now))) in
     let whole = made_set (pair_moves (form_of c.args.y.now) (form_of c.args.z.now) c.args.step.env.now c.args.step.action.now) (map plain_pair c.args.pairs.now) in
     exit_over _ c.from_residual.result _ c.from_residual.ensures.1 c.in_err-set.ensures (λ lt.
-    list_over c.args.step.limit (par_of (set_of (flat_map (pair_moves (form_of c.args.y.now) (form_of c.args.z.now) c.args.step.env.now c.args.step.action.now) (items_of (listed (map plain_pair c.args.pairs.now)))))) (set_of (flat_map (pair_moves (form_of c.args.y.now) (form_of c.args.z.now) c.args.step.env.now c.args.step.action.now) (items_of (listed (map plain_pair c.args.pairs.now))))) (omega (arith, ap size_of whole)) (omega arith))
+    par_over c.args.step.limit c.larger.result (canon tree_cmp moves) (omega (arith, c.larger.ensures.second)) c.larger.ensures.first (omega (arith, lt, ap size_of whole)))
 
 pub parallel::advance_par-sized_if_live-requires-clause-size : goal.parallel::advance_par-sized_if_live-requires-clause-size
 parallel::advance_par-sized_if_live-requires-clause-size t c =
@@ -561,7 +608,7 @@ parallel::advance_pick-advance-requires t c =
 pub parallel::advance_pick-returns-in_err-tree-clause-gathers : goal.parallel::advance_pick-returns-in_err-tree-clause-gathers
 parallel::advance_pick-returns-in_err-tree-clause-gathers t c =
     exit_over _ c.from_residual.result _ c.from_residual.ensures.1 c.in_err-tree.ensures (λ over.
-    live_over c.args.step.limit (moved (form_of c.args.y.now) c.args.step.env.now c.args.item.now c.args.step.action.now) (bag (listed (put_in (moved (form_of c.args.y.now) c.args.step.env.now c.args.item.now c.args.step.action.now) (remove c.args.items.now c.args.place)))) (map plain_bag c.args.set.now.items) c.args.step.positive (omega (arith, size-put_in (moved (form_of c.args.y.now) c.args.step.env.now c.args.item.now c.args.step.action.now) (remove c.args.items.now c.args.place))) over)
+    bag_over c.args.step.limit (moved (form_of c.args.y.now) c.args.step.env.now c.args.item.now c.args.step.action.now) (remove c.args.items.now c.args.place) (map plain_bag c.args.set.now.items) c.args.step.positive over)
 
 pub parallel::advance_pick-returns-clause-gathers : goal.parallel::advance_pick-returns-clause-gathers
 parallel::advance_pick-returns-clause-gathers t c =
@@ -652,6 +699,40 @@ pub quantifiers::advance_values-advance_at-requires : goal.quantifiers::advance_
 quantifiers::advance_values-advance_at-requires t c =
     (omega arith, (c.requires.ready.fits, (c.requires.ready.proper, (omega (arith, c.requires.ready.small), c.requires.common))))
 
+pub quantifiers::advance_any-invariant_of-wide : goal.quantifiers::advance_any-invariant_of-wide
+quantifiers::advance_any-invariant_of-wide t c = record {
+  ends = c.args.step.ends;
+  positive = omega (arith, c.larger.ensures.first, c.args.step.positive);
+  bounded = c.larger.ensures.bound 2000010 c.args.step.bounded (omega (arith, entries_count c.args.entries.now, c.requires.small, c.values.ensures.valid.few, ap length c.values.ensures.value));
+}
+
+pub quantifiers::advance_any-advance_values-requires : goal.quantifiers::advance_any-advance_values-requires
+quantifiers::advance_any-advance_values-requires t c =
+    (omega arith, (c.requires, (refl, any_each c.args.body.parameter.now (form_of c.args.body.expr.now) c.args.step.env.now c.args.step.action.now c.args.common.now c.args.entries.now)))
+
+pub quantifiers::advance_any-returns-in_err-common : goal.quantifiers::advance_any-returns-in_err-common
+quantifiers::advance_any-returns-in_err-common t c =
+    exit_over _ c.from_residual.result _ c.from_residual.ensures.1 c.in_err-common.ensures (λ over.
+    any_above c.args.body.parameter.now (form_of c.args.body.expr.now) c.args.step.env.now c.args.step.action.now c.args.common.now c.args.entries.now c.requires c.args.step.limit c.larger.result c.args.step.positive c.larger.ensures.first
+    (omega (arith, c.larger.ensures.second, ap length c.values.ensures.value)) over)
+
+pub quantifiers::advance_any-returns : goal.quantifiers::advance_any-returns
+quantifiers::advance_any-returns t c =
+    subst (λ x. Makes c.args.step.limit (pruned x) c.within_if_live.result) (λ i. any_of (c.in_ok-common.ensures.0 i) (c.in_ok-common.ensures.1 i)) c.within_if_live.ensures
+
+pub quantifiers::advance_every-advance_values-requires : goal.quantifiers::advance_every-advance_values-requires
+quantifiers::advance_every-advance_values-requires t c =
+    (omega arith, (c.requires.ready, (c.requires.common, c.requires.each)))
+
+pub quantifiers::advance_every-returns-in_err-common : goal.quantifiers::advance_every-returns-in_err-common
+quantifiers::advance_every-returns-in_err-common t c =
+    exit_over _ c.from_residual.result _ c.from_residual.ensures.1 c.in_err-common.ensures (λ over.
+    every_above c.args.body.parameter.now (form_of c.args.body.expr.now) c.args.step.env.now c.args.step.action.now c.args.common.now c.args.entries.now c.requires.ready c.args.step.limit c.args.step.positive over)
+
+pub quantifiers::advance_every-returns : goal.quantifiers::advance_every-returns
+quantifiers::advance_every-returns t c =
+    subst (λ x. Makes c.args.step.limit (settled x) c.settled_within.result) (λ i. every_of (c.in_ok-common.ensures.0 i) (c.in_ok-common.ensures.1 i)) c.settled_within.ensures
+
 pub quantifiers::advance_sync-contains-requires : goal.quantifiers::advance_sync-contains-requires
 quantifiers::advance_sync-contains-requires t c =
     subst (Fits (form_of c.args.body.expr.now)) (sym c.bind.ensures) (c.requires.ready.fits.body None)
@@ -666,19 +747,25 @@ quantifiers::advance_sync-advance_own-requires t c =
     let outside = ap (λ f. in_alphabet y f c.args.step.action.now) (sym c.bind.ensures) ∙ sym (same_alphabet c.contains.result y c.bind.new.self c.args.step.action.now c.contains.ensures) ∙ c.if-contains.false in
     (omega arith, (c.requires.ready, (outside, c.requires.each)))
 
+pub quantifiers::advance_sync-returns-in_err-common : goal.quantifiers::advance_sync-returns-in_err-common
+quantifiers::advance_sync-returns-in_err-common t c =
+    exit_over _ c.from_residual.result _ c.from_residual.ensures.1 c.in_err-common.ensures (λ over.
+    sync_above c.args.body.parameter.now (form_of c.args.body.expr.now) c.args.step.env.now c.args.step.action.now c.args.common.now c.args.entries.now c.requires.ready c.args.step.limit c.args.step.positive over)
+
 pub quantifiers::advance_sync-returns : goal.quantifiers::advance_sync-returns
 quantifiers::advance_sync-returns t c =
     let y = form_of c.args.body.expr.now in
     let outside = ap (λ f. in_alphabet y f c.args.step.action.now) (sym c.bind.ensures) ∙ sym (same_alphabet c.contains.result y c.bind.new.self c.args.step.action.now c.contains.ensures) ∙ c.if-contains.false in
     let common = c.in_ok-share.ensures ∙ sym (common_stays c.args.body.parameter.now (form_of c.args.body.expr.now) c.args.step.env.now c.args.step.action.now c.args.common.now c.args.entries.now outside) in
-    subst (λ x. Makes c.args.step.limit x c.within-2.result) (λ i. sync_of (common i) (c.in_ok-entries.ensures.0 i)) c.within-2.ensures
+    subst (λ x. Makes c.args.step.limit (settled x) c.settled_within-2.result) (λ i. sync_of (common i) (c.in_ok-entries.ensures.0 i)) c.settled_within-2.ensures
 
 pub quantifiers::advance_sync-returns-in_err-entries : goal.quantifiers::advance_sync-returns-in_err-entries
 quantifiers::advance_sync-returns-in_err-entries t c =
     let y = form_of c.args.body.expr.now in
     let outside = ap (λ f. in_alphabet y f c.args.step.action.now) (sym c.bind.ensures) ∙ sym (same_alphabet c.contains.result y c.bind.new.self c.args.step.action.now c.contains.ensures) ∙ c.if-contains.false in
     let common = common_stays c.args.body.parameter.now (form_of c.args.body.expr.now) c.args.step.env.now c.args.step.action.now c.args.common.now c.args.entries.now outside in
-    exit_over _ c.from_residual-in_err-entries.result _ c.from_residual-in_err-entries.ensures.1 c.in_err-entries.ensures (λ over. omega (arith, ap size_of common, over))
+    exit_over _ c.from_residual-in_err-entries.result _ c.from_residual-in_err-entries.ensures.1 c.in_err-entries.ensures (λ over.
+    sync_above c.args.body.parameter.now (form_of c.args.body.expr.now) c.args.step.env.now c.args.step.action.now c.args.common.now c.args.entries.now c.requires.ready c.args.step.limit c.args.step.positive (omega (arith, ap size_of common, over)))
 
 pub quantifiers::advance_own-loop-value-init : goal.quantifiers::advance_own-loop-value-init
 quantifiers::advance_own-loop-value-init t c =
@@ -793,7 +880,7 @@ maps::advance_owner-returns t c =
     let same = ap (λ g. moved (form_of c.args.body.expr.now) g c.or_first.result.now c.args.step.action.now) c.bind.ensures ∙ ap (λ z. moved (form_of c.args.body.expr.now) (bind c.args.body.parameter.now (Some c.args.value.now) c.args.step.env.now) z c.args.step.action.now) found in
     owner_made c.args.step.limit c.larger.result c.args.first.now c.args.value.now (begun_tree c.args.body.parameter.now (form_of c.args.body.expr.now) c.args.step.env.now c.args.step.action.now c.args.first.now (plain_map c.args.state.now) c.args.value.now) (moved (form_of c.args.body.expr.now) c.bind.new.self c.or_first.result.now c.args.step.action.now) (items_of (first_part (plain_map c.args.state.now))) c.advance.result same
     (omega (arith, c.larger.ensures.first, c.args.step.positive)) c.larger.ensures.first (omega (arith, c.larger.ensures.second, c.size.ensures.value))
-    (c.larger.ensures.bound 1000000 c.args.step.bounded (omega (arith, c.size.ensures.value, c.requires.ready.small))) c.advance.ensures
+    (c.larger.ensures.bound 2000010 c.args.step.bounded (omega (arith, c.size.ensures.value, c.requires.ready.small))) c.advance.ensures
 
 pub maps::advance_maps-advance_owners-requires : goal.maps::advance_maps-advance_owners-requires
 maps::advance_maps-advance_owners-requires t c =

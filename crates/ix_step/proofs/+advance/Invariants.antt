@@ -11,7 +11,7 @@ use Rattle.ix_can.specs.inside.Moved.{picks}
 use Rattle.ix_step.specs.inside.EnterTrees.{HoldTrees}
 use Rattle.ix_step.specs.inside.Makes.{put_all}
 use Rattle.ix_step.specs.inside.MapsAfter.{maps_after, map_after}
-use Rattle.ix_step.specs.inside.Moves.{live_move}
+use Rattle.ix_step.specs.inside.Moves.{open_move, some_ends}
 use Rattle.ix_step.specs.inside.ParallelMoves.{pair_moves, bag_moves, pick_move}
 use Rattle.ix_step.specs.inside.ValueTrees.{tree_after}
 use Rattle.ix_step.specs.declared.bodies.Reach.TheVariants.{OwnAlphabet}
@@ -40,12 +40,13 @@ decreases-advance::advance_star l = 8 * form_size (form_of l.y.now) + 6
 abbrev pub decreases-advance::advance_each : goal.decreases-advance::advance_each
 decreases-advance::advance_each l = 8 * form_size (form_of l.expr.now) + 3
 
--- the set holds what the trees so far give, within the limit
+-- the set holds the open ones of what the trees so far give, within the limit, and the flag says whether one is done
 abbrev pub invariant-advance::advance_each-loop-tree : goal.invariant-advance::advance_each-loop-tree
 invariant-advance::advance_each-loop-tree l = record {
-  items : l.set.items ≡ put_all (flat_map (live_move (form_of l.expr) l.step.env.now l.step.action.now) (take l.tree-index l.trees)) [];
+  items : l.set.items ≡ put_all (flat_map (open_move (form_of l.expr) l.step.env.now l.step.action.now) (take l.tree-index l.trees)) [];
   within : size_of (listed l.set.items) ≤ l.step.limit;
   budget : l.set.budget ≡ l.step.limit;
+  ended : l.ended ≡ some_ends (form_of l.expr) l.step.env.now l.step.action.now (take l.tree-index l.trees);
 }
 
 abbrev pub decreases-beginning::advance_again : goal.decreases-beginning::advance_again
@@ -119,6 +120,12 @@ invariant-quantifiers::advance_entries-loop-value l = record {
   within : l.total ≤ l.step.limit;
 }
 
+abbrev pub decreases-quantifiers::advance_any : goal.decreases-quantifiers::advance_any
+decreases-quantifiers::advance_any l = 8 * form_size (form_of l.body.expr.now) + 6
+
+abbrev pub decreases-quantifiers::advance_every : goal.decreases-quantifiers::advance_every
+decreases-quantifiers::advance_every l = 8 * form_size (form_of l.body.expr.now) + 6
+
 abbrev pub decreases-quantifiers::advance_sync : goal.decreases-quantifiers::advance_sync
 decreases-quantifiers::advance_sync l = 8 * form_size (form_of l.body.expr.now) + 6
 
@@ -129,7 +136,7 @@ abbrev pub invariant-quantifiers::advance_own-loop-value : goal.invariant-quanti
 invariant-quantifiers::advance_own-loop-value l = record {
   proper : IsProper text_cmp tree_ghosts.eq l.common l.own.items;
   given : GivesAll l.common (tree_after OwnAlphabet l.body.parameter.now (form_of l.body.expr.now) l.step.env.now l.step.action.now l.common (map plain_entry l.entries)) (drop l.value-index l.step.action.now.values) l.own.items;
-  small : size_of (plain_entries l.own.items) ≤ 1000000 + l.value-index * 1000001;
+  small : size_of (plain_entries l.own.items) ≤ 1000000 + l.value-index * 2000011;
 }
 
 abbrev pub decreases-quantifiers::advance_at : goal.decreases-quantifiers::advance_at

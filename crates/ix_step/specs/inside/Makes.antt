@@ -1,5 +1,5 @@
 -- What it means on the way of a step that a tree or a set of alternatives is made within a limit.
-use Rattle.std.specs.Prelude.{◌≡◌, ℕ, ◌+◌, ◌<◌, ◌≤◌, List, [], ◌∷◌, Result, MatchResult}
+use Rattle.std.specs.Prelude.{◌≡◌, ℕ, Bool, ◌+◌, ◌<◌, ◌≤◌, List, [], ◌∷◌, Result, MatchResult}
 use Rattle.std.specs.BTreeSet.{insert_key}
 use Rattle.std.specs.List.{sum_by}
 use Rattle.std.specs.declared.cmp.Ordering.{Ordering}
@@ -39,4 +39,11 @@ Puts cmp weight set new item r =
 abbrev pub Collects : {T : Type 0} → (List T → List Plain) → ℕ → List Plain → Result (Alternatives T) Unbuilt → Type 0
 Collects view limit trees r =
     MatchResult r (λ set. (view set.items ≡ put_all trees []) × (set.budget ≡ limit) × (size_of (listed (view set.items)) ≤ limit))
+    (IsOver limit (listed (put_all trees [])))
+
+-- the set holds the trees, each once, within the limit, and the flag is this one, or the trees are together above it, or
+-- memory ran out
+abbrev pub CollectsOpen : ℕ → List Plain → Bool → Result (Alternatives Plain × Bool) Unbuilt → Type 0
+CollectsOpen limit trees ended r =
+    MatchResult r (λ made. (made.0.items ≡ put_all trees []) × (made.0.budget ≡ limit) × (size_of (listed made.0.items) ≤ limit) × (made.1 ≡ ended))
     (IsOver limit (listed (put_all trees [])))

@@ -1,10 +1,10 @@
--- Where it is asked whether an action may come next before the parts are moved, and where the moved parts tell that the node is dead.
-use Rattle.std.specs.Prelude.{Bool, true, false, ◌&&◌}
+-- Where it is asked whether an action may come next before the parts are moved, and where the moved parts tell that the node is dead or done.
+use Rattle.std.specs.Prelude.{Bool, true, false, not, ◌&&◌}
 use Rattle.ix_values.specs.PlainAction.{PlainAction}
 use Rattle.ix_expr.specs.Form.{Form, atom, and, couple, every, sync}
 use Rattle.ix_expr.specs.Environment.{Environment}
 use Rattle.ix_tree.specs.Plain.{Plain, is_dead, none, opt as opt_of, seq as seq_of, star as star_of, par as par_of, par_star as par_star_of, or as or_of, any as any_of, all as all_of}
-use Rattle.ix_can.specs.Nodes.{dead_if}
+use Rattle.ix_can.specs.Nodes.{dead_if, settled}
 use Rattle.ix_can.specs.inside.May.{may}
 
 -- whether the action may come next, as far as it is asked: of an atom, and of the forms of which each part must move
@@ -21,11 +21,11 @@ abbrev pub is_none : Plain → Bool
 is_none none = true
 is_none t = false
 
--- whether no part of the node is live, where it is enough that one is
+-- whether no part of the node is live, where it is enough that one is; a flag tells of the parts that are done
 abbrev pub has_died : Plain → Bool
 has_died (opt_of empty t) = is_dead t
-has_died (seq_of t rest) = is_dead t && is_none rest
-has_died (star_of again rest) = is_none rest
+has_died (seq_of t ended rest) = is_dead t && (not ended && is_none rest)
+has_died (star_of again rest) = not again && is_none rest
 has_died (par_of pairs) = is_none pairs
 has_died (par_star_of bags) = is_none bags
 has_died (or_of t u) = is_dead t && is_dead u
@@ -33,6 +33,6 @@ has_died (any_of common entries) = is_dead common && is_none entries
 has_died (all_of maps) = is_none maps
 has_died t = false
 
--- the node, dead where none of its parts is live
+-- the node, dead where none of its parts is live, and done where it is spent
 abbrev pub pruned : Plain → Plain
-pruned t = dead_if (has_died t) t
+pruned t = dead_if (has_died t) (settled t)

@@ -91,4 +91,4 @@ MakesParts limit common entries r =
 -- the entries were made and aren't large beyond measure, or with the common tree they are above the limit, or memory ran out
 abbrev pub MakesOwn : ℕ → Plain → Plain → Result (Vec (List ℕ × Plain) Global) Unbuilt → Type 0
 MakesOwn limit common entries r =
-    MatchResult r (λ made. (plain_entries made.items ≡ entries) × (size_of entries ≤ 6000000)) (IsOver limit (more common entries))
+    MatchResult r (λ made. (plain_entries made.items ≡ entries) × (size_of entries ≤ 10000000)) (IsOver limit (more common entries))

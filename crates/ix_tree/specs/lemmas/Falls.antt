@@ -1,7 +1,7 @@
 -- Each knot in a node has a smaller Size than the node.
 use Rattle.std.specs.Prelude.{ℕ, ◌+◌, ◌≤◌, max, List, [], ◌∷◌, map as each}
 use Rattle.std.proofs.Common.{arith}
-use denote.Param.Weighed.{most, w_this}
+use denote.Param.Weighed.{most}
 use Rattle.ix_tree.specs.Plain.{Plain, listed}
 use Rattle.ix_tree.specs.Size.{size_of}
 use Rattle.ix_tree.specs.PlainOf.{plain_pair, plain_bag, plain_map, plain_entry, plain_entries}
@@ -51,7 +51,7 @@ depth_le-size Dead = omega arith
 depth_le-size Start = omega arith
 depth_le-size Done = omega arith
 depth_le-size (Opt empty x) = omega arith
-depth_le-size (Seq x xs) = omega (arith, knots xs.items)
+depth_le-size (Seq x ended xs) = omega (arith, knots xs.items)
 depth_le-size (Star again xs) = omega (arith, knots xs.items)
 depth_le-size (Par ps) = omega (arith, pairs ps.items)
 depth_le-size (ParStar bs) = omega (arith, bags bs.items)

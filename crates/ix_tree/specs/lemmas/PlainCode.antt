@@ -1,18 +1,18 @@
--- By which code a proof tells plain trees apart: the place and the key of each node, before its parts.
+-- By which code a proof tells plain trees apart: the place of each node and what stands in it beside trees, before its parts.
 use Rattle.std.specs.Prelude.{◌≡◌, ℕ, ◌==◌, true, false, Bool, List, [], ◌∷◌, ◌++◌, if◌then◌else◌}
 use Rattle.std.specs.Coded.{Coded, code_by, coded×, coded_ℕ, coded_list}
 use Rattle.std.proofs.Common.{refl, sym, ap, ◌∙◌, append_assoc, append-nil}
 use Rattle.ix_tree.specs.Plain.{Plain, dead, start, done, opt, seq, star, par, par_star, or, and, couple, any, every, sync, all, pair, bag, map, entry, none, more}
-use Rattle.ix_tree.specs.Order.{place, key}
+use Rattle.ix_tree.specs.Order.{key, between}
 
--- the place and the key of each node, in the order of a reader
+-- the place of each node and what stands in it beside trees, in the order of a reader
 abbrev written : Plain → List (ℕ × List ℕ)
 written none = (19, []) ∷ []
 written dead = (0, []) ∷ []
 written start = (1, []) ∷ []
 written done = (2, []) ∷ []
 written (opt b x) = (3, key (opt b x)) ∷ written x
-written (seq x y) = (4, []) ∷ (written x ++ written y)
+written (seq x b y) = (4, between (seq x b y)) ∷ (written x ++ written y)
 written (star b x) = (5, key (star b x)) ∷ written x
 written (par x) = (6, []) ∷ written x
 written (par_star x) = (7, []) ∷ written x
@@ -51,9 +51,9 @@ of_one n k x =
     (if n == 14 then all x else (if n == 16 then bag x else (if n == 17 then map x else entry k x))))))
 
 -- a node of two parts
-abbrev of_two : ℕ → Plain → Plain → Plain
-of_two n x y =
-    if n == 4 then seq x y else (if n == 8 then or x y else (if n == 9 then and x y else (if n == 10 then couple x y else
+abbrev of_two : ℕ → List ℕ → Plain → Plain → Plain
+of_two n k x y =
+    if n == 4 then seq x (flag k) y else (if n == 8 then or x y else (if n == 9 then and x y else (if n == 10 then couple x y else
     (if n == 11 then any x y else (if n == 12 then every x y else (if n == 13 then sync x y else (if n == 15 then pair x y else more x y)))))))
 
 -- how many parts the nodes of a place have
@@ -72,7 +72,7 @@ of_none n = if n == 0 then dead else (if n == 1 then start else (if n == 2 then 
 -- the trees, after the node of one place and key took its parts from them
 abbrev taken : ℕ → List ℕ → List Plain → List Plain
 taken n k xs =
-    if leaf n then of_none n ∷ xs else (if single n then of_one n k (top xs) ∷ under xs else of_two n (top xs) (top (under xs)) ∷ under (under xs))
+    if leaf n then of_none n ∷ xs else (if single n then of_one n k (top xs) ∷ under xs else of_two n k (top xs) (top (under xs)) ∷ under (under xs))
 
 -- the trees that are written there
 abbrev read : List (ℕ × List ℕ) → List Plain
@@ -96,7 +96,8 @@ reads start ts = refl
 reads done ts = refl
 reads (opt true x) ts = one_reads 3 (1 ∷ []) x ts (reads x ts)
 reads (opt false x) ts = one_reads 3 (0 ∷ []) x ts (reads x ts)
-reads (seq x y) ts = two_read 4 [] x y ts (reads x) (reads y ts)
+reads (seq x true y) ts = two_read 4 (1 ∷ []) x y ts (reads x) (reads y ts)
+reads (seq x false y) ts = two_read 4 (0 ∷ []) x y ts (reads x) (reads y ts)
 reads (star true x) ts = one_reads 5 (1 ∷ []) x ts (reads x ts)
 reads (star false x) ts = one_reads 5 (0 ∷ []) x ts (reads x ts)
 reads (par x) ts = one_reads 6 [] x ts (reads x ts)

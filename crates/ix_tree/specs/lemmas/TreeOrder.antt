@@ -9,7 +9,7 @@ use Rattle.ix_words.specs.Canon.{IsStrictOrder}
 use Rattle.ix_values.specs.Order.{text_cmp}
 use Rattle.ix_values.specs.lemmas.Order.{text_cmp-same}
 use Rattle.ix_tree.specs.Plain.{Plain, dead, start, done, opt, seq, star, par, par_star, or, and, couple, any, every, sync, all, pair, bag, map, entry, none, more}
-use Rattle.ix_tree.specs.Order.{place, key, first_part, second_part, in_turn, tree_cmp}
+use Rattle.ix_tree.specs.Order.{place, key, first_part, between, second_part, in_turn, tree_cmp}
 
 -- what holds of the empty list, and of a tree where it holds of its parts, holds of every tree
 induct : (P : Plain → Type 0) → P none → ((x : Plain) → P (first_part x) → P (second_part x) → P x) → (x : Plain) → P x
@@ -17,7 +17,7 @@ induct P n s dead = s dead n n
 induct P n s start = s start n n
 induct P n s done = s done n n
 induct P n s (opt empty x) = s (opt empty x) (induct P n s x) n
-induct P n s (seq x xs) = s (seq x xs) (induct P n s x) (induct P n s xs)
+induct P n s (seq x ended xs) = s (seq x ended xs) (induct P n s x) (induct P n s xs)
 induct P n s (star again xs) = s (star again xs) (induct P n s xs) n
 induct P n s (par pairs) = s (par pairs) (induct P n s pairs) n
 induct P n s (par_star bags) = s (par_star bags) (induct P n s bags) n
@@ -55,7 +55,7 @@ no_first _ e = absurd (true≢false e)
 -- a form without a second part has none there
 no_second : (x : Plain) → has_second (place x) ≡ false → second_part x ≡ none
 unfolding has_second
-no_second (seq x xs) e = absurd (true≢false e)
+no_second (seq x ended xs) e = absurd (true≢false e)
 no_second (or x y) e = absurd (true≢false e)
 no_second (and x y) e = absurd (true≢false e)
 no_second (couple x y) e = absurd (true≢false e)
@@ -77,8 +77,8 @@ same_turn : (x y : Plain) (a b c d : Ordering) → (place x ≡ place y → a �
 same_turn x y a b c d f g =
     turn_same (nat_cmp (place x) (place y))
     (λ e. let same : place x ≡ place y = nat_cmp-IsAntisymmetric (place x) (place y) e in
-    ap (λ (o : Ordering). ordering_then (text_cmp (key x) (key y)) (ordering_then o b)) (f same)
-    ∙ ap (λ (o : Ordering). ordering_then (text_cmp (key x) (key y)) (ordering_then c o)) (g same))
+    ap (λ (o : Ordering). ordering_then (text_cmp (key x) (key y)) (ordering_then o (ordering_then (text_cmp (between x) (between y)) b))) (f same)
+    ∙ ap (λ (o : Ordering). ordering_then (text_cmp (key x) (key y)) (ordering_then c (ordering_then (text_cmp (between x) (between y)) o))) (g same))
 
 -- first parts of one form that has none are level
 level_first : (x y : Plain) → has_first (place x) ≡ false → place x ≡ place y → Equal ≡ tree_cmp none (first_part y)
@@ -107,7 +107,7 @@ turns dead y = no_part dead y refl refl
 turns start y = no_part start y refl refl
 turns done y = no_part done y refl refl
 turns (opt empty x) y = one_part (opt empty x) y _ refl
-turns (seq x xs) y = refl
+turns (seq x ended xs) y = refl
 turns (star again xs) y = one_part (star again xs) y _ refl
 turns (par pairs) y = one_part (par pairs) y _ refl
 turns (par_star bags) y = one_part (par_star bags) y _ refl
@@ -132,20 +132,22 @@ is_one : List ℕ → Bool
 is_one [] = false
 is_one (b ∷ v) = b == 1
 
--- the tree of a form with these bytes and parts
-made : ℕ → List ℕ → Plain → Plain → Plain
-made n k x y =
-    cond (n == 0) dead (cond (n == 1) start (cond (n == 2) done (cond (n == 3) (opt (is_one k) x) (cond (n == 4) (seq x y)
+-- the tree of a form with these bytes and parts, and with these bytes between the parts
+made : ℕ → List ℕ → Plain → List ℕ → Plain → Plain
+made n k x b y =
+    cond (n == 0) dead (cond (n == 1) start (cond (n == 2) done (cond (n == 3) (opt (is_one k) x) (cond (n == 4) (seq x (is_one b) y)
     (cond (n == 5) (star (is_one k) x) (cond (n == 6) (par x) (cond (n == 7) (par_star x) (cond (n == 8) (or x y)
     (cond (n == 9) (and x y) (cond (n == 10) (couple x y) (cond (n == 11) (any x y) (cond (n == 12) (every x y)
     (cond (n == 13) (sync x y) (cond (n == 14) (all x) (cond (n == 15) (pair x y) (cond (n == 16) (bag x) (cond (n == 17) (map x)
     (cond (n == 18) (entry k x) (cond (n == 19) none (more x y))))))))))))))))))))
 
 -- a tree is made of its form, bytes and parts
-made_again : (x : Plain) → made (place x) (key x) (first_part x) (second_part x) ≡ x
+made_again : (x : Plain) → made (place x) (key x) (first_part x) (between x) (second_part x) ≡ x
 unfolding made is_one
 made_again (opt true x) = refl
 made_again (opt false x) = refl
+made_again (seq x true xs) = refl
+made_again (seq x false xs) = refl
 made_again (star true xs) = refl
 made_again (star false xs) = refl
 made_again dead = refl
@@ -172,11 +174,13 @@ apart x f s y e =
     let a = both_equal (nat_cmp (place x) (place y)) _ (sym (turns x y) ∙ e) in
     let b = both_equal (text_cmp (key x) (key y)) _ a.1 in
     let c = both_equal (tree_cmp (first_part x) (first_part y)) _ b.1 in
+    let d = both_equal (text_cmp (between x) (between y)) _ c.1 in
     let p : place x ≡ place y = nat_cmp-IsAntisymmetric (place x) (place y) a.0 in
     let k : key x ≡ key y = text_cmp-same (key x) (key y) b.0 in
     let g : first_part x ≡ first_part y = f (first_part y) c.0 in
-    let h : second_part x ≡ second_part y = s (second_part y) c.1 in
-    sym (made_again x) ∙ (λ i. made (p i) (k i) (g i) (h i)) ∙ made_again y
+    let w : between x ≡ between y = text_cmp-same (between x) (between y) d.0 in
+    let h : second_part x ≡ second_part y = s (second_part y) d.1 in
+    sym (made_again x) ∙ (λ i. made (p i) (k i) (g i) (w i) (h i)) ∙ made_again y
 
 -- trees that compare as equal are the same
 pub tree_cmp-same : (x y : Plain) → tree_cmp x y ≡ Equal → x ≡ y
@@ -212,7 +216,8 @@ turned : (x : Plain) → Turned (first_part x) → Turned (second_part x) → Tu
 turned x f s y =
     turns x y
     ∙ both_turned _ _ (nat_cmp_total.antisymm (place x) (place y))
-    (both_turned _ _ (text_cmp-total.antisymm (key x) (key y)) (both_turned _ _ (f (first_part y)) (s (second_part y))))
+    (both_turned _ _ (text_cmp-total.antisymm (key x) (key y)) (both_turned _ _ (f (first_part y))
+    (both_turned _ _ (text_cmp-total.antisymm (between x) (between y)) (s (second_part y)))))
     ∙ ap ordering_reverse (sym (turns y x))
 
 -- Chains
@@ -262,7 +267,11 @@ chains x f s y z d e =
     (f (first_part y) (first_part z))
     (tree_first (first_part x) (first_part y) (first_part z))
     (tree_last (first_part x) (first_part y) (first_part z))
-    (s (second_part y) (second_part z))))
+    (chained (text_cmp (between x) (between y)) (text_cmp (between y) (between z)) (text_cmp (between x) (between z)) _ _ _
+    (text_cmp-total.trans (between x) (between y) (between z))
+    (text_cmp-total.congr (between x) (between y) (between z))
+    (λ c. sym (alike_right text_cmp-total (between y) (between z) (between x) c))
+    (s (second_part y) (second_part z)))))
     (sym (turns x y) ∙ d) (sym (turns y z) ∙ e)
 
 -- the order is total

@@ -244,7 +244,7 @@ fn a_day_is_granted(rt: HostRuntime) -> Result<(), Fail> {
         append_ask(alloc, number, &mut script, &mut wanted)?;
     }
     script.extend_from_slice(b"1 0 status\n")?;
-    wanted.extend_from_slice(b"0 status complete 800 nodes 405\n")?;
+    wanted.extend_from_slice(b"0 status complete 800 nodes 5\n")?;
     let same = check_replay(alloc, &REPLAY, BOTH, &script, 0, &wanted)?;
     assert!(rt; same);
     Ok(())

@@ -133,7 +133,7 @@ fn trees_above_the_limit_are_large(rt: HostRuntime) -> Result<(), Fail> {
             b"any $p (a - b($p))",
             b"a\nb(u)",
             0,
-            b"yes\nlarge\npartial\n",
+            b"yes\nyes\ncomplete\n",
         ),
         ("1000000", b"a", b"b\na", 0, b"no\nyes\ncomplete\n"),
     ];

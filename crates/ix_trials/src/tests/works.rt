@@ -19,12 +19,12 @@ fn works_are_summed_up(rt: HostRuntime) -> Result<(), Fail> {
         (
             &["work", "16", "7"],
             0,
-            b"asked 16 granted 9 refused 7 nodes 117\n",
+            b"asked 16 granted 9 refused 7 nodes 85\n",
         ),
         (
             &["work", "100", "18446744073709551615"],
             0,
-            b"asked 100 granted 46 refused 54 nodes 269\n",
+            b"asked 100 granted 46 refused 54 nodes 101\n",
         ),
         (
             &["work", "0", "7", "--nodes", "4"],
@@ -34,12 +34,12 @@ fn works_are_summed_up(rt: HostRuntime) -> Result<(), Fail> {
         (
             &["work", "20000", "7"],
             0,
-            b"asked 20000 granted 7755 refused 12245 nodes 405\n",
+            b"asked 20000 granted 7755 refused 12245 nodes 149\n",
         ),
         (
             &["work", "20000", "7"],
             0,
-            b"asked 20000 granted 7755 refused 12245 nodes 405\n",
+            b"asked 20000 granted 7755 refused 12245 nodes 149\n",
         ),
     ];
     for (words, status, bytes) in cases {

@@ -43,7 +43,7 @@ goes_on-goes_on-requires-in-Seq-Seq t c =
 
 pub goes_on-some_goes_on-requires : goal.goes_on-some_goes_on-requires
 goes_on-some_goes_on-requires t c =
-    (search (rules, the_lemmas), seq_rest (asked (ap form_of c.in-Seq-Seq.is-0 ∙ ap (λ v. seq (form_of c.in-Seq-Seq.y.value) (form_of v)) (sym c.deref-else-goes_on.ensures)) (sym c.node.ensures ∙ ap plain_node c.in-Seq-Seq.is-1 ∙ ap (λ v. seq_of c.in-Seq-Seq.x (listed v)) (sym c.deref-else-goes_on-2.ensures.value)) c.requires))
+    (search (rules, the_lemmas), seq_rest (asked (ap form_of c.in-Seq-Seq.is-0 ∙ ap (λ v. seq (form_of c.in-Seq-Seq.y.value) (form_of v)) (sym c.deref-else-goes_on.ensures)) (sym c.node.ensures ∙ ap plain_node c.in-Seq-Seq.is-1 ∙ ap (λ v. seq_of c.in-Seq-Seq.x c.in-Seq-Seq.field-1-1 (listed v)) (sym c.deref-else-goes_on-2.ensures.value)) c.requires))
 
 pub goes_on-begins_again-requires : goal.goes_on-begins_again-requires
 goes_on-begins_again-requires t c =

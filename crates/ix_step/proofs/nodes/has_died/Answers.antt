@@ -1,26 +1,14 @@
 -- Empty lists of parts in memory and as parts of a tree.
 use Rattle.std.proofs.Common.{◌&&◌, ◌==◌, length, sym, ap, ◌∙◌}
-use Rattle.ix_tree.specs.Plain.{listed}
 use Rattle.ix_tree.specs.PlainOf.{plain_pair, plain_bag, plain_map, plain_entry, plain_entries}
 use Rattle.ix_tree.specs.inside.PlainNode.{plain_node}
 use Rattle.ix_step.specs.inside.Pruned.{is_none, has_died}
-use Rattle.ix_step.proofs.Pruning.{trees_none, parts_none}
+use Rattle.ix_step.proofs.Pruning.{parts_none}
 use Rattle.ix_step.proofs.nodes.has_died.Goals as goal
-
-pub returns-then-is_dead : goal.returns-then-is_dead
-returns-then-is_dead c =
-    c.is_empty.ensures ∙ ap (λ l. length l == 0) c.as_slice.ensures.value ∙ trees_none c.in-Seq.rest.items
-    ∙ ap (λ b. b && is_none (listed c.in-Seq.rest.items)) (sym c.if-is_dead.true ∙ c.is_dead-in-Seq.ensures)
-    ∙ sym (ap (λ n. has_died (plain_node n)) c.in-Seq.is)
-
-pub returns-in-Star : goal.returns-in-Star
-returns-in-Star c =
-    c.is_empty-in-Star.ensures ∙ ap (λ l. length l == 0) c.as_slice-in-Star.ensures.value ∙ trees_none c.in-Star.rest.items
-    ∙ sym (ap (λ n. has_died (plain_node n)) c.in-Star.is)
 
 pub returns-in-Par : goal.returns-in-Par
 returns-in-Par c =
-    c.is_empty-in-Par.ensures ∙ ap (λ l. length l == 0) c.as_slice-in-Par.ensures.value ∙ parts_none plain_pair c.in-Par.pairs.items
+    c.is_empty.ensures ∙ ap (λ l. length l == 0) c.as_slice.ensures.value ∙ parts_none plain_pair c.in-Par.pairs.items
     ∙ sym (ap (λ n. has_died (plain_node n)) c.in-Par.is)
 
 pub returns-in-ParStar : goal.returns-in-ParStar

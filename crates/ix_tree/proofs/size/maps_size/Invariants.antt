@@ -1,6 +1,6 @@
 use Rattle.std.proofs.Common.{◌≡◌, ◌+◌, drop, map}
 use Rattle.ix_tree.specs.Plain.{listed}
-use Rattle.ix_tree.specs.PlainOf.{plain_pair, plain_bag, plain_map, plain_entries}
+use Rattle.ix_tree.specs.PlainOf.{plain_map}
 use Rattle.ix_tree.specs.Size.{size_of}
 use Rattle.ix_tree.proofs.size.maps_size.Given as goal
 

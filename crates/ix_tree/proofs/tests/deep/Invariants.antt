@@ -1,5 +1,4 @@
 use Rattle.std.proofs.Common.{◌≡◌, ◌+◌}
-use Rattle.ix_tree.specs.Plain.{listed}
 use Rattle.ix_tree.specs.Size.{size_of}
 use Rattle.ix_tree.proofs.tests.deep.Given as goal
 
