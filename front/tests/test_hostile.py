@@ -150,11 +150,14 @@ class Hostile(Place):
         front = self.front(self.through.words[1], "--read-time", "0.5")
         with Client(front.path) as client:
             client.sock.setblocking(False)
-            try:
-                while True:
-                    client.sock.send(b"status\n" * 1000)
-            except BlockingIOError:
-                pass
+            taken, end = 0, time.monotonic() + 0.4
+            while time.monotonic() < end:
+                try:
+                    taken += client.sock.send(b"status\n" * 1000)
+                except BlockingIOError:
+                    time.sleep(0.001)
+            # The system's buffers hold some hundred kilobytes.
+            self.assertLess(taken, 1 << 20)
             with open(f"{self.folder}/log") as log:
                 wait_until(lambda: '"unread replies"' in log.read(), "it is closed")
         self.assertTrue(os.path.exists(front.path))

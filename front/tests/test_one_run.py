@@ -1,6 +1,8 @@
 """Clients that do anything, at one manager and through one front: what each gets is what the machine replies."""
 
+import os
 import random
+import signal
 import socket
 import threading
 import time
@@ -9,7 +11,7 @@ from .replayed import check_run
 from .support import Client, Place, page, wait_until
 from .tap import Tap
 
-LEAVING = ("connects", "half a line", "asks", "waits", "is granted", "confirms")
+LEAVING = ("connects", "half a line", "asks", "waits", "ends and waits", "is at the manager", "is granted", "confirms")
 
 
 class Random(threading.Thread):
@@ -143,27 +145,57 @@ class OneRun(Place):
                 self.assertEqual(held[0], "granted")
                 self.assertEqual(other.request(f"cancel {held[1]}"), f"cancelled {held[1]}")
         lines = [line for line, _ in self.pairs()]
-        self.assertNotIn(b"ask do(waits) 60000", lines)
+        for point in ("asks", "waits", "ends"):
+            self.assertNotIn(f"ask do({point}) 60000".encode(), lines)
         self.assertEqual(other.request("status").split()[:3], ["status", "complete", "1"])
         check_run(self, self.folder, self.run_of.runs[0], [self.pairs()])
 
     def leave(self, front, other, point):
-        held = other.request("ask do(held) 60000").split()[1] if point in ("asks", "waits") else None
+        waits = point in ("asks", "waits", "ends and waits")
+        held = other.request("ask do(held) 60000").split()[1] if waits else None
         client = Client(front.path)
-        action = f"do({point.split()[-1]})"
+        action = f"do({point.split()[0]})"
         if point == "half a line":
             client.sock.sendall(b"ask do(half) 60")
-        elif point in ("asks", "waits"):
+        elif waits:
             client.send(f"ask {action} 60000")
-            wait_until(lambda: point == "asks" or "waiting 1\n" in page(self.folder, "/health"), "the ask waits")
+            if point == "ends and waits":
+                client.sock.shutdown(socket.SHUT_WR)
+            wait_until(lambda: point == "asks" or self.waits(1), "the ask waits")
+        elif point == "is at the manager":
+            os.kill(self.run_of.process.pid, signal.SIGSTOP)
+            client.send(f"ask {action} 60000")
+            wait_until(lambda: self.tap.sessions[-1].sent.endswith(b"ask do(is) 60000\n"), "the ask is sent")
         elif point in ("is granted", "confirms"):
             lease = 300 if point == "is granted" else 60000
             ticket = client.request(f"ask {action} {lease}").split()[1]
             if point == "confirms":
                 client.send(f"confirm {ticket}")
         client.close()
+        if point == "is at the manager":
+            os.kill(self.run_of.process.pid, signal.SIGCONT)
+        if point == "waits":
+            wait_until(lambda: self.waits(0), "the ask leaves the line")
         if held is not None:
             self.assertEqual(other.request(f"cancel {held}"), f"cancelled {held}")
+
+    def waits(self, count):
+        """Whether so many asks wait."""
+        return f"waiting {count}\n" in page(self.folder, "/health")
+
+    def test_a_reservation_that_the_front_does_not_know(self):
+        """It was granted through a front before. The ask is answered 20, waits until the deadline, and is granted."""
+        front = self.tapped()
+        with Client(front.path) as holder:
+            self.assertTrue(holder.request("ask do(a) 1500").startswith("granted "))
+        front.stop()
+        front.start()
+        with Client(front.path) as client:
+            self.assertTrue(client.request("ask do(b) 60000").startswith("granted "))
+        replies = [reply for line, reply in self.pairs() if line == b"ask do(b) 60000"]
+        self.assertTrue(replies[0].startswith(b"refused 20 busy until "))
+        self.assertTrue(replies[-1].startswith(b"granted "))
+        check_run(self, self.folder, self.run_of.runs[0], [session.pairs() for session in self.tap.sessions])
 
     def test_a_client_that_sends_no_more_gets_its_replies(self):
         front = self.tapped()
