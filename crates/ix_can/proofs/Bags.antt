@@ -114,12 +114,7 @@ module _ {A B : Type 0} (f : A → B) where
   Reordered-map swapped = swapped
   Reordered-map (and_then r s) = and_then (Reordered-map r) (Reordered-map s)
 
-  -- what is taken out of a mapped list
-  pub taken_map : (u : List A) {b : B} {v : List B} → Taken b (map f u) v → (a : A) × (w : List A) × Taken a u w × (b ≡ f a) × (v ≡ map f w)
-  taken_map [] t = elim t [ ]
-  taken_map (a ∷ u) first = (a, u, first, refl, refl)
-  taken_map (a ∷ u) (later t) = let k = taken_map u t in (k.0, a ∷ k.1, later k.2, k.3, ap (λ x. f a ∷ x) k.4)
-
+  -- what is taken out of a list is taken out of its image
   pub map_taken : {a : A} {u w : List A} → Taken a u w → Taken (f a) (map f u) (map f w)
   map_taken first = first
   map_taken (later t) = later (map_taken t)

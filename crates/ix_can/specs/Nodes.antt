@@ -3,8 +3,8 @@ use Rattle.std.specs.Prelude.{Bool, false, not, ◌&&◌, ◌||◌, List, [], �
 use Rattle.std.specs.List.{list_any, list_all}
 use Rattle.std.specs.Ordering.{is_eq, is_gt}
 use Rattle.ix_words.specs.Canon.{canon, when}
-use Rattle.ix_tree.specs.Plain.{Plain, dead, done, opt, seq, star, par, par_star, or, and, couple, any}
-use Rattle.ix_tree.specs.Plain.{every, sync, all}
+use Rattle.ix_tree.specs.Plain.{Plain, dead, done, opt, seq, star, par, par_star, or, and, couple}
+use Rattle.ix_tree.specs.Plain.{any, every, sync, all}
 use Rattle.ix_tree.specs.Order.{tree_cmp, first_part, second_part}
 use Rattle.ix_can.specs.Ways.{is_empty}
 pub use Rattle.ix_tree.specs.Plain.{is_dead, is_done, listed, items_of}

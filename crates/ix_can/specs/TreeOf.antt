@@ -18,9 +18,9 @@ use Rattle.ix_tree.specs.Order.{first_part, second_part}
 use Rattle.ix_tree.specs.Size.{size_of}
 use Rattle.ix_can.specs.Tests.{is_match, in_alphabet, values_and_outside, accepts_empty}
 use Rattle.ix_can.specs.Ways.{is_empty, is_concatenation, numberings, nonempty_parts, ownings}
-use Rattle.ix_can.specs.Nodes.{is_live, is_open, same_tree, listed, items_of, set_of, sorted, live, opt_node}
-use Rattle.ix_can.specs.Nodes.{seq_node, star_node, par_node, par_star_node, or_node, and_node}
-use Rattle.ix_can.specs.Nodes.{couple_node, any_node, every_node, sync_node, all_node}
+use Rattle.ix_can.specs.Nodes.{is_live, is_open, same_tree, listed, items_of, set_of, sorted, live}
+use Rattle.ix_can.specs.Nodes.{opt_node, seq_node, star_node, par_node, par_star_node, or_node}
+use Rattle.ix_can.specs.Nodes.{and_node, couple_node, any_node, every_node, sync_node, all_node}
 
 -- whether the word whose tree this is is complete in the expression; a tree of another form that
 -- isn't done tells of no word

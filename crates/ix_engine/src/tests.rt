@@ -207,17 +207,21 @@ fn trees_have_their_sizes_and_limits(rt: HostRuntime) -> Result<(), Fail> {
     Ok(())
 }
 
-/// `b` with four arguments, of which the one at the place is `$p` and the others are fixed: at no
-/// place for 4.
-fn one_of_four(place: usize) -> Result<Expr, Fail> {
-    let mut args = [Arg::Param(name(b"p")?); 4];
-    let values: [&[u8]; 4] = [b"u", b"v", b"w", b"x"];
-    for (at, text) in values.into_iter().enumerate() {
-        if at != place {
-            args[at] = Arg::Fixed(Value::read(text).ok_or("not a value")?);
-        }
+/// `$p` at one place, and a fixed value at each other.
+fn p_at(place: usize, at: usize, text: &[u8]) -> Result<Arg, Fail> {
+    if at == place {
+        return Ok(Arg::Param(name(b"p")?));
     }
-    atom(b"b", &args)
+    Ok(Arg::Fixed(Value::read(text).ok_or("not a value")?))
+}
+
+/// `b(u,v,w,x)` with `$p` at the place instead, which is none for 4.
+fn one_of_four(place: usize) -> Result<Expr, Fail> {
+    let first = p_at(place, 0, b"u")?;
+    let second = p_at(place, 1, b"v")?;
+    let third = p_at(place, 2, b"w")?;
+    let fourth = p_at(place, 3, b"x")?;
+    atom(b"b", &[first, second, third, fourth])
 }
 
 /// `left | right`.
@@ -227,10 +231,9 @@ fn either(alloc: Global, left: Expr, right: Expr) -> Result<Expr, Fail> {
 
 /// `any $p (b(u,v,w,x) @ (c | d - (b($p,v,w,x) | b(u,$p,w,x) | b(u,v,$p,x) | b(u,v,w,$p))))`.
 fn four_entries(alloc: Global) -> Result<Expr, Fail> {
-    let mut some = one_of_four(0)?;
-    for place in 1..4_usize {
-        some = either(alloc, some, one_of_four(place)?)?;
-    }
+    let front = either(alloc, one_of_four(0)?, one_of_four(1)?)?;
+    let some = either(alloc, front, one_of_four(2)?)?;
+    let some = either(alloc, some, one_of_four(3)?)?;
     let later = in_turn(alloc, atom(b"d", &[])?, some)?;
     let right = either(alloc, atom(b"c", &[])?, later)?;
     let both = Expr::Couple(boxed(alloc, one_of_four(4)?)?, boxed(alloc, right)?);

@@ -56,7 +56,9 @@ fn two_begun(alloc: Global) -> Result<Knot, AllocError>
     ensures { IfOk result (λ t. t
         ≡ par_star
         (more
-        (bag (more (seq dead false (more start none)) (more (seq dead false (more start none)) none))) none)) }
+        (bag
+        (more (seq dead false (more start none)) (more (seq dead false (more start none)) none)))
+        none)) }
 {
     let mut items = Vec::new(alloc);
     items.push(half(alloc)?)?;
