@@ -17,3 +17,4 @@ pub mod Examinations
 pub mod Working
 pub mod ShortLines
 pub mod WorkEnding
+pub mod Causes

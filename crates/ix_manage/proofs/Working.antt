@@ -1,6 +1,6 @@
 -- The asks of a work, one after the other.
-use Rattle.std.proofs.Common.{◌≡◌, ◌≢◌, ◌∙◌, ◌+◌, ◌<◌, ◌≤◌, ℕ, zero, suc, Bool, true, false, List, [], ◌∷◌, ◌++◌}
-use Rattle.std.proofs.Common.{length, map, refl, sym, ap, ap₂, subst, arith}
+use Rattle.std.proofs.Common.{◌≡◌, ◌∙◌, ◌+◌, ◌<◌, ℕ, suc, Bool, true, false, List, [], ◌∷◌, ◌++◌}
+use Rattle.std.proofs.Common.{length, refl, sym, ap, ap₂, subst, arith}
 use Rattle.std.proofs.lemmas.List.{length_push, map_push}
 use Rattle.ix_values.specs.PlainAction.{PlainAction, Word}
 use Rattle.ix_expr.specs.Form.{Form}
