@@ -18,3 +18,4 @@ pub mod Working
 pub mod ShortLines
 pub mod WorkEnding
 pub mod Causes
+pub mod Unhindered

@@ -15,6 +15,7 @@ mod actions;
 mod history;
 mod job;
 mod last_line;
+pub mod laws;
 mod load;
 mod open;
 mod refusal;
