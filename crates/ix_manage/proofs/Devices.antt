@@ -100,25 +100,33 @@ served_event old new only = record {
   opened = only.opened;
 }
 
+-- no call was made
+pub disk_calls_still : (site : SiteState) → OnlyDisk site site
+disk_calls_still site = record { disk = omega arith; wire = refl; send = refl; contents = refl; held = refl }
+
 -- no call of the disk was made
 pub disk_still : (site : SiteState) → OnlyUsesDisk site site
 disk_still site = record {
-  rest = record { disk = omega arith; wire = refl; send = refl; contents = refl; held = refl };
+  rest = disk_calls_still site;
   attached = refl;
   opened = inl (KeepsOpened-none site.disk);
+}
+
+-- calls of the disk were made, an attach among them, and then more
+pub disk_calls_then : (old mid new : SiteState) → OnlyDisk old mid → OnlyDisk mid new → OnlyDisk old new
+disk_calls_then old mid new first second = record {
+  disk = let one = first.disk in let two = second.disk in omega arith;
+  wire = second.wire ∙ first.wire;
+  send = second.send ∙ first.send;
+  contents = second.contents ∙ first.contents;
+  held = second.held ∙ first.held;
 }
 
 -- calls of the disk were made, and then more
 pub disk_then : (old mid new : SiteState)
     → OnlyUsesDisk old mid → OnlyUsesDisk mid new → OnlyUsesDisk old new
 disk_then old mid new first second = record {
-  rest = record {
-    disk = let one = first.rest.disk in let two = second.rest.disk in omega arith;
-    wire = second.rest.wire ∙ first.rest.wire;
-    send = second.rest.send ∙ first.rest.send;
-    contents = second.rest.contents ∙ first.rest.contents;
-    held = second.rest.held ∙ first.rest.held;
-  };
+  rest = disk_calls_then old mid new first.rest second.rest;
   attached = second.attached ∙ first.attached;
   opened = opened_then old.disk mid.disk new.disk first.opened second.opened;
 }

@@ -1,12 +1,13 @@
 -- How a run ends, by what its parts say.
-use Rattle.std.proofs.Common.{◌≡◌, ℕ, ◌≤◌, List, [], Option, None, Some, Result, Ok, Err, IfOk, IfErr, IsErrOf}
+use Rattle.std.proofs.Common.{◌≡◌, ℕ, ◌≤◌, List, [], Option, None, Some, Result, Ok, Err, IfOk, IfErr}
 use Rattle.std.proofs.Common.{length, refl, sym, subst}
 use Rattle.ix_expr.specs.Form.{Form}
 use Rattle.ix_parse.specs.Faults.{StandsFor, IsFirstFault}
 use Rattle.ix_outside.specs.Contents.{GivenEvent}
 use Rattle.ix_outside.specs.Files.{Listing, HasFile}
-use Rattle.ix_outside.specs.FilesState.{FilesState}
+use Rattle.ix_outside.specs.FilesState.{FilesState, OnlyFaults}
 use Rattle.ix_outside.specs.SiteState.{SiteState}
+use Rattle.ix_outside.proofs.Counting.{Rose-earlier}
 use Rattle.ix_script.specs.Events.{HasEvents}
 use Rattle.ix_script.specs.Grammar.{IsFirstScriptFault}
 use Rattle.ix_cli.specs.Words.{Job, trace, replay}
@@ -16,37 +17,49 @@ use Rattle.ix_manage.specs.Ends.{JobEnds, bad_text, bad_actions, large, lost_exp
 use Rattle.ix_manage.specs.inside.Refusal.{refusal_line, refusal_status, RefusesExpression, RefusesActions, RefusesScript, RefusesStart, RefusesText, IsBadScript}
 use Rattle.ix_manage.specs.Puts.{LastLine}
 use Rattle.ix_manage.specs.Session.{Session}
-use Rattle.ix_manage.specs.Replay.{ReadsEvents, bad_line}
-use Rattle.ix_manage.specs.Trace.{within, large_line, ReadsForm, Starts, Traces}
+use Rattle.ix_manage.specs.Replay.{HasBadScript, ReadsEvents, bad_line}
+use Rattle.ix_manage.specs.Trace.{HasBadActions, within, large_line, ReadsForm, Starts, Traces}
 use Rattle.ix_manage.specs.inside.TracesLines.{TracesLines}
 use Rattle.ix_manage.specs.declared.refusal.Refusal.{Refusal}
 use Rattle.ix_manage.specs.declared.refusal.Refusal.TheVariants.{BadText, Large, LostExpression, BadActions, LostActions, BadScript, LostScript, Memory}
 
-module _ (files : Option Listing) (name text passed : List ℕ) (same : passed ≡ text) (file : HasFile files name text) where
+module _ (files later : FilesState) (name text passed : List ℕ) (same : passed ≡ text) (file : HasFile files.contents name text) where
   -- a text that is read is that of the file
-  pub read_ok : (r : Result Form Refusal) → IfOk r (StandsFor passed) → IfOk r (ReadsForm files name)
+  pub read_ok : (r : Result Form Refusal) → IfOk r (StandsFor passed) → IfOk r (ReadsForm files.contents name)
   read_ok (Ok x) reads = record { text = text; file = file; stands = subst (λ t. StandsFor t x) same reads }
   read_ok (Err refusal) reads = tt
 
   -- what refuses the text refuses the file
-  pub read_err : (r : Result Form Refusal) → IfErr r (RefusesText passed) → IfErr r (RefusesExpression files name)
+  pub read_err : (r : Result Form Refusal) → IfErr r (RefusesText passed) → IfErr r (RefusesExpression files later name)
   read_err (Ok x) why = tt
   read_err (Err (BadText code at)) why = within file (subst (λ t. IsFirstFault t code at) same why)
   read_err (Err Memory) why = why
   read_err (Err _) why = absurd why
 
--- a text is never lost
-pub never_lost : (text : List ℕ) (r : Result Form Refusal) → IfErr r (RefusesText text) → IsErrOf r LostExpression → ⊥
-never_lost text (Ok x) why is = cc
-never_lost text (Err refusal) why is =
-    let lost : refusal ≡ LostExpression = cc in subst (RefusesText text) lost why
-
 -- what refuses the file refuses the start
-pub start_refused : (files : Option Listing) (name : List ℕ) (limit : ℕ) (refusal : Refusal) → RefusesExpression files name refusal → RefusesStart files name limit refusal
-start_refused files name limit (BadText code at) why = why
-start_refused files name limit LostExpression why = why
-start_refused files name limit Memory why = why
-start_refused files name limit _ why = absurd why
+pub start_refused : (files later : FilesState) (name : List ℕ) (limit : ℕ) (refusal : Refusal)
+    → RefusesExpression files later name refusal → RefusesStart files later name limit refusal
+start_refused files later name limit (BadText code at) why = why
+start_refused files later name limit LostExpression why = why
+start_refused files later name limit Memory why = why
+start_refused files later name limit _ why = absurd why
+
+-- what refuses a file behind another load refuses it from the start on
+pub actions_refused_later : (files mid later : FilesState) (name : List ℕ) (refusal : Refusal) → OnlyFaults files mid
+    → RefusesActions mid later name refusal → RefusesActions files later name refusal
+actions_refused_later files mid later name (BadActions code at) only why =
+    subst (λ known. HasBadActions known name code at) only.contents why
+actions_refused_later files mid later name LostActions only why = Rose-earlier files.faults mid.faults later.faults only.faults why
+actions_refused_later files mid later name Memory only why = why
+actions_refused_later files mid later name _ only why = absurd why
+
+pub script_refused_later : (files mid later : FilesState) (name : List ℕ) (refusal : Refusal) → OnlyFaults files mid
+    → RefusesScript mid later name refusal → RefusesScript files later name refusal
+script_refused_later files mid later name (BadScript code at) only why =
+    subst (λ known. HasBadScript known name code at) only.contents why
+script_refused_later files mid later name LostScript only why = Rose-earlier files.faults mid.faults later.faults only.faults why
+script_refused_later files mid later name Memory only why = why
+script_refused_later files mid later name _ only why = absurd why
 
 -- a job may end with the refusal's line alone, and leaves the site as it is
 abbrev EndsWith : FilesState → FilesState → Job → Refusal → Type 0
@@ -57,10 +70,10 @@ EndsWith files later job refusal =
 
 -- what refuses the file of its expression refuses a job
 pub expression_refused : (files later : FilesState) (job : Job) (expression : List ℕ)
-    → expression_of job ≡ Some expression → (refusal : Refusal) → RefusesExpression files.contents expression refusal
+    → expression_of job ≡ Some expression → (refusal : Refusal) → RefusesExpression files later expression refusal
     → EndsWith files later job refusal
 expression_refused files later job expression is (BadText code at) why status whole part last site = bad_text is why refl last
-expression_refused files later job expression is LostExpression why status whole part last site = lost_expression is refl last
+expression_refused files later job expression is LostExpression why status whole part last site = lost_expression is why refl last
 expression_refused files later job expression is Memory why status whole part last site = no_memory last
 expression_refused files later job expression is _ why _ _ _ _ _ = absurd why
 
@@ -69,20 +82,20 @@ module _ (files later : FilesState) (expression actions : List ℕ) (limit : ℕ
   abbrev traces : Job
   traces = trace expression actions limit
 
-  pub refused_start : (refusal : Refusal) → RefusesStart files.contents expression limit refusal
+  pub refused_start : (refusal : Refusal) → RefusesStart files later expression limit refusal
       → EndsWith files later traces refusal
   refused_start (BadText code at) why status whole part last site = bad_text refl why refl last
   refused_start (Large most) why status whole part last site =
       large refl tt why.1 (subst (λ l. LastLine 3 [] (large_line l) status whole part) why.0 last)
-  refused_start LostExpression why status whole part last site = lost_expression refl refl last
+  refused_start LostExpression why status whole part last site = lost_expression refl why refl last
   refused_start Memory why status whole part last site = no_memory last
   refused_start _ why _ _ _ _ _ = absurd why
 
   pub refused_actions : (x : Form) → Starts files.contents expression limit x → (refusal : Refusal)
-      → RefusesActions files.contents actions refusal → EndsWith files later traces refusal
+      → RefusesActions files later actions refusal → EndsWith files later traces refusal
   refused_actions x starts (BadActions code at) why status whole part last site =
       bad_actions starts why refl last
-  refused_actions x starts LostActions why status whole part last site = lost_actions starts refl last
+  refused_actions x starts LostActions why status whole part last site = lost_actions starts why refl last
   refused_actions x starts Memory why status whole part last site = no_memory last
   refused_actions x starts _ why _ _ _ _ _ = absurd why
 
@@ -109,9 +122,9 @@ module _ (files later : FilesState) (expression journal script : List ℕ) (limi
   replays = replay expression journal script limit turns
 
   pub replay_refused : (x : Form) → ReadsForm files.contents expression x → (refusal : Refusal)
-      → RefusesScript files.contents script refusal → EndsWith files later replays refusal
+      → RefusesScript files later script refusal → EndsWith files later replays refusal
   replay_refused x reads (BadScript code at) why status whole part last site = bad_script reads why refl last
-  replay_refused x reads LostScript why status whole part last site = lost_script reads refl last
+  replay_refused x reads LostScript why status whole part last site = lost_script reads why refl last
   replay_refused x reads Memory why status whole part last site = no_memory last
   replay_refused x reads _ why _ _ _ _ _ = absurd why
 
@@ -127,12 +140,9 @@ replay_reads files script bytes passed file short same events has = record {
 }
 
 -- a script's fault is one of its file
-pub script_refused : (files : Option Listing) (name bytes passed : List ℕ) → HasFile files name bytes → length bytes ≤ 67108864 → passed ≡ bytes
-    → (refusal : Refusal) → IsBadScript passed refusal → RefusesScript files name refusal
-script_refused files name bytes passed file short same (BadScript code at) why = bad_line file short (subst (λ b. IsFirstScriptFault b code at) same why)
-script_refused files name bytes passed file short same _ why = absurd why
-
--- a bad script isn't lost
-pub bad_not_lost : (bytes : List ℕ) (refusal : Refusal) → IsBadScript bytes refusal → refusal_status refusal ≡ 4 → ⊥
-bad_not_lost bytes (BadScript code at) why is = cc
-bad_not_lost bytes _ why is = absurd why
+pub script_refused : (files later : FilesState) (name bytes passed : List ℕ) → HasFile files.contents name bytes
+    → length bytes ≤ 67108864 → passed ≡ bytes
+    → (refusal : Refusal) → IsBadScript passed refusal → RefusesScript files later name refusal
+script_refused files later name bytes passed file short same (BadScript code at) why =
+    bad_line file short (subst (λ b. IsFirstScriptFault b code at) same why)
+script_refused files later name bytes passed file short same _ why = absurd why

@@ -17,3 +17,5 @@ pub mod Examinations
 pub mod Working
 pub mod ShortLines
 pub mod WorkEnding
+pub mod Causes
+pub mod Unhindered

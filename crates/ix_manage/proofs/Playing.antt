@@ -9,12 +9,13 @@ use Rattle.ix_expr.specs.Form.{Form}
 use Rattle.ix_can.specs.TreeOf.{tree_size}
 use Rattle.ix_cli.specs.Words.{Job}
 use Rattle.ix_outside.specs.Contents.{GivenEvent}
+use Rattle.ix_outside.specs.Counts.{Rose}
 use Rattle.ix_outside.specs.Crashes.{Crashes}
 use Rattle.ix_outside.specs.Disk.{Disk as SiteDisk, Opened}
 use Rattle.ix_outside.specs.Files.{Listing}
 use Rattle.ix_outside.specs.FilesState.{FilesState}
 use Rattle.ix_outside.specs.SinkState.{SinkState}
-use Rattle.ix_outside.specs.SiteState.{SiteState}
+use Rattle.ix_outside.specs.SiteState.{SiteState, OnlyDisk}
 use Rattle.ix_outside.specs.inside.DiskCalls.{KeepsOpened}
 use Rattle.ix_outside.proofs.Passing.{KeepsOpened-join}
 use Rattle.ix_store.specs.Keeping.{Keeping}
@@ -31,7 +32,7 @@ use Rattle.ix_manage.specs.Around.{around_of}
 use Rattle.ix_manage.specs.Command.{limit_of}
 use Rattle.ix_manage.specs.Ends.{IsFrom, JobEnds, JobOver, KeepsJournal, large as job_large, lost_disk, no_memory, refused_journal, replayed}
 use Rattle.ix_manage.specs.Journal as journal
-use Rattle.ix_manage.specs.Journal.{OfJournal, OfOpened, OnJournal, RefusesFile, UsesJournal, journal_line, other_line, session_of}
+use Rattle.ix_manage.specs.Journal.{OfJournal, OfOpened, OnJournal, RefusesFile, UsesJournal, journal_line, session_of}
 use Rattle.ix_manage.specs.Puts.{LastLine}
 use Rattle.ix_manage.specs.Replay.{ReadsEvents}
 use Rattle.ix_manage.specs.Session.{Session}
@@ -45,9 +46,11 @@ use Rattle.ix_manage.specs.inside.Jobs.{replay_of}
 use Rattle.ix_manage.specs.inside.Leaves.{AwaitsLine, StopsAfter}
 use Rattle.ix_manage.specs.inside.Opening.{EndsUnstarted, IsJobOf, StartsOver}
 use Rattle.ix_manage.specs.inside.Playing.{PlaysOver, stop_of}
-use Rattle.ix_manage.specs.inside.Refusal.{journal_words}
-use Rattle.ix_manage.specs.inside.ReplayProgress.{ReplaysOn, disk_alone}
+use Rattle.ix_manage.specs.inside.Refusal.{journal_words, other_line}
+use Rattle.ix_manage.specs.inside.ReplayProgress.{OnlyUsesDisk, ReplaysOn, disk_alone}
 use Rattle.ix_manage.specs.inside.Turns as turns
+use Rattle.ix_manage.proofs.Causes.{replay_ends_earlier}
+use Rattle.ix_manage.proofs.Devices.{disk_calls_then}
 use Rattle.ix_manage.proofs.Opening.{KeepsAlong, on_journal, session_uses}
 use Rattle.ix_manage.proofs.Stops.{nothing_put, nothing_put_of}
 
@@ -63,7 +66,7 @@ along_journal P Q to (Some disk) p = along_opened P Q to disk.opened p
 module _ (x : Form) (limit : ℕ) (name : List ℕ) (before after : SiteState) (is : Crashes)
     (uses : (files : Option Listing) (job : Job) → IsJobOf x limit name files job
     → OnJournal files job before after is None)
-    (sink : SinkState)
+    (only : OnlyDisk before after) (sink : SinkState)
   where
     abbrev May : ℕ → List ℕ → List ℕ → Option Session → Type 0
     May = EndsUnstarted x limit name before after is
@@ -72,7 +75,7 @@ module _ (x : Form) (limit : ℕ) (name : List ℕ) (before after : SiteState) (
         → ((files later : FilesState) (job : Job) → IsJobOf x limit name files.contents job
         → JobEnds (around_of files later before after) job status whole part None)
         → May status whole part None
-    unstarted status whole part ends = record { none = refl; ends = ends; on_journal = uses }
+    unstarted status whole part ends = record { none = refl; ends = ends; on_journal = uses; only = only }
 
     kept_by : (files : Option Listing) (job : Job) (it : IsJobOf x limit name files job)
         → KeepsJournal files job it.expression
@@ -91,9 +94,9 @@ module _ (x : Form) (limit : ℕ) (name : List ℕ) (before after : SiteState) (
     }
 
     -- the disk failed
-    pub disk_stops : StopsAfter May sink sink (Refused Disk)
-    disk_stops = nothing_put Disk sink (λ status whole part last. unstarted status whole part
-        (λ files later job it. lost_disk (kept_by files.contents job it) it.reads last))
+    pub disk_stops : Rose before.counts.disk after.counts.disk → StopsAfter May sink sink (Refused Disk)
+    disk_stops rose = nothing_put Disk sink (λ status whole part last. unstarted status whole part
+        (λ files later job it. lost_disk (kept_by files.contents job it) it.reads rose last))
 
     journal_stops_of : (why line : List ℕ) → tree_size x [] ≤ limit → line ≡ journal_line why
         → OfJournal (λ file. RefusesFile x limit file why) after.disk
@@ -128,52 +131,53 @@ module _ (x : Form) (limit : ℕ) (name : List ℕ) (before after : SiteState) (
         → ((l : ℕ) → why ≡ fault.Large l → (l ≡ limit) × (limit < tree_size x []))
         → (tree_size x [] ≤ limit) ⊎ ((why ≡ fault.Large limit) ⊎ (why ≡ fault.Memory))
         → (tree_size x [] ≤ limit → Files why)
+        → (why ≡ fault.Disk → Rose before.counts.disk after.counts.disk)
         → StopsAfter May sink sink (stop_of why)
-    start_stops (fault.Large l) large kind refuses = large_stops l (large l refl)
-    start_stops fault.Disk large kind refuses = disk_stops
-    start_stops fault.Memory large kind refuses = nothing_put Memory sink
+    start_stops (fault.Large l) large kind refuses rose = large_stops l (large l refl)
+    start_stops fault.Disk large kind refuses rose = disk_stops (rose refl)
+    start_stops fault.Memory large kind refuses rose = nothing_put Memory sink
         (λ status whole part last. unstarted status whole part (λ files later job it. no_memory last))
-    start_stops fault.Foreign large (inl small) refuses = journal_stops Foreign small
+    start_stops fault.Foreign large (inl small) refuses rose = journal_stops Foreign small
         (along_journal _ _ (λ file why. journal.foreign why) after.disk (refuses small))
-    start_stops fault.Foreign large (inr other) refuses = absurd (not_foreign other)
+    start_stops fault.Foreign large (inr other) refuses rose = absurd (not_foreign other)
       where
         not_foreign : (fault.Foreign ≡ fault.Large limit) ⊎ (fault.Foreign ≡ fault.Memory) → ⊥
         not_foreign (inl same) = cc
         not_foreign (inr same) = cc
-    start_stops (fault.Other kept) large (inl small) refuses =
+    start_stops (fault.Other kept) large (inl small) refuses rose =
         journal_stops_of (codes "other " ++ kept.items) (other_line kept.items) small refl
         (along_journal _ _ (λ file why. journal.other why.0 why.1) after.disk (refuses small))
-    start_stops (fault.Other kept) large (inr other) refuses = absurd (not_other other)
+    start_stops (fault.Other kept) large (inr other) refuses rose = absurd (not_other other)
       where
         not_other : (fault.Other kept ≡ fault.Large limit) ⊎ (fault.Other kept ≡ fault.Memory) → ⊥
         not_other (inl same) = cc
         not_other (inr same) = cc
-    start_stops (fault.Damaged at) large (inl small) refuses = journal_stops (Damaged at) small
+    start_stops (fault.Damaged at) large (inl small) refuses rose = journal_stops (Damaged at) small
         (along_journal _ _ (λ file why. journal.damaged why.0 why.1) after.disk (refuses small))
-    start_stops (fault.Damaged at) large (inr other) refuses = absurd (not_damaged other)
+    start_stops (fault.Damaged at) large (inr other) refuses rose = absurd (not_damaged other)
       where
         not_damaged : (fault.Damaged at ≡ fault.Large limit) ⊎ (fault.Damaged at ≡ fault.Memory) → ⊥
         not_damaged (inl same) = cc
         not_damaged (inr same) = cc
-    start_stops fault.Many large (inl small) refuses = journal_stops Many small
+    start_stops fault.Many large (inl small) refuses rose = journal_stops Many small
         (along_journal _ _ (λ file why. journal.many why.0 why.1) after.disk (refuses small))
-    start_stops fault.Many large (inr other) refuses = absurd (not_many other)
+    start_stops fault.Many large (inr other) refuses rose = absurd (not_many other)
       where
         not_many : (fault.Many ≡ fault.Large limit) ⊎ (fault.Many ≡ fault.Memory) → ⊥
         not_many (inl same) = cc
         not_many (inr same) = cc
-    start_stops (fault.Word number) large (inl small) refuses = journal_stops (Word number) small
+    start_stops (fault.Word number) large (inl small) refuses rose = journal_stops (Word number) small
         (along_journal _ _ (λ file why. journal.word why.1 why.2) after.disk (refuses small))
-    start_stops (fault.Word number) large (inr other) refuses = absurd (not_word other)
+    start_stops (fault.Word number) large (inr other) refuses rose = absurd (not_word other)
       where
         not_word : (fault.Word number ≡ fault.Large limit) ⊎ (fault.Word number ≡ fault.Memory) → ⊥
         not_word (inl same) = cc
         not_word (inr same) = cc
-    start_stops (fault.Heavy number l) large (inl small) refuses = journal_stops (Heavy number l) small
+    start_stops (fault.Heavy number l) large (inl small) refuses rose = journal_stops (Heavy number l) small
         (along_journal _ _ (λ file why.
         subst (λ n. RefusesFile x limit file (codes "large " ++ decimal number ++ codes " " ++ decimal n)) (sym why.3)
         (journal.large why.1 why.2)) after.disk (refuses small))
-    start_stops (fault.Heavy number l) large (inr other) refuses = absurd (not_heavy other)
+    start_stops (fault.Heavy number l) large (inr other) refuses rose = absurd (not_heavy other)
       where
         not_heavy : (fault.Heavy number l ≡ fault.Large limit) ⊎ (fault.Heavy number l ≡ fault.Memory) → ⊥
         not_heavy (inl same) = cc
@@ -291,6 +295,7 @@ module _ (x : Form) (names : ReplayWords) (script : List ℕ) (before : SiteStat
         let job = job_played files.contents reads has in
         subst (JobOver (around_of files later before after) (replay_of names) is status whole part) (sym it.none) (record {
           ends = it.ends files later (replay_of names) job;
+          touches = it.only;
           journal = it.on_journal files.contents (replay_of names) job;
           wire = λ socket none. absurd (none-some socket none);
         })
@@ -298,13 +303,13 @@ module _ (x : Form) (names : ReplayWords) (script : List ℕ) (before : SiteStat
     -- a run was started, and took events
     pub session_plays : (mid end : SiteState) (q r : Crashes) (m : ManagerState)
         → StartsOver x names.limit names.journal.now before mid q m
-        → KeepsOpened mid.disk end.disk ⊎ (end.disk ≡ None) → (final : MachineState)
+        → OnlyUsesDisk mid end → (final : MachineState)
         → (status : ℕ) (whole part : List ℕ) (session : Option Session)
         → ReplaysOn (turns.opening_of m) names.turns script final
         (record { before = disk_alone mid; after = disk_alone end; was = without_sends q; is = without_sends r })
         status whole part session
         → PlaysOver x names script before end r status whole part session
-    session_plays mid end q r m start along final status whole part session on = λ files later reads has.
+    session_plays mid end q r m start uses final status whole part session on = λ files later reads has.
         let it = on.1 in
         let job = job_played files.contents reads has in
         let opening_is = it.opening_is ∙ opening_fresh x names.limit m start.fresh in
@@ -320,8 +325,10 @@ module _ (x : Form) (names : ReplayWords) (script : List ℕ) (before : SiteStat
         (record {
           ends = replayed (record { reads = reads; small = start.small }) (has events.0 events.1)
               (opening_from x names.limit m start.fresh it.played it.opening_is)
-              (it.plays events.0 events.1) it.ends;
-          journal = session_on_journal x names.limit names.journal.now before mid end q r m start files.contents (replay_of names) job along
+              (it.plays events.0 events.1)
+              (replay_ends_earlier names.turns before.counts mid.counts end.counts it.played start.only.disk it.ends);
+          touches = disk_calls_then before mid end start.only uses.rest;
+          journal = session_on_journal x names.limit names.journal.now before mid end q r m start files.contents (replay_of names) job uses.opened
               (Some it.played) opening_is (it.plays events.0 events.1).takes.run
               (λ some. along_alone x m.machine.history it.played it.store mid end q r some saves);
           wire = λ socket none. absurd (none-some socket none);

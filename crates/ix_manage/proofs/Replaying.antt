@@ -47,7 +47,7 @@ use Rattle.ix_manage.specs.declared.run.Stop.{Stop}
 use Rattle.ix_manage.specs.declared.turn.Turn.{Turn}
 use Rattle.ix_manage.specs.declared.turn.Turn.TheVariants.{More, Done, Cut, Failed}
 use Rattle.ix_manage.proofs.ScriptFronts.{first_push}
-use Rattle.ix_manage.proofs.Stops.{puts_whole}
+use Rattle.ix_manage.proofs.Stops.{ended_cut, ended_whole}
 use Rattle.ix_manage.proofs.Tracing.{append_nothing, append_twice}
 
 -- a site that tells whether a send was lost tells it by the mark that the replies leave
@@ -366,7 +366,7 @@ module _ {old new : ManagerState} {was now : Player} {turn : Turn} {a b c : Site
     module _ (turns : ℕ) (few : length now.given ≤ turns) (start : SinkState)
         (line_put : known ≡ append_known start.written (history_line opening.history))
       where
-        replays : {status : ℕ} {whole part : List ℕ} → ReplayEnds turns played status whole part
+        replays : {status : ℕ} {whole part : List ℕ} → ReplayEnds turns a.counts c.counts played status whole part
             → ReplaysScript opening turns was.script now.given new.machine stretch status whole part (Some played)
         replays how = record {
           played = played;
@@ -392,15 +392,9 @@ module _ {old new : ManagerState} {was now : Player} {turn : Turn} {a b c : Site
         pub turn_done : turn ≡ Done → Ended (ReplaysScript opening turns was.script now.given new.machine stretch) 0 start now.sink
         turn_done same =
             let is = subst (IsTurn now.failed took.ending took.event.kind) same took.turn_is in
-            record {
-              whole = session_text played;
-              part = [];
-              session = Some played;
-              may = replays (ends (over (is_over is.1)));
-              puts = puts_whole start now.sink (session_text played)
-                  (told_whole is.0 ∙ ap (λ k. append_known k (run_text now.given answers)) line_put
-                  ∙ append_twice start.written (history_line opening.history) (run_text now.given answers));
-            }
+            ended_whole start now.sink (session_text played) (Some played) (replays (ends (over (is_over is.1))))
+            (told_whole is.0 ∙ ap (λ k. append_known k (run_text now.given answers)) line_put
+            ∙ append_twice start.written (history_line opening.history) (run_text now.given answers))
           where
             is_over : (took.event.kind ≡ End) ⊎ (took.ending ≡ stopped) → IsOver played
             is_over (inl end) = inl (was.given, given, took.given, end)
@@ -413,41 +407,30 @@ module _ {old new : ManagerState} {was now : Player} {turn : Turn} {a b c : Site
             let is = subst (IsTurn now.failed took.ending took.event.kind) same took.turn_is in record {
               before = session_text played;
               session = Some played;
-              may = λ status whole part last. replays (ends (disk_failed is.1.1 last));
+              may =
+                  let P : Ending → Type 0 = λ e. WhereFailed e (Rose a.counts.disk c.counts.disk) in
+                  let rose = subst P is.1.1 saved.faults in
+                  λ status whole part last. replays (ends (disk_failed is.1.1 rose last));
               put = told_whole is.0 ∙ ap (λ k. append_known k (run_text now.given answers)) line_put
                   ∙ append_twice start.written (history_line opening.history) (run_text now.given answers);
             }
 
         -- a put failed
         pub turn_cut : turn ≡ Cut → start.faults ≤ was.sink.faults
-            → Ended (ReplaysScript opening turns was.script now.given new.machine stretch) 10 start now.sink × Rose start.faults now.sink.faults
+            → Ended (ReplaysScript opening turns was.script now.given new.machine stretch) 10 start now.sink
         turn_cut same le =
             let is : now.failed ≡ true = subst (IsTurn now.failed took.ending took.event.kind) same took.turn_is in
             let one = loses_one (sends old new was now took.event took.piece took.ending took.handled took.fits stands.marks stands.open_sink) (marked_now ∙ is) in
             let text : List ℕ = replay_text opening.history was.given stands.answers in
-            let sent_text : List ℕ = replies_text took.event.conn one.sent_ones in (
-              record {
-                whole = text ++ sent_text;
-                part = send_text took.event.conn (reply_line one.lost_one);
-                session = Some played;
-                may = replays (lost_reply (subst (λ taken. LosesReply opening.history taken answers (text ++ sent_text) (send_text took.event.conn (reply_line one.lost_one)))
-                    (sym took.given)
-                    (loses was.given given stands.answers took.handled.answers one.sent_ones one.lost_one one.silent_ones one.replies_are)));
-                puts = subst (λ k. AppendsPart k (send_text took.event.conn (reply_line one.lost_one)) now.sink.written)
-                    (ap (λ k. append_known k sent_text) (text_behind_line stands start line_put) ∙ append_twice start.written text sent_text)
-                    one.part;
-              },
-              Rose-earlier _ _ _ le (took.fault is),
-            )
-
--- where the disk failed, its count rose
-pub failed_rose : {old new : ManagerState} {was now : Player} {stretch : Stretch} {turn : Turn}
-    → TakesTurn old was new now stretch turn → turn ≡ Failed
-    → Rose stretch.before.counts.disk stretch.after.counts.disk
-failed_rose {now = now} {stretch = stretch} took same =
-    let is = subst (IsTurn now.failed took.ending took.event.kind) same took.turn_is in
-    let P : Ending → Type 0 = λ e. WhereFailed e (Rose stretch.before.counts.disk stretch.after.counts.disk) in
-    subst P is.1.1 took.saves.faults
+            let sent_text : List ℕ = replies_text took.event.conn one.sent_ones in
+            ended_cut start now.sink (text ++ sent_text) (send_text took.event.conn (reply_line one.lost_one)) (Some played)
+            (replays (lost_reply (subst (λ taken. LosesReply opening.history taken answers (text ++ sent_text) (send_text took.event.conn (reply_line one.lost_one)))
+            (sym took.given)
+            (loses was.given given stands.answers took.handled.answers one.sent_ones one.lost_one one.silent_ones one.replies_are))))
+            (subst (λ k. AppendsPart k (send_text took.event.conn (reply_line one.lost_one)) now.sink.written)
+            (ap (λ k. append_known k sent_text) (text_behind_line stands start line_put) ∙ append_twice start.written text sent_text)
+            one.part)
+            (Rose-earlier _ _ _ le (took.fault is))
 
 pub taken_count : {old new : ManagerState} {was now : Player} {stretch : Stretch} {turn : Turn} → TakesTurn old was new now stretch turn
     → length now.given ≡ length was.given + 1
@@ -457,37 +440,35 @@ taken_count {was = was} took = ap length took.given ∙ length_push was.given (g
 pub history_lost : (m : ManagerState) → IsStarted m → (turns : ℕ) (script line : List ℕ) (old new : SinkState)
     (site : SiteState) (crashes : Crashes) → AreLawful site crashes → FitsSite m site crashes
     → line ≡ history_line m.machine.history → AppendsPart old.written line new.written
+    → Rose old.faults new.faults
     → Ended (ReplaysOn (opening_of m) turns script m.machine (record { before = site; after = site; was = crashes; is = crashes })) 10 old new
-history_lost m fresh turns script line old new site crashes lawful fits same part =
+history_lost m fresh turns script line old new site crashes lawful fits same part rose =
     let opening : Opening = opening_of m in
-    let played : Session = record { opening = opening; taken = []; answers = []; last = m.machine; ending = going } in record {
-      whole = [];
-      part = history_line m.machine.history;
-      session = Some played;
-      may = (
-        [],
-        record {
-          played = played;
-          is = refl;
-          opening_is = refl;
-          taken_is = refl;
-          last_is = refl;
-          plays = λ events has. record {
-            takes = record {
-              run = subst (λ s. Run opening [] [] s going) (sym (ap (λ (s : ManagerState). s.machine) fresh)) begin;
-              few = omega arith;
-              before_the_end = λ before last is. absurd (let long = ap length is in let push = length_push before last in omega (arith, long, push));
-            };
-            first = refl;
+    let played : Session = record { opening = opening; taken = []; answers = []; last = m.machine; ending = going } in
+    ended_cut old new [] (history_line m.machine.history) (Some played) (
+      [],
+      record {
+        played = played;
+        is = refl;
+        opening_is = refl;
+        taken_is = refl;
+        last_is = refl;
+        plays = λ events has. record {
+          takes = record {
+            run = subst (λ s. Run opening [] [] s going) (sym (ap (λ (s : ManagerState). s.machine) fresh)) begin;
+            few = omega arith;
+            before_the_end = λ before last is. absurd (let long = ap length is in let push = length_push before last in omega (arith, long, push));
           };
-          ends = ends (lost_history refl);
-          store = m.store;
-          saves = saves_none m.form m.machine.history m.store site crashes lawful fits;
-        },
-      );
-      puts = subst (λ known. AppendsPart known (history_line m.machine.history) new.written) (append_nothing old.written)
-          (subst (λ t. AppendsPart old.written t new.written) same part);
-    }
+          first = refl;
+        };
+        ends = ends (lost_history refl);
+        store = m.store;
+        saves = saves_none m.form m.machine.history m.store site crashes lawful fits;
+      },
+    )
+    (subst (λ known. AppendsPart known (history_line m.machine.history) new.written) (append_nothing old.written)
+    (subst (λ t. AppendsPart old.written t new.written) same part))
+    rose
 
 -- it is put
 pub history_put : (history : PlainHistory) (line : List ℕ) (start between first : SinkState) → line ≡ history_line history

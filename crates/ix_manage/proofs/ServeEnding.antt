@@ -1,5 +1,5 @@
 -- How a serve ends, by what its loop says.
-use Rattle.std.proofs.Common.{◌≡◌, ◌⊎◌, inl, inr, ℕ, List, [], ◌∷◌, ◌++◌, length, append-nil, arith, Bool, Option, None, Some, IsSome}
+use Rattle.std.proofs.Common.{◌≡◌, ◌⊎◌, inl, inr, ℕ, ◌≤◌, List, [], ◌∷◌, ◌++◌, length, append-nil, arith, Bool, Option, None, Some, IsSome}
 use Rattle.std.proofs.Common.{Result, Ok, Err, refl, sym, ◌∙◌, ap, subst}
 use Rattle.std.specs.Io.KnownBytes.{append_known}
 use Rattle.std.specs.Option.{option_map}
@@ -15,8 +15,9 @@ use Rattle.ix_outside.specs.Disk.{Disk, Opened}
 use Rattle.ix_outside.specs.Files.{Listing}
 use Rattle.ix_outside.specs.Sink.{AppendsPart}
 use Rattle.ix_outside.specs.SinkState.{SinkState}
-use Rattle.ix_outside.specs.SiteState.{SiteState, OnlyDisk, OnlyWire}
+use Rattle.ix_outside.specs.SiteState.{SiteState, OnlyWire}
 use Rattle.ix_outside.specs.inside.DiskCalls.{KeepsOpened}
+use Rattle.ix_outside.proofs.Counting.{Rose-earlier}
 use Rattle.ix_outside.proofs.Passing.{KeepsOpened-join, sent-nothing}
 use Rattle.ix_proto.specs.declared.reply.Reply.{Reply}
 use Rattle.ix_store.specs.Keeping.{Keeping}
@@ -34,6 +35,7 @@ use Rattle.ix_manage.specs.Around.{around_of}
 use Rattle.ix_manage.specs.Ends.{Ended, JobOver, no_wire, served as job_served}
 use Rattle.ix_manage.specs.Journal.{session_of}
 use Rattle.ix_manage.specs.Serve.{ServesWire, ends, with_heard}
+use Rattle.ix_manage.specs.Site.{OnlyCalls}
 use Rattle.ix_manage.specs.Session.{Session, history_line, lost_history, over}
 use Rattle.ix_manage.specs.Trace.{ReadsForm}
 use Rattle.ix_manage.specs.declared.job.ServeWords.{ServeWords}
@@ -43,13 +45,15 @@ use Rattle.ix_manage.specs.inside.Jobs.{serve_of}
 use Rattle.ix_manage.specs.inside.Leaves.{Leaves}
 use Rattle.ix_manage.specs.inside.Opening.{EndsUnstarted, IsJobOf, StartsOver}
 use Rattle.ix_manage.specs.inside.Playing.{ServesOver}
-use Rattle.ix_manage.specs.inside.ServeProgress.{SentFor, ServedSession, ServesFrom, ServesOn, ServesTo, served, unheard}
+use Rattle.ix_manage.specs.inside.ServeProgress.{OnlyServed, SentFor, ServedSession, ServesFrom, ServesOn, ServesTo, served, unheard}
 use Rattle.ix_manage.specs.inside.Turns.{IsStarted, SavesFrom, Stretch}
 use Rattle.ix_manage.specs.inside.Turns as stood
+use Rattle.ix_manage.proofs.Causes.{serve_ends_earlier}
+use Rattle.ix_manage.proofs.Devices.{calls_of_disk, calls_then}
 use Rattle.ix_manage.proofs.Opening.{kept_opened, opened_at, some_is}
 use Rattle.ix_manage.proofs.Playing.{along_saves, opening_fresh, opening_from, session_on_journal}
 use Rattle.ix_manage.proofs.ServeLemmas.{wire_only}
-use Rattle.ix_manage.proofs.Stops.{puts_whole}
+use Rattle.ix_manage.proofs.Stops.{ended_cut, ended_whole}
 use Rattle.ix_manage.proofs.Tracing.{append_nothing}
 
 -- sends that are told with one more name heard were told before
@@ -170,6 +174,7 @@ module _ (turns : ℕ) (socket : List ℕ) (old new : ManagerState) (a b c : Sit
     → ServesSince t old.form (length old.machine.history) old.machine.history (with_heard socket start) [] [] unmarked b q)
     (start between : SinkState)
     (put : between.written ≡ append_known start.written (history_line old.machine.history))
+    (disk : a.counts.disk ≤ b.counts.disk) (wire : a.counts.wire ≤ b.counts.wire)
   where
     abbrev over_all : Stretch
     over_all = record { before = a; after = c; was = p; is = r }
@@ -204,18 +209,16 @@ module _ (turns : ℕ) (socket : List ℕ) (old new : ManagerState) (a b c : Sit
     pub leaves_serving : {T : Type 0} (r' : Result T Stop)
         → ServesTo turns old new (record { before = b; after = c; was = q; is = r }) r'
         → Leaves May start between r'
-    leaves_serving (Ok value) it = record {
-      whole = history_line it.session.opening.history;
-      part = [];
-      session = Some it.session;
-      may = served (from_listening it.session it.served) (wire_of (Ok value) it) (ends (over it.ends));
-      puts = puts_whole start between (history_line it.session.opening.history) (line_of it.session it.served.opening_is);
-    }
+    leaves_serving (Ok value) it =
+        ended_whole start between (history_line it.session.opening.history) (Some it.session)
+        (served (from_listening it.session it.served) (wire_of (Ok value) it) (ends (over it.ends)))
+        (line_of it.session it.served.opening_is)
     leaves_serving (Err (Refused refusal)) it = record {
       before = history_line it.session.opening.history;
       session = Some it.session;
       may = λ status whole part last.
-          served (from_listening it.session it.served) (wire_of (Err (Refused refusal)) it) (it.ends status whole part last);
+          served (from_listening it.session it.served) (wire_of (Err (Refused refusal)) it)
+          (serve_ends_earlier turns a.counts b.counts c.counts it.session disk wire (it.ends status whole part last));
       put = line_of it.session it.served.opening_is;
     }
     leaves_serving (Err (Words text)) it = absurd it.ends
@@ -230,33 +233,32 @@ pub history_lost : (m : ManagerState) → IsStarted m → (turns : ℕ) (socket 
     → ServesSince t m.form (length m.machine.history) m.machine.history start [] [] unmarked a p
     → ServesSince t m.form (length m.machine.history) m.machine.history (with_heard socket start) [] [] unmarked b q)
     → (old new : SinkState) → line ≡ history_line m.machine.history → AppendsPart old.written line new.written
+    → Rose old.faults new.faults
     → Ended (ServesOn (stood.opening_of m) turns socket m.machine (record { before = a; after = b; was = p; is = q })) 10 old new
-history_lost m fresh turns socket line a b p q saves heard sends since old new same part =
-    let played : Session = record { opening = stood.opening_of m; taken = []; answers = []; last = m.machine; ending = going } in record {
-      whole = [];
-      part = history_line m.machine.history;
-      session = Some played;
-      may = served (record {
-        opening_is = refl;
-        last_is = refl;
-        takes = record {
-          run = subst (λ s. Run (stood.opening_of m) [] [] s going) (sym (ap (λ (s : ManagerState). s.machine) fresh)) run_begins;
-          few = omega arith;
-          before_the_end = λ before last is. absurd (let long = ap length is in let push = length_push before last in omega (arith, long, push));
-        };
-        store = m.store;
-        saves = saves;
-      })
-          (serves_from socket a b b p q q heard sends (stood.opening_of m) since played refl m.machine refl unmarked (record {
-            given = λ new told. (new, told, sym (append-nil new));
-            told = λ some. some;
-            since = λ t start serves. serves;
-            whole = λ none. (refl, λ one two told told'. ap (λ (s : Sends). s.gone) (sym (some_is (sym told ∙ told'))));
-          }))
-          (ends (lost_history refl));
-      puts = subst (λ known. AppendsPart known (history_line m.machine.history) new.written) (append_nothing old.written)
-          (subst (λ t. AppendsPart old.written t new.written) same part);
-    }
+history_lost m fresh turns socket line a b p q saves heard sends since old new same part rose =
+    let played : Session = record { opening = stood.opening_of m; taken = []; answers = []; last = m.machine; ending = going } in
+    ended_cut old new [] (history_line m.machine.history) (Some played)
+    (served (record {
+      opening_is = refl;
+      last_is = refl;
+      takes = record {
+        run = subst (λ s. Run (stood.opening_of m) [] [] s going) (sym (ap (λ (s : ManagerState). s.machine) fresh)) run_begins;
+        few = omega arith;
+        before_the_end = λ before last is. absurd (let long = ap length is in let push = length_push before last in omega (arith, long, push));
+      };
+      store = m.store;
+      saves = saves;
+    })
+    (serves_from socket a b b p q q heard sends (stood.opening_of m) since played refl m.machine refl unmarked (record {
+      given = λ new told. (new, told, sym (append-nil new));
+      told = λ some. some;
+      since = λ t start serves. serves;
+      whole = λ none. (refl, λ one two told told'. ap (λ (s : Sends). s.gone) (sym (some_is (sym told ∙ told'))));
+    }))
+    (ends (lost_history refl)))
+    (subst (λ known. AppendsPart known (history_line m.machine.history) new.written) (append_nothing old.written)
+    (subst (λ t. AppendsPart old.written t new.written) same part))
+    rose
 
 module _ (x : Form) (names : ServeWords) (before : SiteState) where
   -- a serve whose expression is read
@@ -272,23 +274,29 @@ module _ (x : Form) (names : ServeWords) (before : SiteState) where
   }
 
   -- no run was started
-  pub unstarted_serves : (after : SiteState) (is : Crashes) → after.contents ≡ before.contents
+  pub unstarted_serves : (after : SiteState) (is : Crashes)
       → (status : ℕ) (whole part : List ℕ) (session : Option Session)
       → EndsUnstarted x names.limit names.journal.now before after is status whole part session
       → ServesOver x names before after is status whole part session
-  unstarted_serves after is contents status whole part session it = λ files later reads.
+  unstarted_serves after is status whole part session it = λ files later reads.
       let job = job_served_by files.contents reads in
       subst (JobOver (around_of files later before after) (serve_of names) is status whole part) (sym it.none) (record {
         ends = it.ends files later (serve_of names) job;
+        touches = calls_of_disk before after it.only;
         journal = it.on_journal files.contents (serve_of names) job;
-        wire = λ socket same. contents;
+        wire = λ socket same. it.only.contents;
       })
 
   module _ (mid end : SiteState) (q r : Crashes) (m : ManagerState)
       (start : StartsOver x names.limit names.journal.now before mid q m)
-      (only : OnlyDisk before mid)
-      (later : KeepsOpened mid.disk end.disk ⊎ (end.disk ≡ None)) (final : MachineState)
+      (serves : OnlyServed mid end) (final : MachineState)
     where
+      wire_before : before.counts.wire ≤ mid.counts.wire
+      wire_before = let same = start.only.wire in omega (arith, same)
+
+      touches : OnlyCalls before end
+      touches = calls_then before mid end (calls_of_disk before mid start.only) serves.calls
+
       form : m.form ≡ x
       form = ap (λ (s : ManagerState). s.form) start.fresh
 
@@ -304,9 +312,9 @@ module _ (x : Form) (names : ServeWords) (before : SiteState) where
           → ServesFrom socket session (record { before = mid; after = end; was = q; is = r })
           → ServesWire socket session before end r
       wire_from socket session opening_is wire = record {
-        given = λ old new told told'. wire.given old new (ap (λ (k : Contents). k.given) only.contents ∙ told) told';
+        given = λ old new told told'. wire.given old new (ap (λ (k : Contents). k.given) start.only.contents ∙ told) told';
         sends = λ old new told told'.
-            let mid_told = ap (λ (k : Contents). k.sends) only.contents ∙ told in
+            let mid_told = ap (λ (k : Contents). k.sends) start.only.contents ∙ told in
             let since = wire.since start.at.tick old mid_told
             (subst (λ (o : Opening). ServesSince start.at.tick o.form (length o.history) o.history old [] [] unmarked mid q)
             (sym opening_is) (start.since old told)) in
@@ -316,11 +324,11 @@ module _ (x : Form) (names : ServeWords) (before : SiteState) where
               wire = wired.1;
               keeps = λ now opened told_disk is left left_since.
                   wired.2 (subst (λ (o : Option Disk). IsSome o) (sym told_disk) refl) left
-                  (subst (λ t. r.left_since t left) (along later now opened told_disk is) left_since);
+                  (subst (λ t. r.left_since t left) (along serves.opened now opened told_disk is) left_since);
             };
         whole = λ none old new told told'.
-            wire.whole (λ rose. none (subst (λ n. Rose n end.counts.send) only.send rose)) old new
-            (ap (λ (k : Contents). k.sends) only.contents ∙ told) told';
+            wire.whole (λ rose. none (subst (λ n. Rose n end.counts.send) start.only.send rose)) old new
+            (ap (λ (k : Contents). k.sends) start.only.contents ∙ told) told';
       }
 
       -- a run was started, and maybe took events
@@ -328,13 +336,15 @@ module _ (x : Form) (names : ServeWords) (before : SiteState) where
           → ServesOn (stood.opening_of m) names.turns names.socket.now final
           (record { before = mid; after = end; was = q; is = r }) status whole part session
           → ServesOver x names before end r status whole part session
-      session_serves status whole part session (unheard store contents saves last) = λ files now reads. record {
-        ends = no_wire (record { reads = reads; small = start.small }) last;
+      session_serves status whole part session (unheard store contents saves rose last) = λ files now reads. record {
+        ends = no_wire (record { reads = reads; small = start.small })
+            (Rose-earlier before.counts.wire mid.counts.wire end.counts.wire wire_before rose) last;
+        touches = touches;
         journal = session_on_journal x names.limit names.journal.now before mid end q r m start files.contents (serve_of names)
-            (job_served_by files.contents reads) later None refl run_begins
+            (job_served_by files.contents reads) serves.opened None refl run_begins
             (λ some. along_saves x m.machine.history (session_of (opening_of x names.limit m.machine.history) None) store mid end q r some
             (subst (λ y. Saves going y m.machine.history m.machine.history store mid end q r) form saves));
-        wire = λ socket same. contents ∙ only.contents;
+        wire = λ socket same. contents ∙ start.only.contents;
       }
       session_serves status whole part session (served {session = played} it wire how) = λ files now reads.
           let opening_is = it.opening_is ∙ opening_fresh x names.limit m start.fresh in
@@ -343,9 +353,11 @@ module _ (x : Form) (names : ServeWords) (before : SiteState) where
           subst (λ (w : Word). Saves played.ending x m.machine.history w it.store mid end q r) (sym history)
           (subst (λ y. Saves played.ending y m.machine.history final.history it.store mid end q r) form it.saves) in record {
             ends = job_served (record { reads = reads; small = start.small })
-                (opening_from x names.limit m start.fresh played it.opening_is) it.takes how;
+                (opening_from x names.limit m start.fresh played it.opening_is) it.takes
+                (serve_ends_earlier names.turns before.counts mid.counts end.counts played start.only.disk wire_before how);
+            touches = touches;
             journal = session_on_journal x names.limit names.journal.now before mid end q r m start files.contents (serve_of names)
-                (job_served_by files.contents reads) later (Some played) opening_is it.takes.run
+                (job_served_by files.contents reads) serves.opened (Some played) opening_is it.takes.run
                 (λ some. along_saves x m.machine.history played it.store mid end q r some saves);
             wire = λ socket same.
                 subst (λ name. ServesWire name played before end r) (some_is same) (wire_from names.socket.now played opening_is wire);

@@ -306,16 +306,12 @@ module _ {old new : ManagerState} {turn : Turn} {a b c : SiteState} {p q r : Cra
           served = subst (λ o. ServedSession o turns new.machine stretch played) same_opening (served_played turns few);
           marks = new.marks;
           sent = subst (λ o. SentFor o (with_failed it.ending new.machine.history) longer answers new.marks stretch) same_opening sent_now;
-          ends = λ status whole part last. ends (disk_failed (subst (IsTurn false it.ending it.event.kind) same it.turn_is).1.1 last);
+          ends =
+              let is = subst (IsTurn false it.ending it.event.kind) same it.turn_is in
+              let P : Ending → Type 0 = λ e. WhereFailed e (Rose a.counts.disk c.counts.disk) in
+              let rose = subst P is.1.1 saved.faults in
+              λ status whole part last. ends (disk_failed is.1.1 rose last);
         }
-
--- where the disk failed, its count rose
-pub disk_rose : {old new : ManagerState} {stretch : Stretch} {turn : Turn} → TakesOver old new stretch turn → turn ≡ Failed
-    → Rose stretch.before.counts.disk stretch.after.counts.disk
-disk_rose {stretch = stretch} it same =
-    let is = subst (IsTurn false it.ending it.event.kind) same it.turn_is in
-    let P : Ending → Type 0 = λ e. WhereFailed e (Rose stretch.before.counts.disk stretch.after.counts.disk) in
-    subst P is.1.1 it.saves.faults
 
 -- nothing came since the wire failed
 abbrev IsCut : ManagerState → ManagerState → SiteState → SiteState → Crashes → Crashes → Type 0
@@ -338,7 +334,7 @@ module _ {old new : ManagerState} {a b c : SiteState} {p q r : Crashes}
     {opening : Opening} {taken : List GivenEvent}
     (serves : Serves opening taken old (record { before = a; after = b; was = p; is = q }))
     (cut : IsCut old new b c q r)
-    (lawful : AreLawful c r) (sends : b.counts.send ≤ c.counts.send)
+    (lawful : AreLawful c r) (sends : b.counts.send ≤ c.counts.send) (wire : a.counts.wire ≤ b.counts.wire)
   where
     abbrev over_all : Stretch
     over_all = record { before = a; after = c; was = p; is = r }
@@ -377,7 +373,8 @@ module _ {old new : ManagerState} {a b c : SiteState} {p q r : Crashes}
       marks = old.marks;
       sent = subst (λ o. SentFor o new.machine.history taken serves.answers old.marks over_all) same_opening
           (subst (λ (s : ManagerState). SentFor opening s.machine.history taken serves.answers old.marks over_all) (sym cut.0) sent_still);
-      ends = λ status whole part last. wire_failed few (serves.no_end, refl) last;
+      ends = λ status whole part last. wire_failed few (serves.no_end, refl)
+          (Rose-earlier a.counts.wire b.counts.wire c.counts.wire wire cut.2) last;
     }
 
 -- as many events as turns were taken

@@ -1,20 +1,20 @@
 -- From how a part of a run may end to how the run may, and what a refusal's line makes of it.
-use Rattle.std.proofs.Common.{◌≡◌, ℕ, ◌≤◌, List, [], ◌++◌, Option, None, Result, Ok, Err, IfErr, string_bytes, refl, ◌∙◌, ap, subst}
+use Rattle.std.proofs.Common.{◌≡◌, ◌≢◌, ℕ, ◌≤◌, List, [], ◌++◌, Option, None, Result, Ok, Err, string_bytes, refl, sym, ◌∙◌, ap, subst, arith}
 use Rattle.std.specs.Io.KnownBytes.{append_known}
-use Rattle.ix_outside.specs.FilesState.{FilesState}
+use Rattle.ix_outside.specs.Counts.{Rose}
 use Rattle.ix_outside.specs.Sink.{AppendsPart}
 use Rattle.ix_outside.specs.SinkState.{SinkState}
-use Rattle.ix_outside.specs.SiteState.{SiteState}
 use Rattle.ix_outside.proofs.Counting.{Rose-earlier}
 use Rattle.ix_manage.specs.declared.refusal.Refusal.{Refusal}
+use Rattle.ix_manage.specs.declared.refusal.Refusal.TheVariants.{BadText, Large, LostExpression, BadActions, LostActions, BadScript}
+use Rattle.ix_manage.specs.declared.refusal.Refusal.TheVariants.{LostScript, Disk, Wire, Journal, Turns, Memory}
 use Rattle.ix_manage.specs.declared.run.Stop.{Stop}
 use Rattle.ix_manage.specs.declared.run.Stop.TheVariants.{Refused, Words, OtherExpression, Output}
 use Rattle.ix_manage.specs.Ends.{Ended}
 use Rattle.ix_manage.specs.Puts.{LastLine, Puts, put, lost}
 use Rattle.ix_manage.specs.Session.{Session}
-use Rattle.ix_manage.specs.inside.Leaves.{AwaitsLine, FailedWhere, IsNoFailure, IsNoLoss, Leaves, LostWhere}
-use Rattle.ix_manage.specs.Journal.{other_line}
-use Rattle.ix_manage.specs.inside.Refusal.{refusal_line, refusal_status}
+use Rattle.ix_manage.specs.inside.Leaves.{AwaitsLine, Finishes, Leaves, PutsLine, cut, written}
+use Rattle.ix_manage.specs.inside.Refusal.{other_line, refusal_line, refusal_status}
 use Rattle.ix_manage.proofs.Tracing.{append_nothing, append_twice}
 
 -- a text was put whole, and nothing in part
@@ -33,6 +33,7 @@ module _ {Part Whole : ℕ → List ℕ → List ℕ → Option Session → Type
       session = it.session;
       may = on status it.whole it.part it.session it.may;
       puts = it.puts;
+      put_failed = it.put_failed;
     }
 
     awaits_on : (end : ℕ) (line : List ℕ) → AwaitsLine Part end line old new
@@ -49,7 +50,33 @@ module _ {Part Whole : ℕ → List ℕ → List ℕ → Option Session → Type
     leaves_on (Err (Refused refusal)) it = awaits_on (refusal_status refusal) (refusal_line refusal) it
     leaves_on (Err (Words text)) it = awaits_on 2 (string_bytes text) it
     leaves_on (Err (OtherExpression kept)) it = awaits_on 8 (other_line kept.items) it
-    leaves_on (Err Output) it = (ended_on 10 it.0, it.1)
+    leaves_on (Err Output) it = ended_on 10 it
+
+-- all was put
+pub ended_whole : {May : ℕ → List ℕ → List ℕ → Option Session → Type 0} (old new : SinkState) (whole : List ℕ)
+    (session : Option Session) → May 0 whole [] session → new.written ≡ append_known old.written whole
+    → Ended May 0 old new
+ended_whole old new whole session may is = record {
+  whole = whole;
+  part = [];
+  session = session;
+  may = may;
+  puts = puts_whole old new whole is;
+  put_failed = λ same. absurd (omega (arith, same));
+}
+
+-- a put failed
+pub ended_cut : {May : ℕ → List ℕ → List ℕ → Option Session → Type 0} (old new : SinkState) (whole part : List ℕ)
+    (session : Option Session) → May 10 whole part session → AppendsPart (append_known old.written whole) part new.written
+    → Rose old.faults new.faults → Ended May 10 old new
+ended_cut old new whole part session may puts rose = record {
+  whole = whole;
+  part = part;
+  session = session;
+  may = may;
+  puts = puts;
+  put_failed = λ same. rose;
+}
 
 -- the sink at the end, by another name
 pub leaves_same : (May : ℕ → List ℕ → List ℕ → Option Session → Type 0) (start : SinkState)
@@ -71,33 +98,23 @@ module _ {May : ℕ → List ℕ → List ℕ → Option Session → Type 0} (en
     put = append_nothing sink.written;
   }
 
-  module _ (old between new : SinkState) (it : AwaitsLine May end line old between)
-      (text : List ℕ) (same : text ≡ line)
-    where
-      -- its line is put
-      pub line_put : new.written ≡ append_known between.written text → Ended May end old new
-      line_put is =
-          let whole : List ℕ = it.before ++ line in record {
-            whole = whole;
-            part = [];
-            session = it.session;
-            may = it.may end whole [] put;
-            puts = puts_whole old new whole
-                (is ∙ ap (append_known between.written) same
-                ∙ ap (λ known. append_known known line) it.put
-                ∙ append_twice old.written it.before line);
-          }
-
-      -- its put fails
-      pub line_lost : AppendsPart between.written text new.written → Ended May 10 old new
-      line_lost part = record {
-        whole = it.before;
-        part = line;
+  -- its line is put, or its put fails
+  line_finishes : (old mid new : SinkState) (status : ℕ) → AwaitsLine May end line old mid → end ≢ 10
+      → old.faults ≤ mid.faults → PutsLine end line mid new status → Ended May status old new
+  line_finishes old mid new status it below le (written is) =
+      let whole : List ℕ = it.before ++ line in record {
+        whole = whole;
+        part = [];
         session = it.session;
-        may = it.may 10 it.before line lost;
-        puts = subst (λ t. AppendsPart (append_known old.written it.before) t new.written) same
-            (subst (λ known. AppendsPart known text new.written) it.put part);
+        may = it.may end whole [] put;
+        puts = puts_whole old new whole
+            (is ∙ ap (λ known. append_known known line) it.put ∙ append_twice old.written it.before line);
+        put_failed = λ same. absurd (below same);
       }
+  line_finishes old mid new status it below le (cut part rose) =
+      ended_cut old new it.before line it.session (it.may 10 it.before line lost)
+      (subst (λ known. AppendsPart known line new.written) it.put part)
+      (Rose-earlier old.faults mid.faults new.faults le rose)
 
 -- a refusal before anything was put
 pub nothing_put : {May : ℕ → List ℕ → List ℕ → Option Session → Type 0} (refusal : Refusal)
@@ -108,33 +125,32 @@ pub nothing_put : {May : ℕ → List ℕ → List ℕ → Option Session → Ty
     → AwaitsLine May (refusal_status refusal) (refusal_line refusal) sink sink
 nothing_put refusal = nothing_put_of (refusal_status refusal) (refusal_line refusal)
 
--- a part that loses no file
-pub nothing_lost : {T : Type 0} (before now : FilesState) (r : Result T Stop)
-    → IfErr r IsNoLoss → IfErr r (LostWhere before now)
-nothing_lost before now (Ok done) none = tt
-nothing_lost before now (Err (Refused refusal)) none = λ is. absurd (none is)
-nothing_lost before now (Err (Words text)) none = none
-nothing_lost before now (Err (OtherExpression kept)) none = none
-nothing_lost before now (Err Output) none = none
+-- no refusal has the status of a put that failed
+not_ten : (refusal : Refusal) → refusal_status refusal ≢ 10
+not_ten (BadText code at) = λ same. omega (arith, same)
+not_ten (Large limit) = λ same. omega (arith, same)
+not_ten LostExpression = λ same. omega (arith, same)
+not_ten (BadActions code at) = λ same. omega (arith, same)
+not_ten LostActions = λ same. omega (arith, same)
+not_ten (BadScript code at) = λ same. omega (arith, same)
+not_ten LostScript = λ same. omega (arith, same)
+not_ten Disk = λ same. omega (arith, same)
+not_ten Wire = λ same. omega (arith, same)
+not_ten (Journal why) = λ same. omega (arith, same)
+not_ten Turns = λ same. omega (arith, same)
+not_ten Memory = λ same. omega (arith, same)
 
--- a part in which no call of the disk or of the wire fails
-pub nothing_failed : {T : Type 0} (before now : SiteState) (r : Result T Stop)
-    → IfErr r IsNoFailure → IfErr r (FailedWhere before now)
-nothing_failed before now (Ok done) none = tt
-nothing_failed before now (Err (Refused refusal)) none = (λ is. absurd (none.0 is), λ is. absurd (none.1 is))
-nothing_failed before now (Err (Words text)) none = none
-nothing_failed before now (Err (OtherExpression kept)) none = none
-nothing_failed before now (Err Output) none = none
-
--- a part behind calls in which no count fell
-pub failed_later : {T : Type 0} (old before now : SiteState) (r : Result T Stop)
-    → old.counts.disk ≤ before.counts.disk → old.counts.wire ≤ before.counts.wire
-    → IfErr r (FailedWhere before now) → IfErr r (FailedWhere old now)
-failed_later old before now (Ok done) disk wire failed = tt
-failed_later old before now (Err (Refused refusal)) disk wire failed = (
-  λ is. Rose-earlier old.counts.disk before.counts.disk now.counts.disk disk (failed.0 is),
-  λ is. Rose-earlier old.counts.wire before.counts.wire now.counts.wire wire (failed.1 is),
-)
-failed_later old before now (Err (Words text)) disk wire failed = failed
-failed_later old before now (Err (OtherExpression kept)) disk wire failed = failed
-failed_later old before now (Err Output) disk wire failed = failed
+-- how a run ends whose last line is put where it stopped, or whose put fails
+pub finish_ends : {May : ℕ → List ℕ → List ℕ → Option Session → Type 0} {T : Type 0} (how : Result T Stop)
+    (old mid new : SinkState) (status : ℕ) → Leaves May old mid how → old.faults ≤ mid.faults
+    → Finishes how mid new status → Ended May status old new
+finish_ends {May = May} (Ok done) old mid new status it le is =
+    subst (λ s. Ended May status old s) (sym is.1) (subst (λ n. Ended May n old mid) (sym is.0) it)
+finish_ends (Err (Refused refusal)) old mid new status it le is =
+    line_finishes (refusal_status refusal) (refusal_line refusal) old mid new status it (not_ten refusal) le is
+finish_ends (Err (Words text)) old mid new status it le is =
+    line_finishes 2 (string_bytes text) old mid new status it (λ same. omega (arith, same)) le is
+finish_ends (Err (OtherExpression kept)) old mid new status it le is =
+    line_finishes 8 (other_line kept.items) old mid new status it (λ same. omega (arith, same)) le is
+finish_ends {May = May} (Err Output) old mid new status it le is =
+    subst (λ s. Ended May status old s) (sym is.1) (subst (λ n. Ended May n old mid) (sym is.0) it)

@@ -159,16 +159,14 @@ module _ (x : Form) (limit : ℕ) (all rest : List ℕ) (front history : Word) (
       })
   trace_stops engine action next cut start was now form most same cuts valid named so_far good answers put_before le (Words text) is = absurd is
   trace_stops engine action next cut start was now form most same cuts valid named so_far good answers put_before le (OtherExpression kept) is = absurd is
-  trace_stops engine action next cut start was now form most same cuts valid named so_far good answers put_before le Output it = (
-    record {
-      whole = text;
-      part = it.0;
-      session = None;
-      may = trace_lost next it.0 action it.1
-          (front_step all rest next cut front action cuts valid named so_far)
-          (Each-tail (subst (Each IsActionText) cuts good)) answers
-          (subst (λ h. Answers x limit h (action ∷ []) it.0 it.1) same (answers_same form most it.2));
-      puts = subst (λ known. AppendsPart known it.0 now.written) put_before it.3;
-    },
-    Rose-earlier _ _ _ le it.4,
-  )
+  trace_stops engine action next cut start was now form most same cuts valid named so_far good answers put_before le Output it = record {
+    whole = text;
+    part = it.0;
+    session = None;
+    may = trace_lost next it.0 action it.1
+        (front_step all rest next cut front action cuts valid named so_far)
+        (Each-tail (subst (Each IsActionText) cuts good)) answers
+        (subst (λ h. Answers x limit h (action ∷ []) it.0 it.1) same (answers_same form most it.2));
+    puts = subst (λ known. AppendsPart known it.0 now.written) put_before it.3;
+    put_failed = λ ten. Rose-earlier _ _ _ le it.4;
+  }

@@ -5,14 +5,16 @@ use Rattle.ix_expr.specs.Form.{Form}
 use Rattle.ix_outside.specs.Contents.{GivenEvent}
 use Rattle.ix_outside.specs.Files.{Listing}
 use Rattle.ix_outside.specs.SinkState.{SinkState}
+use Rattle.ix_outside.specs.Counts.{Rose}
 use Rattle.ix_outside.specs.Crashes.{Crashes}
 use Rattle.ix_manager.specs.Runs.{Opening}
 use Rattle.ix_cli.specs.Words.{Job, Names, NamesNoJob, trace, replay, serve, work}
 use Rattle.ix_manage.specs.ActionLines.{line}
-use Rattle.ix_manage.specs.Around.{Around, SiteRests}
+use Rattle.ix_manage.specs.Around.{Around, DiskFailed, FilesFailed, SiteRests, WireFailed}
 use Rattle.ix_manage.specs.Command.{expression_of, journal_of, limit_of}
 use Rattle.ix_manage.specs.Puts.{LastLine, Puts}
 use Rattle.ix_manage.specs.Journal.{OfJournal, OnJournal, RefusesFile, journal_line}
+use Rattle.ix_manage.specs.Site.{Touches}
 use Rattle.ix_manage.specs.Session.{Session, Takes}
 use Rattle.ix_manage.specs.Replay.{HasBadScript, Plays, ReadsEvents, ReplayEnds}
 use Rattle.ix_manage.specs.Serve.{OnWire, ServeEnds}
@@ -41,7 +43,7 @@ pub record KeepsJournal (files : Option Listing) (job : Job) (expression : List 
 
 -- How a job may end, by what is around it: its status, what it puts whole, what a put was to put
 -- that failed, and the session where the machine ran. Where a file is lost or has a fault, the site
--- is as it was.
+-- is as it was; what failed is told by its count.
 pub data JobEnds (around : Around)
     : Job → ℕ → List ℕ → List ℕ → Option Session → Type 0 where
   no_memory : {job : Job} {status : ℕ} {whole part : List ℕ}
@@ -53,7 +55,7 @@ pub data JobEnds (around : Around)
       → LastLine 3 [] (fault_line (codes "expression") code at) status whole part
       → JobEnds around job status whole part None
   lost_expression : {job : Job} {expression : List ℕ} {status : ℕ} {whole part : List ℕ}
-      → expression_of job ≡ Some expression → SiteRests around
+      → expression_of job ≡ Some expression → FilesFailed around → SiteRests around
       → LastLine 4 [] (line (codes "refused file expression")) status whole part
       → JobEnds around job status whole part None
   large : {job : Job} {expression : List ℕ} {status : ℕ} {whole part : List ℕ}
@@ -63,6 +65,7 @@ pub data JobEnds (around : Around)
       → JobEnds around job status whole part None
   lost_disk : {job : Job} {expression : List ℕ} {x : Form} {status : ℕ} {whole part : List ℕ}
       → KeepsJournal around.files job expression → ReadsForm around.files expression x
+      → DiskFailed around
       → LastLine 5 [] (line (codes "refused disk")) status whole part
       → JobEnds around job status whole part None
   refused_journal : {job : Job} {expression : List ℕ} {x : Form} (why : List ℕ) {status : ℕ}
@@ -79,7 +82,7 @@ pub data JobEnds (around : Around)
       → JobEnds around (trace expression actions limit) status whole part None
   lost_actions : {expression actions : List ℕ} {limit : ℕ} {x : Form} {status : ℕ}
       {whole part : List ℕ}
-      → Starts around.files expression limit x → SiteRests around
+      → Starts around.files expression limit x → FilesFailed around → SiteRests around
       → LastLine 4 [] (line (codes "refused file actions")) status whole part
       → JobEnds around (trace expression actions limit) status whole part None
   traced : {expression actions : List ℕ} {limit : ℕ} {x : Form} {word : Word} {status : ℕ}
@@ -95,26 +98,26 @@ pub data JobEnds (around : Around)
       → JobEnds around (replay expression journal script limit turns) status whole part None
   lost_script : {expression journal script : List ℕ} {limit turns : ℕ} {x : Form} {status : ℕ}
       {whole part : List ℕ}
-      → ReadsForm around.files expression x → SiteRests around
+      → ReadsForm around.files expression x → FilesFailed around → SiteRests around
       → LastLine 4 [] (line (codes "refused file script")) status whole part
       → JobEnds around (replay expression journal script limit turns) status whole part None
   replayed : {expression journal script : List ℕ} {limit turns : ℕ} {x : Form}
       {events : List GivenEvent} {session : Session} {status : ℕ} {whole part : List ℕ}
       → Starts around.files expression limit x → ReadsEvents around.files script events
       → IsFrom x limit session.opening → Plays turns events session
-      → ReplayEnds turns session status whole part
+      → ReplayEnds turns around.before.counts around.after.counts session status whole part
       → JobEnds around (replay expression journal script limit turns) status whole part
       (Some session)
   no_wire : {expression journal socket : List ℕ} {limit turns : ℕ} {x : Form} {status : ℕ}
       {whole part : List ℕ}
-      → Starts around.files expression limit x
+      → Starts around.files expression limit x → WireFailed around
       → LastLine 6 [] (line (codes "refused wire")) status whole part
       → JobEnds around (serve expression journal socket limit turns) status whole part None
   served : {expression journal socket : List ℕ} {limit turns : ℕ} {x : Form}
       {session : Session} {status : ℕ} {whole part : List ℕ}
       → Starts around.files expression limit x
       → IsFrom x limit session.opening → Takes turns session
-      → ServeEnds turns session status whole part
+      → ServeEnds turns around.before.counts around.after.counts session status whole part
       → JobEnds around (serve expression journal socket limit turns) status whole part
       (Some session)
   worked : {count seed limit status : ℕ} {whole part : List ℕ}
@@ -125,6 +128,7 @@ pub data JobEnds (around : Around)
 pub record JobOver (around : Around) (job : Job) (is : Crashes) (status : ℕ) (whole part : List ℕ)
     (session : Option Session) : Type 0 where
   pub ends : JobEnds around job status whole part session
+  pub touches : Touches job around.before around.after
   pub journal : OnJournal around.files job around.before around.after is session
   pub wire : OnWire job around.before around.after is session
 
@@ -143,7 +147,7 @@ pub data EndsOver (words : List (List ℕ)) (around : Around) (is : Crashes)
       → EndsOver words around is status whole part session
 
 -- How a call ended with a status: there are texts and a session with which it may end so, and these
--- texts went out, the second in part.
+-- texts went out, the second in part; with status 10 a put failed.
 pub record Ended (May : ℕ → List ℕ → List ℕ → Option Session → Type 0) (status : ℕ)
     (old new : SinkState) : Type 0 where
   pub whole : List ℕ
@@ -151,3 +155,4 @@ pub record Ended (May : ℕ → List ℕ → List ℕ → Option Session → Typ
   pub session : Option Session
   pub may : May status whole part session
   pub puts : Puts whole part old new
+  pub put_failed : status ≡ 10 → Rose old.faults new.faults

@@ -43,10 +43,6 @@ pub data RefusesFile (x : Form) (limit : ℕ) (file : List ℕ) : List ℕ → T
 abbrev pub journal_line : List ℕ → List ℕ
 journal_line why = line (codes "refused journal " ++ why)
 
--- the line that says that the journal is that of another expression, of this text
-abbrev pub other_line : List ℕ → List ℕ
-other_line kept = journal_line (codes "other " ++ kept)
-
 -- a file was opened, and this holds of how it read then
 abbrev pub OfOpened : (List ℕ → Type 0) → Option Opened → Type 0
 OfOpened P None = ⊥

@@ -10,4 +10,5 @@ pub mod Puts
 pub mod Session
 pub mod Journal
 pub mod Work
+pub mod Laws
 pub mod inside

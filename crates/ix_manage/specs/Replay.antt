@@ -2,6 +2,7 @@
 use Rattle.std.specs.Prelude.{◌≡◌, ℕ, ◌≤◌, List, [], ◌∷◌, ◌++◌, length, Option}
 use Rattle.ix_journal.specs.History.{PlainHistory}
 use Rattle.ix_outside.specs.Contents.{GivenEvent, send_text}
+use Rattle.ix_outside.specs.Counts.{Counts}
 use Rattle.ix_outside.specs.Files.{Listing, HasFile, HasLonger}
 use Rattle.ix_proto.specs.declared.reply.Reply.{Reply}
 use Rattle.ix_manager.specs.Wire.{all_replies, replies_text, reply_line}
@@ -52,10 +53,11 @@ abbrev pub session_text : Session → List ℕ
 session_text session = replay_text session.opening.history session.taken session.answers
 
 -- how a replay's session ends: behind its text, or at a put of a reply that failed
-pub data ReplayEnds (turns : ℕ) (session : Session) : ℕ → List ℕ → List ℕ → Type 0 where
+pub data ReplayEnds (turns : ℕ) (before after : Counts) (session : Session)
+    : ℕ → List ℕ → List ℕ → Type 0 where
   ends : {status : ℕ} {whole part : List ℕ}
-      → SessionEnds turns (session_text session) session status whole part
-      → ReplayEnds turns session status whole part
+      → SessionEnds turns before after (session_text session) session status whole part
+      → ReplayEnds turns before after session status whole part
   lost_reply : {whole part : List ℕ}
       → LosesReply session.opening.history session.taken session.answers whole part
-      → ReplayEnds turns session 10 whole part
+      → ReplayEnds turns before after session 10 whole part

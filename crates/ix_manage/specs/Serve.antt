@@ -2,7 +2,7 @@
 use Rattle.std.specs.Prelude.{◌≡◌, ℕ, ◌<◌, List, [], ◌∷◌, ◌++◌, length, Bool, Option, None, Some}
 use Rattle.std.specs.Prelude.{codes}
 use Rattle.ix_outside.specs.Contents.{GivenEvent, Sends}
-use Rattle.ix_outside.specs.Counts.{Rose}
+use Rattle.ix_outside.specs.Counts.{Counts, Rose}
 use Rattle.ix_outside.specs.Crashes.{Crashes, Left}
 use Rattle.ix_outside.specs.Disk.{Disk, Opened}
 use Rattle.ix_outside.specs.SiteState.{SiteState}
@@ -18,15 +18,17 @@ use Rattle.ix_manage.specs.Session.{MayGoOn, Session, SessionEnds, history_line}
 
 -- how a session of `serve` ends: behind the line of the history, or where no further event came
 -- since the wire failed
-pub data ServeEnds (turns : ℕ) (session : Session) : ℕ → List ℕ → List ℕ → Type 0 where
+pub data ServeEnds (turns : ℕ) (before after : Counts) (session : Session)
+    : ℕ → List ℕ → List ℕ → Type 0 where
   ends : {status : ℕ} {whole part : List ℕ}
-      → SessionEnds turns (history_line session.opening.history) session status whole part
-      → ServeEnds turns session status whole part
+      → SessionEnds turns before after (history_line session.opening.history) session
+      status whole part
+      → ServeEnds turns before after session status whole part
   wire_failed : {status : ℕ} {whole part : List ℕ}
-      → length session.taken < turns → MayGoOn session
+      → length session.taken < turns → MayGoOn session → Rose before.wire after.wire
       → LastLine 6 (history_line session.opening.history)
       (line (codes "refused wire")) status whole part
-      → ServeEnds turns session status whole part
+      → ServeEnds turns before after session status whole part
 
 -- with one more name behind those heard
 abbrev pub with_heard : List ℕ → Sends → Sends

@@ -4,6 +4,7 @@ use Rattle.ix_words.specs.Each.{Each}
 use Rattle.ix_values.specs.PlainAction.{PlainAction}
 use Rattle.ix_journal.specs.History.{PlainHistory}
 use Rattle.ix_outside.specs.Contents.{GivenEvent}
+use Rattle.ix_outside.specs.Counts.{Counts, Rose}
 use Rattle.ix_outside.specs.declared.event.EventKind.TheVariants.{End}
 use Rattle.ix_proto.specs.declared.reply.Reply.{Reply}
 use Rattle.ix_manager.specs.Machine.{MachineState}
@@ -58,16 +59,16 @@ MayGoOn session = Each IsNoEnd session.taken × (session.ending ≡ going)
 -- How a session ends under the most turns, where this text was put before the last line, by the
 -- status: what is put whole, and what a put was to put that failed. With 5 the disk failed at a
 -- confirm; with 7 as many events as turns were taken, and the run may still go on.
-pub data SessionEnds (turns : ℕ) (text : List ℕ) (session : Session)
+pub data SessionEnds (turns : ℕ) (before after : Counts) (text : List ℕ) (session : Session)
     : ℕ → List ℕ → List ℕ → Type 0 where
-  over : IsOver session → SessionEnds turns text session 0 text []
+  over : IsOver session → SessionEnds turns before after text session 0 text []
   out_of_turns : {status : ℕ} {whole part : List ℕ}
       → length session.taken ≡ turns → MayGoOn session
       → LastLine 7 text (line (codes "refused turns")) status whole part
-      → SessionEnds turns text session status whole part
+      → SessionEnds turns before after text session status whole part
   disk_failed : {a : PlainAction} {status : ℕ} {whole part : List ℕ}
-      → session.ending ≡ failed a
+      → session.ending ≡ failed a → Rose before.disk after.disk
       → LastLine 5 text (line (codes "refused disk")) status whole part
-      → SessionEnds turns text session status whole part
+      → SessionEnds turns before after text session status whole part
   lost_history : session.taken ≡ []
-      → SessionEnds turns text session 10 [] (history_line session.opening.history)
+      → SessionEnds turns before after text session 10 [] (history_line session.opening.history)

@@ -1,7 +1,7 @@
 //! The top call of the program: from the words of the command line to the bytes put.
 #![tactic(auto)]
 
-ghost use Rattle.std.specs.Prelude.{◌≡◌, false, map, string_bytes, OnOk, OnErr};
+ghost use Rattle.std.specs.Prelude.{◌≡◌, false, map, string_bytes};
 ghost use Rattle.ix_outside.specs.Counts.{Rose};
 ghost use Rattle.ix_outside.specs.FilesState.{OnlyFaults};
 ghost use Rattle.ix_outside.specs.SinkState.{OnlyPuts};
@@ -9,14 +9,13 @@ ghost use Rattle.ix_outside.specs.SiteState.{OnlyDisk};
 ghost use Rattle.ix_manage.specs.Around.{around_of};
 ghost use Rattle.ix_manage.specs.Command.{NamesNoJournal, NamesNoSocket};
 ghost use Rattle.ix_manage.specs.Ends.{Ended, EndsOver};
-ghost use Rattle.ix_outside.specs.Sink.{AppendsPart};
 ghost use Rattle.ix_manage.specs.Site.{OnlyCalls};
-ghost use Rattle.std.specs.Io.KnownBytes.{append_known};
-ghost use Rattle.ix_manage.specs.Journal.{other_line};
 
 mod actions;
 mod history;
 mod job;
+mod last_line;
+pub mod laws;
 mod load;
 mod open;
 mod refusal;
@@ -30,8 +29,9 @@ mod turn;
 mod turns;
 mod work;
 
-use ix_outside::{Failed, Files, Sink, Site};
-use run::{Stop, run};
+use ix_outside::{Files, Sink, Site};
+use last_line::finish;
+use run::run;
 use std::alloc::Global;
 
 /// Runs the program on the words after its name, and gives its status.
@@ -76,7 +76,8 @@ pub fn manage<F: Files, S: Site, K: Sink>(
     requires { (S.state site.old).attached ≡ false }
 
     // With this status, a session and what went out, whole and in part, the run may end so; what it
-    // leaves of its journal is that session's history, and what it sent the session's replies.
+    // leaves of its journal is that session's history, and what it sent the session's replies. All
+    // that is said below of the status and of the site is said by this already.
     ensures ends { Ended (EndsOver (map string_bytes words.now)
         (around_of (F.state files.old) (F.state files.new) (S.state site.old) (S.state site.new))
         (S.crashes site.new))
@@ -100,34 +101,6 @@ pub fn manage<F: Files, S: Site, K: Sink>(
         → S.state site.new ≡ S.state site.old }
     ensures puts { OnlyPuts (K.state out.old) (K.state out.new) }
 {
-    match run(alloc, words, files, site, out) {
-        Ok(()) => 0,
-        Err(Stop::Output) => 10,
-        Err(Stop::Words { text }) => match out.put(text.as_bytes()) {
-            Ok(()) => 2,
-            Err(_) => 10,
-        },
-        Err(Stop::OtherExpression { kept }) => match put_other(&kept, out) {
-            Ok(()) => 8,
-            Err(_) => 10,
-        },
-        Err(Stop::Refused(refusal)) => match out.put(&refusal.line()) {
-            Ok(()) => refusal.status(),
-            Err(_) => 10,
-        },
-    }
-}
-
-/// Puts the line that says that the journal is that of the expression of this text.
-fn put_other<K: Sink>(kept: &[u8], out: &mut K) -> Result<(), Failed>
-    ensures whole { OnOk result ((K.state out.new).written
-        ≡ append_known (K.state out.old).written (other_line kept.now)) }
-    ensures part { OnErr result (AppendsPart (K.state out.old).written (other_line kept.now)
-        (K.state out.new).written) }
-    ensures failed { OnErr result (Rose (K.state out.old).faults (K.state out.new).faults) }
-    ensures puts { OnlyPuts (K.state out.old) (K.state out.new) }
-{
-    out.put(b"refused journal other ")?;
-    out.put(kept)?;
-    out.put(b"\n")
+    let how = run(alloc, words, files, site, out);
+    finish(how, out)
 }

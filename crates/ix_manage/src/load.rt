@@ -1,9 +1,8 @@
 //! Loads the files that the words name.
-ghost use Rattle.std.specs.Prelude.{◌≡◌, ◌≤◌, List, IfOk, IfErr, IsErrOf, length};
+ghost use Rattle.std.specs.Prelude.{◌≡◌, ◌≤◌, List, IfOk, IfErr, length};
 ghost use Rattle.ix_words.specs.Each.{Each};
 ghost use Rattle.ix_values.specs.Faults.{IsActionText};
 ghost use Rattle.ix_parse.specs.Faults.{StandsFor};
-ghost use Rattle.ix_outside.specs.Counts.{Rose};
 ghost use Rattle.ix_outside.specs.FilesState.{OnlyFaults};
 ghost use Rattle.ix_outside.specs.Files.{HasFile};
 ghost use Rattle.ix_lines.specs.TextLines.{lines_of};
@@ -34,9 +33,8 @@ pub(crate) fn load_expression<F: Files>(
     name: &str,
 ) -> Result<Expression, Refusal>
     ensures ok { IfOk result (λ x. ReadsForm (F.state files.old).contents name.now x) }
-    ensures err { IfErr result (RefusesExpression (F.state files.old).contents name.now) }
-    ensures lost { IsErrOf result Refusal.LostExpression
-        → Rose (F.state files.old).faults (F.state files.new).faults }
+    ensures err { IfErr result
+        (RefusesExpression (F.state files.old) (F.state files.new) name.now) }
 
     ensures files { OnlyFaults (F.state files.old) (F.state files.new) }
 {
@@ -73,9 +71,8 @@ pub(crate) fn load_actions<F: Files>(
         (λ bytes. HasFile (F.state files.old).contents name.now bytes.items) }
     ensures short { IfOk result (λ bytes. length bytes.items ≤ MOST_ACTIONS_BYTES) }
     ensures lines { IfOk result (λ bytes. Each IsActionText (lines_of bytes.items)) }
-    ensures err { IfErr result (RefusesActions (F.state files.old).contents name.now) }
-    ensures lost { IsErrOf result Refusal.LostActions
-        → Rose (F.state files.old).faults (F.state files.new).faults }
+    ensures err { IfErr result
+        (RefusesActions (F.state files.old) (F.state files.new) name.now) }
 
     ensures files { OnlyFaults (F.state files.old) (F.state files.new) }
 {
@@ -105,9 +102,8 @@ pub(crate) fn load_script<F: Files>(
     ensures file { IfOk result
         (λ bytes. HasFile (F.state files.old).contents name.now bytes.items) }
     ensures short { IfOk result (λ bytes. length bytes.items ≤ MOST_SCRIPT_BYTES) }
-    ensures err { IfErr result (RefusesScript (F.state files.old).contents name.now) }
-    ensures lost { IsErrOf result Refusal.LostScript
-        → Rose (F.state files.old).faults (F.state files.new).faults }
+    ensures err { IfErr result
+        (RefusesScript (F.state files.old) (F.state files.new) name.now) }
 
     ensures files { OnlyFaults (F.state files.old) (F.state files.new) }
 {

@@ -1,8 +1,6 @@
 //! How a run begins with its journal.
-ghost use Rattle.std.specs.Prelude.{◌≡◌, ◌≤◌, true, false, IfOk, IfErr, OnOk};
+ghost use Rattle.std.specs.Prelude.{◌≡◌, ◌≤◌, false, IfOk, IfErr};
 ghost use Rattle.ix_cli.specs.Commands.{most_nodes};
-ghost use Rattle.ix_outside.specs.SiteState.{OnlyDisk};
-ghost use Rattle.ix_manage.specs.inside.Leaves.{FailedWhere, IsNoLoss};
 ghost use Rattle.ix_manage.specs.inside.Opening.{StartsOver, StopsUnstarted};
 ghost use Rattle.ix_manage.specs.inside.Playing.{stop_of};
 
@@ -27,12 +25,8 @@ pub(crate) fn open<S: Site>(
 
     ensures starts { IfOk result (StartsOver expression limit journal.now
         (S.state site.old) (S.state site.new) (S.crashes site.new)) }
-    ensures attached { OnOk result ((S.state site.new).attached ≡ true) }
     ensures stops { IfErr result (StopsUnstarted expression limit journal.now
         (S.state site.old) (S.state site.new) (S.crashes site.new)) }
-    ensures lost { IfErr result IsNoLoss }
-    ensures failed { IfErr result (FailedWhere (S.state site.old) (S.state site.new)) }
-    ensures site { OnlyDisk (S.state site.old) (S.state site.new) }
 {
     match site.attach(journal) {
         Ok(()) => {}

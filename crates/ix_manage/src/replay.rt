@@ -1,16 +1,15 @@
 //! One replay, up to the last line that a refusal puts.
-ghost use Rattle.std.specs.Prelude.{◌≡◌, ◌≤◌, List, IfErr, true, false};
+ghost use Rattle.std.specs.Prelude.{◌≡◌, ◌≤◌, List, true, false};
 ghost use Rattle.ix_cli.specs.Commands.{most_nodes, most_turns};
 ghost use Rattle.ix_outside.specs.Contents.{GivenEvent};
 ghost use Rattle.ix_outside.specs.FilesState.{OnlyFaults};
 ghost use Rattle.ix_outside.specs.SinkState.{OnlyPuts};
-ghost use Rattle.ix_outside.specs.SiteState.{OnlyDisk};
 ghost use Rattle.ix_manager.specs.inside.OverSite.{FitsSite};
 ghost use Rattle.ix_script.specs.Events.{HasEvents};
 ghost use Rattle.ix_manage.specs.Around.{around_of};
 ghost use Rattle.ix_manage.specs.Ends.{JobOver};
 ghost use Rattle.ix_manage.specs.inside.Jobs.{replay_of};
-ghost use Rattle.ix_manage.specs.inside.Leaves.{FailedWhere, IsNoLoss, Leaves, LostWhere};
+ghost use Rattle.ix_manage.specs.inside.Leaves.{Leaves};
 ghost use Rattle.ix_manage.specs.inside.Playing.{PlaysOver};
 ghost use Rattle.ix_manage.specs.inside.ReplayProgress.{OnlyUsesDisk, ReplaysOn, between};
 ghost use Rattle.ix_manage.specs.inside.Turns.{IsStarted, opening_of};
@@ -45,11 +44,7 @@ pub(crate) fn replay<F: Files, S: Site, K: Sink>(
         (around_of (F.state files.old) (F.state files.new) (S.state site.old) (S.state site.new))
         (replay_of names.entry) (S.crashes site.new))
         (K.state out.old) (K.state out.new) result }
-    ensures lost { IfErr result (LostWhere (F.state files.old) (F.state files.new)) }
-    ensures failed { IfErr result (FailedWhere (S.state site.old) (S.state site.new)) }
-
     ensures files { OnlyFaults (F.state files.old) (F.state files.new) }
-    ensures site { OnlyDisk (S.state site.old) (S.state site.new) }
     ensures puts { OnlyPuts (K.state out.old) (K.state out.new) }
 {
     let expression = match load_expression(alloc, files, names.expression) {
@@ -86,10 +81,6 @@ fn play<S: Site, K: Sink>(
         (PlaysOver expression names.entry script.entry
         (S.state site.old) (S.state site.new) (S.crashes site.new))
         (K.state out.old) (K.state out.new) result }
-    ensures lost { IfErr result IsNoLoss }
-    ensures failed { IfErr result (FailedWhere (S.state site.old) (S.state site.new)) }
-
-    ensures site { OnlyDisk (S.state site.old) (S.state site.new) }
     ensures puts { OnlyPuts (K.state out.old) (K.state out.new) }
 {
     match open(alloc, site, names.journal, expression, names.limit) {
@@ -116,9 +107,6 @@ fn run_script<S: Site, K: Sink>(
         (ReplaysOn (opening_of manager.old) turns script.entry manager.new.machine
         (between S.state S.crashes site.old site.new))
         (K.state out.old) (K.state out.new) result }
-    ensures lost { IfErr result IsNoLoss }
-    ensures failed { IfErr result (FailedWhere (S.state site.old) (S.state site.new)) }
-
     ensures site { OnlyUsesDisk (S.state site.old) (S.state site.new) }
     ensures puts { OnlyPuts (K.state out.old) (K.state out.new) }
 {

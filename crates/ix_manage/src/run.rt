@@ -1,16 +1,13 @@
 //! One run of the program, up to the last line that a refusal puts.
-ghost use Rattle.std.specs.Prelude.{◌≡◌, ◌≤◌, ℕ, List, None, IfErr, false, map, string_bytes};
+ghost use Rattle.std.specs.Prelude.{◌≡◌, ◌≤◌, ℕ, List, false, map, string_bytes};
 ghost use Rattle.ix_cli.specs.Commands.{most_nodes};
 ghost use Rattle.ix_cli.specs.Words.{Names};
 ghost use Rattle.ix_cli.specs.inside.Jobs.{job_of};
 ghost use Rattle.ix_outside.specs.FilesState.{OnlyFaults};
 ghost use Rattle.ix_outside.specs.SinkState.{OnlyPuts};
-ghost use Rattle.ix_outside.specs.SiteState.{OnlyDisk};
 ghost use Rattle.ix_manage.specs.Around.{around_of};
-ghost use Rattle.ix_manage.specs.Command.{NamesNoJournal, NamesNoSocket, journal_of, socket_of};
 ghost use Rattle.ix_manage.specs.Ends.{EndsOver, JobOver};
-ghost use Rattle.ix_manage.specs.Site.{OnlyCalls};
-ghost use Rattle.ix_manage.specs.inside.Leaves.{FailedWhere, IsNoFailure, Leaves, LostWhere};
+ghost use Rattle.ix_manage.specs.inside.Leaves.{Leaves};
 ghost use Rattle.ix_manage.specs.inside.Playing.{TraceEnds};
 
 use crate::job::{ReplayWords, ServeWords, TraceWords, WorkWords};
@@ -53,15 +50,7 @@ pub(crate) fn run<F: Files, S: Site, K: Sink>(
         (around_of (F.state files.old) (F.state files.new) (S.state site.old) (S.state site.new))
         (S.crashes site.new))
         (K.state out.old) (K.state out.new) result }
-    ensures lost { IfErr result (LostWhere (F.state files.old) (F.state files.new)) }
-    ensures failed { IfErr result (FailedWhere (S.state site.old) (S.state site.new)) }
-
     ensures files { OnlyFaults (F.state files.old) (F.state files.new) }
-    ensures site { OnlyCalls (S.state site.old) (S.state site.new) }
-    ensures no_socket { NamesNoSocket (map string_bytes words.now)
-        → OnlyDisk (S.state site.old) (S.state site.new) }
-    ensures no_journal { NamesNoJournal (map string_bytes words.now)
-        → S.state site.new ≡ S.state site.old }
     ensures puts { OnlyPuts (K.state out.old) (K.state out.new) }
 {
     match read_words(alloc, words) {
@@ -87,15 +76,7 @@ fn run_job<F: Files, S: Site, K: Sink>(
         (around_of (F.state files.old) (F.state files.new) (S.state site.old) (S.state site.new))
         (job_of job.now) (S.crashes site.new))
         (K.state out.old) (K.state out.new) result }
-    ensures lost { IfErr result (LostWhere (F.state files.old) (F.state files.new)) }
-    ensures failed { IfErr result (FailedWhere (S.state site.old) (S.state site.new)) }
-
     ensures files { OnlyFaults (F.state files.old) (F.state files.new) }
-    ensures site { OnlyCalls (S.state site.old) (S.state site.new) }
-    ensures no_socket { socket_of (job_of job.now) ≡ None
-        → OnlyDisk (S.state site.old) (S.state site.new) }
-    ensures no_journal { journal_of (job_of job.now) ≡ None
-        → S.state site.new ≡ S.state site.old }
     ensures puts { OnlyPuts (K.state out.old) (K.state out.new) }
 {
     match job {
@@ -166,9 +147,6 @@ fn run_trace<F: Files, K: Sink>(
     ensures leaves { Leaves
         (TraceEnds (F.state files.old) (F.state files.new) names.entry)
         (K.state out.old) (K.state out.new) result }
-    ensures lost { IfErr result (LostWhere (F.state files.old) (F.state files.new)) }
-    ensures failed { IfErr result IsNoFailure }
-
     ensures files { OnlyFaults (F.state files.old) (F.state files.new) }
     ensures puts { OnlyPuts (K.state out.old) (K.state out.new) }
 {

@@ -1,14 +1,13 @@
 //! One serve, up to the last line that a refusal puts.
-ghost use Rattle.std.specs.Prelude.{◌≡◌, ◌≤◌, IfErr, true, false};
+ghost use Rattle.std.specs.Prelude.{◌≡◌, ◌≤◌, true, false};
 ghost use Rattle.ix_cli.specs.Commands.{most_nodes, most_turns};
 ghost use Rattle.ix_outside.specs.FilesState.{OnlyFaults};
 ghost use Rattle.ix_outside.specs.SinkState.{OnlyPuts};
 ghost use Rattle.ix_manager.specs.inside.OverSite.{FitsSite};
 ghost use Rattle.ix_manage.specs.Around.{around_of};
 ghost use Rattle.ix_manage.specs.Ends.{JobOver};
-ghost use Rattle.ix_manage.specs.Site.{OnlyCalls};
 ghost use Rattle.ix_manage.specs.inside.Jobs.{serve_of};
-ghost use Rattle.ix_manage.specs.inside.Leaves.{FailedWhere, IsNoLoss, Leaves, LostWhere};
+ghost use Rattle.ix_manage.specs.inside.Leaves.{Leaves};
 ghost use Rattle.ix_manage.specs.inside.Playing.{ServesOver};
 ghost use Rattle.ix_manage.specs.inside.ServeProgress.{OnlyServed, ServesOn};
 ghost use Rattle.ix_manage.specs.inside.Turns.{IsStarted, opening_of, stretch_of};
@@ -43,11 +42,7 @@ pub(crate) fn serve<F: Files, S: Site, K: Sink>(
         (around_of (F.state files.old) (F.state files.new) (S.state site.old) (S.state site.new))
         (serve_of names.entry) (S.crashes site.new))
         (K.state out.old) (K.state out.new) result }
-    ensures lost { IfErr result (LostWhere (F.state files.old) (F.state files.new)) }
-    ensures failed { IfErr result (FailedWhere (S.state site.old) (S.state site.new)) }
-
     ensures files { OnlyFaults (F.state files.old) (F.state files.new) }
-    ensures site { OnlyCalls (S.state site.old) (S.state site.new) }
     ensures puts { OnlyPuts (K.state out.old) (K.state out.new) }
 {
     match load_expression(alloc, files, names.expression) {
@@ -73,10 +68,6 @@ fn begin<S: Site, K: Sink>(
         (ServesOver expression names.entry
         (S.state site.old) (S.state site.new) (S.crashes site.new))
         (K.state out.old) (K.state out.new) result }
-    ensures lost { IfErr result IsNoLoss }
-    ensures failed { IfErr result (FailedWhere (S.state site.old) (S.state site.new)) }
-
-    ensures site { OnlyCalls (S.state site.old) (S.state site.new) }
     ensures puts { OnlyPuts (K.state out.old) (K.state out.new) }
 {
     match open(alloc, site, names.journal, expression, names.limit) {
@@ -102,9 +93,6 @@ fn take_connections<S: Site, K: Sink>(
         (ServesOn (opening_of manager.old) names.entry.turns names.entry.socket.now
         manager.new.machine (stretch_of S.state S.crashes site.old site.new))
         (K.state out.old) (K.state out.new) result }
-    ensures lost { IfErr result IsNoLoss }
-    ensures failed { IfErr result (FailedWhere (S.state site.old) (S.state site.new)) }
-
     ensures site { OnlyServed (S.state site.old) (S.state site.new) }
     ensures puts { OnlyPuts (K.state out.old) (K.state out.new) }
 {

@@ -1,8 +1,7 @@
 //! Takes the events of a site one by one.
-ghost use Rattle.std.specs.Prelude.{◌≡◌, ◌^◌, ◌<◌, ◌≤◌, true, false, length, IfErr};
+ghost use Rattle.std.specs.Prelude.{◌≡◌, ◌^◌, ◌<◌, ◌≤◌, true, false, length};
 ghost use Rattle.ix_cli.specs.Commands.{most_turns};
 ghost use Rattle.ix_manager.specs.inside.OverSite.{FitsSite};
-ghost use Rattle.ix_manage.specs.inside.Leaves.{FailedWhere, IsNoLoss};
 ghost use Rattle.ix_manage.specs.inside.ServeProgress.{OnlyServed, ServesTo, ServesTurn};
 ghost use Rattle.ix_manage.specs.inside.Turns.{IsStarted, stretch_of};
 
@@ -27,8 +26,6 @@ pub(crate) fn serve_events<S: Site>(
 
     ensures serves { ServesTo turns manager.old manager.new
         (stretch_of S.state S.crashes site.old site.new) result }
-    ensures lost { IfErr result IsNoLoss }
-    ensures failed { IfErr result (FailedWhere (S.state site.old) (S.state site.new)) }
     ensures site { OnlyServed (S.state site.old) (S.state site.new) }
 {
     let mut buffer = [0; EVENT_ROOM];

@@ -1,10 +1,9 @@
 //! The engines that a trace and a work begin with.
-ghost use Rattle.std.specs.Prelude.{◌≡◌, ◌≤◌, [], IfOk, IfErr, IsErrOf, OnOk};
+ghost use Rattle.std.specs.Prelude.{◌≡◌, ◌≤◌, [], IfOk, IfErr, OnOk};
 ghost use Rattle.ix_cli.specs.Commands.{most_nodes};
 ghost use Rattle.ix_can.specs.TreeOf.{tree_size};
 ghost use Rattle.ix_generate.specs.Workload.{examinations};
 ghost use Rattle.ix_parse.specs.Faults.{StandsFor};
-ghost use Rattle.ix_outside.specs.Counts.{Rose};
 ghost use Rattle.ix_outside.specs.FilesState.{OnlyFaults};
 ghost use Rattle.ix_manage.specs.inside.Refusal.{RefusesForm, RefusesStart, RefusesWorkload};
 ghost use Rattle.ix_manage.specs.Trace.{Starts};
@@ -31,9 +30,8 @@ pub(crate) fn start<F: Files>(
         (λ engine. Starts (F.state files.old).contents name.now limit engine.form) }
     ensures limit { IfOk result (λ engine. engine.limit ≡ limit) }
     ensures history { IfOk result (λ engine. engine.history ≡ []) }
-    ensures err { IfErr result (RefusesStart (F.state files.old).contents name.now limit) }
-    ensures lost { IsErrOf result Refusal.LostExpression
-        → Rose (F.state files.old).faults (F.state files.new).faults }
+    ensures err { IfErr result
+        (RefusesStart (F.state files.old) (F.state files.new) name.now limit) }
 
     ensures files { OnlyFaults (F.state files.old) (F.state files.new) }
 {

@@ -1,11 +1,11 @@
 //! Answers actions one after the other, and says at the end whether the history is complete.
-ghost use Rattle.std.specs.Prelude.{◌≡◌, [], ◌∷◌, IfOk, IfErr};
+ghost use Rattle.std.specs.Prelude.{◌≡◌, [], ◌∷◌, IfOk};
 ghost use Rattle.ix_words.specs.Each.{Each};
 ghost use Rattle.ix_values.specs.Faults.{IsActionText};
 ghost use Rattle.ix_outside.specs.SinkState.{OnlyPuts};
 ghost use Rattle.ix_lines.specs.TextLines.{lines_of};
 ghost use Rattle.ix_manage.specs.Trace.{Verdict};
-ghost use Rattle.ix_manage.specs.inside.Leaves.{IsNoFailure, IsNoLoss, Leaves};
+ghost use Rattle.ix_manage.specs.inside.Leaves.{Leaves};
 ghost use Rattle.ix_manage.specs.inside.TracesLines.{AnswersOne, PutsAnswer, TracesLines};
 
 use crate::refusal::Refusal;
@@ -28,8 +28,6 @@ pub(crate) fn trace<K: Sink>(
 
     ensures leaves { Leaves (TracesLines engine.old.form engine.old.limit actions.now)
         (K.state out.old) (K.state out.new) result }
-    ensures lost { IfErr result IsNoLoss }
-    ensures failed { IfErr result IsNoFailure }
     ensures puts { OnlyPuts (K.state out.old) (K.state out.new) }
 {
     let mut rest = actions;

@@ -1,8 +1,7 @@
 //! Takes the events of a script one by one.
-ghost use Rattle.std.specs.Prelude.{◌≡◌, ◌≤◌, true, length, IfErr};
+ghost use Rattle.std.specs.Prelude.{◌≡◌, ◌≤◌, true, length};
 ghost use Rattle.ix_cli.specs.Commands.{most_turns};
 ghost use Rattle.ix_script.specs.inside.Site.{playing};
-ghost use Rattle.ix_manage.specs.inside.Leaves.{FailedWhere, IsNoLoss};
 ghost use Rattle.ix_manage.specs.inside.ReplayProgress.{FitsDisk, IsAtStart, IsBetween};
 ghost use Rattle.ix_manage.specs.inside.ReplayProgress.{OnlyPlays, TakesEvents, TakesTurn, between};
 ghost use Rattle.ix_manage.specs.inside.ReplayProgress.{player};
@@ -32,10 +31,6 @@ pub(crate) fn take_events<S: Site, K: Sink>(
     ensures leaves { TakesEvents turns manager.old (player S.state K.state site.old)
         manager.new (player S.state K.state site.new)
         (between S.state S.crashes (playing site.old).site (playing site.new).site) result }
-    ensures lost { IfErr result IsNoLoss }
-    ensures failed { IfErr result
-        (FailedWhere (S.state (playing site.old).site) (S.state (playing site.new).site)) }
-
     ensures plays { OnlyPlays (player S.state K.state site.old) (player S.state K.state site.new) }
     ensures same_sink { (playing site.new).sink_loan ≡ (playing site.old).sink_loan }
     ensures same_site { (playing site.new).site_loan ≡ (playing site.old).site_loan }

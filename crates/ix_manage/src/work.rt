@@ -1,8 +1,8 @@
 //! One run of `work`, up to the last line that a refusal puts.
-ghost use Rattle.std.specs.Prelude.{◌≡◌, ◌≤◌, [], IfOk, IfErr};
+ghost use Rattle.std.specs.Prelude.{◌≡◌, ◌≤◌, [], IfOk};
 ghost use Rattle.ix_cli.specs.Commands.{most_asks, most_nodes};
 ghost use Rattle.ix_outside.specs.SinkState.{OnlyPuts};
-ghost use Rattle.ix_manage.specs.inside.Leaves.{IsNoFailure, IsNoLoss, Leaves};
+ghost use Rattle.ix_manage.specs.inside.Leaves.{Leaves};
 ghost use Rattle.ix_manage.specs.inside.Working.{AsksNext, IsBounded, Sums, WorkEnds};
 
 use crate::job::WorkWords;
@@ -54,8 +54,6 @@ pub(crate) fn work<K: Sink>(alloc: Global, names: WorkWords, out: &mut K) -> Res
     requires count { names.count ≤ most_asks }
 
     ensures leaves { Leaves (WorkEnds names) (K.state out.old) (K.state out.new) result }
-    ensures lost { IfErr result IsNoLoss }
-    ensures failed { IfErr result IsNoFailure }
     ensures puts { OnlyPuts (K.state out.old) (K.state out.new) }
 {
     let mut engine = match start_workload(alloc, names.limit) {

@@ -1,17 +1,15 @@
--- How a part of a run leaves the output, the files and the site, a refusal's line not put yet.
-use Rattle.std.specs.Prelude.{◌≡◌, ◌≢◌, ℕ, List, Option, Result, Ok, Err, string_bytes, ⊤}
+-- How a part of a run leaves the output, a refusal's line not put yet; and how that line is put.
+use Rattle.std.specs.Prelude.{◌≡◌, ℕ, List, Option, Result, Ok, Err, string_bytes}
 use Rattle.std.specs.Io.KnownBytes.{append_known}
 use Rattle.ix_outside.specs.Counts.{Rose}
-use Rattle.ix_outside.specs.FilesState.{FilesState}
+use Rattle.ix_outside.specs.Sink.{AppendsPart}
 use Rattle.ix_outside.specs.SinkState.{SinkState}
-use Rattle.ix_outside.specs.SiteState.{SiteState}
 use Rattle.ix_manage.specs.declared.run.Stop.{Stop}
 use Rattle.ix_manage.specs.declared.run.Stop.TheVariants.{Refused, Words, OtherExpression, Output}
 use Rattle.ix_manage.specs.Ends.{Ended}
-use Rattle.ix_manage.specs.Journal.{other_line}
 use Rattle.ix_manage.specs.Puts.{LastLine}
 use Rattle.ix_manage.specs.Session.{Session}
-use Rattle.ix_manage.specs.inside.Refusal.{refusal_line, refusal_status}
+use Rattle.ix_manage.specs.inside.Refusal.{other_line, refusal_line, refusal_status}
 
 -- a text was put, behind which the run may end with this status and line
 pub record AwaitsLine (May : ℕ → List ℕ → List ℕ → Option Session → Type 0) (end : ℕ)
@@ -31,7 +29,7 @@ StopsAfter May old new (Refused refusal) =
 StopsAfter May old new (Words text) = AwaitsLine May 2 (string_bytes text) old new
 StopsAfter May old new (OtherExpression kept) =
     AwaitsLine May 8 (other_line kept.items) old new
-StopsAfter May old new Output = Ended May 10 old new × Rose old.faults new.faults
+StopsAfter May old new Output = Ended May 10 old new
 
 -- all was put, with status 0, or it stopped
 abbrev pub Leaves : {T : Type 0} → (ℕ → List ℕ → List ℕ → Option Session → Type 0)
@@ -39,32 +37,18 @@ abbrev pub Leaves : {T : Type 0} → (ℕ → List ℕ → List ℕ → Option S
 Leaves May old new (Ok done) = Ended May 0 old new
 Leaves May old new (Err stop) = StopsAfter May old new stop
 
--- a file was lost only where the count rose
-abbrev pub LostWhere : FilesState → FilesState → Stop → Type 0
-LostWhere before now (Refused refusal) = refusal_status refusal ≡ 4 → Rose before.faults now.faults
-LostWhere before now (Words text) = ⊤
-LostWhere before now (OtherExpression kept) = ⊤
-LostWhere before now Output = ⊤
+-- a last line was put, and the run has this status; or its put failed, and the run has status 10
+pub data PutsLine (end : ℕ) (line : List ℕ) (old new : SinkState) : ℕ → Type 0 where
+  written : new.written ≡ append_known old.written line → PutsLine end line old new end
+  cut : AppendsPart old.written line new.written → Rose old.faults new.faults
+      → PutsLine end line old new 10
 
--- the disk failed, and the wire, only where the count rose
-abbrev pub FailedWhere : SiteState → SiteState → Stop → Type 0
-FailedWhere before now (Refused refusal) =
-    (refusal_status refusal ≡ 5 → Rose before.counts.disk now.counts.disk)
-    × (refusal_status refusal ≡ 6 → Rose before.counts.wire now.counts.wire)
-FailedWhere before now (Words text) = ⊤
-FailedWhere before now (OtherExpression kept) = ⊤
-FailedWhere before now Output = ⊤
-
--- no file was lost
-abbrev pub IsNoLoss : Stop → Type 0
-IsNoLoss (Refused refusal) = refusal_status refusal ≢ 4
-IsNoLoss (Words text) = ⊤
-IsNoLoss (OtherExpression kept) = ⊤
-IsNoLoss Output = ⊤
-
--- no call of the disk or of the wire failed
-abbrev pub IsNoFailure : Stop → Type 0
-IsNoFailure (Refused refusal) = (refusal_status refusal ≢ 5) × (refusal_status refusal ≢ 6)
-IsNoFailure (Words text) = ⊤
-IsNoFailure (OtherExpression kept) = ⊤
-IsNoFailure Output = ⊤
+-- the last line of a run that ended or stopped so was put, where it has one; by the status
+abbrev pub Finishes : {T : Type 0} → Result T Stop → SinkState → SinkState → ℕ → Type 0
+Finishes (Ok done) old new status = (status ≡ 0) × (new ≡ old)
+Finishes (Err (Refused refusal)) old new status =
+    PutsLine (refusal_status refusal) (refusal_line refusal) old new status
+Finishes (Err (Words text)) old new status = PutsLine 2 (string_bytes text) old new status
+Finishes (Err (OtherExpression kept)) old new status =
+    PutsLine 8 (other_line kept.items) old new status
+Finishes (Err Output) old new status = (status ≡ 10) × (new ≡ old)

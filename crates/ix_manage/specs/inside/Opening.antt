@@ -1,5 +1,5 @@
 -- How a run begins with its journal.
-use Rattle.std.specs.Prelude.{◌≡◌, ◌≤◌, ℕ, List, [], length, Option, None, Some, IsSome}
+use Rattle.std.specs.Prelude.{◌≡◌, ◌≤◌, true, ℕ, List, [], length, Option, None, Some, IsSome}
 use Rattle.std.specs.Option.{ForSome}
 use Rattle.ix_expr.specs.Form.{Form}
 use Rattle.ix_can.specs.TreeOf.{tree_size}
@@ -10,7 +10,7 @@ use Rattle.ix_outside.specs.Disk.{IsOpened}
 use Rattle.ix_outside.specs.Files.{Listing}
 use Rattle.ix_outside.specs.FilesState.{FilesState}
 use Rattle.ix_outside.specs.SinkState.{SinkState}
-use Rattle.ix_outside.specs.SiteState.{SiteState}
+use Rattle.ix_outside.specs.SiteState.{SiteState, OnlyDisk}
 use Rattle.ix_outside.specs.inside.DiskCalls.{KeepsOpened}
 use Rattle.ix_manager.specs.Handled.{ManagerState, started}
 use Rattle.ix_manager.specs.Images.{IsStartable, Keeps}
@@ -46,6 +46,7 @@ pub record EndsUnstarted (x : Form) (limit : ℕ) (journal : List ℕ) (before a
       → JobEnds (around_of files later before after) job status whole part None
   pub on_journal : (files : Option Listing) (job : Job) → IsJobOf x limit journal files job
       → OnJournal files job before after is None
+  pub only : OnlyDisk before after
 
 -- nothing was put, and a run stops so
 abbrev pub StopsUnstarted : Form → ℕ → List ℕ → SiteState → SiteState → Crashes → Stop → Type 0
@@ -56,6 +57,8 @@ StopsUnstarted x limit journal before after is stop =
 pub record StartsOver (x : Form) (limit : ℕ) (journal : List ℕ) (before after : SiteState)
     (is : Crashes) (m : ManagerState) : Type 0 where
   pub at : SiteState
+  pub only : OnlyDisk before after
+  pub attached : after.attached ≡ true
   pub fresh : m ≡ started (opening_of x limit m.machine.history) m.store
   pub small : tree_size x [] ≤ limit
   pub opened : IsOpened journal at.tick before.disk at.disk

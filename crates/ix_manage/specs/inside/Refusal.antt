@@ -1,10 +1,11 @@
 -- Why a run ends before it has its answer, and what it puts then.
-use Rattle.std.specs.Prelude.{◌≡◌, ℕ, ◌<◌, List, [], ◌++◌, Option, codes, decimal, ⊤}
+use Rattle.std.specs.Prelude.{◌≡◌, ℕ, ◌<◌, List, [], ◌++◌, codes, decimal, ⊤}
 use Rattle.ix_manage.specs.declared.refusal.Refusal.{Refusal}
 use Rattle.ix_manage.specs.declared.refusal.Refusal.TheVariants.{BadText, Large, LostExpression, BadActions, LostActions, BadScript, LostScript, Disk, Wire, Journal, Turns, Memory}
 use Rattle.ix_manage.specs.declared.refusal.JournalRefusal.{JournalRefusal}
 use Rattle.ix_manage.specs.declared.refusal.JournalRefusal.TheVariants.{Foreign, Damaged, Many, Word, Heavy}
-use Rattle.ix_outside.specs.Files.{Listing}
+use Rattle.ix_outside.specs.Counts.{Rose}
+use Rattle.ix_outside.specs.FilesState.{FilesState}
 use Rattle.ix_parse.specs.Faults.{IsFirstFault, StandsFor}
 use Rattle.ix_script.specs.Grammar.{IsFirstScriptFault}
 use Rattle.ix_expr.specs.Form.{Form}
@@ -23,6 +24,10 @@ journal_words Many = codes "many"
 journal_words (Word number) = codes "word " ++ decimal number
 journal_words (Heavy number limit) =
     codes "large " ++ decimal number ++ codes " " ++ decimal limit
+
+-- the line that says that the journal is that of another expression, of this text
+abbrev pub other_line : List ℕ → List ℕ
+other_line kept = journal_line (codes "other " ++ kept)
 
 -- the line that says why
 abbrev pub refusal_line : Refusal → List ℕ
@@ -61,19 +66,20 @@ RefusesText text Memory = ⊤
 RefusesText text _ = ⊥
 
 -- why an expression file of this name is refused
-abbrev pub RefusesExpression : Option Listing → List ℕ → Refusal → Type 0
-RefusesExpression files name (BadText code at) = HasBadText files name code at
-RefusesExpression files name LostExpression = ⊤
-RefusesExpression files name Memory = ⊤
-RefusesExpression files name _ = ⊥
+abbrev pub RefusesExpression : FilesState → FilesState → List ℕ → Refusal → Type 0
+RefusesExpression old new name (BadText code at) = HasBadText old.contents name code at
+RefusesExpression old new name LostExpression = Rose old.faults new.faults
+RefusesExpression old new name Memory = ⊤
+RefusesExpression old new name _ = ⊥
 
 -- why no engine is made of an expression file of this name under a limit
-abbrev pub RefusesStart : Option Listing → List ℕ → ℕ → Refusal → Type 0
-RefusesStart files name limit (BadText code at) = HasBadText files name code at
-RefusesStart files name limit (Large most) = (most ≡ limit) × StartsAbove files name limit
-RefusesStart files name limit LostExpression = ⊤
-RefusesStart files name limit Memory = ⊤
-RefusesStart files name limit _ = ⊥
+abbrev pub RefusesStart : FilesState → FilesState → List ℕ → ℕ → Refusal → Type 0
+RefusesStart old new name limit (BadText code at) = HasBadText old.contents name code at
+RefusesStart old new name limit (Large most) =
+    (most ≡ limit) × StartsAbove old.contents name limit
+RefusesStart old new name limit LostExpression = Rose old.faults new.faults
+RefusesStart old new name limit Memory = ⊤
+RefusesStart old new name limit _ = ⊥
 
 -- why no engine is made of a form under a limit
 abbrev pub RefusesForm : Form → ℕ → Refusal → Type 0
@@ -89,18 +95,18 @@ RefusesWorkload limit Memory = ⊤
 RefusesWorkload limit _ = ⊥
 
 -- why an actions file of this name is refused
-abbrev pub RefusesActions : Option Listing → List ℕ → Refusal → Type 0
-RefusesActions files name (BadActions code at) = HasBadActions files name code at
-RefusesActions files name LostActions = ⊤
-RefusesActions files name Memory = ⊤
-RefusesActions files name _ = ⊥
+abbrev pub RefusesActions : FilesState → FilesState → List ℕ → Refusal → Type 0
+RefusesActions old new name (BadActions code at) = HasBadActions old.contents name code at
+RefusesActions old new name LostActions = Rose old.faults new.faults
+RefusesActions old new name Memory = ⊤
+RefusesActions old new name _ = ⊥
 
 -- why a script of this name is refused
-abbrev pub RefusesScript : Option Listing → List ℕ → Refusal → Type 0
-RefusesScript files name (BadScript code at) = HasBadScript files name code at
-RefusesScript files name LostScript = ⊤
-RefusesScript files name Memory = ⊤
-RefusesScript files name _ = ⊥
+abbrev pub RefusesScript : FilesState → FilesState → List ℕ → Refusal → Type 0
+RefusesScript old new name (BadScript code at) = HasBadScript old.contents name code at
+RefusesScript old new name LostScript = Rose old.faults new.faults
+RefusesScript old new name Memory = ⊤
+RefusesScript old new name _ = ⊥
 
 -- why bytes are refused as a script
 abbrev pub IsBadScript : List ℕ → Refusal → Type 0

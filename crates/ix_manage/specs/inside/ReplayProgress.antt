@@ -142,7 +142,7 @@ pub record ReplaysScript (opening : Opening) (turns : ℕ) (script : List ℕ)
   pub taken_is : played.taken ≡ taken
   pub last_is : played.last ≡ last
   pub plays : (events : List GivenEvent) → HasEvents script events → Plays turns events played
-  pub ends : ReplayEnds turns played status whole part
+  pub ends : ReplayEnds turns stretch.before.counts stretch.after.counts played status whole part
   pub store : Keeping
   pub saves : SavesFrom opening played.ending last.history store stretch
 

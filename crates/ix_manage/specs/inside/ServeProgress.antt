@@ -4,7 +4,7 @@ use Rattle.std.specs.Prelude.{length, get_or, Option, None, Some, IsSome, Result
 use Rattle.ix_words.specs.Each.{Each}
 use Rattle.ix_journal.specs.History.{PlainHistory}
 use Rattle.ix_outside.specs.Contents.{Contents, GivenEvent, Sends, with_event}
-use Rattle.ix_outside.specs.Counts.{Rose}
+use Rattle.ix_outside.specs.Counts.{Counts, Rose}
 use Rattle.ix_outside.specs.SiteState.{SiteState}
 use Rattle.ix_outside.specs.inside.DiskCalls.{KeepsOpened}
 use Rattle.ix_outside.specs.declared.event.Event.{Event}
@@ -109,15 +109,15 @@ pub record ServedSession (opening : Opening) (turns : ℕ) (last : MachineState)
   pub saves : SavesFrom opening session.ending last.history store stretch
 
 -- how a session ends by the answer of the loop that took its events
-abbrev pub EndsTo : {T : Type 0} → ℕ → Session → Result T Stop → Type 0
-EndsTo turns session (Ok done) = IsOver session
-EndsTo turns session (Err (Refused refusal)) = (status : ℕ) (whole part : List ℕ)
+abbrev pub EndsTo : {T : Type 0} → ℕ → Counts → Counts → Session → Result T Stop → Type 0
+EndsTo turns before after session (Ok done) = IsOver session
+EndsTo turns before after session (Err (Refused refusal)) = (status : ℕ) (whole part : List ℕ)
     → LastLine (refusal_status refusal) (history_line session.opening.history)
     (refusal_line refusal) status whole part
-    → ServeEnds turns session status whole part
-EndsTo turns session (Err (Words text)) = ⊥
-EndsTo turns session (Err (OtherExpression kept)) = ⊥
-EndsTo turns session (Err Output) = ⊥
+    → ServeEnds turns before after session status whole part
+EndsTo turns before after session (Err (Words text)) = ⊥
+EndsTo turns before after session (Err (OtherExpression kept)) = ⊥
+EndsTo turns before after session (Err Output) = ⊥
 
 -- events were taken from the start on, until the session ended so
 pub record ServesTo {T : Type 0} (turns : ℕ) (old new : ManagerState) (stretch : Stretch)
@@ -127,7 +127,7 @@ pub record ServesTo {T : Type 0} (turns : ℕ) (old new : ManagerState) (stretch
   pub marks : List Bool
   pub sent : SentFor (opening_of old) (with_failed session.ending new.machine.history)
       session.taken session.answers marks stretch
-  pub ends : EndsTo turns session result
+  pub ends : EndsTo turns stretch.before.counts stretch.after.counts session result
 
 -- a session's events were given since, its replies are what was sent since, behind listening to the
 -- socket, and what was acknowledged since a tick in front of all of it is kept
@@ -151,10 +151,11 @@ pub data ServesOn (opening : Opening) (turns : ℕ) (socket : List ℕ) (last : 
   unheard : {status : ℕ} {whole part : List ℕ} (store : Keeping)
       → stretch.after.contents ≡ stretch.before.contents
       → SavesFrom opening going opening.history store stretch
+      → Rose stretch.before.counts.wire stretch.after.counts.wire
       → LastLine 6 [] (line (codes "refused wire")) status whole part
       → ServesOn opening turns socket last stretch status whole part None
   served : {session : Session} {status : ℕ} {whole part : List ℕ}
       → ServedSession opening turns last stretch session
       → ServesFrom socket session stretch
-      → ServeEnds turns session status whole part
+      → ServeEnds turns stretch.before.counts stretch.after.counts session status whole part
       → ServesOn opening turns socket last stretch status whole part (Some session)

@@ -1,22 +1,19 @@
 use Rattle.std.proofs.Common.{Err, ap}
 use Rattle.ix_manage.specs.Trace.{longer}
-use Rattle.ix_manage.proofs.Ending.{read_ok, read_err, never_lost}
+use Rattle.ix_manage.proofs.Ending.{read_ok, read_err}
 use Rattle.ix_manage.proofs.load.load_expression.Goals as goal
 
 pub returns-in-Ok-clause-ok : goal.returns-in-Ok-clause-ok
 returns-in-Ok-clause-ok g c =
-    read_ok (g.F.Files.state c.args.files.now).contents c.args.name.now
+    read_ok (g.F.Files.state c.args.files.now) (g.F.Files.state c.load.new.self) c.args.name.now
     c.in-Ok.text.items c.deref.result.now c.deref.ensures.value
     c.in-Ok.ensures.bytes c.read_expression.result c.read_expression.ensures.ok
 
 pub returns-in-Ok-clause-err : goal.returns-in-Ok-clause-err
 returns-in-Ok-clause-err g c =
-    read_err (g.F.Files.state c.args.files.now).contents c.args.name.now
+    read_err (g.F.Files.state c.args.files.now) (g.F.Files.state c.load.new.self) c.args.name.now
     c.in-Ok.text.items c.deref.result.now c.deref.ensures.value
     c.in-Ok.ensures.bytes c.read_expression.result c.read_expression.ensures.err
-
-pub returns-in-Ok-clause-lost : goal.returns-in-Ok-clause-lost
-returns-in-Ok-clause-lost g c is = absurd (never_lost c.deref.result.now c.read_expression.result c.read_expression.ensures.err is)
 
 pub returns-in-Err-TooLong-clause-err : goal.returns-in-Err-TooLong-clause-err
 returns-in-Err-TooLong-clause-err g c = longer (c.in-Err-TooLong.ensures.too_long (ap Err c.in-Err-TooLong.field-0-is))

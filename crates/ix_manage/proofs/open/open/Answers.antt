@@ -1,5 +1,6 @@
 use Rattle.std.proofs.Common.{length, inl, None, Ok, Err, refl, sym, ap, subst, arith, ◌∙◌}
 use Rattle.ix_outside.specs.Contents.{Contents, Sends}
+use Rattle.ix_outside.proofs.Counting.{Rose-earlier}
 use Rattle.ix_can.specs.TreeOf.{tree_size}
 use Rattle.ix_manager.specs.inside.StartAnswers.{IsFault}
 use Rattle.ix_manager.proofs.AcknowledgedLemmas.{the_value}
@@ -8,6 +9,7 @@ use Rattle.ix_manager.proofs.ServingLemmas.{serves_begin}
 use Rattle.ix_manage.specs.Journal.{UsesJournal}
 use Rattle.ix_manage.specs.inside.Leaves.{StopsAfter}
 use Rattle.ix_manage.specs.inside.Opening.{EndsUnstarted}
+use Rattle.ix_manage.proofs.Devices.{disk_calls_then}
 use Rattle.ix_manage.proofs.Opening.{left_at, none_opened, of_journal, on_journal, some_is, start_keeps, start_uses}
 use Rattle.ix_manage.proofs.Playing.{disk_stops, fault_kind, start_stops, started_small}
 use Rattle.ix_manage.proofs.open.open.Goals as goal
@@ -20,7 +22,8 @@ returns-in-Err-clause-stops g c = λ sink.
     let is = g.S.Site.crashes c.attach.new.self in
     disk_stops c.args.expression c.args.limit c.args.journal.now before after is
     (λ files job it. none_opened files job before after is _
-    (g.met.S.Site.lawful c.args.site.now) c.requires.attached c.in-Err.ensures.file) sink
+    (g.met.S.Site.lawful c.args.site.now) c.requires.attached c.in-Err.ensures.file) c.in-Err.ensures.rest sink
+    c.in-Err.ensures.failed
 
 -- no manager was started
 pub returns-in-Err-start-clause-stops : goal.returns-in-Err-start-clause-stops
@@ -44,10 +47,11 @@ returns-in-Err-start-clause-stops g c = λ sink.
     (start_uses x limit at mid p q d name is
     (left_at at.disk p.now c.in-Ok.ensures.now d is) (told.leaves d is)
     (g.met.S.Site.lawful c.start.new.site) told.calls.passes.left.later e after)))
-    sink why (λ l same. told.only_large l (ap Err same))
+    (disk_calls_then before at mid c.in-Ok.ensures.rest told.calls.rest) sink why (λ l same. told.only_large l (ap Err same))
     (fault_kind limit (tree_size x _) (Err why) why refl told.large)
     (λ small. of_journal (λ file. IsFault x limit file why) name at.tick before.disk at.disk mid.disk
-    c.in-Ok.ensures.file told.calls.opened (λ d is. told.not_large small d is)))
+    c.in-Ok.ensures.file told.calls.opened (λ d is. told.not_large small d is))
+    (λ same. Rose-earlier before.counts.disk at.counts.disk mid.counts.disk c.in-Ok.ensures.rest.disk (told.failed (ap Err same))))
 
 -- a manager was started
 pub returns-in-Ok-start-clause-starts : goal.returns-in-Ok-start-clause-starts
@@ -62,6 +66,8 @@ returns-in-Ok-start-clause-starts g c =
     let m = c.in-Ok-start.manager in
     let small = started_small limit (tree_size x _) (Ok m) m refl told.large in record {
       at = at;
+      only = disk_calls_then (g.S.Site.state c.args.site.now) at mid c.in-Ok.ensures.rest told.calls.rest;
+      attached = told.calls.attached ∙ c.in-Ok.ensures.attached;
       fresh = told.starts;
       small = small;
       opened = c.in-Ok.ensures.file;

@@ -15,6 +15,9 @@ returns-in-Err-clause-leaves g c =
     after (g.S.Site.crashes c.open.new.site))
     sink sink {T = ⊤} (Err c.in-Err.stop) (c.in-Err.ensures.stops sink)
 
+pub run_script-requires-clause-attached : goal.run_script-requires-clause-attached
+run_script-requires-clause-attached g c = c.in-Ok.ensures.starts.attached
+
 -- a run was started
 pub returns-in-Ok-clause-leaves : goal.returns-in-Ok-clause-leaves
 returns-in-Ok-clause-leaves g c =
@@ -25,7 +28,7 @@ returns-in-Ok-clause-leaves g c =
     let r = g.S.Site.crashes c.run_script.new.site in
     leaves_on
     (session_plays c.args.expression c.args.names c.args.script before c.requires.events
-    mid end q r c.in-Ok.manager c.in-Ok.ensures.starts c.run_script.ensures.site.opened
+    mid end q r c.in-Ok.manager c.in-Ok.ensures.starts c.run_script.ensures.site
     c.run_script.new.manager.machine)
     (g.K.Sink.state c.args.out.now) (g.K.Sink.state c.run_script.new.out)
     c.run_script.result c.run_script.ensures.leaves

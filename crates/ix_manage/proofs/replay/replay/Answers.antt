@@ -2,10 +2,10 @@ use Rattle.std.proofs.Common.{refl, subst, ◌∙◌}
 use Rattle.std.proofs.lemmas.Option.{none-some}
 use Rattle.ix_outside.specs.Files.{HasFile}
 use Rattle.ix_manage.specs.inside.Jobs.{replay_of}
-use Rattle.ix_manage.specs.inside.Refusal.{RefusesScript}
-use Rattle.ix_manage.proofs.Ending.{expression_refused, replay_refused, replay_reads, script_refused}
+use Rattle.ix_manage.proofs.Devices.{disk_calls_still}
+use Rattle.ix_manage.proofs.Ending.{expression_refused, replay_refused, replay_reads, script_refused, script_refused_later}
 use Rattle.ix_manage.proofs.Opening.{none_opened}
-use Rattle.ix_manage.proofs.Stops.{leaves_on, nothing_lost, nothing_put}
+use Rattle.ix_manage.proofs.Stops.{leaves_on, nothing_put}
 use Rattle.ix_manage.proofs.replay.replay.Goals as goal
 
 pub returns-in-Err-clause-leaves : goal.returns-in-Err-clause-leaves
@@ -18,6 +18,7 @@ returns-in-Err-clause-leaves g c =
     (λ status whole part last. record {
       ends = expression_refused files (g.F.Files.state c.load_expression.new.files) (replay_of names) names.expression.now refl
           c.in-Err.refusal c.in-Err.ensures.err status whole part last site;
+      touches = disk_calls_still site;
       journal = none_opened files.contents (replay_of names) site site is is
           (g.met.S.Site.lawful c.args.site.now) c.requires.attached refl;
       wire = λ socket none. absurd (none-some socket none);
@@ -34,8 +35,9 @@ returns-in-Err-load_script-clause-leaves g c =
     (λ status whole part last. record {
       ends = replay_refused files (g.F.Files.state c.load_script.new.files) names.expression.now names.journal.now names.script.now names.limit names.turns
           c.in-Ok.expression c.in-Ok.ensures.ok refusal
-          (subst (λ files. RefusesScript files names.script.now refusal) c.in-Ok.ensures.files.contents
-          c.in-Err-load_script.ensures.err) status whole part last site;
+          (script_refused_later files (g.F.Files.state c.load_expression.new.files) (g.F.Files.state c.load_script.new.files)
+          names.script.now refusal c.in-Ok.ensures.files c.in-Err-load_script.ensures.err) status whole part last site;
+      touches = disk_calls_still site;
       journal = none_opened files.contents (replay_of names) site site is is
           (g.met.S.Site.lawful c.args.site.now) c.requires.attached refl;
       wire = λ socket none. absurd (none-some socket none);
@@ -53,11 +55,12 @@ returns-in-Err-read_script-clause-leaves g c =
     (λ status whole part last. record {
       ends = replay_refused files (g.F.Files.state c.load_script.new.files) names.expression.now names.journal.now names.script.now names.limit names.turns
           c.in-Ok.expression c.in-Ok.ensures.ok refusal
-          (script_refused files.contents names.script.now bytes c.deref.result.now
+          (script_refused files (g.F.Files.state c.load_script.new.files) names.script.now bytes c.deref.result.now
           (subst (λ files. HasFile files names.script.now bytes) c.in-Ok.ensures.files.contents
           c.in-Ok-load_script.ensures.file)
           c.in-Ok-load_script.ensures.short c.deref.ensures.value refusal c.in-Err-read_script.ensures.err)
           status whole part last site;
+      touches = disk_calls_still site;
       journal = none_opened files.contents (replay_of names) site site is is
           (g.met.S.Site.lawful c.args.site.now) c.requires.attached refl;
       wire = λ socket none. absurd (none-some socket none);
@@ -78,7 +81,3 @@ returns-clause-leaves g c =
     bytes c.in-Ok-read_script.script file load.ensures.short (read.same ∙ c.deref.ensures.value) events has))
     (g.K.Sink.state c.args.out.now) (g.K.Sink.state c.play.new.out)
     c.play.result c.play.ensures.leaves
-
-pub returns-clause-lost : goal.returns-clause-lost
-returns-clause-lost g c =
-    nothing_lost (g.F.Files.state c.args.files.now) (g.F.Files.state c.load_script.new.files) c.play.result c.play.ensures.lost

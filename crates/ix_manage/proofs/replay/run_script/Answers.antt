@@ -11,15 +11,13 @@ use Rattle.ix_manage.proofs.replay.run_script.Goals as goal
 -- no event was taken
 pub returns-in-Err-clause-leaves : goal.returns-in-Err-clause-leaves
 returns-in-Err-clause-leaves g c =
-    let site = c.args.site.now in (
-      history_lost c.args.manager.now c.requires.manager c.args.turns c.args.script
-          c.deref.result.now (g.K.Sink.state c.args.out.now) (g.K.Sink.state c.put.new.self) _ _
-          (alone_lawful (g.S.Site.state site) (g.S.Site.crashes site) (g.met.S.Site.lawful site))
-          (fits_again c.args.manager.now _ _ _ _ refl refl c.requires.fits)
-          (c.deref.ensures.0 ∙ c.history_line.ensures ∙ ap history_line c.history.ensures)
-          c.in-Err.ensures.part,
-      c.in-Err.ensures.failed,
-    )
+    let site = c.args.site.now in
+    history_lost c.args.manager.now c.requires.manager c.args.turns c.args.script
+    c.deref.result.now (g.K.Sink.state c.args.out.now) (g.K.Sink.state c.put.new.self) _ _
+    (alone_lawful (g.S.Site.state site) (g.S.Site.crashes site) (g.met.S.Site.lawful site))
+    (fits_again c.args.manager.now _ _ _ _ refl refl c.requires.fits)
+    (c.deref.ensures.0 ∙ c.history_line.ensures ∙ ap history_line c.history.ensures)
+    c.in-Err.ensures.part c.in-Err.ensures.failed
 
 pub take_events-requires-clause-fits : goal.take_events-requires-clause-fits
 take_events-requires-clause-fits g c =

@@ -23,14 +23,6 @@ returns-in-Ok-clause-leaves g c =
     leaves_on ends (g.K.Sink.state c.args.out.now) (g.K.Sink.state c.run_job.new.out)
     c.run_job.result c.run_job.ensures.leaves
 
-pub returns-in-Ok-clause-no_socket : goal.returns-in-Ok-clause-no_socket
-returns-in-Ok-clause-no_socket g c = λ none.
-    c.run_job.ensures.no_socket (none (job_of c.in-Ok.job) c.in-Ok.ensures)
-
-pub returns-in-Ok-clause-no_journal : goal.returns-in-Ok-clause-no_journal
-returns-in-Ok-clause-no_journal g c = λ none.
-    c.run_job.ensures.no_journal (none (job_of c.in-Ok.job) c.in-Ok.ensures)
-
 -- the words name no job
 pub returns-in-Err-Bad-clause-leaves : goal.returns-in-Err-Bad-clause-leaves
 returns-in-Err-Bad-clause-leaves g c =

@@ -1,4 +1,4 @@
-use Rattle.std.proofs.Common.{◌≡◌, ℕ, List, Option, sym, ◌∙◌, ap, subst}
+use Rattle.std.proofs.Common.{◌≡◌, ℕ, List, Option, refl, sym, ◌∙◌, ap, subst}
 use Rattle.std.proofs.lemmas.Option.{none-some}
 use Rattle.ix_cli.specs.Words.{Job, trace}
 use Rattle.ix_cli.specs.inside.Jobs.{job_of}
@@ -28,6 +28,7 @@ returns-in-Trace-clause-leaves g c =
     subst (λ (job : Job). JobOver (around_of files later site site) job crashes status whole part session) (sym named)
     (record {
       ends = end site;
+      touches = refl;
       journal = λ expression journal of_expression has_journal. absurd (none-some journal has_journal);
       wire = λ socket same. absurd (none-some socket same);
     }) in
@@ -49,6 +50,7 @@ returns-in-Work-clause-leaves g c =
     subst (λ (job : Job). JobOver (around_of files files site site) job crashes status whole part session) (sym named)
     (record {
       ends = end files site;
+      touches = refl;
       journal = λ expression journal of_expression has_journal. absurd (none-some journal has_journal);
       wire = λ socket same. absurd (none-some socket same);
     }) in

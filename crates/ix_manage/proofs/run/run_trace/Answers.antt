@@ -1,7 +1,5 @@
-use Rattle.std.proofs.Common.{subst}
-use Rattle.ix_manage.specs.inside.Refusal.{RefusesActions}
-use Rattle.ix_manage.proofs.Ending.{refused_start, refused_actions, trace_ends_run}
-use Rattle.ix_manage.proofs.Stops.{leaves_on, nothing_lost, nothing_put}
+use Rattle.ix_manage.proofs.Ending.{actions_refused_later, refused_start, refused_actions, trace_ends_run}
+use Rattle.ix_manage.proofs.Stops.{leaves_on, nothing_put}
 use Rattle.ix_manage.proofs.run.run_trace.Goals as goal
 
 pub returns-in-Err-clause-leaves : goal.returns-in-Err-clause-leaves
@@ -20,8 +18,8 @@ returns-in-Err-load_actions-clause-leaves g c =
     nothing_put refusal (g.K.Sink.state c.args.out.now)
     (refused_actions files (g.F.Files.state c.load_actions.new.files) names.expression.now names.actions.now names.limit
     c.in-Ok.engine.form c.in-Ok.ensures.starts refusal
-    (subst (λ files. RefusesActions files names.actions.now refusal)
-    c.in-Ok.ensures.files.contents c.in-Err-load_actions.ensures.err))
+    (actions_refused_later files (g.F.Files.state c.start.new.files) (g.F.Files.state c.load_actions.new.files)
+    names.actions.now refusal c.in-Ok.ensures.files c.in-Err-load_actions.ensures.err))
 
 pub returns-clause-leaves : goal.returns-clause-leaves
 returns-clause-leaves g c =
@@ -37,7 +35,3 @@ returns-clause-leaves g c =
     load.ensures.file load.ensures.short c.deref.ensures.value)
     (g.K.Sink.state c.args.out.now) (g.K.Sink.state c.trace.new.out)
     c.trace.result c.trace.ensures.leaves
-
-pub returns-clause-lost : goal.returns-clause-lost
-returns-clause-lost g c =
-    nothing_lost (g.F.Files.state c.args.files.now) (g.F.Files.state c.load_actions.new.files) c.trace.result c.trace.ensures.lost

@@ -3,7 +3,7 @@ use Rattle.ix_manage.specs.inside.Jobs.{serve_of}
 use Rattle.ix_manage.proofs.Devices.{calls_still}
 use Rattle.ix_manage.proofs.Ending.{expression_refused}
 use Rattle.ix_manage.proofs.Opening.{none_opened}
-use Rattle.ix_manage.proofs.Stops.{leaves_on, nothing_lost, nothing_put}
+use Rattle.ix_manage.proofs.Stops.{leaves_on, nothing_put}
 use Rattle.ix_manage.proofs.serve.serve.Goals as goal
 
 pub returns-in-Err-clause-leaves : goal.returns-in-Err-clause-leaves
@@ -14,13 +14,11 @@ returns-in-Err-clause-leaves g c =
     (λ status whole part last. record {
       ends = expression_refused (g.F.Files.state c.args.files.now) (g.F.Files.state c.load_expression.new.files) (serve_of names) names.expression.now refl
           c.in-Err.refusal c.in-Err.ensures.err status whole part last site;
+      touches = calls_still site;
       journal = none_opened (g.F.Files.state c.args.files.now).contents (serve_of names) site site
           (g.S.Site.crashes c.args.site.now) _ (g.met.S.Site.lawful c.args.site.now) c.requires.attached refl;
       wire = λ socket same. refl;
     })
-
-pub returns-in-Err-clause-site : goal.returns-in-Err-clause-site
-returns-in-Err-clause-site g c = calls_still _
 
 pub returns-in-Ok-clause-leaves : goal.returns-in-Ok-clause-leaves
 returns-in-Ok-clause-leaves g c =
@@ -28,7 +26,3 @@ returns-in-Ok-clause-leaves g c =
     (λ status whole part session serves. serves (g.F.Files.state c.args.files.now) (g.F.Files.state c.load_expression.new.files) c.in-Ok.ensures.ok)
     (g.K.Sink.state c.args.out.now) (g.K.Sink.state c.begin.new.out)
     c.begin.result c.begin.ensures.leaves
-
-pub returns-in-Ok-clause-lost : goal.returns-in-Ok-clause-lost
-returns-in-Ok-clause-lost g c =
-    nothing_lost (g.F.Files.state c.args.files.now) (g.F.Files.state c.load_expression.new.files) c.begin.result c.begin.ensures.lost

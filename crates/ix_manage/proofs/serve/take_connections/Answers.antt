@@ -8,7 +8,7 @@ use Rattle.ix_manage.proofs.Devices.{served_then, served_wire}
 use Rattle.ix_outside.specs.Contents.{Contents}
 use Rattle.ix_manage.proofs.ServeEnding.{history_lost, leaves_serving, listen_only, listen_since}
 use Rattle.ix_manage.proofs.ServeLemmas.{next_only, wire_saves}
-use Rattle.ix_manage.proofs.Stops.{failed_later, nothing_put}
+use Rattle.ix_manage.proofs.Stops.{nothing_put}
 use Rattle.ix_manage.proofs.serve.take_connections.Goals as goal
 
 -- nothing was listened to
@@ -22,7 +22,7 @@ returns-in-Err-clause-leaves g c =
     (next_only (g.S.Site.state old) (g.S.Site.state new) (g.S.Site.crashes old) (g.S.Site.crashes new)
     c.in-Err.ensures.rest c.in-Err.ensures.now c.in-Err.ensures.call (ap (λ (k : Contents). k.sends) c.in-Err.ensures.contents)) in
     nothing_put Wire (g.K.Sink.state c.args.out.now)
-    (λ status whole part last. unheard m.store c.in-Err.ensures.contents saves last)
+    (λ status whole part last. unheard m.store c.in-Err.ensures.contents saves c.in-Err.ensures.failed last)
 
 pub returns-in-Err-clause-site : goal.returns-in-Err-clause-site
 returns-in-Err-clause-site g c = served_wire _ _ c.in-Err.ensures.rest
@@ -40,15 +40,13 @@ returns-in-Err-put-clause-leaves g c =
     c.in-Ok.ensures.rest c.in-Ok.ensures.now c.in-Ok.ensures.call) in
     let since = listen_since c.args.names.socket.now (g.S.Site.state old) (g.S.Site.state new) (g.S.Site.crashes old) (g.S.Site.crashes new)
     c.in-Ok.ensures.contents (g.met.S.Site.lawful old) (g.met.S.Site.lawful new)
-    c.in-Ok.ensures.rest c.in-Ok.ensures.now c.in-Ok.ensures.call m.form m.machine.history m.store saves in (
-      history_lost m c.requires.manager c.args.names.turns c.args.names.socket.now c.deref.result.now
-          (g.S.Site.state old) (g.S.Site.state new) (g.S.Site.crashes old) (g.S.Site.crashes new) saves
-          c.in-Ok.ensures.contents c.in-Ok.ensures.rest.send since
-          (g.K.Sink.state c.args.out.now) (g.K.Sink.state c.put.new.self)
-          (c.deref.ensures.0 ∙ c.history_line.ensures ∙ ap history_line c.history.ensures)
-          c.in-Err-put.ensures.part,
-      c.in-Err-put.ensures.failed,
-    )
+    c.in-Ok.ensures.rest c.in-Ok.ensures.now c.in-Ok.ensures.call m.form m.machine.history m.store saves in
+    history_lost m c.requires.manager c.args.names.turns c.args.names.socket.now c.deref.result.now
+    (g.S.Site.state old) (g.S.Site.state new) (g.S.Site.crashes old) (g.S.Site.crashes new) saves
+    c.in-Ok.ensures.contents c.in-Ok.ensures.rest.send since
+    (g.K.Sink.state c.args.out.now) (g.K.Sink.state c.put.new.self)
+    (c.deref.ensures.0 ∙ c.history_line.ensures ∙ ap history_line c.history.ensures)
+    c.in-Err-put.ensures.part c.in-Err-put.ensures.failed
 
 pub returns-in-Err-put-clause-site : goal.returns-in-Err-put-clause-site
 returns-in-Err-put-clause-site g c = served_wire _ _ c.in-Ok.ensures.rest
@@ -85,13 +83,8 @@ returns-clause-leaves g c =
     (g.K.Sink.state c.args.out.now) (g.K.Sink.state c.put.new.self)
     (c.in-Ok-put.ensures.whole ∙ ap (λ line. append_known (g.K.Sink.state c.args.out.now).written line)
     (c.deref.ensures.0 ∙ c.history_line.ensures ∙ ap history_line c.history.ensures))
+    (let same = c.in-Ok.ensures.rest.disk in omega (arith, same)) c.in-Ok.ensures.rest.wire
     c.serve_events.result c.serve_events.ensures.serves
-
-pub returns-clause-failed : goal.returns-clause-failed
-returns-clause-failed g c =
-    let only = c.in-Ok.ensures.rest in
-    failed_later (g.S.Site.state c.args.site.now) (g.S.Site.state c.listen.new.self) (g.S.Site.state c.serve_events.new.site)
-    c.serve_events.result (omega (arith, only.disk)) only.wire c.serve_events.ensures.failed
 
 pub returns-clause-site : goal.returns-clause-site
 returns-clause-site g c = served_then _ _ _ (served_wire _ _ c.in-Ok.ensures.rest) c.serve_events.ensures.site

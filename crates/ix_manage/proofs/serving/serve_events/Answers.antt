@@ -1,11 +1,10 @@
 use Rattle.std.proofs.Common.{◌≡◌, ◌<◌, [], length, refl, sym, ◌∙◌, arith}
 use Rattle.std.proofs.lemmas.List.{length_push}
-use Rattle.ix_outside.proofs.Counting.{Rose-earlier}
 use Rattle.ix_manage.specs.declared.turn.Turn.{Turn}
 use Rattle.ix_manage.specs.declared.turn.Turn.TheVariants.{More, Done, Cut, Failed}
 use Rattle.ix_manager.specs.RunLaws.{given_event}
 use Rattle.ix_manage.proofs.Devices.{served_still, served_then}
-use Rattle.ix_manage.proofs.ServeLemmas.{cut_unheard, disk_rose, serves_first, serves_fits, serves_more, taken_over, turn_cut, turn_done, turn_failed, turns_out}
+use Rattle.ix_manage.proofs.ServeLemmas.{cut_unheard, serves_first, serves_fits, serves_more, taken_over, turn_cut, turn_done, turn_failed, turns_out}
 use Rattle.ix_manage.proofs.serving.serve_events.Goals as goal
 
 pub loop-turn-init : goal.loop-turn-init
@@ -72,14 +71,7 @@ returns-in-Cut-clause-serves g c =
     let at = c.loop-turn.invariant in
     let all = at.0.1 in
     turn_cut at.0.2 (cut_unheard c.serve_event.ensures.turn c.in-Cut.is) (g.met.S.Site.lawful c.serve_event.new.site)
-    c.serve_event.ensures.site.calls.send c.args.turns (omega (arith, all)) c.args.manager.now refl
-
-pub returns-in-Cut-clause-failed : goal.returns-in-Cut-clause-failed
-returns-in-Cut-clause-failed g c =
-    let at = c.loop-turn.invariant in (
-      λ is. absurd (omega (arith, is)),
-      λ is. Rose-earlier _ _ _ at.1.calls.wire (cut_unheard c.serve_event.ensures.turn c.in-Cut.is).2,
-    )
+    c.serve_event.ensures.site.calls.send at.1.calls.wire c.args.turns (omega (arith, all)) c.args.manager.now refl
 
 pub returns-in-Cut-clause-site : goal.returns-in-Cut-clause-site
 returns-in-Cut-clause-site g c = served_then _ _ _ c.loop-turn.invariant.1 c.serve_event.ensures.site
@@ -94,14 +86,6 @@ returns-in-Failed-clause-serves g c =
     let all = at.0.1 in
     turn_failed it at.0.2 (g.met.S.Site.lawful site) at.1.calls.send c.serve_event.ensures.site.calls.send
     c.args.turns (omega (arith, count, all)) c.args.manager.now refl c.in-Failed.is
-
-pub returns-in-Failed-clause-failed : goal.returns-in-Failed-clause-failed
-returns-in-Failed-clause-failed g c =
-    let at = c.loop-turn.invariant in
-    let it = taken_over c.serve_event.ensures.turn (not_cut _ Failed c.in-Failed.is (λ is. cc)) in (
-      λ is. Rose-earlier _ _ _ at.1.calls.disk (disk_rose it c.in-Failed.is),
-      λ is. absurd (omega (arith, is)),
-    )
 
 pub returns-in-Failed-clause-site : goal.returns-in-Failed-clause-site
 returns-in-Failed-clause-site g c = served_then _ _ _ c.loop-turn.invariant.1 c.serve_event.ensures.site

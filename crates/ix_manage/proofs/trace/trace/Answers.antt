@@ -8,7 +8,7 @@ use Rattle.ix_manage.specs.Puts.{put, lost}
 use Rattle.ix_manage.specs.Trace.{Answers, done}
 use Rattle.ix_manage.proofs.Answering.{answers_join, answers_same, verdict_same}
 use Rattle.ix_manage.proofs.Devices.{still, then}
-use Rattle.ix_manage.proofs.Stops.{puts_whole}
+use Rattle.ix_manage.proofs.Stops.{ended_cut, ended_whole}
 use Rattle.ix_manage.proofs.Tracing.{append_nothing, append_on, front_start, front_step, trace_ends, trace_stops}
 use Rattle.ix_manage.proofs.trace.trace.Goals as goal
 
@@ -66,33 +66,23 @@ returns-in-Ok-put-clause-leaves g c =
     let engine = c.args.engine.now in
     let so_far = c.loop-rest.invariant.4 in
     let last = c.last_line.result.now in
-    let whole = so_far.2.0 ++ last in record {
-      whole = whole;
-      part = [];
-      session = None;
-      may = trace_ends engine.form engine.limit c.args.actions.now c.loop-rest.rest.now so_far.0
-          c.loop-rest.engine.history so_far.2.0 last
-          (eqb-true _ _ (sym c.loop-rest-test.ensures)) so_far.1 so_far.2.1
-          (verdict_same c.loop-rest.invariant.2 c.last_line.ensures) 0 whole [] put;
-      puts = puts_whole (g.K.Sink.state c.args.out.now) (g.K.Sink.state c.put.new.self) whole
-          (append_on _ _ _ so_far.2.0 last so_far.2.2 c.in-Ok-put.ensures.whole);
-    }
+    let whole = so_far.2.0 ++ last in
+    ended_whole (g.K.Sink.state c.args.out.now) (g.K.Sink.state c.put.new.self) whole None
+    (trace_ends engine.form engine.limit c.args.actions.now c.loop-rest.rest.now so_far.0
+    c.loop-rest.engine.history so_far.2.0 last
+    (eqb-true _ _ (sym c.loop-rest-test.ensures)) so_far.1 so_far.2.1
+    (verdict_same c.loop-rest.invariant.2 c.last_line.ensures) 0 whole [] put)
+    (append_on _ _ _ so_far.2.0 last so_far.2.2 c.in-Ok-put.ensures.whole)
 
 pub returns-in-Err-put-clause-leaves : goal.returns-in-Err-put-clause-leaves
 returns-in-Err-put-clause-leaves g c =
     let engine = c.args.engine.now in
     let so_far = c.loop-rest.invariant.4 in
-    let last = c.last_line.result.now in (
-      record {
-        whole = so_far.2.0;
-        part = last;
-        session = None;
-        may = trace_ends engine.form engine.limit c.args.actions.now c.loop-rest.rest.now so_far.0
-            c.loop-rest.engine.history so_far.2.0 last
-            (eqb-true _ _ (sym c.loop-rest-test.ensures)) so_far.1 so_far.2.1
-            (verdict_same c.loop-rest.invariant.2 c.last_line.ensures) 10 so_far.2.0 last lost;
-        puts = subst (λ known. AppendsPart known last (g.K.Sink.state c.put.new.self).written)
-            so_far.2.2 c.in-Err-put.ensures.part;
-      },
-      Rose-earlier _ _ _ c.loop-rest.invariant.1.faults c.in-Err-put.ensures.failed,
-    )
+    let last = c.last_line.result.now in
+    ended_cut (g.K.Sink.state c.args.out.now) (g.K.Sink.state c.put.new.self) so_far.2.0 last None
+    (trace_ends engine.form engine.limit c.args.actions.now c.loop-rest.rest.now so_far.0
+    c.loop-rest.engine.history so_far.2.0 last
+    (eqb-true _ _ (sym c.loop-rest-test.ensures)) so_far.1 so_far.2.1
+    (verdict_same c.loop-rest.invariant.2 c.last_line.ensures) 10 so_far.2.0 last lost)
+    (subst (λ known. AppendsPart known last (g.K.Sink.state c.put.new.self).written) so_far.2.2 c.in-Err-put.ensures.part)
+    (Rose-earlier _ _ _ c.loop-rest.invariant.1.faults c.in-Err-put.ensures.failed)

@@ -1,5 +1,4 @@
 use Rattle.std.proofs.Common.{length, refl, ap, subst, arith, ◌∙◌}
-use Rattle.ix_outside.proofs.Counting.{Rose-earlier}
 use Rattle.ix_script.specs.inside.Site.{playing}
 use Rattle.ix_manage.specs.Ends.{Ended}
 use Rattle.ix_manage.specs.declared.refusal.Refusal.TheVariants.{Disk, Turns}
@@ -10,7 +9,7 @@ use Rattle.ix_manage.specs.inside.Turns.{opening_of}
 use Rattle.ix_manage.proofs.Devices.{plays_still, plays_then}
 use Rattle.ix_manage.proofs.Journaling.{alone_lawful}
 use Rattle.ix_manage.proofs.Replaying.{stands_first, stands_between, stands_fits, out_of_turns_put}
-use Rattle.ix_manage.proofs.Replaying.{turn_more, turn_done, turn_failed, turn_cut, taken_count, failed_rose}
+use Rattle.ix_manage.proofs.Replaying.{turn_more, turn_done, turn_failed, turn_cut, taken_count}
 use Rattle.ix_manage.proofs.turns.take_events.Goals as goal
 
 pub loop-turn-init : goal.loop-turn-init
@@ -79,11 +78,9 @@ returns-in-Cut-clause-leaves g c = λ start put.
     let now = player g.S.Site.state g.K.Sink.state c.take_event.new.site in
     let stretch = between g.S.Site.state g.S.Site.crashes (playing c.args.site.now).site site in
     let cut = turn_cut took at.0 (alone_lawful (g.S.Site.state site) (g.S.Site.crashes site) (g.met.S.Site.lawful site))
-    c.args.turns (omega (arith, count, all)) start put.put c.in-Cut.is (omega (arith, before, so_far)) in (
-      subst (λ script. Ended (ReplaysScript (opening_of c.args.manager.now) c.args.turns script now.given c.take_event.new.manager.machine stretch) 10 start now.sink)
-          at.2.script cut.0,
-      cut.1,
-    )
+    c.args.turns (omega (arith, count, all)) start put.put c.in-Cut.is (omega (arith, before, so_far)) in
+    subst (λ script. Ended (ReplaysScript (opening_of c.args.manager.now) c.args.turns script now.given c.take_event.new.manager.machine stretch) 10 start now.sink)
+    at.2.script cut
 
 -- the disk failed
 pub returns-in-Failed-clause-leaves : goal.returns-in-Failed-clause-leaves
@@ -99,12 +96,6 @@ returns-in-Failed-clause-leaves g c = λ start put.
     c.args.turns (omega (arith, count, all)) start put.put c.in-Failed.is in
     subst (λ script. StopsAfter (ReplaysScript (opening_of c.args.manager.now) c.args.turns script now.given c.take_event.new.manager.machine stretch) start now.sink (Refused Disk))
     at.2.script failed
-
-pub returns-in-Failed-clause-failed : goal.returns-in-Failed-clause-failed
-returns-in-Failed-clause-failed g c = (
-  λ is. Rose-earlier _ _ _ c.loop-turn.invariant.2.site.rest.disk (failed_rose c.take_event.ensures.turn c.in-Failed.is),
-  λ is. absurd (omega (arith, is)),
-)
 
 pub returns-clause-leaves : goal.returns-clause-leaves
 returns-clause-leaves g c = λ start put.

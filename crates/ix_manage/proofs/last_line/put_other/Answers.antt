@@ -2,7 +2,7 @@ use Rattle.std.proofs.Common.{[], ◌∷◌, ◌++◌}
 use Rattle.std.specs.Prelude.{codes}
 use Rattle.ix_manage.proofs.Fronts.{on_err, on_err_along, part_of_front, part_of_rest}
 use Rattle.ix_manage.proofs.Tracing.{append_on, part_on}
-use Rattle.ix_manage.proofs.put_other.Goals as goal
+use Rattle.ix_manage.proofs.last_line.put_other.Goals as goal
 
 pub returns-in_err-put-clause-part : goal.returns-in_err-put-clause-part
 returns-in_err-put-clause-part g c = on_err c.from_residual.result

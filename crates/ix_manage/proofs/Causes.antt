@@ -1,0 +1,173 @@
+-- What each status of a run is due to.
+use Rattle.std.proofs.Common.{◌≡◌, ℕ, ◌≤◌, ◌==◌, false, true≢false, List, Option, None, arith, refl, sym, ◌∙◌, ap, subst}
+use Rattle.ix_cli.specs.Words.{Job, trace, replay, serve, work}
+use Rattle.ix_expr.specs.Form.{Form}
+use Rattle.ix_outside.specs.Counts.{Counts}
+use Rattle.ix_outside.specs.Crashes.{Crashes}
+use Rattle.ix_outside.specs.SiteState.{SiteState, OnlyDisk}
+use Rattle.ix_outside.proofs.Counting.{Rose-earlier}
+use Rattle.ix_values.specs.PlainAction.{Word}
+use Rattle.ix_manage.specs.Around.{Around, DiskFailed, FilesFailed, WireFailed}
+use Rattle.ix_manage.specs.Command.{NamesNoJournal, NamesNoSocket, journal_of, socket_of}
+use Rattle.ix_manage.specs.Ends as how
+use Rattle.ix_manage.specs.Ends.{EndsOver, JobEnds}
+use Rattle.ix_manage.specs.Puts.{LastLine, lost, put}
+use Rattle.ix_manage.specs.Replay as played
+use Rattle.ix_manage.specs.Replay.{ReplayEnds}
+use Rattle.ix_manage.specs.Serve as served
+use Rattle.ix_manage.specs.Serve.{ServeEnds}
+use Rattle.ix_manage.specs.Session.{Session, SessionEnds, disk_failed, lost_history, out_of_turns, over}
+use Rattle.ix_manage.specs.Site.{OnlyCalls, Touches}
+use Rattle.ix_manage.specs.Trace.{Traces, answered, lost_answer, short}
+use Rattle.ix_manage.specs.Work.{Works, above, asked}
+use Rattle.ix_manage.proofs.Devices.{calls_of_disk, calls_still, disk_calls_still}
+
+-- how a session ends since earlier counts
+session_ends_earlier : (turns : ℕ) (before mid after : Counts) (text : List ℕ) (session : Session) → before.disk ≤ mid.disk
+    → {status : ℕ} {whole part : List ℕ}
+    → SessionEnds turns mid after text session status whole part → SessionEnds turns before after text session status whole part
+session_ends_earlier turns before mid after text session le (over is) = over is
+session_ends_earlier turns before mid after text session le (out_of_turns all more last) = out_of_turns all more last
+session_ends_earlier turns before mid after text session le (disk_failed fails rose last) =
+    disk_failed fails (Rose-earlier before.disk mid.disk after.disk le rose) last
+session_ends_earlier turns before mid after text session le (lost_history none) = lost_history none
+
+pub replay_ends_earlier : (turns : ℕ) (before mid after : Counts) (session : Session) → before.disk ≤ mid.disk
+    → {status : ℕ} {whole part : List ℕ}
+    → ReplayEnds turns mid after session status whole part → ReplayEnds turns before after session status whole part
+replay_ends_earlier turns before mid after session le (played.ends it) = played.ends (session_ends_earlier turns before mid after _ session le it)
+replay_ends_earlier turns before mid after session le (played.lost_reply losing) = played.lost_reply losing
+
+pub serve_ends_earlier : (turns : ℕ) (before mid after : Counts) (session : Session) → before.disk ≤ mid.disk → before.wire ≤ mid.wire
+    → {status : ℕ} {whole part : List ℕ}
+    → ServeEnds turns mid after session status whole part → ServeEnds turns before after session status whole part
+serve_ends_earlier turns before mid after session le more (served.ends it) = served.ends (session_ends_earlier turns before mid after _ session le it)
+serve_ends_earlier turns before mid after session le more (served.wire_failed few on rose last) =
+    served.wire_failed few on (Rose-earlier before.wire mid.wire after.wire more rose) last
+
+-- a file was lost, and the disk and the wire failed, where the status says so
+pub record AreDue (around : Around) (status : ℕ) : Type 0 where
+  pub file : status ≡ 4 → FilesFailed around
+  pub disk : status ≡ 5 → DiskFailed around
+  pub wire : status ≡ 6 → WireFailed around
+
+module _ (around : Around) where
+  of_none : (status : ℕ) → (status == 4) ≡ false → (status == 5) ≡ false → (status == 6) ≡ false → AreDue around status
+  of_none status no_file no_disk no_wire = record {
+    file = λ is. absurd (true≢false (sym (ap (λ n. n == 4) is) ∙ no_file));
+    disk = λ is. absurd (true≢false (sym (ap (λ n. n == 5) is) ∙ no_disk));
+    wire = λ is. absurd (true≢false (sym (ap (λ n. n == 6) is) ∙ no_wire));
+  }
+
+  of_ten : AreDue around 10
+  of_ten = of_none 10 refl refl refl
+
+  -- a last line, or one whose put failed
+  of_last : {end status : ℕ} {before line whole part : List ℕ} → AreDue around end
+      → LastLine end before line status whole part → AreDue around status
+  of_last due put = due
+  of_last due lost = of_ten
+
+  of_traced : {x : Form} {limit status : ℕ} {actions : Word} {whole part : List ℕ}
+      → Traces x limit actions status whole part → AreDue around status
+  of_traced (answered answers verdict last) = of_last (of_none 0 refl refl refl) last
+  of_traced (short rest front answers last) = of_last (of_none 9 refl refl refl) last
+  of_traced (lost_answer rest front answers one) = of_ten
+
+  of_worked : {count seed limit status : ℕ} {whole part : List ℕ}
+      → Works count seed limit status whole part → AreDue around status
+  of_worked (above stands large last) = of_last (of_none 3 refl refl refl) last
+  of_worked (asked stands small asks last) = of_last (of_none 0 refl refl refl) last
+
+  of_disk : DiskFailed around → AreDue around 5
+  of_disk rose = record {
+    file = λ is. absurd (omega (arith, is));
+    disk = λ is. rose;
+    wire = λ is. absurd (omega (arith, is));
+  }
+
+  of_wire : WireFailed around → AreDue around 6
+  of_wire rose = record {
+    file = λ is. absurd (omega (arith, is));
+    disk = λ is. absurd (omega (arith, is));
+    wire = λ is. rose;
+  }
+
+  of_file : FilesFailed around → AreDue around 4
+  of_file rose = record {
+    file = λ is. rose;
+    disk = λ is. absurd (omega (arith, is));
+    wire = λ is. absurd (omega (arith, is));
+  }
+
+  of_session : {turns status : ℕ} {session : Session} {text whole part : List ℕ}
+      → SessionEnds turns around.before.counts around.after.counts text session status whole part → AreDue around status
+  of_session (over is) = of_none 0 refl refl refl
+  of_session (out_of_turns all more last) = of_last (of_none 7 refl refl refl) last
+  of_session (disk_failed fails rose last) = of_last (of_disk rose) last
+  of_session (lost_history none) = of_ten
+
+  of_job : {job : Job} {status : ℕ} {whole part : List ℕ} {session : Option Session}
+      → JobEnds around job status whole part session → AreDue around status
+  of_job (how.no_memory last) = of_last (of_none 9 refl refl refl) last
+  of_job (how.bad_text is bad rests last) = of_last (of_none 3 refl refl refl) last
+  of_job (how.lost_expression is rose rests last) = of_last (of_file rose) last
+  of_job (how.large is rest larger last) = of_last (of_none 3 refl refl refl) last
+  of_job (how.lost_disk keeps reads rose last) = of_last (of_disk rose) last
+  of_job (how.refused_journal why keeps starts refuses last) = of_last (of_none 8 refl refl refl) last
+  of_job (how.bad_actions starts bad rests last) = of_last (of_none 3 refl refl refl) last
+  of_job (how.lost_actions starts rose rests last) = of_last (of_file rose) last
+  of_job (how.traced starts reads traces) = of_traced traces
+  of_job (how.bad_script reads bad rests last) = of_last (of_none 3 refl refl refl) last
+  of_job (how.lost_script reads rose rests last) = of_last (of_file rose) last
+  of_job (how.replayed starts reads from plays (played.ends it)) = of_session it
+  of_job (how.replayed starts reads from plays (played.lost_reply losing)) = of_ten
+  of_job (how.no_wire starts rose last) = of_last (of_wire rose) last
+  of_job (how.served starts from takes (served.ends it)) = of_session it
+  of_job (how.served starts from takes (served.wire_failed few on rose last)) = of_last (of_wire rose) last
+  of_job (how.worked works) = of_worked works
+
+-- what a job may touch, by what it has
+touches_calls : (job : Job) (before after : SiteState) → Touches job before after → OnlyCalls before after
+touches_calls (trace expression actions limit) before after same = subst (OnlyCalls before) (sym same) (calls_still before)
+touches_calls (replay expression journal script limit turns) before after only = calls_of_disk before after only
+touches_calls (serve expression journal socket limit turns) before after only = only
+touches_calls (work count seed limit) before after same = subst (OnlyCalls before) (sym same) (calls_still before)
+
+touches_disk : (job : Job) (before after : SiteState) → socket_of job ≡ None → Touches job before after → OnlyDisk before after
+touches_disk (trace expression actions limit) before after none same = subst (OnlyDisk before) (sym same) (disk_calls_still before)
+touches_disk (replay expression journal script limit turns) before after none only = only
+touches_disk (serve expression journal socket limit turns) before after none only = cc
+touches_disk (work count seed limit) before after none same = subst (OnlyDisk before) (sym same) (disk_calls_still before)
+
+touches_nothing : (job : Job) (before after : SiteState) → journal_of job ≡ None → Touches job before after → after ≡ before
+touches_nothing (trace expression actions limit) before after none same = same
+touches_nothing (replay expression journal script limit turns) before after none only = cc
+touches_nothing (serve expression journal socket limit turns) before after none only = cc
+touches_nothing (work count seed limit) before after none same = same
+
+-- the same of a run
+module _ (words : List (List ℕ)) (around : Around) (is : Crashes) where
+  pub causes : {status : ℕ} {whole part : List ℕ} {session : Option Session}
+      → EndsOver words around is status whole part session → AreDue around status
+  causes (how.other_words none rests last) = of_last around (of_none around 2 refl refl refl) last
+  causes (how.no_memory rests last) = of_last around (of_none around 9 refl refl refl) last
+  causes (how.named names it) = of_job around it.ends
+
+  pub calls : {status : ℕ} {whole part : List ℕ} {session : Option Session}
+      → EndsOver words around is status whole part session → OnlyCalls around.before around.after
+  calls (how.other_words none rests _) = subst (OnlyCalls around.before) (sym rests) (calls_still around.before)
+  calls (how.no_memory rests _) = subst (OnlyCalls around.before) (sym rests) (calls_still around.before)
+  calls (how.named {job = job} names it) = touches_calls job around.before around.after it.touches
+
+  pub no_socket : {status : ℕ} {whole part : List ℕ} {session : Option Session} → NamesNoSocket words
+      → EndsOver words around is status whole part session → OnlyDisk around.before around.after
+  no_socket none (how.other_words others rests _) = subst (OnlyDisk around.before) (sym rests) (disk_calls_still around.before)
+  no_socket none (how.no_memory rests _) = subst (OnlyDisk around.before) (sym rests) (disk_calls_still around.before)
+  no_socket none (how.named {job = job} names it) = touches_disk job around.before around.after (none job names) it.touches
+
+  pub no_journal : {status : ℕ} {whole part : List ℕ} {session : Option Session} → NamesNoJournal words
+      → EndsOver words around is status whole part session → around.after ≡ around.before
+  no_journal none (how.other_words others rests _) = rests
+  no_journal none (how.no_memory rests _) = rests
+  no_journal none (how.named {job = job} names it) = touches_nothing job around.before around.after (none job names) it.touches

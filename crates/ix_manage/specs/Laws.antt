@@ -1,0 +1,105 @@
+-- The law of runs, as a statement over the definitions alone.
+use Rattle.std.specs.Prelude.{◌≡◌, ◌⊎◌, ℕ, ◌≤◌, List, [], ◌++◌, length, codes, Option, None, Some}
+use Rattle.std.specs.Prelude.{IsSome}
+use Rattle.std.specs.Io.KnownBytes.{append_known}
+use Rattle.ix_values.specs.PlainAction.{Word}
+use Rattle.ix_expr.specs.Form.{Form}
+use Rattle.ix_parse.specs.Faults.{StandsFor}
+use Rattle.ix_can.specs.TreeOf.{tree_size}
+use Rattle.ix_outside.specs.Contents.{GivenEvent, Sends}
+use Rattle.ix_outside.specs.Counts.{Rose}
+use Rattle.ix_outside.specs.Crashes.{Crashes}
+use Rattle.ix_outside.specs.Disk.{Disk, Opened}
+use Rattle.ix_outside.specs.SinkState.{SinkState}
+use Rattle.ix_outside.specs.SiteState.{SiteState}
+use Rattle.ix_generate.specs.Workload.{Ask, examinations}
+use Rattle.ix_manager.specs.Images.{IsStartable}
+use Rattle.ix_manager.specs.Runs.{opening_of}
+use Rattle.ix_cli.specs.Words.{Job, Names, trace, replay, serve, work}
+use Rattle.ix_manage.specs.ActionLines.{line}
+use Rattle.ix_manage.specs.Around.{Around, DiskFailed, FilesFailed, WireFailed}
+use Rattle.ix_manage.specs.Ends.{Ended, EndsOver, IsFrom}
+use Rattle.ix_manage.specs.Replay.{Plays, ReadsEvents, session_text}
+use Rattle.ix_manage.specs.Session.{IsOver, Session, Takes, history_line}
+use Rattle.ix_manage.specs.Trace.{Answers, ReadsActions, Starts, Verdict}
+use Rattle.ix_manage.specs.Work.{Asked, history_of, work_line}
+
+-- a run can start from a file: one that was absent, and has no bytes, or one that is startable
+abbrev pub CanStart : Form → ℕ → List ℕ → Type 0
+CanStart x limit file =
+    (file ≡ []) ⊎ ((history : Word) × IsStartable (opening_of x limit history) file)
+
+-- a site tells its disk, and a run can start from the file that was opened, where one was
+pub record OpensStartable (x : Form) (limit : ℕ) (site : SiteState) : Type 0 where
+  pub disk : Disk
+  pub told : site.disk ≡ Some disk
+  pub can_start : (opened : Opened) → disk.opened ≡ Some opened → CanStart x limit opened.file
+
+-- what a job reads is there and valid: its expression, whose initial tree is within the limit, its
+-- actions or its script, and its journal
+abbrev pub HasAll : Around → Job → Type 0
+HasAll around (trace expression actions limit) = (x : Form) × (word : Word)
+    × Starts around.files expression limit x × ReadsActions around.files actions word
+HasAll around (replay expression journal script limit turns) =
+    (x : Form) × (events : List GivenEvent) × Starts around.files expression limit x
+    × ReadsEvents around.files script events × OpensStartable x limit around.after
+HasAll around (serve expression journal socket limit turns) =
+    (x : Form) × Starts around.files expression limit x × OpensStartable x limit around.after
+HasAll around (work count seed limit) =
+    (x : Form) × StandsFor examinations x × (tree_size x [] ≤ limit)
+
+-- no call failed around a run, no put of its output did, and no connection was found gone
+pub record NothingFails (around : Around) (old new : SinkState) : Type 0 where
+  pub files : ¬ FilesFailed around
+  pub disk : ¬ DiskFailed around
+  pub wire : ¬ WireFailed around
+  pub sends : ¬ Rose around.before.counts.send around.after.counts.send
+  pub puts : ¬ Rose old.faults new.faults
+
+-- each send went out whole, where the sends are told
+abbrev pub NoneGone : SiteState → SiteState → Type 0
+NoneGone before after = (old new : Sends) → before.contents.sends ≡ Some old
+    → after.contents.sends ≡ Some new → new.gone ≡ old.gone
+
+-- How a run that nothing hinders may end: with status 0 its whole text is put, and each reply of a
+-- session, by a serve sent. Or there is no memory, status 9: for a trace behind some answers, and
+-- otherwise before any line; where a session runs its replies say so instead.
+pub data EndsWhole (around : Around) : Job → ℕ → List ℕ → Option Session → Type 0 where
+  no_memory : {job : Job} → EndsWhole around job 9 (line (codes "refused memory")) None
+  short : {expression actions : List ℕ} {limit : ℕ} {x : Form} {front history : Word}
+      {text : List ℕ} (rest : Word)
+      → Starts around.files expression limit x → ReadsActions around.files actions (front ++ rest)
+      → Answers x limit [] front text history
+      → EndsWhole around (trace expression actions limit) 9
+      (text ++ line (codes "refused memory")) None
+  traced : {expression actions : List ℕ} {limit : ℕ} {x : Form} {word history : Word}
+      {text last : List ℕ}
+      → Starts around.files expression limit x → ReadsActions around.files actions word
+      → Answers x limit [] word text history → Verdict x history last
+      → EndsWhole around (trace expression actions limit) 0 (text ++ last) None
+  replayed : {expression journal script : List ℕ} {limit turns : ℕ} {x : Form}
+      {events : List GivenEvent} {session : Session}
+      → Starts around.files expression limit x → ReadsEvents around.files script events
+      → IsFrom x limit session.opening → Plays turns events session
+      → EndsWhole around (replay expression journal script limit turns) 0 (session_text session)
+      (Some session)
+  served : {expression journal socket : List ℕ} {limit turns : ℕ} {x : Form} {session : Session}
+      → Starts around.files expression limit x
+      → IsFrom x limit session.opening → Takes turns session → NoneGone around.before around.after
+      → EndsWhole around (serve expression journal socket limit turns) 0
+      (history_line session.opening.history) (Some session)
+  worked : {count seed limit refused : ℕ} {x : Form} {granted : List Ask}
+      → StandsFor examinations x → Asked x limit seed count granted refused
+      → EndsWhole around (work count seed limit) 0
+      (work_line count (length granted) refused (tree_size x (history_of granted))) None
+
+-- A run whose words name a job, over files that are told and have all that it reads, and in which
+-- nothing fails, ends whole, if its session had an end or a `stop` within its turns.
+abbrev pub UnhinderedRunsEndWhole : {S : Type 0} → (S → Crashes) → Type 0
+UnhinderedRunsEndWhole {S = S} crashes = (site : S) (words : List (List ℕ)) (job : Job)
+    (around : Around) (status : ℕ) (old new : SinkState)
+    → Names words job → IsSome around.files → HasAll around job → NothingFails around old new
+    → (it : Ended (EndsOver words around (crashes site)) status old new)
+    → ((session : Session) → it.session ≡ Some session → IsOver session)
+    → EndsWhole around job status it.whole it.session
+    × (new.written ≡ append_known old.written it.whole)
