@@ -53,6 +53,8 @@ class Client:
         self.ticket = b""  # the last ticket that was granted to it and that it hasn't used up
         self.is_closed = False
         self.has_hung_up = False  # no reply reaches it any more
+        self._poll = select.poll()
+        self._poll.register(sock.fileno(), 0)
         self._reader = LineReader()
         self._out = bytearray()
         self._reads = False
@@ -95,10 +97,9 @@ class Client:
 
     def hung_up(self) -> bool:
         """Whether the system knows by now that no reply reaches it."""
-        if not self.has_hung_up:
-            poll = select.poll()
-            poll.register(self.sock.fileno(), 0)
-            self.has_hung_up = any(event & (select.POLLHUP | select.POLLERR) for _, event in poll.poll(0))
+        if not self.has_hung_up and self._poll.poll(0):
+            # It asks for no event, so what is told is that the other end is closed, or an error.
+            self.has_hung_up = True
         return self.has_hung_up
 
     def why_late(self, now: float) -> str | None:

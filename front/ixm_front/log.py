@@ -2,7 +2,7 @@
 
 import json
 import os
-from datetime import datetime, timezone
+import time
 
 
 class Log:
@@ -25,8 +25,10 @@ class Log:
 
     def write(self, **record: object) -> None:
         """Writes one line, with the time in front."""
-        time = datetime.now(timezone.utc).isoformat(timespec="milliseconds").replace("+00:00", "Z")
-        line = (json.dumps({"time": time, **record}) + "\n").encode()
+        now = time.time()
+        seconds = time.strftime("%Y-%m-%dT%H:%M:%S", time.gmtime(now))
+        record = {"time": f"{seconds}.{int(now * 1000) % 1000:03d}Z", **record}
+        line = (json.dumps(record) + "\n").encode()
         try:
             while line:
                 line = line[os.write(self._file, line):]
