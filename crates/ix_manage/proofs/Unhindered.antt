@@ -36,12 +36,12 @@ use Rattle.ix_manager.specs.Images as image
 use Rattle.ix_manager.specs.Images.{EachPrefixIsWithin, IsOwn, IsStartable}
 use Rattle.ix_manager.specs.Runs.{going, opening_of, stopped}
 use Rattle.ix_manager.specs.Starts.{HasText}
-use Rattle.ix_cli.specs.Words.{Job, Names, trace, replay, serve, work}
+use Rattle.ix_cli.specs.Words.{Job, Names, trace, replay, serve, work, simplify}
 use Rattle.ix_cli.proofs.Named.{no_job, one_job}
 use Rattle.ix_manage.specs.Around.{Around}
 use Rattle.ix_manage.specs.Command.{expression_of, limit_of}
 use Rattle.ix_manage.specs.Ends as how
-use Rattle.ix_manage.specs.Ends.{Ended, EndsOver, JobEnds, JobOver, KeepsJournal}
+use Rattle.ix_manage.specs.Ends.{Ended, EndsOver, JobEnds, JobOver, KeepsJournal, ReadsRest}
 use Rattle.ix_manage.specs.Journal as journal
 use Rattle.ix_manage.specs.Journal.{OfJournal, OfOpened, RefusesFile}
 use Rattle.ix_manage.specs.Laws as well
@@ -228,21 +228,34 @@ module _ (around : Around) (old new : SinkState) (told : IsSome around.files) (n
   abbrev Whole : Job → ℕ → List ℕ → List ℕ → Option Session → Type 0
   Whole job status whole part session = EndsWhole around job status whole session × (part ≡ [])
 
-  -- a job with all that it reads starts
-  starts_of : (job : Job) (expression : List ℕ) → expression_of job ≡ Some expression → HasAll around job
-      → (x : Form) × Starts around.files expression (limit_of job) x
-  starts_of (trace named actions limit) expression is all =
-      (all.0, subst (λ name. Starts around.files name limit all.0) (some_is is) all.2)
-  starts_of (replay named kept script limit turns) expression is all =
-      (all.0, subst (λ name. Starts around.files name limit all.0) (some_is is) all.2)
-  starts_of (serve named kept socket limit turns) expression is all =
-      (all.0, subst (λ name. Starts around.files name limit all.0) (some_is is) all.1)
-  starts_of (work count seed limit) expression is all = absurd (none-some expression is)
+  -- a job with all that it reads reads an expression, where it names one
+  reads_of : (job : Job) (expression : List ℕ) → expression_of job ≡ Some expression → HasAll around job
+      → (x : Form) × ReadsForm around.files expression x
+  reads_of (trace named actions limit) expression is all =
+      (all.0, subst (λ name. ReadsForm around.files name all.0) (some_is is) all.2.reads)
+  reads_of (replay named kept script limit turns) expression is all =
+      (all.0, subst (λ name. ReadsForm around.files name all.0) (some_is is) all.2.reads)
+  reads_of (serve named kept socket limit turns) expression is all =
+      (all.0, subst (λ name. ReadsForm around.files name all.0) (some_is is) all.1.reads)
+  reads_of (work count seed limit) expression is all = absurd (none-some expression is)
+  reads_of (simplify named) expression is all = (all.0, subst (λ name. ReadsForm around.files name all.0) (some_is is) all.1)
 
-  no_large : (job : Job) (expression : List ℕ) → expression_of job ≡ Some expression → HasAll around job
-      → StartsAbove around.files expression (limit_of job) → ⊥
-  no_large job expression is all larger =
-      let starts = starts_of job expression is all in
+  -- a job that makes a tree starts
+  starts_of : (job : Job) (expression : List ℕ) → expression_of job ≡ Some expression → ReadsRest around.files job
+      → HasAll around job → (x : Form) × Starts around.files expression (limit_of job) x
+  starts_of (trace named actions limit) expression is rest all =
+      (all.0, subst (λ name. Starts around.files name limit all.0) (some_is is) all.2)
+  starts_of (replay named kept script limit turns) expression is rest all =
+      (all.0, subst (λ name. Starts around.files name limit all.0) (some_is is) all.2)
+  starts_of (serve named kept socket limit turns) expression is rest all =
+      (all.0, subst (λ name. Starts around.files name limit all.0) (some_is is) all.1)
+  starts_of (work count seed limit) expression is rest all = absurd (none-some expression is)
+  starts_of (simplify named) expression is rest all = absurd rest
+
+  no_large : (job : Job) (expression : List ℕ) → expression_of job ≡ Some expression → ReadsRest around.files job
+      → HasAll around job → StartsAbove around.files expression (limit_of job) → ⊥
+  no_large job expression is rest all larger =
+      let starts = starts_of job expression is rest all in
       let same = one_form around.files told expression larger.form starts.0 larger.reads starts.1.reads in
       let above = larger.above in
       let small = subst (λ y. tree_size y [] ≤ limit_of job) (sym same) starts.1.small in
@@ -262,6 +275,7 @@ module _ (around : Around) (old new : SinkState) (told : IsSome around.files) (n
       → OfJournal (λ file. RefusesFile x (limit_of job) file why) around.after.disk → HasAll around job → ⊥
   no_refusal (trace named actions limit) expression why x keeps starts refuses all = absurd (none-some keeps.journal keeps.has_journal)
   no_refusal (work count seed limit) expression why x keeps starts refuses all = absurd (none-some keeps.journal keeps.has_journal)
+  no_refusal (simplify named) expression why x keeps starts refuses all = absurd (none-some keeps.journal keeps.has_journal)
   no_refusal (replay named kept script limit turns) expression why x keeps starts refuses all =
       refuses_none expression limit why x all.0 starts
       (subst (λ name. Starts around.files name limit all.0) (some_is keeps.of_expression) all.2) all.4 refuses
@@ -312,11 +326,11 @@ module _ (around : Around) (old new : SinkState) (told : IsSome around.files) (n
       → Whole job status whole part session
   of_job is all ended below wire (how.no_memory end) = of_line end below well.no_memory
   of_job {job = job} is all ended below wire (how.bad_text {expression = expression} {code = code} {at = at} named bad rests _) =
-      let starts = starts_of job expression named all in
-      absurd (no_bad_text around.files told expression starts.0 code at starts.1.reads bad)
+      let reads = reads_of job expression named all in
+      absurd (no_bad_text around.files told expression reads.0 code at reads.1 bad)
   of_job is all ended below wire (how.lost_expression named rose rests _) = absurd (none.files rose)
   of_job {job = job} is all ended below wire (how.large {expression = expression} named rest larger _) =
-      absurd (no_large job expression named all larger)
+      absurd (no_large job expression named rest all larger)
   of_job is all ended below wire (how.lost_disk keeps reads rose _) = absurd (none.disk rose)
   of_job {job = job} is all ended below wire (how.refused_journal {expression = expression} {x = x} why keeps starts refuses _) =
       absurd (no_refusal job expression why x keeps starts refuses all)
@@ -333,6 +347,7 @@ module _ (around : Around) (old new : SinkState) (told : IsSome around.files) (n
   of_job is all ended below wire (how.served {socket = socket} {session = session} starts from takes so) =
       of_served (well.served starts from takes ((wire socket refl).whole none.sends)) (ended session refl) below so
   of_job is all ended below wire (how.worked works) = of_worked all.0 all.1 all.2 below works
+  of_job is all ended below wire (how.simplified s reads becomes end) = of_line end below (well.simplified s reads becomes)
 
   of_words : (is : Crashes) (words : List (List ℕ)) (job : Job) {status : ℕ} {whole part : List ℕ} {session : Option Session}
       → Names words job → HasAll around job → ((played : Session) → session ≡ Some played → IsOver played) → status ≢ 10

@@ -3,8 +3,10 @@ use Rattle.std.specs.Prelude.{◌≡◌, ◌⊎◌, ℕ, ◌≤◌, List, [], �
 use Rattle.std.specs.Prelude.{IsSome}
 use Rattle.std.specs.Io.KnownBytes.{append_known}
 use Rattle.ix_values.specs.PlainAction.{Word}
+use Rattle.ix_expr.specs.CanonicalText.{canonical_text}
 use Rattle.ix_expr.specs.Form.{Form}
 use Rattle.ix_parse.specs.Faults.{StandsFor}
+use Rattle.ix_simplify.specs.Rewriting.{Becomes}
 use Rattle.ix_can.specs.TreeOf.{tree_size}
 use Rattle.ix_outside.specs.Contents.{GivenEvent, Sends}
 use Rattle.ix_outside.specs.Counts.{Rose}
@@ -15,13 +17,13 @@ use Rattle.ix_outside.specs.SiteState.{SiteState}
 use Rattle.ix_generate.specs.Workload.{Ask, examinations}
 use Rattle.ix_manager.specs.Images.{IsStartable}
 use Rattle.ix_manager.specs.Runs.{opening_of}
-use Rattle.ix_cli.specs.Words.{Job, Names, trace, replay, serve, work}
+use Rattle.ix_cli.specs.Words.{Job, Names, trace, replay, serve, work, simplify}
 use Rattle.ix_manage.specs.ActionLines.{line}
 use Rattle.ix_manage.specs.Around.{Around, DiskFailed, FilesFailed, WireFailed}
 use Rattle.ix_manage.specs.Ends.{Ended, EndsOver, IsFrom}
 use Rattle.ix_manage.specs.Replay.{Plays, ReadsEvents, session_text}
 use Rattle.ix_manage.specs.Session.{IsOver, Session, Takes, history_line}
-use Rattle.ix_manage.specs.Trace.{Answers, ReadsActions, Starts, Verdict}
+use Rattle.ix_manage.specs.Trace.{Answers, ReadsActions, ReadsForm, Starts, Verdict}
 use Rattle.ix_manage.specs.Work.{Asked, history_of, work_line}
 
 -- a run can start from a file: one that was absent, and has no bytes, or one that is startable
@@ -35,8 +37,8 @@ pub record OpensStartable (x : Form) (limit : ℕ) (site : SiteState) : Type 0 w
   pub told : site.disk ≡ Some disk
   pub can_start : (opened : Opened) → disk.opened ≡ Some opened → CanStart x limit opened.file
 
--- what a job reads is there and valid: its expression, whose initial tree is within the limit, its
--- actions or its script, and its journal
+-- what a job reads is there and valid: its expression, whose initial tree is within the limit where
+-- it has one, its actions or its script, and its journal
 abbrev pub HasAll : Around → Job → Type 0
 HasAll around (trace expression actions limit) = (x : Form) × (word : Word)
     × Starts around.files expression limit x × ReadsActions around.files actions word
@@ -47,6 +49,7 @@ HasAll around (serve expression journal socket limit turns) =
     (x : Form) × Starts around.files expression limit x × OpensStartable x limit around.after
 HasAll around (work count seed limit) =
     (x : Form) × StandsFor examinations x × (tree_size x [] ≤ limit)
+HasAll around (simplify expression) = (x : Form) × ReadsForm around.files expression x
 
 -- no call failed around a run, no put of its output did, and no connection was found gone
 pub record NothingFails (around : Around) (old new : SinkState) : Type 0 where
@@ -92,6 +95,9 @@ pub data EndsWhole (around : Around) : Job → ℕ → List ℕ → Option Sessi
       → StandsFor examinations x → Asked x limit seed count granted refused
       → EndsWhole around (work count seed limit) 0
       (work_line count (length granted) refused (tree_size x (history_of granted))) None
+  simplified : {expression : List ℕ} {x : Form} (s : Form)
+      → ReadsForm around.files expression x → Becomes x s
+      → EndsWhole around (simplify expression) 0 (line (canonical_text s)) None
 
 -- A run whose words name a job, over files that are told and have all that it reads, and in which
 -- nothing fails, ends whole, if its session had an end or a `stop` within its turns.

@@ -183,5 +183,6 @@ mod journals;
 mod refusals;
 mod replays;
 mod serves;
+mod simplifies;
 mod traces;
 mod works;

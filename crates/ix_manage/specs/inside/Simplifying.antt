@@ -1,0 +1,24 @@
+-- A simplify.
+use Rattle.std.specs.Prelude.{◌≡◌, ℕ, List, Option}
+use Rattle.ix_expr.specs.CanonicalText.{canonical_text}
+use Rattle.ix_expr.specs.Form.{Form}
+use Rattle.ix_outside.specs.FilesState.{FilesState}
+use Rattle.ix_outside.specs.SiteState.{SiteState}
+use Rattle.ix_cli.specs.Words.{simplify}
+use Rattle.ix_simplify.specs.Rewriting.{Becomes}
+use Rattle.ix_manage.specs.ActionLines.{line}
+use Rattle.ix_manage.specs.Around.{around_of}
+use Rattle.ix_manage.specs.Ends.{JobEnds}
+use Rattle.ix_manage.specs.Session.{Session}
+
+-- the line is the canonical text of what the expression becomes
+pub record IsSimpleLine (x : Form) (bytes : List ℕ) : Type 0 where
+  pub result : Form
+  pub becomes : Becomes x result
+  pub same : bytes ≡ line (canonical_text result)
+
+-- how a simplify may end, whatever the site, which it leaves as it is
+abbrev pub SimplifyEnds : FilesState → FilesState → List ℕ
+    → ℕ → List ℕ → List ℕ → Option Session → Type 0
+SimplifyEnds files later name status whole part session = (site : SiteState)
+    → JobEnds (around_of files later site site) (simplify name) status whole part session
