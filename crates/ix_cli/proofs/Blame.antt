@@ -1,18 +1,21 @@
 -- Words that one command refuses, where they begin with its name, and words that begin with none.
 use Rattle.std.proofs.Common.{◌≡◌, ◌≢◌, ◌∙◌, List, [], ◌∷◌, map, option_map, sym, ap, subst, Some}
-use Rattle.std.proofs.Common.{arith, inl, inr, slice_index, slice_get, codes, Result, Ok, Err}
+use Rattle.std.proofs.Common.{arith, inl, inr, slice_get, codes, Result, Ok, Err}
 use Rattle.std.proofs.Common.{MatchResult}
 use Rattle.std.specs.Prelude.{unwrap_or}
 use Rattle.std.specs.Result.{IsErrAnd}
 use Rattle.clap.specs.Words.{App, Text}
 use Rattle.ix_cli.specs.Commands.{trace_command, replay_command, serve_command, work_command}
+use Rattle.ix_cli.specs.Commands.{simplify_command}
 use Rattle.ix_cli.specs.Words.{Refuses}
 use Rattle.ix_cli.specs.declared.fault.WordsFault.{WordsFault}
 use Rattle.ix_cli.specs.declared.fault.WordsFault.TheVariants.{Bad, Memory}
 use Rattle.ix_cli.specs.inside.Jobs.{Explains}
 use Rattle.ix_cli.specs.inside.Matches.{Blames}
 use Rattle.ix_cli.proofs.PlainCommands.{trace_name, replay_name, serve_name, work_name}
-use Rattle.ix_cli.proofs.Named.{initial, trace_initial, replay_initial, serve_initial, work_initial}
+use Rattle.ix_cli.proofs.PlainCommands.{simplify_name}
+use Rattle.ix_cli.proofs.Named.{first_two, initial, trace_initial, replay_initial, serve_initial}
+use Rattle.ix_cli.proofs.Named.{work_initial, simplify_initial}
 
 -- `?` hands a fault up as it is
 pub handed_up : {T : Type 0} (r : Result T WordsFault) (fault : WordsFault) (P : T → Type 0)
@@ -26,11 +29,11 @@ pub blamed_as : {a b : App} (words : List Text) (fault : WordsFault) → a ≡ b
 blamed_as words fault same blamed = subst (λ (app : App). Blames app words fault) same blamed
 
 module _ (words : List Text) where
-  -- a command refuses words that begin with a name of another initial
+  -- a command refuses words that begin with a name that begins otherwise
   other : (command : App) (name : Text) → slice_get words 0 ≡ Some name
-      → (slice_index name 0 ≡ initial command → ⊥) → Refuses command words
+      → (first_two name ≡ initial command → ⊥) → Refuses command words
   other command name first apart =
-      inl (λ same. apart (ap (λ o. slice_index (unwrap_or o []) 0) (sym first ∙ same)))
+      inl (λ same. apart (ap (λ o. first_two (unwrap_or o [])) (sym first ∙ same)))
 
   pub trace_blamed : slice_get words 0 ≡ Some (codes "trace") → (fault : WordsFault)
       → Blames trace_command words fault → Explains words fault
@@ -40,6 +43,7 @@ module _ (words : List Text) where
     other replay_command (codes "trace") first (λ same. omega (arith, replay_initial)),
     other serve_command (codes "trace") first (λ same. omega (arith, serve_initial)),
     other work_command (codes "trace") first (λ same. omega (arith, work_initial)),
+    other simplify_command (codes "trace") first (λ same. omega (arith, simplify_initial)),
   )
 
   pub replay_blamed : slice_get words 0 ≡ Some (codes "replay") → (fault : WordsFault)
@@ -50,6 +54,7 @@ module _ (words : List Text) where
     inr blamed,
     other serve_command (codes "replay") first (λ same. omega (arith, serve_initial)),
     other work_command (codes "replay") first (λ same. omega (arith, work_initial)),
+    other simplify_command (codes "replay") first (λ same. omega (arith, simplify_initial)),
   )
 
   pub serve_blamed : slice_get words 0 ≡ Some (codes "serve") → (fault : WordsFault)
@@ -60,6 +65,7 @@ module _ (words : List Text) where
     other replay_command (codes "serve") first (λ same. omega (arith, replay_initial)),
     inr blamed,
     other work_command (codes "serve") first (λ same. omega (arith, work_initial)),
+    other simplify_command (codes "serve") first (λ same. omega (arith, simplify_initial)),
   )
 
   pub work_blamed : slice_get words 0 ≡ Some (codes "work") → (fault : WordsFault)
@@ -70,6 +76,18 @@ module _ (words : List Text) where
     other replay_command (codes "work") first (λ same. omega (arith, replay_initial)),
     other serve_command (codes "work") first (λ same. omega (arith, serve_initial)),
     inr blamed,
+    other simplify_command (codes "work") first (λ same. omega (arith, simplify_initial)),
+  )
+
+  pub simplify_blamed : slice_get words 0 ≡ Some (codes "simplify") → (fault : WordsFault)
+      → Blames simplify_command words fault → Explains words fault
+  simplify_blamed first Memory blamed = tt
+  simplify_blamed first (Bad text) blamed = (
+    other trace_command (codes "simplify") first (λ same. omega (arith, trace_initial)),
+    other replay_command (codes "simplify") first (λ same. omega (arith, replay_initial)),
+    other serve_command (codes "simplify") first (λ same. omega (arith, serve_initial)),
+    other work_command (codes "simplify") first (λ same. omega (arith, work_initial)),
+    inr blamed,
   )
 
   not_named : (command : App) (name called : Text) → slice_get words 0 ≡ Some name
@@ -79,14 +97,15 @@ module _ (words : List Text) where
 
   -- words that begin with no command's name
   pub unknown_blamed : (name : Text) → slice_get words 0 ≡ Some name → name ≢ codes "trace"
-      → name ≢ codes "replay" → name ≢ codes "serve" → name ≢ codes "work" → (fault : WordsFault)
-      → Explains words fault
-  unknown_blamed name first no_trace no_replay no_serve no_work Memory = tt
-  unknown_blamed name first no_trace no_replay no_serve no_work (Bad text) = (
+      → name ≢ codes "replay" → name ≢ codes "serve" → name ≢ codes "work" → name ≢ codes "simplify"
+      → (fault : WordsFault) → Explains words fault
+  unknown_blamed name first no_trace no_replay no_serve no_work no_simplify Memory = tt
+  unknown_blamed name first no_trace no_replay no_serve no_work no_simplify (Bad text) = (
     not_named trace_command name (codes "trace") first trace_name no_trace,
     not_named replay_command name (codes "replay") first replay_name no_replay,
     not_named serve_command name (codes "serve") first serve_name no_serve,
     not_named work_command name (codes "work") first work_name no_work,
+    not_named simplify_command name (codes "simplify") first simplify_name no_simplify,
   )
 
 -- the text of the first word

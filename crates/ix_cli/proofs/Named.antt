@@ -1,38 +1,47 @@
 -- Words name one job at most, and none where each command refuses them.
-use Rattle.std.proofs.Common.{◌≡◌, ◌∙◌, ℕ, List, [], refl, sym, ap, arith, inl, inr, slice_index}
+use Rattle.std.proofs.Common.{◌≡◌, ◌∙◌, ℕ, ◌+◌, ◌*◌, List, [], refl, sym, ap, arith, inl, inr, slice_index}
 use Rattle.std.proofs.Common.{codes}
 use Rattle.std.specs.Prelude.{unwrap_or}
 use Rattle.std.specs.Str.Parse.{digits_value, without_leading_plus}
 use Rattle.clap.specs.Words.{App, Text}
 use Rattle.ix_cli.specs.Commands.{trace_command, replay_command, serve_command, work_command}
+use Rattle.ix_cli.specs.Commands.{simplify_command}
 use Rattle.ix_cli.specs.Words.{IsTaken, Job, Names, NamesNoJob, Refuses, Says, SaysNumber}
-use Rattle.ix_cli.specs.Words.{trace, replay, serve, work}
+use Rattle.ix_cli.specs.Words.{trace, replay, serve, work, simplify}
 
--- the first byte of a command's name
+-- the first two bytes of a name, as one number
+abbrev pub first_two : Text → ℕ
+first_two name = 256 * slice_index name 0 + slice_index name 1
+
+-- those of a command's name
 abbrev pub initial : App → ℕ
-initial command = slice_index command.top.name 0
+initial command = first_two command.top.name
 
-pub trace_initial : initial trace_command ≡ 116
+pub trace_initial : initial trace_command ≡ 29810
 unfolding trace_command
 trace_initial = refl
 
-pub replay_initial : initial replay_command ≡ 114
+pub replay_initial : initial replay_command ≡ 29285
 unfolding replay_command
 replay_initial = refl
 
-pub serve_initial : initial serve_command ≡ 115
+pub serve_initial : initial serve_command ≡ 29541
 unfolding serve_command
 serve_initial = refl
 
-pub work_initial : initial work_command ≡ 119
+pub work_initial : initial work_command ≡ 30575
 unfolding work_command
 work_initial = refl
+
+pub simplify_initial : initial simplify_command ≡ 29545
+unfolding simplify_command
+simplify_initial = refl
 
 module _ (words : List Text) where
   -- two commands that take the words have one name
   same_initial : {a b : App} → IsTaken a words → IsTaken b words → initial a ≡ initial b
   same_initial one other =
-      ap (λ o. slice_index (unwrap_or o []) 0) (sym one.name ∙ other.name)
+      ap (λ o. first_two (unwrap_or o [])) (sym one.name ∙ other.name)
 
   same_text : (command : App) (name text other : Text) → Says command words name text
       → Says command words name other → text ≡ other
@@ -89,6 +98,24 @@ module _ (words : List Text) where
       absurd (not_both x.0 y.0 (λ same. omega (arith, work_initial, replay_initial)))
   one_job (work c s n) (serve f k u o v) x y =
       absurd (not_both x.0 y.0 (λ same. omega (arith, work_initial, serve_initial)))
+  one_job (simplify e) (simplify f) x y =
+      ap simplify (same_text simplify_command (codes "EXPR") e f x.1 y.1)
+  one_job (trace e a n) (simplify f) x y =
+      absurd (not_both x.0 y.0 (λ same. omega (arith, trace_initial, simplify_initial)))
+  one_job (simplify e) (trace f b o) x y =
+      absurd (not_both x.0 y.0 (λ same. omega (arith, simplify_initial, trace_initial)))
+  one_job (replay e j s n t) (simplify f) x y =
+      absurd (not_both x.0 y.0 (λ same. omega (arith, replay_initial, simplify_initial)))
+  one_job (simplify e) (replay f k u o v) x y =
+      absurd (not_both x.0 y.0 (λ same. omega (arith, simplify_initial, replay_initial)))
+  one_job (serve e j s n t) (simplify f) x y =
+      absurd (not_both x.0 y.0 (λ same. omega (arith, serve_initial, simplify_initial)))
+  one_job (simplify e) (serve f k u o v) x y =
+      absurd (not_both x.0 y.0 (λ same. omega (arith, simplify_initial, serve_initial)))
+  one_job (work c s n) (simplify f) x y =
+      absurd (not_both x.0 y.0 (λ same. omega (arith, work_initial, simplify_initial)))
+  one_job (simplify e) (work d t o) x y =
+      absurd (not_both x.0 y.0 (λ same. omega (arith, simplify_initial, work_initial)))
 
   -- a command that takes the words doesn't refuse them
   taken_refused : {command : App} → IsTaken command words → Refuses command words → ⊥
@@ -100,3 +127,4 @@ module _ (words : List Text) where
   no_job (replay e j s n t) none named = taken_refused named.0 none.1
   no_job (serve e j s n t) none named = taken_refused named.0 none.2
   no_job (work c s n) none named = taken_refused named.0 none.3
+  no_job (simplify e) none named = taken_refused named.0 none.4

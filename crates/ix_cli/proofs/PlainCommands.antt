@@ -1,10 +1,10 @@
--- The four commands are plain, and these are their arguments.
+-- The five commands are plain, and these are their arguments.
 use Rattle.std.proofs.Common.{◌≡◌, refl, lit<, codes}
 use Rattle.std.specs.List.{Contains}
 use Rattle.clap.specs.Words.{App, Rule}
 use Rattle.ix_cli.specs.Commands.{trace_command, replay_command, serve_command, work_command}
-use Rattle.ix_cli.specs.Commands.{word, number_word, nodes_option, turns_option, most_asks}
-use Rattle.ix_cli.specs.Commands.{most_seed}
+use Rattle.ix_cli.specs.Commands.{simplify_command, word, number_word, nodes_option, turns_option}
+use Rattle.ix_cli.specs.Commands.{most_asks, most_seed}
 use Rattle.ix_cli.specs.inside.Matches.{IsPlainCommand}
 
 -- the command has this argument
@@ -50,6 +50,18 @@ serve_plain = record {
 pub work_plain : IsPlainCommand work_command
 unfolding work_command
 work_plain = record {
+  no_subcommands = refl;
+  simple = refl;
+  ready = refl;
+  free = refl;
+  requires_all = refl;
+  single = refl;
+  distinct = refl;
+}
+
+pub simplify_plain : IsPlainCommand simplify_command
+unfolding simplify_command
+simplify_plain = record {
   no_subcommands = refl;
   simple = refl;
   ready = refl;
@@ -123,6 +135,10 @@ pub work_nodes : HasArgument work_command nodes_option
 unfolding work_command
 work_nodes = (2, lit< tt, refl)
 
+pub simplify_expr : HasArgument simplify_command (word (codes "EXPR"))
+unfolding simplify_command
+simplify_expr = (0, lit< tt, refl)
+
 pub trace_name : trace_command.top.name ≡ codes "trace"
 unfolding trace_command
 trace_name = refl
@@ -138,3 +154,7 @@ serve_name = refl
 pub work_name : work_command.top.name ≡ codes "work"
 unfolding work_command
 work_name = refl
+
+pub simplify_name : simplify_command.top.name ≡ codes "simplify"
+unfolding simplify_command
+simplify_name = refl

@@ -59,6 +59,10 @@ serve_command = with_rule (with_rule (with_rule (with_rule (with_rule (new_app (
     (word (codes "EXPR"))) (word (codes "JOURNAL"))) (word (codes "SOCKET")))
     nodes_option) turns_option
 
+-- `simplify EXPR`
+unfoldable pub simplify_command : App
+simplify_command = with_rule (new_app (codes "simplify")) (word (codes "EXPR"))
+
 -- `work N SEED [--nodes N]`
 unfoldable pub work_command : App
 work_command = with_rule (with_rule (with_rule (new_app (codes "work"))

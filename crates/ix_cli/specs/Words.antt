@@ -3,16 +3,17 @@ use Rattle.std.specs.Prelude.{◌≡◌, ◌≢◌, ◌⊎◌, ◌≤◌, ℕ, L
 use Rattle.std.specs.Str.Parse.{digits_value, without_leading_plus}
 use Rattle.clap.specs.Words.{App, Text, fault_of, first_of, matches_of, one_of}
 use Rattle.ix_cli.specs.Commands.{trace_command, replay_command, serve_command, work_command}
-use Rattle.ix_cli.specs.Commands.{most_nodes, most_turns, most_asks, most_seed}
+use Rattle.ix_cli.specs.Commands.{simplify_command, most_nodes, most_turns, most_asks, most_seed}
 
 -- What the program is to do: trace the actions of a file, replay a script or serve a socket over a
--- journal, or work through so many asks of a generated workload. `nodes` is the limit of Size, and
--- `turns` the most events that are taken.
+-- journal, work through so many asks of a generated workload, or simplify an expression. `nodes` is
+-- the limit of Size, and `turns` the most events that are taken.
 pub data Job : Type 0 where
   trace : (expr actions : Text) (nodes : ℕ) → Job
   replay : (expr journal script : Text) (nodes turns : ℕ) → Job
   serve : (expr journal socket : Text) (nodes turns : ℕ) → Job
   work : (count seed nodes : ℕ) → Job
+  simplify : (expr : Text) → Job
 
 -- the first word is the command's name, and clap's definition of it takes the words behind
 pub record IsTaken (command : App) (words : List Text) : Type 0 where
@@ -64,8 +65,10 @@ Names words (work count seed nodes) = IsTaken work_command words
     × SaysNumber work_command words (codes "N") 0 most_asks count
     × SaysNumber work_command words (codes "SEED") 0 most_seed seed
     × SaysNodes work_command words nodes
+Names words (simplify expr) = IsTaken simplify_command words
+    × Says simplify_command words (codes "EXPR") expr
 
 -- the words name no job: each command refuses them
 abbrev pub NamesNoJob : List Text → Type 0
 NamesNoJob words = Refuses trace_command words × Refuses replay_command words
-    × Refuses serve_command words × Refuses work_command words
+    × Refuses serve_command words × Refuses work_command words × Refuses simplify_command words

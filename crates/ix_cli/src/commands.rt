@@ -3,6 +3,7 @@ ghost use Rattle.std.specs.Prelude.{◌≡◌, false, IfOk};
 ghost use Rattle.clap.specs.Words.{app_of, rule_of};
 ghost use Rattle.ix_cli.specs.Commands.{word, number_word, nodes_option, turns_option};
 ghost use Rattle.ix_cli.specs.Commands.{trace_command, replay_command, serve_command, work_command};
+ghost use Rattle.ix_cli.specs.Commands.{simplify_command};
 
 use clap::builder::ValueParser;
 use clap::{Arg, ArgAction, Command};
@@ -125,4 +126,14 @@ pub(crate) fn work<'a>(alloc: Global) -> Result<Command<'a>, AllocError>
         .arg(number_word(alloc, "SEED", u64::MAX, "The seed, any number below 2^64"))?
         .arg(nodes_option(alloc))?
         .bin_name("ixm work")
+}
+
+/// The command `simplify`.
+pub(crate) fn simplify<'a>(alloc: Global) -> Result<Command<'a>, AllocError>
+    ensures { IfOk result (λ command. app_of command ≡ simplify_command) }
+{
+    Command::new(alloc, "simplify")
+        .about("Puts the expression, rewritten by laws that keep its meaning")
+        .arg(word(alloc, "EXPR", EXPRESSION_HELP))?
+        .bin_name("ixm simplify")
 }

@@ -33,6 +33,7 @@ Commands:
   replay EXPR JOURNAL SCRIPT [--nodes N] [--turns N]
   serve EXPR JOURNAL SOCKET [--nodes N] [--turns N]
   work N SEED [--nodes N]
+  simplify EXPR
 
 For more information on a command, put '--help' behind its name.
 ";

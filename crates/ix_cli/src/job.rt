@@ -41,6 +41,10 @@ pub enum Job {
         seed: u64,
         nodes: usize,
     },
+    /// Put an expression rewritten by laws.
+    Simplify {
+        expr: String,
+    },
 }
 
 /// The job of words that begin with `trace`.
@@ -104,5 +108,18 @@ pub(crate) fn read_work(alloc: Global, words: &[String]) -> Result<Job, WordsFau
         count: number(&matches, "N"),
         seed: number(&matches, "SEED"),
         nodes: number(&matches, "nodes") as usize,
+    })
+}
+
+/// The job of words that begin with `simplify`.
+pub(crate) fn read_simplify(alloc: Global, words: &[String]) -> Result<Job, WordsFault>
+    requires { slice_get (map string_bytes words.now) 0 ≡ Some (codes "simplify") }
+    ensures { MatchResult result
+        (λ job. Names (map string_bytes words.now) (job_of job))
+        (Explains (map string_bytes words.now)) }
+{
+    let matches = parse(alloc, commands::simplify(alloc)?, words)?;
+    Ok(Job::Simplify {
+        expr: text(alloc, &matches, "EXPR")?,
     })
 }

@@ -36,6 +36,7 @@ pub fn read_words(alloc: Global, words: &[String]) -> Result<Job, WordsFault>
         "replay" => job::read_replay(alloc, words),
         "serve" => job::read_serve(alloc, words),
         "work" => job::read_work(alloc, words),
+        "simplify" => job::read_simplify(alloc, words),
         _ => Err(no_command(alloc)),
     }
 }

@@ -1,7 +1,9 @@
 -- How a run ends, by the words and the files.
 use Rattle.std.specs.Prelude.{◌≡◌, ℕ, List, [], Option, None, Some, codes, ⊤}
 use Rattle.ix_values.specs.PlainAction.{Word}
+use Rattle.ix_expr.specs.CanonicalText.{canonical_text}
 use Rattle.ix_expr.specs.Form.{Form}
+use Rattle.ix_simplify.specs.Rewriting.{Becomes}
 use Rattle.ix_outside.specs.Contents.{GivenEvent}
 use Rattle.ix_outside.specs.Files.{Listing}
 use Rattle.ix_outside.specs.SinkState.{SinkState}
@@ -9,7 +11,7 @@ use Rattle.ix_outside.specs.Crashes.{Crashes}
 use Rattle.ix_outside.specs.Disk.{Disk}
 use Rattle.ix_outside.specs.SiteState.{SiteState}
 use Rattle.ix_manager.specs.Runs.{Opening}
-use Rattle.ix_cli.specs.Words.{Job, Names, NamesNoJob, trace, replay, serve, work}
+use Rattle.ix_cli.specs.Words.{Job, Names, NamesNoJob, trace, replay, serve, work, simplify}
 use Rattle.ix_manage.specs.ActionLines.{line}
 use Rattle.ix_manage.specs.Command.{expression_of, journal_of, limit_of}
 use Rattle.ix_manage.specs.Puts.{LastLine, Puts}
@@ -25,13 +27,15 @@ use Rattle.ix_manage.specs.Trace.{ReadsForm, Starts, StartsAbove, Traces}
 abbrev pub IsFrom : Form → ℕ → Opening → Type 0
 IsFrom x limit opening = (opening.form ≡ x) × (opening.limit ≡ limit)
 
--- what a job reads beside its expression before it starts is in its grammar: the script of a replay
+-- What a job reads beside its expression before it makes a tree is in its grammar: the script of a
+-- replay. A simplify makes none.
 abbrev pub ReadsRest : Option Listing → Job → Type 0
 ReadsRest files (trace expression actions limit) = ⊤
 ReadsRest files (replay expression journal script limit turns) =
     (events : List GivenEvent) × ReadsEvents files script events
 ReadsRest files (serve expression journal socket limit turns) = ⊤
 ReadsRest files (work count seed limit) = ⊤
+ReadsRest files (simplify expression) = ⊥
 
 -- a job of an expression keeps a journal, and its files are read
 pub record KeepsJournal (files : Option Listing) (job : Job) (expression : List ℕ) : Type 0 where
@@ -117,6 +121,10 @@ pub data JobEnds (files : Option Listing) (disk : Option Disk)
   worked : {count seed limit status : ℕ} {whole part : List ℕ}
       → Works count seed limit status whole part
       → JobEnds files disk (work count seed limit) status whole part None
+  simplified : {expression : List ℕ} {x : Form} (s : Form) {status : ℕ} {whole part : List ℕ}
+      → ReadsForm files expression x → Becomes x s
+      → LastLine 0 [] (line (canonical_text s)) status whole part
+      → JobEnds files disk (simplify expression) status whole part None
 
 -- what a job may make of the files, the output and the site
 pub record JobOver (files : Option Listing) (job : Job) (before after : SiteState) (is : Crashes)

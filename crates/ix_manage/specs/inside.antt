@@ -6,6 +6,7 @@ pub mod Playing
 pub mod Refusal
 pub mod ReplayProgress
 pub mod ServeProgress
+pub mod Simplifying
 pub mod TracesLines
 pub mod Turns
 pub mod Working

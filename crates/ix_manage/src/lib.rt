@@ -23,6 +23,7 @@ mod replay;
 mod run;
 mod serve;
 mod serving;
+mod simplify;
 mod start;
 mod trace;
 mod turn;
@@ -54,6 +55,8 @@ use std::alloc::Global;
 ///   number SEED, one after the other, each of which joins the history where it is allowed. It puts
 ///   `asked N granted G refused R nodes S`, S being the Size of the tree at the end. The expression
 ///   is that of the workload, `EXAMINATIONS` of `ix_generate`.
+/// - `simplify EXPR` puts the canonical text of what the expression of the file EXPR becomes by the
+///   laws of `ix_simplify`, with status 0. It makes no tree.
 ///
 /// `--nodes N` is the limit of Size, from 1 to 1,000,000, which is 100,000 otherwise, and in a
 /// replay and a serve `--turns N` the most events that are taken, from 1 to 1,000,000,000.

@@ -17,6 +17,7 @@ use crate::load::load_actions;
 use crate::refusal::Refusal;
 use crate::replay::replay;
 use crate::serve::serve;
+use crate::simplify::simplify;
 use crate::start::start;
 use crate::trace::trace;
 use crate::work::work;
@@ -148,6 +149,7 @@ fn run_job<F: Files, S: Site, K: Sink>(
             };
             work(alloc, names, out)
         }
+        Job::Simplify { expr } => simplify(alloc, expr.as_str(), files, out),
     }
 }
 

@@ -184,6 +184,7 @@ mod journals;
 mod refusals;
 mod replays;
 mod serves;
+mod simplifies;
 mod stores;
 mod traces;
 mod words;

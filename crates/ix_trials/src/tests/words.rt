@@ -35,6 +35,7 @@ fn shown(alloc: Global, job: &Job) -> Result<String, AllocError> {
             turns,
         } => format!(in alloc; "serve {expr} {journal} {socket} {nodes} {turns}"),
         Job::Work { count, seed, nodes } => format!(in alloc; "work {count} {seed} {nodes}"),
+        Job::Simplify { expr } => format!(in alloc; "simplify {expr}"),
     }
 }
 
@@ -70,6 +71,7 @@ fn jobs(rt: HostRuntime) -> Result<(), Fail> {
             "work 1000000 18446744073709551615 --nodes 4",
             "work 1000000 18446744073709551615 4",
         ),
+        ("simplify x", "simplify x"),
     ];
     for (words, job) in rows {
         let words = words_of(rt.alloc(), words)?;
@@ -141,6 +143,10 @@ fn words_that_clap_refuses(rt: HostRuntime) -> Result<(), Fail> {
             "error: invalid value '0' for '--nodes <nodes>': ",
         ),
         (
+            "simplify x --nodes 8",
+            "error: unexpected argument '--nodes' found\n",
+        ),
+        (
             "trace --help",
             "Says of each action of a file whether the expression lets it be next\n\nUsage: ixm ",
         ),
@@ -162,6 +168,7 @@ Commands:
   replay EXPR JOURNAL SCRIPT [--nodes N] [--turns N]
   serve EXPR JOURNAL SOCKET [--nodes N] [--turns N]
   work N SEED [--nodes N]
+  simplify EXPR
 
 For more information on a command, put '--help' behind its name.
 ";

@@ -1,11 +1,12 @@
 use Rattle.std.proofs.Common.{◌≡◌, ℕ, List, Option, sym, ◌∙◌, ap, subst}
 use Rattle.std.proofs.lemmas.Option.{none-some}
-use Rattle.ix_cli.specs.Words.{Job, trace}
+use Rattle.ix_cli.specs.Words.{Job, trace, simplify}
 use Rattle.ix_cli.specs.inside.Jobs.{job_of}
 use Rattle.ix_manage.specs.Ends.{JobOver}
 use Rattle.ix_manage.specs.Session.{Session}
 use Rattle.ix_manage.specs.inside.Jobs.{work_of}
 use Rattle.ix_manage.specs.inside.Playing.{TraceEnds}
+use Rattle.ix_manage.specs.inside.Simplifying.{SimplifyEnds}
 use Rattle.ix_manage.specs.inside.Working.{WorkEnds}
 use Rattle.ix_manage.specs.declared.job.WorkWords.{WorkWords}
 use Rattle.ix_manage.proofs.Stops.{leaves_on}
@@ -52,3 +53,24 @@ returns-in-Work-clause-leaves g c =
     }) in
     leaves_on ends (g.K.Sink.state c.args.out.now) (g.K.Sink.state c.work.new.out)
     c.work.result c.work.ensures.leaves
+
+pub returns-in-Simplify-clause-leaves : goal.returns-in-Simplify-clause-leaves
+returns-in-Simplify-clause-leaves g c =
+    let files = (g.F.Files.state c.args.files.now).contents in
+    let site = g.S.Site.state c.args.site.now in
+    let crashes = g.S.Site.crashes c.args.site.now in
+    let name = c.as_str-in-Simplify.result.now in
+    let named : job_of c.args.job.now ≡ simplify name =
+    ap job_of c.in-Simplify.is ∙ ap simplify (sym c.as_str-in-Simplify.ensures.value) in
+    let ends : (status : ℕ) (whole part : List ℕ) (session : Option Session)
+    → SimplifyEnds files name status whole part session
+    → JobOver files (job_of c.args.job.now) site site crashes status whole part session =
+    λ status whole part session end.
+    subst (λ (job : Job). JobOver files job site site crashes status whole part session) (sym named)
+    (record {
+      ends = end site.disk;
+      journal = λ expression journal of_expression has_journal. absurd (none-some journal has_journal);
+      wire = λ socket same. absurd (none-some socket same);
+    }) in
+    leaves_on ends (g.K.Sink.state c.args.out.now) (g.K.Sink.state c.simplify.new.out)
+    c.simplify.result c.simplify.ensures.leaves

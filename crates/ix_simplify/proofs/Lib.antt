@@ -1,0 +1,10 @@
+pub mod Pieces
+pub mod Numbers
+pub mod Unnamed
+pub mod Sides
+pub mod Congruence
+pub mod Decided
+pub mod Uses
+pub mod Reached
+pub mod Kept
+pub mod WellFormed

@@ -1,0 +1,4 @@
+pub mod Names
+pub mod Rewriting
+pub mod Laws
+pub mod inside
