@@ -1,5 +1,6 @@
 pub mod Command
 pub mod ActionLines
+pub mod BoundLines
 pub mod Trace
 pub mod Replay
 pub mod Serve

@@ -12,6 +12,7 @@ ghost use Rattle.ix_manage.specs.Site.{OnlyCalls};
 ghost use Rattle.ix_manage.specs.inside.Leaves.{FailedWhere, IsNoFailure, Leaves, LostWhere};
 ghost use Rattle.ix_manage.specs.inside.Playing.{TraceEnds};
 
+use crate::bound::bound;
 use crate::job::{ReplayWords, ServeWords, TraceWords, WorkWords};
 use crate::load::load_actions;
 use crate::refusal::Refusal;
@@ -150,6 +151,7 @@ fn run_job<F: Files, S: Site, K: Sink>(
             work(alloc, names, out)
         }
         Job::Simplify { expr } => simplify(alloc, expr.as_str(), files, out),
+        Job::Bound { expr, count } => bound(alloc, expr.as_str(), *count, files, out),
     }
 }
 
