@@ -5,9 +5,9 @@ use Rattle.std.specs.Prelude.{unwrap_or}
 use Rattle.std.specs.Str.Parse.{digits_value, without_leading_plus}
 use Rattle.clap.specs.Words.{App, Text}
 use Rattle.ix_cli.specs.Commands.{trace_command, replay_command, serve_command, work_command}
-use Rattle.ix_cli.specs.Commands.{simplify_command}
+use Rattle.ix_cli.specs.Commands.{simplify_command, bound_command}
 use Rattle.ix_cli.specs.Words.{IsTaken, Job, Names, NamesNoJob, Refuses, Says, SaysNumber}
-use Rattle.ix_cli.specs.Words.{trace, replay, serve, work, simplify}
+use Rattle.ix_cli.specs.Words.{trace, replay, serve, work, simplify, bound}
 
 -- the first two bytes of a name, as one number
 abbrev pub first_two : Text → ℕ
@@ -36,6 +36,10 @@ work_initial = refl
 pub simplify_initial : initial simplify_command ≡ 29545
 unfolding simplify_command
 simplify_initial = refl
+
+pub bound_initial : initial bound_command ≡ 25199
+unfolding bound_command
+bound_initial = refl
 
 module _ (words : List Text) where
   -- two commands that take the words have one name
@@ -116,6 +120,28 @@ module _ (words : List Text) where
       absurd (not_both x.0 y.0 (λ same. omega (arith, work_initial, simplify_initial)))
   one_job (simplify e) (work d t o) x y =
       absurd (not_both x.0 y.0 (λ same. omega (arith, simplify_initial, work_initial)))
+  one_job (bound e k) (bound f l) x y =
+      λ i. bound (same_text bound_command (codes "EXPR") e f x.1 y.1 i) (same_number x.2 y.2 i)
+  one_job (trace e a n) (bound f l) x y =
+      absurd (not_both x.0 y.0 (λ same. omega (arith, trace_initial, bound_initial)))
+  one_job (bound e k) (trace f b o) x y =
+      absurd (not_both x.0 y.0 (λ same. omega (arith, bound_initial, trace_initial)))
+  one_job (replay e j s n t) (bound f l) x y =
+      absurd (not_both x.0 y.0 (λ same. omega (arith, replay_initial, bound_initial)))
+  one_job (bound e k) (replay f l u o v) x y =
+      absurd (not_both x.0 y.0 (λ same. omega (arith, bound_initial, replay_initial)))
+  one_job (serve e j s n t) (bound f l) x y =
+      absurd (not_both x.0 y.0 (λ same. omega (arith, serve_initial, bound_initial)))
+  one_job (bound e k) (serve f l u o v) x y =
+      absurd (not_both x.0 y.0 (λ same. omega (arith, bound_initial, serve_initial)))
+  one_job (work c s n) (bound f l) x y =
+      absurd (not_both x.0 y.0 (λ same. omega (arith, work_initial, bound_initial)))
+  one_job (bound e k) (work d t o) x y =
+      absurd (not_both x.0 y.0 (λ same. omega (arith, bound_initial, work_initial)))
+  one_job (simplify e) (bound f l) x y =
+      absurd (not_both x.0 y.0 (λ same. omega (arith, simplify_initial, bound_initial)))
+  one_job (bound e k) (simplify f) x y =
+      absurd (not_both x.0 y.0 (λ same. omega (arith, bound_initial, simplify_initial)))
 
   -- a command that takes the words doesn't refuse them
   taken_refused : {command : App} → IsTaken command words → Refuses command words → ⊥
@@ -128,3 +154,4 @@ module _ (words : List Text) where
   no_job (serve e j s n t) none named = taken_refused named.0 none.2
   no_job (work c s n) none named = taken_refused named.0 none.3
   no_job (simplify e) none named = taken_refused named.0 none.4
+  no_job (bound e k) none named = taken_refused named.0 none.5

@@ -1,10 +1,10 @@
--- The five commands are plain, and these are their arguments.
+-- The six commands are plain, and these are their arguments.
 use Rattle.std.proofs.Common.{◌≡◌, refl, lit<, codes}
 use Rattle.std.specs.List.{Contains}
 use Rattle.clap.specs.Words.{App, Rule}
 use Rattle.ix_cli.specs.Commands.{trace_command, replay_command, serve_command, work_command}
 use Rattle.ix_cli.specs.Commands.{simplify_command, word, number_word, nodes_option, turns_option}
-use Rattle.ix_cli.specs.Commands.{most_asks, most_seed}
+use Rattle.ix_cli.specs.Commands.{bound_command, most_asks, most_seed, most_values}
 use Rattle.ix_cli.specs.inside.Matches.{IsPlainCommand}
 
 -- the command has this argument
@@ -62,6 +62,18 @@ work_plain = record {
 pub simplify_plain : IsPlainCommand simplify_command
 unfolding simplify_command
 simplify_plain = record {
+  no_subcommands = refl;
+  simple = refl;
+  ready = refl;
+  free = refl;
+  requires_all = refl;
+  single = refl;
+  distinct = refl;
+}
+
+pub bound_plain : IsPlainCommand bound_command
+unfolding bound_command
+bound_plain = record {
   no_subcommands = refl;
   simple = refl;
   ready = refl;
@@ -139,6 +151,14 @@ pub simplify_expr : HasArgument simplify_command (word (codes "EXPR"))
 unfolding simplify_command
 simplify_expr = (0, lit< tt, refl)
 
+pub bound_expr : HasArgument bound_command (word (codes "EXPR"))
+unfolding bound_command
+bound_expr = (0, lit< tt, refl)
+
+pub bound_count : HasArgument bound_command (number_word (codes "K") 0 most_values)
+unfolding bound_command
+bound_count = (1, lit< tt, refl)
+
 pub trace_name : trace_command.top.name ≡ codes "trace"
 unfolding trace_command
 trace_name = refl
@@ -158,3 +178,7 @@ work_name = refl
 pub simplify_name : simplify_command.top.name ≡ codes "simplify"
 unfolding simplify_command
 simplify_name = refl
+
+pub bound_name : bound_command.top.name ≡ codes "bound"
+unfolding bound_command
+bound_name = refl

@@ -14,6 +14,10 @@ most_turns = 1000000000
 abbrev pub most_asks : ℕ
 most_asks = 1000000
 
+-- the most different values over which a bound is told
+abbrev pub most_values : ℕ
+most_values = 1000000
+
 -- the greatest seed
 abbrev pub most_seed : ℕ
 most_seed = 2 ^ 64 - 1
@@ -62,6 +66,11 @@ serve_command = with_rule (with_rule (with_rule (with_rule (with_rule (new_app (
 -- `simplify EXPR`
 unfoldable pub simplify_command : App
 simplify_command = with_rule (new_app (codes "simplify")) (word (codes "EXPR"))
+
+-- `bound EXPR K`
+unfoldable pub bound_command : App
+bound_command = with_rule (with_rule (new_app (codes "bound")) (word (codes "EXPR")))
+    (number_word (codes "K") 0 most_values)
 
 -- `work N SEED [--nodes N]`
 unfoldable pub work_command : App

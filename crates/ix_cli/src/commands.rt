@@ -3,7 +3,7 @@ ghost use Rattle.std.specs.Prelude.{◌≡◌, false, IfOk};
 ghost use Rattle.clap.specs.Words.{app_of, rule_of};
 ghost use Rattle.ix_cli.specs.Commands.{word, number_word, nodes_option, turns_option};
 ghost use Rattle.ix_cli.specs.Commands.{trace_command, replay_command, serve_command, work_command};
-ghost use Rattle.ix_cli.specs.Commands.{simplify_command};
+ghost use Rattle.ix_cli.specs.Commands.{simplify_command, bound_command};
 
 use clap::builder::ValueParser;
 use clap::{Arg, ArgAction, Command};
@@ -17,6 +17,9 @@ const MOST_TURNS: u64 = 1_000_000_000;
 
 /// The most asks of a workload.
 const MOST_ASKS: u64 = 1_000_000;
+
+/// The most different values over which a bound is told.
+const MOST_VALUES: u64 = 1_000_000;
 
 const EXPRESSION_HELP: &str = "The file of the expression";
 
@@ -136,4 +139,20 @@ pub(crate) fn simplify<'a>(alloc: Global) -> Result<Command<'a>, AllocError>
         .about("Puts the expression, rewritten by laws that keep its meaning")
         .arg(word(alloc, "EXPR", EXPRESSION_HELP))?
         .bin_name("ixm simplify")
+}
+
+/// The command `bound`.
+pub(crate) fn bound<'a>(alloc: Global) -> Result<Command<'a>, AllocError>
+    ensures { IfOk result (λ command. app_of command ≡ bound_command) }
+{
+    Command::new(alloc, "bound")
+        .about("Tells how large the tree of a history with at most K different values can get")
+        .arg(word(alloc, "EXPR", EXPRESSION_HELP))?
+        .arg(number_word(
+            alloc,
+            "K",
+            MOST_VALUES,
+            "The number of different values, from 0 to 1000000",
+        ))?
+        .bin_name("ixm bound")
 }

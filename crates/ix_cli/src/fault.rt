@@ -34,6 +34,7 @@ Commands:
   serve EXPR JOURNAL SOCKET [--nodes N] [--turns N]
   work N SEED [--nodes N]
   simplify EXPR
+  bound EXPR K
 
 For more information on a command, put '--help' behind its name.
 ";

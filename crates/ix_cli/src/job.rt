@@ -45,6 +45,11 @@ pub enum Job {
     Simplify {
         expr: String,
     },
+    /// Tell the bound of an expression over `count` different values, from 0 to 1,000,000.
+    Bound {
+        expr: String,
+        count: u64,
+    },
 }
 
 /// The job of words that begin with `trace`.
@@ -121,5 +126,19 @@ pub(crate) fn read_simplify(alloc: Global, words: &[String]) -> Result<Job, Word
     let matches = parse(alloc, commands::simplify(alloc)?, words)?;
     Ok(Job::Simplify {
         expr: text(alloc, &matches, "EXPR")?,
+    })
+}
+
+/// The job of words that begin with `bound`.
+pub(crate) fn read_bound(alloc: Global, words: &[String]) -> Result<Job, WordsFault>
+    requires { slice_get (map string_bytes words.now) 0 ≡ Some (codes "bound") }
+    ensures { MatchResult result
+        (λ job. Names (map string_bytes words.now) (job_of job))
+        (Explains (map string_bytes words.now)) }
+{
+    let matches = parse(alloc, commands::bound(alloc)?, words)?;
+    Ok(Job::Bound {
+        expr: text(alloc, &matches, "EXPR")?,
+        count: number(&matches, "K"),
     })
 }

@@ -37,6 +37,7 @@ pub fn read_words(alloc: Global, words: &[String]) -> Result<Job, WordsFault>
         "serve" => job::read_serve(alloc, words),
         "work" => job::read_work(alloc, words),
         "simplify" => job::read_simplify(alloc, words),
+        "bound" => job::read_bound(alloc, words),
         _ => Err(no_command(alloc)),
     }
 }

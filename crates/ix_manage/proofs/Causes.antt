@@ -1,6 +1,6 @@
 -- What each status of a run is due to.
 use Rattle.std.proofs.Common.{◌≡◌, ℕ, ◌≤◌, ◌==◌, false, true≢false, List, Option, None, arith, refl, sym, ◌∙◌, ap, subst}
-use Rattle.ix_cli.specs.Words.{Job, trace, replay, serve, work, simplify}
+use Rattle.ix_cli.specs.Words.{Job, trace, replay, serve, work, simplify, bound}
 use Rattle.ix_expr.specs.Form.{Form}
 use Rattle.ix_outside.specs.Counts.{Counts}
 use Rattle.ix_outside.specs.Crashes.{Crashes}
@@ -127,6 +127,7 @@ module _ (around : Around) where
   of_job (how.served starts from takes (served.wire_failed few on rose last)) = of_last (of_wire rose) last
   of_job (how.worked works) = of_worked works
   of_job (how.simplified s reads becomes last) = of_last (of_none 0 refl refl refl) last
+  of_job (how.bounded answer reads is last) = of_last (of_none 0 refl refl refl) last
 
 -- what a job may touch, by what it has
 touches_calls : (job : Job) (before after : SiteState) → Touches job before after → OnlyCalls before after
@@ -135,6 +136,7 @@ touches_calls (replay expression journal script limit turns) before after only =
 touches_calls (serve expression journal socket limit turns) before after only = only
 touches_calls (work count seed limit) before after same = subst (OnlyCalls before) (sym same) (calls_still before)
 touches_calls (simplify expression) before after same = subst (OnlyCalls before) (sym same) (calls_still before)
+touches_calls (bound expression count) before after same = subst (OnlyCalls before) (sym same) (calls_still before)
 
 touches_disk : (job : Job) (before after : SiteState) → socket_of job ≡ None → Touches job before after → OnlyDisk before after
 touches_disk (trace expression actions limit) before after none same = subst (OnlyDisk before) (sym same) (disk_calls_still before)
@@ -142,6 +144,7 @@ touches_disk (replay expression journal script limit turns) before after none on
 touches_disk (serve expression journal socket limit turns) before after none only = cc
 touches_disk (work count seed limit) before after none same = subst (OnlyDisk before) (sym same) (disk_calls_still before)
 touches_disk (simplify expression) before after none same = subst (OnlyDisk before) (sym same) (disk_calls_still before)
+touches_disk (bound expression count) before after none same = subst (OnlyDisk before) (sym same) (disk_calls_still before)
 
 touches_nothing : (job : Job) (before after : SiteState) → journal_of job ≡ None → Touches job before after → after ≡ before
 touches_nothing (trace expression actions limit) before after none same = same
@@ -149,6 +152,7 @@ touches_nothing (replay expression journal script limit turns) before after none
 touches_nothing (serve expression journal socket limit turns) before after none only = cc
 touches_nothing (work count seed limit) before after none same = same
 touches_nothing (simplify expression) before after none same = same
+touches_nothing (bound expression count) before after none same = same
 
 -- the same of a run
 module _ (words : List (List ℕ)) (around : Around) (is : Crashes) where

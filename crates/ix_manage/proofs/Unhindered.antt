@@ -36,7 +36,7 @@ use Rattle.ix_manager.specs.Images as image
 use Rattle.ix_manager.specs.Images.{EachPrefixIsWithin, IsOwn, IsStartable}
 use Rattle.ix_manager.specs.Runs.{going, opening_of, stopped}
 use Rattle.ix_manager.specs.Starts.{HasText}
-use Rattle.ix_cli.specs.Words.{Job, Names, trace, replay, serve, work, simplify}
+use Rattle.ix_cli.specs.Words.{Job, Names, trace, replay, serve, work, simplify, bound}
 use Rattle.ix_cli.proofs.Named.{no_job, one_job}
 use Rattle.ix_manage.specs.Around.{Around}
 use Rattle.ix_manage.specs.Command.{expression_of, limit_of}
@@ -239,6 +239,7 @@ module _ (around : Around) (old new : SinkState) (told : IsSome around.files) (n
       (all.0, subst (λ name. ReadsForm around.files name all.0) (some_is is) all.1.reads)
   reads_of (work count seed limit) expression is all = absurd (none-some expression is)
   reads_of (simplify named) expression is all = (all.0, subst (λ name. ReadsForm around.files name all.0) (some_is is) all.1)
+  reads_of (bound named count) expression is all = (all.0, subst (λ name. ReadsForm around.files name all.0) (some_is is) all.1)
 
   -- a job that makes a tree starts
   starts_of : (job : Job) (expression : List ℕ) → expression_of job ≡ Some expression → ReadsRest around.files job
@@ -251,6 +252,7 @@ module _ (around : Around) (old new : SinkState) (told : IsSome around.files) (n
       (all.0, subst (λ name. Starts around.files name limit all.0) (some_is is) all.1)
   starts_of (work count seed limit) expression is rest all = absurd (none-some expression is)
   starts_of (simplify named) expression is rest all = absurd rest
+  starts_of (bound named count) expression is rest all = absurd rest
 
   no_large : (job : Job) (expression : List ℕ) → expression_of job ≡ Some expression → ReadsRest around.files job
       → HasAll around job → StartsAbove around.files expression (limit_of job) → ⊥
@@ -276,6 +278,7 @@ module _ (around : Around) (old new : SinkState) (told : IsSome around.files) (n
   no_refusal (trace named actions limit) expression why x keeps starts refuses all = absurd (none-some keeps.journal keeps.has_journal)
   no_refusal (work count seed limit) expression why x keeps starts refuses all = absurd (none-some keeps.journal keeps.has_journal)
   no_refusal (simplify named) expression why x keeps starts refuses all = absurd (none-some keeps.journal keeps.has_journal)
+  no_refusal (bound named count) expression why x keeps starts refuses all = absurd (none-some keeps.journal keeps.has_journal)
   no_refusal (replay named kept script limit turns) expression why x keeps starts refuses all =
       refuses_none expression limit why x all.0 starts
       (subst (λ name. Starts around.files name limit all.0) (some_is keeps.of_expression) all.2) all.4 refuses
@@ -348,6 +351,7 @@ module _ (around : Around) (old new : SinkState) (told : IsSome around.files) (n
       of_served (well.served starts from takes ((wire socket refl).whole none.sends)) (ended session refl) below so
   of_job is all ended below wire (how.worked works) = of_worked all.0 all.1 all.2 below works
   of_job is all ended below wire (how.simplified s reads becomes end) = of_line end below (well.simplified s reads becomes)
+  of_job is all ended below wire (how.bounded answer reads within end) = of_line end below (well.bounded answer reads within)
 
   of_words : (is : Crashes) (words : List (List ℕ)) (job : Job) {status : ℕ} {whole part : List ℕ} {session : Option Session}
       → Names words job → HasAll around job → ((played : Session) → session ≡ Some played → IsOver played) → status ≢ 10

@@ -4,6 +4,8 @@ use Rattle.ix_values.specs.PlainAction.{Word}
 use Rattle.ix_expr.specs.CanonicalText.{canonical_text}
 use Rattle.ix_expr.specs.Form.{Form}
 use Rattle.ix_simplify.specs.Rewriting.{Becomes}
+use Rattle.ix_bound.specs.declared.answer.Bound.{Bound}
+use Rattle.ix_bound.specs.Bounds.{IsBound}
 use Rattle.ix_outside.specs.Contents.{GivenEvent}
 use Rattle.ix_outside.specs.Files.{Listing}
 use Rattle.ix_outside.specs.SinkState.{SinkState}
@@ -11,8 +13,10 @@ use Rattle.ix_outside.specs.Counts.{Rose}
 use Rattle.ix_outside.specs.Crashes.{Crashes}
 use Rattle.ix_manager.specs.Runs.{Opening}
 use Rattle.ix_cli.specs.Words.{Job, Names, NamesNoJob, trace, replay, serve, work, simplify}
+use Rattle.ix_cli.specs.Words.{bound}
 use Rattle.ix_manage.specs.ActionLines.{line}
 use Rattle.ix_manage.specs.Around.{Around, DiskFailed, FilesFailed, SiteRests, WireFailed}
+use Rattle.ix_manage.specs.BoundLines.{bound_line}
 use Rattle.ix_manage.specs.Command.{expression_of, journal_of, limit_of}
 use Rattle.ix_manage.specs.Puts.{LastLine, Puts}
 use Rattle.ix_manage.specs.Journal.{OfJournal, OnJournal, RefusesFile, journal_line}
@@ -29,7 +33,7 @@ abbrev pub IsFrom : Form → ℕ → Opening → Type 0
 IsFrom x limit opening = (opening.form ≡ x) × (opening.limit ≡ limit)
 
 -- What a job reads beside its expression before it makes a tree is in its grammar: the script of a
--- replay. A simplify makes none.
+-- replay. A simplify and a bound make none.
 abbrev pub ReadsRest : Option Listing → Job → Type 0
 ReadsRest files (trace expression actions limit) = ⊤
 ReadsRest files (replay expression journal script limit turns) =
@@ -37,6 +41,7 @@ ReadsRest files (replay expression journal script limit turns) =
 ReadsRest files (serve expression journal socket limit turns) = ⊤
 ReadsRest files (work count seed limit) = ⊤
 ReadsRest files (simplify expression) = ⊥
+ReadsRest files (bound expression count) = ⊥
 
 -- a job of an expression keeps a journal, and its files are read
 pub record KeepsJournal (files : Option Listing) (job : Job) (expression : List ℕ) : Type 0 where
@@ -131,6 +136,11 @@ pub data JobEnds (around : Around)
       → ReadsForm around.files expression x → Becomes x s
       → LastLine 0 [] (line (canonical_text s)) status whole part
       → JobEnds around (simplify expression) status whole part None
+  bounded : {expression : List ℕ} {count : ℕ} {x : Form} (answer : Bound) {status : ℕ}
+      {whole part : List ℕ}
+      → ReadsForm around.files expression x → IsBound x count answer
+      → LastLine 0 [] (bound_line answer) status whole part
+      → JobEnds around (bound expression count) status whole part None
 
 -- what a job may make of the files, the output and the site
 pub record JobOver (around : Around) (job : Job) (is : Crashes) (status : ℕ) (whole part : List ℕ)

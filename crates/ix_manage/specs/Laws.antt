@@ -17,9 +17,12 @@ use Rattle.ix_outside.specs.SiteState.{SiteState}
 use Rattle.ix_generate.specs.Workload.{Ask, examinations}
 use Rattle.ix_manager.specs.Images.{IsStartable}
 use Rattle.ix_manager.specs.Runs.{opening_of}
-use Rattle.ix_cli.specs.Words.{Job, Names, trace, replay, serve, work, simplify}
+use Rattle.ix_cli.specs.Words.{Job, Names, trace, replay, serve, work, simplify, bound}
 use Rattle.ix_manage.specs.ActionLines.{line}
+use Rattle.ix_bound.specs.declared.answer.Bound.{Bound}
+use Rattle.ix_bound.specs.Bounds.{IsBound}
 use Rattle.ix_manage.specs.Around.{Around, DiskFailed, FilesFailed, WireFailed}
+use Rattle.ix_manage.specs.BoundLines.{bound_line}
 use Rattle.ix_manage.specs.Ends.{Ended, EndsOver, IsFrom}
 use Rattle.ix_manage.specs.Replay.{Plays, ReadsEvents, session_text}
 use Rattle.ix_manage.specs.Session.{IsOver, Session, Takes, history_line}
@@ -50,6 +53,7 @@ HasAll around (serve expression journal socket limit turns) =
 HasAll around (work count seed limit) =
     (x : Form) × StandsFor examinations x × (tree_size x [] ≤ limit)
 HasAll around (simplify expression) = (x : Form) × ReadsForm around.files expression x
+HasAll around (bound expression count) = (x : Form) × ReadsForm around.files expression x
 
 -- no call failed around a run, no put of its output did, and no connection was found gone
 pub record NothingFails (around : Around) (old new : SinkState) : Type 0 where
@@ -98,6 +102,9 @@ pub data EndsWhole (around : Around) : Job → ℕ → List ℕ → Option Sessi
   simplified : {expression : List ℕ} {x : Form} (s : Form)
       → ReadsForm around.files expression x → Becomes x s
       → EndsWhole around (simplify expression) 0 (line (canonical_text s)) None
+  bounded : {expression : List ℕ} {count : ℕ} {x : Form} (answer : Bound)
+      → ReadsForm around.files expression x → IsBound x count answer
+      → EndsWhole around (bound expression count) 0 (bound_line answer) None
 
 -- A run whose words name a job, over files that are told and have all that it reads, and in which
 -- nothing fails, ends whole, if its session had an end or a `stop` within its turns.

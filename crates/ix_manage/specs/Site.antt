@@ -1,7 +1,7 @@
 -- What a run may touch of a site.
 use Rattle.std.specs.Prelude.{◌≡◌, ◌≤◌}
 use Rattle.ix_outside.specs.SiteState.{SiteState, OnlyDisk}
-use Rattle.ix_cli.specs.Words.{Job, trace, replay, serve, work, simplify}
+use Rattle.ix_cli.specs.Words.{Job, trace, replay, serve, work, simplify, bound}
 
 -- nothing changed but the counts, none of which fell, the tick, whether a file is attached, and
 -- what the site tells of its connections and its disk
@@ -11,11 +11,11 @@ pub record OnlyCalls (old new : SiteState) : Type 0 where
   pub send : old.counts.send ≤ new.counts.send
   pub held : new.held ≡ old.held
 
--- what a job may touch: a trace, a work and a simplify nothing, a replay the disk, and a serve also
--- the wire
+-- what a job may touch: a replay the disk, a serve also the wire, and the others nothing
 abbrev pub Touches : Job → SiteState → SiteState → Type 0
 Touches (trace expression actions limit) before after = after ≡ before
 Touches (replay expression journal script limit turns) before after = OnlyDisk before after
 Touches (serve expression journal socket limit turns) before after = OnlyCalls before after
 Touches (work count seed limit) before after = after ≡ before
 Touches (simplify expression) before after = after ≡ before
+Touches (bound expression count) before after = after ≡ before

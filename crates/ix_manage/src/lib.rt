@@ -12,6 +12,7 @@ ghost use Rattle.ix_manage.specs.Ends.{Ended, EndsOver};
 ghost use Rattle.ix_manage.specs.Site.{OnlyCalls};
 
 mod actions;
+mod bound;
 mod history;
 mod job;
 mod last_line;
@@ -58,6 +59,9 @@ use std::alloc::Global;
 ///   is that of the workload, `EXAMINATIONS` of `ix_generate`.
 /// - `simplify EXPR` puts the canonical text of what the expression of the file EXPR becomes by the
 ///   laws of `ix_simplify`, with status 0. It makes no tree.
+/// - `bound EXPR K` puts how large the tree of a history with at most K different values can get, K
+///   from 0 to 1,000,000: `bound B`, `above 1000000`, or `unbounded C node N`, as the `bound` of
+///   `ix_bound` answers for the expression of the file EXPR, with status 0. It makes no tree.
 ///
 /// `--nodes N` is the limit of Size, from 1 to 1,000,000, which is 100,000 otherwise, and in a
 /// replay and a serve `--turns N` the most events that are taken, from 1 to 1,000,000,000.

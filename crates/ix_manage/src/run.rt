@@ -10,6 +10,7 @@ ghost use Rattle.ix_manage.specs.Ends.{EndsOver, JobOver};
 ghost use Rattle.ix_manage.specs.inside.Leaves.{Leaves};
 ghost use Rattle.ix_manage.specs.inside.Playing.{TraceEnds};
 
+use crate::bound::bound;
 use crate::job::{ReplayWords, ServeWords, TraceWords, WorkWords};
 use crate::load::load_actions;
 use crate::refusal::Refusal;
@@ -134,6 +135,7 @@ fn run_job<F: Files, S: Site, K: Sink>(
             work(alloc, names, out)
         }
         Job::Simplify { expr } => simplify(alloc, expr.as_str(), files, out),
+        Job::Bound { expr, count } => bound(alloc, expr.as_str(), *count, files, out),
     }
 }
 

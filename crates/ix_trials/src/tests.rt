@@ -178,6 +178,7 @@ const EMPTY: &[u8] = b"\xA5IXJ1\x00\x05a - b\x00";
 // The same before that action.
 const BEFORE_A: &[u8] = b"\xA5IXJ1\x00\x05a - b\x7F\x00\x01a\x00";
 
+mod bounds;
 mod events;
 mod journals;
 mod refusals;

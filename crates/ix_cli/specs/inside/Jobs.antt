@@ -1,10 +1,10 @@
 -- The answer of reading words, as contracts see it.
 use Rattle.std.specs.Prelude.{ℕ, List, string_bytes, ⊤}
 use Rattle.ix_cli.specs.declared.job.Job.{Job as ReadJob}
-use Rattle.ix_cli.specs.declared.job.Job.TheVariants.{Trace, Replay, Serve, Work, Simplify}
+use Rattle.ix_cli.specs.declared.job.Job.TheVariants.{Trace, Replay, Serve, Work, Simplify, Bound}
 use Rattle.ix_cli.specs.declared.fault.WordsFault.{WordsFault}
 use Rattle.ix_cli.specs.declared.fault.WordsFault.TheVariants.{Bad, Memory}
-use Rattle.ix_cli.specs.Words.{Job, NamesNoJob, trace, replay, serve, work, simplify}
+use Rattle.ix_cli.specs.Words.{Job, NamesNoJob, trace, replay, serve, work, simplify, bound}
 
 -- the job that was read
 abbrev pub job_of : ReadJob → Job
@@ -15,6 +15,7 @@ job_of (Serve expr journal socket nodes turns) =
     serve (string_bytes expr) (string_bytes journal) (string_bytes socket) nodes turns
 job_of (Work count seed nodes) = work count seed nodes
 job_of (Simplify expr) = simplify (string_bytes expr)
+job_of (Bound expr count) = bound (string_bytes expr) count
 
 -- words that are bad name no job, and want of memory says nothing of them
 abbrev pub Explains : List (List ℕ) → WordsFault → Type 0

@@ -36,6 +36,7 @@ fn shown(alloc: Global, job: &Job) -> Result<String, AllocError> {
         } => format!(in alloc; "serve {expr} {journal} {socket} {nodes} {turns}"),
         Job::Work { count, seed, nodes } => format!(in alloc; "work {count} {seed} {nodes}"),
         Job::Simplify { expr } => format!(in alloc; "simplify {expr}"),
+        Job::Bound { expr, count } => format!(in alloc; "bound {expr} {count}"),
     }
 }
 
@@ -72,6 +73,7 @@ fn jobs(rt: HostRuntime) -> Result<(), Fail> {
             "work 1000000 18446744073709551615 4",
         ),
         ("simplify x", "simplify x"),
+        ("bound x 1000000", "bound x 1000000"),
     ];
     for (words, job) in rows {
         let words = words_of(rt.alloc(), words)?;
@@ -143,6 +145,10 @@ fn words_that_clap_refuses(rt: HostRuntime) -> Result<(), Fail> {
             "error: invalid value '0' for '--nodes <nodes>': ",
         ),
         (
+            "bound x 1000001",
+            "error: invalid value '1000001' for '<K>': ",
+        ),
+        (
             "simplify x --nodes 8",
             "error: unexpected argument '--nodes' found\n",
         ),
@@ -169,6 +175,7 @@ Commands:
   serve EXPR JOURNAL SOCKET [--nodes N] [--turns N]
   work N SEED [--nodes N]
   simplify EXPR
+  bound EXPR K
 
 For more information on a command, put '--help' behind its name.
 ";

@@ -1,10 +1,11 @@
 use Rattle.std.proofs.Common.{◌≡◌, ℕ, List, Option, refl, sym, ◌∙◌, ap, subst}
 use Rattle.std.proofs.lemmas.Option.{none-some}
-use Rattle.ix_cli.specs.Words.{Job, trace, simplify}
+use Rattle.ix_cli.specs.Words.{Job, trace, simplify, bound}
 use Rattle.ix_cli.specs.inside.Jobs.{job_of}
 use Rattle.ix_manage.specs.Around.{around_of}
 use Rattle.ix_manage.specs.Ends.{JobOver}
 use Rattle.ix_manage.specs.Session.{Session}
+use Rattle.ix_manage.specs.inside.Bounding.{BoundEnds}
 use Rattle.ix_manage.specs.inside.Jobs.{work_of}
 use Rattle.ix_manage.specs.inside.Playing.{TraceEnds}
 use Rattle.ix_manage.specs.inside.Simplifying.{SimplifyEnds}
@@ -80,3 +81,27 @@ returns-in-Simplify-clause-leaves g c =
     }) in
     leaves_on ends (g.K.Sink.state c.args.out.now) (g.K.Sink.state c.simplify.new.out)
     c.simplify.result c.simplify.ensures.leaves
+
+pub returns-in-Bound-clause-leaves : goal.returns-in-Bound-clause-leaves
+returns-in-Bound-clause-leaves g c =
+    let files = g.F.Files.state c.args.files.now in
+    let later = g.F.Files.state c.bound.new.files in
+    let site = g.S.Site.state c.args.site.now in
+    let crashes = g.S.Site.crashes c.args.site.now in
+    let name = c.as_str-in-Bound.result.now in
+    let count = c.in-Bound.count in
+    let named : job_of c.args.job.now ≡ bound name count =
+    ap job_of c.in-Bound.is ∙ ap (λ text. bound text count) (sym c.as_str-in-Bound.ensures.value) in
+    let ends : (status : ℕ) (whole part : List ℕ) (session : Option Session)
+    → BoundEnds files later name count status whole part session
+    → JobOver (around_of files later site site) (job_of c.args.job.now) crashes status whole part session =
+    λ status whole part session end.
+    subst (λ (job : Job). JobOver (around_of files later site site) job crashes status whole part session) (sym named)
+    (record {
+      ends = end site;
+      touches = refl;
+      journal = λ expression journal of_expression has_journal. absurd (none-some journal has_journal);
+      wire = λ socket same. absurd (none-some socket same);
+    }) in
+    leaves_on ends (g.K.Sink.state c.args.out.now) (g.K.Sink.state c.bound.new.out)
+    c.bound.result c.bound.ensures.leaves

@@ -1,0 +1,48 @@
+use Rattle.std.proofs.Common.{[], None, refl, subst, ◌∙◌}
+use Rattle.ix_outside.specs.Sink.{AppendsPart}
+use Rattle.ix_cli.specs.Words.{bound}
+use Rattle.ix_manage.specs.Ends.{bounded}
+use Rattle.ix_manage.specs.Puts.{LastLine, put, lost}
+use Rattle.ix_manage.proofs.Ending.{expression_refused}
+use Rattle.ix_manage.proofs.Stops.{nothing_put, puts_whole}
+use Rattle.ix_manage.proofs.Tracing.{append_nothing}
+use Rattle.ix_manage.proofs.bound.bound.Goals as goal
+
+-- no expression is read
+pub returns-in-Err-clause-leaves : goal.returns-in-Err-clause-leaves
+returns-in-Err-clause-leaves g c =
+    let files = g.F.Files.state c.args.files.now in
+    let name = c.args.name.now in
+    nothing_put c.in-Err.refusal (g.K.Sink.state c.args.out.now)
+    (expression_refused files (g.F.Files.state c.load_expression.new.files) (bound name c.args.count) name refl
+    c.in-Err.refusal c.in-Err.ensures.err)
+
+-- the line is put
+pub returns-in-Ok-put-clause-leaves : goal.returns-in-Ok-put-clause-leaves
+returns-in-Ok-put-clause-leaves g c =
+    let line = c.deref.result.now in
+    record {
+      whole = line;
+      part = [];
+      session = None;
+      may = λ site. bounded c.bound.result c.in-Ok.ensures.ok c.bound.ensures
+          (subst (λ l. LastLine 0 [] l 0 line []) (c.deref.ensures.0 ∙ c.bound_line-line.ensures) put);
+      puts = puts_whole (g.K.Sink.state c.args.out.now) (g.K.Sink.state c.put.new.self) line
+          c.in-Ok-put.ensures.whole;
+    }
+
+-- its put fails
+pub returns-clause-leaves : goal.returns-clause-leaves
+returns-clause-leaves g c =
+    let line = c.deref.result.now in (
+      record {
+        whole = [];
+        part = line;
+        session = None;
+        may = λ site. bounded c.bound.result c.in-Ok.ensures.ok c.bound.ensures
+            (subst (λ l. LastLine 0 [] l 10 [] line) (c.deref.ensures.0 ∙ c.bound_line-line.ensures) lost);
+        puts = subst (λ known. AppendsPart known line (g.K.Sink.state c.put.new.self).written)
+            (append_nothing (g.K.Sink.state c.args.out.now).written) c.in-Err-put.ensures.part;
+      },
+      c.in-Err-put.ensures.failed,
+    )

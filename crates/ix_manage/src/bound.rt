@@ -1,0 +1,65 @@
+//! One run of `bound`, up to the last line that a refusal puts.
+ghost use Rattle.std.specs.Prelude.{◌≡◌, ◌≤◌};
+ghost use Rattle.ix_cli.specs.Commands.{most_values};
+ghost use Rattle.ix_outside.specs.FilesState.{OnlyFaults};
+ghost use Rattle.ix_outside.specs.SinkState.{OnlyPuts};
+ghost use Rattle.ix_manage.specs.BoundLines.{bound_line};
+ghost use Rattle.ix_manage.specs.inside.Bounding.{BoundEnds};
+ghost use Rattle.ix_manage.specs.inside.Leaves.{Leaves};
+
+use crate::load::load_expression;
+use crate::refusal::append;
+use crate::run::Stop;
+use arrayvec::ArrayVec;
+use itoa::Buffer;
+use ix_bound::Bound;
+use ix_outside::{Files, Sink};
+use std::alloc::Global;
+
+/// Puts the bound of the expression of the file over so many different values.
+pub(crate) fn bound<F: Files, K: Sink>(
+    alloc: Global,
+    name: &str,
+    count: u64,
+    files: &mut F,
+    out: &mut K,
+) -> Result<(), Stop>
+    requires { count ≤ most_values }
+
+    ensures leaves { Leaves
+        (BoundEnds (F.state files.old) (F.state files.new) name.now count)
+        (K.state out.old) (K.state out.new) result }
+    ensures files { OnlyFaults (F.state files.old) (F.state files.new) }
+    ensures puts { OnlyPuts (K.state out.old) (K.state out.new) }
+{
+    let expression = match load_expression(alloc, files, name) {
+        Ok(expression) => expression,
+        Err(refusal) => return Err(Stop::Refused(refusal)),
+    };
+    let line = bound_line(ix_bound::bound(&expression, count as u32));
+    match out.put(&line) {
+        Ok(()) => Ok(()),
+        Err(_) => Err(Stop::Output),
+    }
+}
+
+fn bound_line(bound: Bound) -> ArrayVec<u8, 64>
+    ensures { result.items ≡ bound_line bound }
+{
+    let mut line = ArrayVec::new();
+    match bound {
+        Bound::Within(number) => {
+            append(&mut line, b"bound ");
+            append(&mut line, Buffer::new().format(number).as_bytes());
+        }
+        Bound::Above => append(&mut line, b"above 1000000"),
+        Bound::Refused { code, node } => {
+            append(&mut line, b"unbounded ");
+            append(&mut line, Buffer::new().format(code).as_bytes());
+            append(&mut line, b" node ");
+            append(&mut line, Buffer::new().format(node).as_bytes());
+        }
+    }
+    append(&mut line, b"\n");
+    line
+}
