@@ -1,5 +1,5 @@
 -- What starting a manager answers and leaves.
-use Rattle.std.proofs.Common.{◌≡◌, ◌⊎◌, ℕ, ◌≤◌, List, [], length, Option, None, Some, inl, inr, refl, ap, subst, arith}
+use Rattle.std.proofs.Common.{◌≡◌, ◌⊎◌, ℕ, ◌≤◌, List, [], length, Option, None, Some, Result, Err, inl, inr, refl, ap, subst, arith}
 use Rattle.ix_journal.specs.History.{PlainHistory}
 use Rattle.ix_expr.specs.CanonicalText.{canonical_text}
 use Rattle.ix_expr.specs.Form.{Form}
@@ -30,6 +30,8 @@ use Rattle.ix_manager.specs.Images.{IsOwn, IsWithin, EachPrefixIsWithin, IsStart
 use Rattle.ix_manager.specs.Starts.{HasText}
 use Rattle.ix_manager.specs.inside.StartAnswers.{IsFault, StartLeaves}
 use Rattle.ix_manager.specs.Runs.{opening_of}
+use Rattle.ix_manager.specs.declared.faults.StartFault.{StartFault}
+use Rattle.ix_manager.specs.declared.faults.StartFault.TheVariants as start
 use Rattle.ix_manager.specs.inside.StartFaults.{open_fault_of, record_fault_of}
 use Rattle.ix_manager.proofs.RecoverLemmas.{none_within, each_within, no_word, heavy, longer}
 
@@ -105,6 +107,16 @@ leaves_store x limit file old new was is within leaves = record {
     own (inl unfinished) at left = anew (inl unfinished) at left
     own (inr (inl unopened)) at left = anew (inr unopened) at left
     own (inr (inr ready)) at left = inl ((leaves.stays (ready_not_new file (canonical_text x) ready)).1 at left)
+
+-- a store that wasn't opened isn't refused as large
+pub never_large : {T : Type 0} (why : OpenFault) (fault : StartFault) (limit : ℕ) → fault ≡ open_fault_of why
+    → ◌≡◌ {A = Result T StartFault} (Err fault) (Err (start.Large limit)) → ⊥
+never_large refused.Disk fault limit is same = cc
+never_large refused.NotJournal fault limit is same = cc
+never_large (refused.OtherExpression kept) fault limit is same = cc
+never_large (refused.Damaged at) fault limit is same = cc
+never_large refused.Many fault limit is same = cc
+never_large refused.Memory fault limit is same = cc
 
 -- why the store wasn't opened
 pub open_fault : (x : Form) (limit : ℕ) (file : List ℕ) (why : OpenFault) → Refuses file (canonical_text x) why

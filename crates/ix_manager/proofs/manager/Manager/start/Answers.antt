@@ -13,7 +13,7 @@ use Rattle.ix_manager.specs.inside.Core.{Core}
 use Rattle.ix_manager.specs.inside.StartAnswers.{IsFault}
 use Rattle.ix_manager.specs.declared.faults.StartFault.{StartFault}
 use Rattle.ix_manager.specs.inside.Clean.{AreClean}
-use Rattle.ix_manager.proofs.StartLemmas.{leaves_store, open_fault, resumed, resume_fault}
+use Rattle.ix_manager.proofs.StartLemmas.{leaves_store, never_large, open_fault, resumed, resume_fault}
 use Rattle.ix_manager.proofs.TakeLemmas.{clean_at_start}
 use Rattle.ix_manager.proofs.manager.Manager.start.Goals as goal
 
@@ -35,6 +35,10 @@ returns-in_default-all_lines-clause-calls g c =
     let site = c.args.site.now in DiskCalls-none (g.S.Site.state site) (g.S.Site.crashes site) (g.met.S.Site.lawful site)
 
 -- the store wasn't opened
+pub returns-in-Err-start-clause-only_large : goal.returns-in-Err-start-clause-only_large
+returns-in-Err-start-clause-only_large g c = λ l same.
+    absurd (never_large c.in-Err-start.fault c.open_fault.result l c.open_fault.ensures same)
+
 pub returns-in-Err-start-clause-not_large : goal.returns-in-Err-start-clause-not_large
 returns-in-Err-start-clause-not_large g c = λ small disk is.
     let text : c.deref.result.now ≡ canonical_text c.args.expression = c.deref.ensures.value ∙ c.in-Ok.ensures.value in
