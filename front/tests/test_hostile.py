@@ -9,7 +9,7 @@ import time
 from .support import Client, Place, wait_until
 
 WITHIN = 0.1  # seconds in which others are answered, beside what they take without anybody hostile
-TRIES = 3
+TRIES = 10
 MEMORY = 40 << 20  # bytes by which the front may grow
 GIGABYTE = 1 << 30
 
@@ -109,7 +109,7 @@ class Hostile(Place):
 
     def attack(self, hostile):
         """The front's memory is bounded, and others are answered soon enough. The machine may be busy with other things,
-        so the times are measured up to three times."""
+        so the times are measured up to ten times."""
         for _ in range(TRIES):
             late = self.slowest(hostile)
             if late < WITHIN:
