@@ -4,7 +4,7 @@ use Rattle.ix_cli.specs.Words.{bound}
 use Rattle.ix_manage.specs.Ends.{bounded}
 use Rattle.ix_manage.specs.Puts.{LastLine, put, lost}
 use Rattle.ix_manage.proofs.Ending.{expression_refused}
-use Rattle.ix_manage.proofs.Stops.{nothing_put, puts_whole}
+use Rattle.ix_manage.proofs.Stops.{ended_cut, ended_whole, nothing_put}
 use Rattle.ix_manage.proofs.Tracing.{append_nothing}
 use Rattle.ix_manage.proofs.bound.bound.Goals as goal
 
@@ -21,28 +21,18 @@ returns-in-Err-clause-leaves g c =
 pub returns-in-Ok-put-clause-leaves : goal.returns-in-Ok-put-clause-leaves
 returns-in-Ok-put-clause-leaves g c =
     let line = c.deref.result.now in
-    record {
-      whole = line;
-      part = [];
-      session = None;
-      may = λ site. bounded c.bound.result c.in-Ok.ensures.ok c.bound.ensures
-          (subst (λ l. LastLine 0 [] l 0 line []) (c.deref.ensures.0 ∙ c.bound_line-line.ensures) put);
-      puts = puts_whole (g.K.Sink.state c.args.out.now) (g.K.Sink.state c.put.new.self) line
-          c.in-Ok-put.ensures.whole;
-    }
+    ended_whole (g.K.Sink.state c.args.out.now) (g.K.Sink.state c.put.new.self) line None
+    (λ site. bounded c.bound.result c.in-Ok.ensures.ok c.bound.ensures
+    (subst (λ l. LastLine 0 [] l 0 line []) (c.deref.ensures.0 ∙ c.bound_line-line.ensures) put))
+    c.in-Ok-put.ensures.whole
 
 -- its put fails
 pub returns-clause-leaves : goal.returns-clause-leaves
 returns-clause-leaves g c =
-    let line = c.deref.result.now in (
-      record {
-        whole = [];
-        part = line;
-        session = None;
-        may = λ site. bounded c.bound.result c.in-Ok.ensures.ok c.bound.ensures
-            (subst (λ l. LastLine 0 [] l 10 [] line) (c.deref.ensures.0 ∙ c.bound_line-line.ensures) lost);
-        puts = subst (λ known. AppendsPart known line (g.K.Sink.state c.put.new.self).written)
-            (append_nothing (g.K.Sink.state c.args.out.now).written) c.in-Err-put.ensures.part;
-      },
-      c.in-Err-put.ensures.failed,
-    )
+    let line = c.deref.result.now in
+    ended_cut (g.K.Sink.state c.args.out.now) (g.K.Sink.state c.put.new.self) [] line None
+    (λ site. bounded c.bound.result c.in-Ok.ensures.ok c.bound.ensures
+    (subst (λ l. LastLine 0 [] l 10 [] line) (c.deref.ensures.0 ∙ c.bound_line-line.ensures) lost))
+    (subst (λ known. AppendsPart known line (g.K.Sink.state c.put.new.self).written)
+    (append_nothing (g.K.Sink.state c.args.out.now).written) c.in-Err-put.ensures.part)
+    c.in-Err-put.ensures.failed

@@ -5,7 +5,7 @@ use Rattle.ix_manage.specs.Ends.{no_memory, simplified}
 use Rattle.ix_manage.specs.Puts.{LastLine, put, lost}
 use Rattle.ix_manage.specs.declared.refusal.Refusal.TheVariants.{Memory}
 use Rattle.ix_manage.proofs.Ending.{expression_refused}
-use Rattle.ix_manage.proofs.Stops.{nothing_put, puts_whole}
+use Rattle.ix_manage.proofs.Stops.{ended_cut, ended_whole, nothing_put}
 use Rattle.ix_manage.proofs.Tracing.{append_nothing}
 use Rattle.ix_manage.proofs.simplify.simplify.Goals as goal
 
@@ -27,29 +27,20 @@ returns-in-Err-simple_line-clause-leaves g c =
 pub returns-in-Ok-put-clause-leaves : goal.returns-in-Ok-put-clause-leaves
 returns-in-Ok-put-clause-leaves g c =
     let line = c.deref.result.now in
-    let simple = c.in-Ok-simple_line.ensures in record {
-      whole = line;
-      part = [];
-      session = None;
-      may = λ site. simplified simple.result c.in-Ok.ensures.ok simple.becomes
-          (subst (λ l. LastLine 0 [] l 0 line []) (c.deref.ensures.value ∙ simple.same) put);
-      puts = puts_whole (g.K.Sink.state c.args.out.now) (g.K.Sink.state c.put.new.self) line
-          c.in-Ok-put.ensures.whole;
-    }
+    let simple = c.in-Ok-simple_line.ensures in
+    ended_whole (g.K.Sink.state c.args.out.now) (g.K.Sink.state c.put.new.self) line None
+    (λ site. simplified simple.result c.in-Ok.ensures.ok simple.becomes
+    (subst (λ l. LastLine 0 [] l 0 line []) (c.deref.ensures.value ∙ simple.same) put))
+    c.in-Ok-put.ensures.whole
 
 -- its put fails
 pub returns-clause-leaves : goal.returns-clause-leaves
 returns-clause-leaves g c =
     let line = c.deref.result.now in
-    let simple = c.in-Ok-simple_line.ensures in (
-      record {
-        whole = [];
-        part = line;
-        session = None;
-        may = λ site. simplified simple.result c.in-Ok.ensures.ok simple.becomes
-            (subst (λ l. LastLine 0 [] l 10 [] line) (c.deref.ensures.value ∙ simple.same) lost);
-        puts = subst (λ known. AppendsPart known line (g.K.Sink.state c.put.new.self).written)
-            (append_nothing (g.K.Sink.state c.args.out.now).written) c.in-Err-put.ensures.part;
-      },
-      c.in-Err-put.ensures.failed,
-    )
+    let simple = c.in-Ok-simple_line.ensures in
+    ended_cut (g.K.Sink.state c.args.out.now) (g.K.Sink.state c.put.new.self) [] line None
+    (λ site. simplified simple.result c.in-Ok.ensures.ok simple.becomes
+    (subst (λ l. LastLine 0 [] l 10 [] line) (c.deref.ensures.value ∙ simple.same) lost))
+    (subst (λ known. AppendsPart known line (g.K.Sink.state c.put.new.self).written)
+    (append_nothing (g.K.Sink.state c.args.out.now).written) c.in-Err-put.ensures.part)
+    c.in-Err-put.ensures.failed
