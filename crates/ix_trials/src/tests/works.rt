@@ -37,9 +37,9 @@ fn works_are_summed_up(rt: HostRuntime) -> Result<(), Fail> {
             b"asked 20000 granted 7755 refused 12245 nodes 149\n",
         ),
         (
-            &["work", "20000", "7"],
+            &["work", "200000", "7"],
             0,
-            b"asked 20000 granted 7755 refused 12245 nodes 149\n",
+            b"asked 200000 granted 77212 refused 122788 nodes 165\n",
         ),
     ];
     for (words, status, bytes) in cases {
