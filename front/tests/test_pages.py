@@ -33,7 +33,7 @@ class Pages(Place):
             ticket = client.request("ask do(a) 1000").split()[1]
             client.request(f"confirm {ticket}")
             client.request("confirm 99")
-            wait_until(lambda: "\nixm_nodes 5\n" in page(self.folder, "/metrics"), "the nodes are asked for")
+            wait_until(lambda: "\nixm_nodes 1\n" in page(self.folder, "/metrics"), "the nodes are asked for")
             head, _, text = page(self.folder, "/metrics").partition("\n\n")
             self.assertIn(" 200 OK", head)
             wanted = ("ixm_front_up 1", "ixm_history_length 1", "ixm_complete 1", "ixm_front_clients 1",
