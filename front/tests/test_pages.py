@@ -33,10 +33,11 @@ class Pages(Place):
             ticket = client.request("ask do(a) 1000").split()[1]
             client.request(f"confirm {ticket}")
             client.request("confirm 99")
-            wait_until(lambda: "\nixm_nodes 1\n" in page(self.folder, "/metrics"), "the nodes are asked for")
+            wait_until(lambda: "\nixm_history_length 1\n" in page(self.folder, "/metrics"), "the status is asked for")
+            wait_until(lambda: os.path.exists(f"{self.folder}/file"), "the file is written")
             head, _, text = page(self.folder, "/metrics").partition("\n\n")
             self.assertIn(" 200 OK", head)
-            wanted = ("ixm_front_up 1", "ixm_history_length 1", "ixm_complete 1", "ixm_front_clients 1",
+            wanted = ("ixm_front_up 1", "ixm_history_length 1", "ixm_nodes 1", "ixm_complete 1", "ixm_front_clients 1",
                       'ixm_front_requests_total{request="ask",reply="granted"} 1',
                       'ixm_front_requests_total{request="confirm",reply="confirmed"} 1',
                       'ixm_front_requests_total{request="confirm",reply="30"} 1',
