@@ -3,7 +3,7 @@
 use Rattle.std.proofs.Common.{◌≡◌, ℕ, ◌⊎◌, inl, inr, Bool, true, false, not, ◌==◌, List, [], ◌∷◌, ◌++◌, length, append_assoc, refl, sym, ap, ◌∙◌, subst, arith, eq-eqb}
 use Rattle.ix_words.specs.Each.{Each, no_item, item, Member, here, there}
 use Rattle.ix_words.specs.Parts.{part, joined, Projection, ended, kept, left_out}
-use Rattle.ix_words.specs.Words.{Joined, Repeated, Split, Numbered, Owned, Projected, Closed, Gives}
+use Rattle.ix_words.specs.Words.{Joined, Repeated, Split, Numbered, Shared, Owned, Projected, Closed, Gives}
 use Rattle.ix_words.specs.inside.Leads.{Leads}
 use Rattle.ix_words.proofs.Each.{Each-append, Each-left, Each-right, Each-same, Each-head, Each-tail, Each-weaker, Each-member, Each-joined, Each-pieces}
 use Rattle.ix_words.proofs.Parts.{cut, part-append, part-each, cond_rest, cond_first, projection_cut, Projection-each}
@@ -49,6 +49,15 @@ module _ {A : Type 0} {G : A → Type 0} where
         owners = h.owners;
         as_long = h.as_long;
         each_has = Each-weaker (λ owner q. l _ (part-each (λ other. owner == other) h.owners g) q) h.each_has;
+      }
+
+  pub Shared-leads : {n : ℕ} {Q Q' : List A → Type 0} → Leads G Q Q' → Leads G (Shared n Q) (Shared n Q')
+  Shared-leads l u g h =
+      record {
+        owners = h.owners;
+        as_long = h.as_long;
+        below = h.below;
+        each_has = λ k b. l _ (part-each (λ other. k == other) h.owners g) (h.each_has k b);
       }
 
   pub Owned-leads : {V : Type 0} {same : V → V → Bool} {Q Q' : V → List A → Type 0} → ((v : V) → Leads G (Q v) (Q' v)) → Leads G (Owned same Q) (Owned same Q')
@@ -165,6 +174,16 @@ module _ {A : Type 0} where
             (Each-left k.first k.second (Each-same k.whole h.each_has));
       }
 
+  pub Shared-closed : {n : ℕ} {Q : List A → Type 0} → Closed Q → Closed (Shared n Q)
+  Shared-closed {n} {Q} c u v h =
+      let k = cut h.owners u v h.as_long in
+      record {
+        owners = k.first;
+        as_long = k.first_long;
+        below = Each-left k.first k.second (Each-same k.whole h.below);
+        each_has = λ j b. c _ _ (subst Q (ap (λ ms. part (λ other. j == other) ms (u ++ v)) k.whole ∙ part-append (λ other. j == other) k.first k.second u v k.first_long) (h.each_has j b));
+      }
+
   pub Owned-closed : {V : Type 0} {same : V → V → Bool} {Q : V → List A → Type 0} → ((v : V) → Closed (Q v)) → Closed (Owned same Q)
   Owned-closed {V} {same} {Q} c u v h =
       let k = cut h.owners u v h.as_long in
@@ -210,6 +229,9 @@ module _ {A : Type 0} {G : A → Type 0} where
   pub Numbered-gives : {Q : List A → Type 0} → Gives G Q → Gives G (Numbered Q)
   Numbered-gives q u h = numbered h.owners u h.as_long (λ k m. q _ (Each-member h.each_has m))
 
+  pub Shared-gives : {n : ℕ} {Q : List A → Type 0} → Gives G Q → Gives G (Shared n Q)
+  Shared-gives q u h = numbered h.owners u h.as_long (λ k m. q _ (h.each_has k (Each-member h.below m)))
+
 module _ {A : Type 0} {In G : A → Type 0} where
   pub Projection-gives : {w u : List A} → Projection In w u → Each G u → Each (λ a. In a → G a) w
   Projection-gives ended h = no_item
@@ -246,6 +268,9 @@ module _ {A : Type 0} where
 
   pub Numbered-empty : {Q : List A → Type 0} → Numbered Q []
   Numbered-empty = record { owners = []; as_long = refl; each_has = no_item }
+
+  pub Shared-empty : {n : ℕ} {Q : List A → Type 0} → Q [] → Shared n Q []
+  Shared-empty q = record { owners = []; as_long = refl; below = no_item; each_has = λ k b. q }
 
   pub Owned-empty : {V : Type 0} {same : V → V → Bool} {Q : V → List A → Type 0} → ((v : V) → Q v []) → Owned same Q []
   Owned-empty q = record { owners = []; as_long = refl; each_has = q }

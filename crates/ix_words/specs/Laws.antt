@@ -1,10 +1,11 @@
 -- The laws of words, as statements: K is the type of owners, A that of items.
-use Rattle.std.specs.Prelude.{◌≡◌, ◌≢◌, ◌<◌, ◌↔◌, ◌⊎◌, ◌+◌, Bool, true, not, cond, IsTrue, List, []}
-use Rattle.std.specs.Prelude.{◌∷◌, ◌++◌, map, flat_map, filter, length}
+use Rattle.std.specs.Prelude.{◌≡◌, ◌≢◌, ℕ, ◌<◌, ◌↔◌, ◌⊎◌, ◌+◌, Bool, true, not, cond, IsTrue}
+use Rattle.std.specs.Prelude.{List, [], ◌∷◌, ◌++◌, map, flat_map, filter, length}
 use Rattle.std.specs.declared.cmp.Ordering.{Ordering}
 use Rattle.ix_words.specs.Each.{Each, Member, EachPair}
 use Rattle.ix_words.specs.Parts.{part, joined, Projection}
-use Rattle.ix_words.specs.Words.{Joined, Split, Numbered, Owned, Projected, Closed, Gives, Repeated}
+use Rattle.ix_words.specs.Words.{Joined, Split, Numbered, Shared, Owned, Projected, Closed, Gives}
+use Rattle.ix_words.specs.Words.{Repeated}
 use Rattle.ix_words.specs.Canon.{IsStrictOrder, Ascending, SameMembers, put_once, canon, cuts}
 use Rattle.ix_words.specs.Canon.{splits, with_end, give_end}
 
@@ -46,14 +47,17 @@ JoinedGrow A = (pieces : List (List A)) (piece : List A)
 abbrev pub Passes : {A : Type 0} → (List A → Bool) → List A → Type 0
 Passes test w = IsTrue (test w)
 
--- fronts of split, numbered, owned and projected words are such words, where fronts of what the
--- parts pass pass
+-- fronts of split, numbered, shared, owned and projected words are such words, where fronts of what
+-- the parts pass pass
 abbrev pub SplitsClosed : Type 0 → Type 0
 SplitsClosed A = (q r : List A → Bool) → Closed (Passes q) → Closed (Passes r)
     → Closed (Split (Passes q) (Passes r))
 
 abbrev pub NumberedClosed : Type 0 → Type 0
 NumberedClosed A = (q : List A → Bool) → Closed (Passes q) → Closed (Numbered (Passes q))
+
+abbrev pub SharedClosed : Type 0 → Type 0
+SharedClosed A = (n : ℕ) (q : List A → Bool) → Closed (Passes q) → Closed (Shared n (Passes q))
 
 abbrev pub OwnedClosed : Type 0 → Type 0 → Type 0
 OwnedClosed V A = (same : V → V → Bool) (q : V → List A → Bool) → ((v : V) → Closed (Passes (q v)))

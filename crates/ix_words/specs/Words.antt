@@ -1,6 +1,6 @@
 -- Words cut, split, owned and projected: what holds of a word because of what holds of its parts.
 -- Q and R range over predicates of words.
-use Rattle.std.specs.Prelude.{◌≡◌, ℕ, Bool, not, ◌==◌, List, ◌++◌, length}
+use Rattle.std.specs.Prelude.{◌≡◌, ℕ, ◌<◌, Bool, not, ◌==◌, List, ◌++◌, length}
 use Rattle.ix_words.specs.Each.{Each}
 use Rattle.ix_words.specs.Parts.{part, joined, Projection}
 
@@ -30,6 +30,13 @@ pub record Numbered {A : Type 0} (Q : List A → Type 0) (w : List A) : Type 0 w
   pub owners : List ℕ
   pub as_long : length owners ≡ length w
   pub each_has : Each (λ owner. Q (part (λ other. owner == other) owners w)) owners
+
+-- w has owner numbers below n; the part of each number below n, used or not, has Q
+pub record Shared {A : Type 0} (n : ℕ) (Q : List A → Type 0) (w : List A) : Type 0 where
+  pub owners : List ℕ
+  pub as_long : length owners ≡ length w
+  pub below : Each (λ owner. owner < n) owners
+  pub each_has : (k : ℕ) → k < n → Q (part (λ other. k == other) owners w)
 
 -- w has owner values; for every value v, used or not, the part of v has Q v
 pub record Owned {A V : Type 0} (same : V → V → Bool) (Q : V → List A → Type 0)

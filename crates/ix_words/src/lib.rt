@@ -4,10 +4,11 @@
 
 ghost use Rattle.ix_words.specs.Laws.{PartsAppend, PartsGrow, PartsCover, ProjectionsByTest};
 ghost use Rattle.ix_words.specs.Laws.{ProjectionsGrow, JoinedGrow, SplitsClosed, NumberedClosed};
-ghost use Rattle.ix_words.specs.Laws.{OwnedClosed, ProjectedClosed, JoinedFronts, CutsAll};
-ghost use Rattle.ix_words.specs.Laws.{CutsGrow, SplitsAll, SplitsGrow, CanonStands, AscendingOnce};
-ghost use Rattle.ix_words.specs.Laws.{CanonByMembers, CanonAppend, CanonGrow, CanonEach};
-ghost use Rattle.ix_words.specs.Laws.{NumbersBelowTheLength, OwnersOfTheirItems, PiecesAreFilled};
+ghost use Rattle.ix_words.specs.Laws.{SharedClosed, OwnedClosed, ProjectedClosed, JoinedFronts};
+ghost use Rattle.ix_words.specs.Laws.{CutsAll, CutsGrow, SplitsAll, SplitsGrow, CanonStands};
+ghost use Rattle.ix_words.specs.Laws.{AscendingOnce, CanonByMembers, CanonAppend, CanonGrow};
+ghost use Rattle.ix_words.specs.Laws.{CanonEach, NumbersBelowTheLength, OwnersOfTheirItems};
+ghost use Rattle.ix_words.specs.Laws.{PiecesAreFilled};
 
 /// The part of an appended word is the part of the first with that of the second behind it.
 pub fn parts_append<Owner, Item>()
@@ -47,6 +48,11 @@ pub fn splits_closed<Item>()
 /// A front of a word with owner numbers has owner numbers, in the same way.
 pub fn numbered_closed<Item>()
     ensures { NumberedClosed Item }
+{}
+
+/// A front of a word with owner numbers below n has such owners, in the same way.
+pub fn shared_closed<Item>()
+    ensures { SharedClosed Item }
 {}
 
 /// A front of a word with owner values has owner values, in the same way.
@@ -143,6 +149,7 @@ mod tests {
         joined_grow::<u8>();
         splits_closed::<u8>();
         numbered_closed::<u8>();
+        shared_closed::<u8>();
         owned_closed::<bool, u8>();
         projected_closed::<u8>();
         joined_fronts::<u8>();
