@@ -1,6 +1,6 @@
 use Rattle.std.proofs.Common.{arith}
 use Rattle.std.proofs.lemmas.List.{length_push}
-use Rattle.ix_part_trials.proofs.tests.stores.append_both.Goals as goal
+use Rattle.ix_trials_of_parts.proofs.tests.stores.append_both.Goals as goal
 
 -- behind the first append the store keeps one action more
 pub append-requires-2-clause-few : goal.append-requires-2-clause-few
