@@ -5,3 +5,4 @@ pub mod CursorSteps
 pub mod Puts
 pub mod GivenEvents
 pub mod Callers
+pub mod OneFault

@@ -6,6 +6,7 @@
 #![tactic(auto)]
 
 mod cursor;
+pub mod laws;
 mod line;
 mod put;
 mod script;
