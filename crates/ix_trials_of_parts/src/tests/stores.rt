@@ -10,17 +10,17 @@ use std::alloc::Global;
 use std::test::Fail;
 
 // Journals of `a - b`: without records, with the action `a`, and with `b` behind it.
-const EMPTY: &[u8] = b"\xA5IXJ1\x00\x05a - b\x00";
+pub(super) const EMPTY: &[u8] = b"\xA5IXJ1\x00\x05a - b\x00";
 
-const ONE: &[u8] = b"\xA5IXJ1\x00\x05a - b\xA5\x00\x01a\x00";
+pub(super) const ONE: &[u8] = b"\xA5IXJ1\x00\x05a - b\xA5\x00\x01a\x00";
 
 const BOTH: &[u8] = b"\xA5IXJ1\x00\x05a - b\xA5\x00\x01a\xA5\x00\x01b\x00";
 
 // One that was never opened.
-const UNOPENED: &[u8] = b"\x7FIXJ1\x00\x05a - b\x00";
+pub(super) const UNOPENED: &[u8] = b"\x7FIXJ1\x00\x05a - b\x00";
 
 // A site with this file, whose calls of these numbers fail. Call 0 attached the file.
-fn site_with(alloc: Global, file: &[u8], fail: &[u64]) -> Result<MemorySite, Fail>
+pub(super) fn site_with(alloc: Global, file: &[u8], fail: &[u64]) -> Result<MemorySite, Fail>
     ensures attached { IfOk result (λ site. site.attached ≡ true) }
     ensures added { IfOk result (λ site. site.plan.added ≡ 0) }
 {
@@ -48,15 +48,15 @@ fn texts_of(alloc: Global, actions: &[Action]) -> Result<Vec<u8>, Fail> {
 // What a start answered: a word, the history's texts or the text that is kept, and the place of
 // damage; and the file then.
 #[derive(Drop)]
-struct Told {
-    word: &'static str,
-    text: Vec<u8>,
+pub(super) struct Told {
+    pub(super) word: &'static str,
+    pub(super) text: Vec<u8>,
     at: usize,
-    file: Vec<u8>,
+    pub(super) file: Vec<u8>,
 }
 
 // Starts on a file with the text of an expression.
-fn start_on(alloc: Global, file: &[u8], text: &[u8]) -> Result<Told, Fail>
+pub(super) fn start_on(alloc: Global, file: &[u8], text: &[u8]) -> Result<Told, Fail>
     requires { length text.now < 65536 }
 {
     let mut site = site_with(alloc, file, &[])?;
@@ -64,7 +64,7 @@ fn start_on(alloc: Global, file: &[u8], text: &[u8]) -> Result<Told, Fail>
 }
 
 // Starts on the file of a site.
-fn start_at(alloc: Global, site: &mut MemorySite, text: &[u8]) -> Result<Told, Fail>
+pub(super) fn start_at(alloc: Global, site: &mut MemorySite, text: &[u8]) -> Result<Told, Fail>
     requires attached { site.old.attached ≡ true }
     requires short { length text.now < 65536 }
     ensures { site.new.attached ≡ true }
@@ -189,7 +189,7 @@ fn a_start_that_failed_is_made_again(rt: HostRuntime) -> Result<(), Fail> {
 
 // How far a store came.
 #[derive(Clone, Copy, Debug, PartialEq, Eq)]
-enum Went {
+pub(super) enum Went {
     // It wasn't opened: the disk failed.
     NotOpened,
     // The first append failed.
@@ -200,7 +200,7 @@ enum Went {
 }
 
 // Opens the journal of `a - b`, and appends two actions, unless a call of the disk fails.
-fn append_both<S: Site>(
+pub(super) fn append_both<S: Site>(
     alloc: Global,
     site: &mut S,
     first: &Action,
@@ -228,7 +228,7 @@ fn append_both<S: Site>(
 }
 
 // The action whose text this is.
-fn action(text: &[u8]) -> Result<Action, Fail> {
+pub(super) fn action(text: &[u8]) -> Result<Action, Fail> {
     Ok(Action::read(text).map_err(|_| "no action")?)
 }
 

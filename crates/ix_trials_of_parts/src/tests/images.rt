@@ -1,0 +1,184 @@
+//! Files that a crash may leave: each is opened, with the history that its synced bytes have.
+use super::stores::{
+    EMPTY, ONE, UNOPENED, Went, action, append_both, site_with, start_at, start_on,
+};
+use std::alloc::Global;
+use std::test::Fail;
+
+// A journal of `a - b` with the record of `a` behind a closed gate.
+const CLOSED: &[u8] = b"\xA5IXJ1\x00\x05a - b\x00\x00\x01a\x00";
+
+// One without records whose head gate isn't open yet.
+const SHUT: &[u8] = b"\x00IXJ1\x00\x05a - b\x00";
+
+// What a crash may change of a file: the bytes from one place up to another may be any, and the
+// file may end anywhere from a length on.
+#[derive(Clone, Copy)]
+struct Pending {
+    from: usize,
+    to: usize,
+    least: usize,
+}
+
+// The image of this length with this byte in place of each that is pending.
+fn image_of(
+    alloc: Global,
+    file: &[u8],
+    pending: Pending,
+    length: usize,
+    byte: u8,
+) -> Result<Vec<u8>, Fail> {
+    let mut image = Vec::new(alloc);
+    for (place, kept) in file.iter().enumerate() {
+        if place < length {
+            let is_pending = pending.from <= place && place < pending.to;
+            image.push(if is_pending { byte } else { *kept })?;
+        }
+    }
+    Ok(image)
+}
+
+// The bytes that are put in place of pending ones.
+const BYTES: [u8; 5] = [0x00, 0x01, b'I', 0xA5, 0xFF];
+
+// The first of these bytes for which the image of this length isn't opened without records.
+fn first_lost(
+    alloc: Global,
+    file: &[u8],
+    pending: Pending,
+    length: usize,
+) -> Result<Option<u8>, Fail> {
+    for byte in BYTES {
+        let image = image_of(alloc, file, pending, length, byte)?;
+        let told = start_on(alloc, &image, b"a - b")?;
+        if told.word != "opened" || !told.text.is_empty() {
+            return Ok(Some(byte));
+        }
+    }
+    Ok(None)
+}
+
+// The same over all lengths, with the length.
+fn first_lost_of_all(
+    alloc: Global,
+    file: &[u8],
+    pending: Pending,
+) -> Result<Option<(usize, u8)>, Fail> {
+    for length in pending.least..=file.len() {
+        if let Some(byte) = first_lost(alloc, file, pending, length)? {
+            return Ok(Some((length, byte)));
+        }
+    }
+    Ok(None)
+}
+
+// The file behind an append of `a` in which the call of this number fails.
+fn behind_an_append(alloc: Global, call: u64) -> Result<Vec<u8>, Fail> {
+    let mut site = site_with(alloc, EMPTY, &[call])?;
+    let went = append_both(alloc, &mut site, &action(b"a")?, &action(b"b")?)?;
+    if went != (Went::Opened { has_failed: true }) {
+        return Err("another end".into());
+    }
+    Ok(site.image().to_vec(alloc)?)
+}
+
+#[test]
+fn images_of_a_record_that_was_not_synced(rt: HostRuntime) -> Result<(), Fail> {
+    // Calls 0 to 4 attach and read the journal, 5 writes the record, and 6 syncs. The last
+    // row has each front of what was written as it is.
+    let left = behind_an_append(rt.alloc(), 6)?;
+    assert!(rt; left.as_slice() == CLOSED);
+    for (from, to) in [(13, 17), (14, 17), (15, 16), (16, 17), (17, 17)] {
+        let pending = Pending {
+            from,
+            to,
+            least: 13,
+        };
+        let lost = first_lost_of_all(rt.alloc(), CLOSED, pending)?;
+        assert_eq!(rt; lost, None, "from {from} to {to}");
+    }
+    Ok(())
+}
+
+// The file with this byte at this place.
+fn with_byte(alloc: Global, file: &[u8], place: usize, byte: u8) -> Result<Vec<u8>, Fail> {
+    let mut image = file.to_vec(alloc)?;
+    if place >= image.len() {
+        return Err("no such place".into());
+    }
+    image[place] = byte;
+    Ok(image)
+}
+
+#[test]
+fn images_of_a_gate_that_was_not_synced(rt: HostRuntime) -> Result<(), Fail> {
+    // Call 7 opens the gate in front of the record, and 8 is the second sync.
+    let unopened = behind_an_append(rt.alloc(), 7)?;
+    assert!(rt; unopened.as_slice() == CLOSED);
+    let opened = behind_an_append(rt.alloc(), 8)?;
+    assert!(rt; opened.as_slice() == ONE);
+    for byte in 0..=255 {
+        let image = with_byte(rt.alloc(), ONE, 12, byte)?;
+        let told = start_on(rt.alloc(), &image, b"a - b")?;
+        let history: &[u8] = if byte == 0xA5 { b"a " } else { b"" };
+        assert_eq!(rt; told.word, "opened", "gate {byte}");
+        assert!(rt; told.text.as_slice() == history, "gate {byte}");
+    }
+    Ok(())
+}
+
+#[test]
+fn images_of_a_head_gate_that_was_not_synced(rt: HostRuntime) -> Result<(), Fail> {
+    for byte in 0..=255 {
+        let image = with_byte(rt.alloc(), EMPTY, 0, byte)?;
+        let told = start_on(rt.alloc(), &image, b"a - b")?;
+        assert_eq!(rt; told.word, "opened", "head gate {byte}");
+        assert!(rt; told.text.is_empty(), "head gate {byte}");
+        assert!(rt; told.file.as_slice() == EMPTY, "head gate {byte}");
+    }
+    Ok(())
+}
+
+// The file behind a start from this one in which the call of this number fails.
+fn behind_a_start(alloc: Global, file: &[u8], call: u64) -> Result<Vec<u8>, Fail> {
+    let mut site = site_with(alloc, file, &[call])?;
+    let told = start_at(alloc, &mut site, b"a - b")?;
+    if told.word != "disk" {
+        return Err("another answer".into());
+    }
+    Ok(told.file)
+}
+
+#[test]
+fn images_of_a_start(rt: HostRuntime) -> Result<(), Fail> {
+    // The file, the call that fails, the file then, and what is pending of it. Calls 3 and 4 write
+    // and sync the first step of an absent file, and 5 to 7 write, cut and sync that of another;
+    // two calls for each further step follow.
+    let head = Pending {
+        from: 0,
+        to: 1,
+        least: 0,
+    };
+    let header = Pending {
+        from: 1,
+        to: 13,
+        least: 1,
+    };
+    let whole = Pending { least: 13, ..head };
+    let rows: [(&[u8], u64, &[u8], Pending); 7] = [
+        (b"", 4, b"\x00", head),
+        (b"", 6, SHUT, header),
+        (b"", 8, EMPTY, whole),
+        (UNOPENED, 6, SHUT, whole),
+        (UNOPENED, 7, b"\x00", head),
+        (UNOPENED, 9, SHUT, header),
+        (UNOPENED, 11, EMPTY, whole),
+    ];
+    for (file, call, then, pending) in rows {
+        let left = behind_a_start(rt.alloc(), file, call)?;
+        assert!(rt; left.as_slice() == then, "call {call} of {file:?}");
+        let lost = first_lost_of_all(rt.alloc(), then, pending)?;
+        assert_eq!(rt; lost, None, "call {call} of {file:?}");
+    }
+    Ok(())
+}
