@@ -2,5 +2,6 @@
 
 mod expressions;
 mod images;
+mod pieces;
 mod stores;
 mod words;

@@ -26,7 +26,7 @@ pub(super) fn site_with(alloc: Global, file: &[u8], fail: &[u64]) -> Result<Memo
 {
     let file = file.to_vec(alloc)?;
     let fail = fail.to_vec(alloc)?;
-    let mut site = MemorySite::new(alloc, file, Vec::new(alloc), 4096, fail, None)?;
+    let mut site = MemorySite::new(alloc, file, Vec::new(alloc), 32_768, fail, None)?;
     if site.attach("journal").is_err() {
         return Err("not attached".into());
     }
@@ -271,27 +271,5 @@ fn each_call_of_the_disk_fails_in_turn(rt: HostRuntime) -> Result<(), Fail> {
             assert!(rt; histories.contains(&told.text.as_slice()), "call {number}");
         }
     }
-    Ok(())
-}
-
-// A journal of `*a` with so many records of `a`.
-fn long_journal(alloc: Global, count: usize) -> Result<Vec<u8>, Fail> {
-    let mut file = Vec::from_slice(alloc, b"\xA5IXJ1\x00\x02*a")?;
-    for _ in 0..count {
-        file.extend_from_slice(b"\xA5\x00\x01a")?;
-    }
-    file.push(0)?;
-    Ok(file)
-}
-
-#[test]
-fn a_long_journal_is_read_in_pieces(rt: HostRuntime) -> Result<(), Fail> {
-    let file = long_journal(rt.alloc(), 20_000)?;
-    let mut site = site_with(rt.alloc(), &file, &[])?;
-    let Ok((_, history)) = Store::start(rt.alloc(), &mut site, b"*a") else {
-        return Err("not opened".into());
-    };
-    assert_eq!(rt; history.len(), 20_000);
-    assert!(rt; site.longest_read() <= 65_535, "{}", site.longest_read());
     Ok(())
 }

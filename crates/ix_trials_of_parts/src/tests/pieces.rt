@@ -1,0 +1,64 @@
+//! Journals that are longer than one piece.
+use super::stores::{site_with, start_at};
+use ix_store::Store;
+use std::alloc::Global;
+use std::test::Fail;
+
+// So many copies of these bytes, one behind another.
+fn repeated(alloc: Global, bytes: &[u8], times: usize) -> Result<Vec<u8>, Fail> {
+    let mut all = Vec::new(alloc);
+    for _ in 0..times {
+        all.extend_from_slice(bytes)?;
+    }
+    Ok(all)
+}
+
+// A journal of `*a` with so many thousands of records of `a`.
+fn long_journal(alloc: Global, thousands: usize) -> Result<Vec<u8>, Fail> {
+    let mut file = Vec::from_slice(alloc, b"\xA5IXJ1\x00\x02*a")?;
+    let thousand = repeated(alloc, b"\xA5\x00\x01a", 1000)?;
+    let records = repeated(alloc, &thousand, thousands)?;
+    file.extend_from_slice(&records)?;
+    file.push(0)?;
+    Ok(file)
+}
+
+#[test]
+fn a_long_journal_is_read_in_pieces(rt: HostRuntime) -> Result<(), Fail> {
+    let file = long_journal(rt.alloc(), 20)?;
+    let mut site = site_with(rt.alloc(), &file, &[])?;
+    let Ok((_, history)) = Store::start(rt.alloc(), &mut site, b"*a") else {
+        return Err("not opened".into());
+    };
+    assert_eq!(rt; history.len(), 20_000);
+    assert!(rt; site.longest_read() <= 4096, "{}", site.longest_read());
+    Ok(())
+}
+
+#[test]
+fn a_piece_that_is_not_read_is_a_fault_of_the_disk(rt: HostRuntime) -> Result<(), Fail> {
+    // Three pieces have the 3,000 records of 4 bytes. Calls 0 to 4 attach and read the header, and
+    // 5 to 7 the pieces.
+    let file = long_journal(rt.alloc(), 3)?;
+    for call in 5..8 {
+        let mut site = site_with(rt.alloc(), &file, &[call])?;
+        let first = start_at(rt.alloc(), &mut site, b"*a")?;
+        assert_eq!(rt; first.word, "disk", "call {call}");
+        let again = start_at(rt.alloc(), &mut site, b"*a")?;
+        assert_eq!(rt; again.word, "opened", "call {call}");
+        assert_eq!(rt; again.text.len(), 6_000, "call {call}");
+    }
+    Ok(())
+}
+
+#[test]
+fn nothing_is_read_behind_a_million_records(rt: HostRuntime) -> Result<(), Fail> {
+    // The gate behind a million records stands in one of the first 978 pieces, which give at least
+    // 4,092 bytes each. There are some hundred pieces more.
+    let file = long_journal(rt.alloc(), 1_100)?;
+    let mut site = site_with(rt.alloc(), &file, &[])?;
+    let told = start_at(rt.alloc(), &mut site, b"*a")?;
+    assert_eq!(rt; told.word, "many");
+    assert!(rt; site.calls() <= 5 + 978, "{}", site.calls());
+    Ok(())
+}
