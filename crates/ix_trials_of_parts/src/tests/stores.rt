@@ -173,10 +173,40 @@ fn start_again(alloc: Global, file: &[u8], call: u64) -> Result<Told, Fail> {
     start_at(alloc, &mut site, b"a - b")
 }
 
+// The longest text of an action: 165 bytes.
+const LONGEST: &[u8] = b"nnnnnnnnnnnnnnnnnnnnnnnnnnnnnnnn(11111111111111111111111111111111,\
+    22222222222222222222222222222222,33333333333333333333333333333333,\
+    44444444444444444444444444444444)";
+
+// The texts, with a space behind each.
+fn spaced(alloc: Global, texts: &[&[u8]]) -> Result<Vec<u8>, Fail> {
+    let mut all = Vec::new(alloc);
+    for text in texts {
+        all.extend_from_slice(text)?;
+        all.push(b' ')?;
+    }
+    Ok(all)
+}
+
+// A journal of `a - b` with a record of that text.
+fn long_record(alloc: Global) -> Result<Vec<u8>, Fail> {
+    let mut file = Vec::from_slice(alloc, b"\xA5IXJ1\x00\x05a - b\xA5\x00\xA5")?;
+    file.extend_from_slice(LONGEST)?;
+    file.push(0)?;
+    Ok(file)
+}
+
 #[test]
 fn a_start_that_failed_is_made_again(rt: HostRuntime) -> Result<(), Fail> {
-    // The file, and the history. A start makes 5, 8 and 11 calls.
-    let cases: [(&[u8], &[u8]); 3] = [(ONE, b"a "), (b"", b""), (UNOPENED, b"")];
+    // The file, and the history. A start makes 5, 8, 11 and 5 calls.
+    let long = long_record(rt.alloc())?;
+    let longest = spaced(rt.alloc(), &[LONGEST])?;
+    let cases: [(&[u8], &[u8]); 4] = [
+        (ONE, b"a "),
+        (b"", b""),
+        (UNOPENED, b""),
+        (long.as_slice(), longest.as_slice()),
+    ];
     for (file, history) in cases {
         for call in 1..12 {
             let told = start_again(rt.alloc(), file, call)?;
@@ -243,32 +273,48 @@ fn appended_actions_are_in_the_journal(rt: HostRuntime) -> Result<(), Fail> {
     Ok(())
 }
 
+// Whether a journal may keep this history behind appends of these texts that went so far.
+fn may_keep(alloc: Global, went: Went, history: &[u8], texts: [&[u8]; 2]) -> Result<bool, Fail> {
+    let one = spaced(alloc, &texts[..1])?;
+    let both = spaced(alloc, &texts)?;
+    let is_one = history == one.as_slice();
+    let is_both = history == both.as_slice();
+    Ok(match went {
+        Went::NotOpened => history.is_empty(),
+        Went::Opened { has_failed } => has_failed && (history.is_empty() || is_one),
+        Went::AppendedFirst { has_failed } => has_failed && (is_one || is_both),
+        Went::AppendedBoth => is_both,
+    })
+}
+
+// Whether two appends to this file stop at the call of this number, which fails, with no call
+// behind it, and what they leave is opened and keeps what it may.
+fn stops_at(alloc: Global, file: &[u8], texts: [&[u8]; 2], number: u64) -> Result<bool, Fail> {
+    let mut site = site_with(alloc, file, &[number])?;
+    let went = append_both(alloc, &mut site, &action(texts[0])?, &action(texts[1])?)?;
+    let stops = if went == Went::AppendedBoth {
+        site.calls() <= number
+    } else {
+        site.calls().saturating_sub(1) == number
+    };
+    let told = start_on(alloc, site.image(), b"a - b")?;
+    let keeps = may_keep(alloc, went, told.text.as_slice(), texts)?;
+    Ok(stops && keeps && told.word == "opened")
+}
+
 #[test]
 fn each_call_of_the_disk_fails_in_turn(rt: HostRuntime) -> Result<(), Fail> {
-    for file in [b"".as_slice(), b"\x00IXJ", EMPTY] {
+    let short: [&[u8]; 2] = [b"a", b"b"];
+    let rows: [(&[u8], [&[u8]; 2]); 4] = [
+        (b"", short),
+        (b"\x00IXJ", short),
+        (EMPTY, short),
+        (EMPTY, [LONGEST, LONGEST]),
+    ];
+    for (file, texts) in rows {
         for number in 1..24 {
-            let mut site = site_with(rt.alloc(), file, &[number])?;
-            let went = append_both(rt.alloc(), &mut site, &action(b"a")?, &action(b"b")?)?;
-            assert_eq!(rt;
-                went == Went::AppendedBoth,
-                site.calls() <= number,
-                "call {number}"
-            );
-            let histories: [&[u8]; 2] = match went {
-                Went::NotOpened => [b"", b""],
-                Went::Opened { has_failed } => {
-                    assert!(rt; has_failed, "call {number}");
-                    [b"", b"a "]
-                }
-                Went::AppendedFirst { has_failed } => {
-                    assert!(rt; has_failed, "call {number}");
-                    [b"a ", b"a b "]
-                }
-                Went::AppendedBoth => [b"a b ", b"a b "],
-            };
-            let told = start_on(rt.alloc(), site.image(), b"a - b")?;
-            assert_eq!(rt; told.word, "opened", "call {number}");
-            assert!(rt; histories.contains(&told.text.as_slice()), "call {number}");
+            let stops = stops_at(rt.alloc(), file, texts, number)?;
+            assert!(rt; stops, "call {number} of {file:?} and {texts:?}");
         }
     }
     Ok(())
