@@ -82,82 +82,84 @@ fn jobs(rt: HostRuntime) -> Result<(), Fail> {
     Ok(())
 }
 
+// Words that begin with a command's name and are refused, and how the text begins that is told.
+const REFUSED: [(&str, &str); 20] = [
+    (
+        "trace x",
+        "error: the following required arguments were not provided:\n  <ACTIONS>\n",
+    ),
+    ("trace x a b", "error: unexpected argument 'b' found\n"),
+    (
+        "trace x a --nodes 0",
+        "error: invalid value '0' for '--nodes <nodes>': ",
+    ),
+    (
+        "trace x a --nodes 1000001",
+        "error: invalid value '1000001' for '--nodes <nodes>': ",
+    ),
+    (
+        "trace x a --nodes eight",
+        "error: invalid value 'eight' for '--nodes <nodes>': ",
+    ),
+    (
+        "trace x a --nodes",
+        "error: a value is required for '--nodes <nodes>' but none was supplied\n",
+    ),
+    (
+        "trace x a --node 8",
+        "error: unexpected argument '--node' found\n",
+    ),
+    (
+        "trace x a --turns 8",
+        "error: unexpected argument '--turns' found\n",
+    ),
+    (
+        "replay x j",
+        "error: the following required arguments were not provided:\n  <SCRIPT>\n",
+    ),
+    (
+        "replay x j s --turns 0",
+        "error: invalid value '0' for '--turns <turns>': ",
+    ),
+    (
+        "replay x j s --turns 1000000001",
+        "error: invalid value '1000000001' for '--turns <turns>': ",
+    ),
+    (
+        "replay --turns 1 --turns 1 x j s",
+        "error: the argument '--turns <turns>' cannot be used multiple times\n",
+    ),
+    ("serve x j s t", "error: unexpected argument 't' found\n"),
+    ("work 5 -1", "error: unexpected argument '-1' found\n"),
+    (
+        "work 1000001 1",
+        "error: invalid value '1000001' for '<N>': ",
+    ),
+    (
+        "work 5 18446744073709551616",
+        "error: invalid value '18446744073709551616' for '<SEED>': ",
+    ),
+    (
+        "work 5 1 --nodes 0",
+        "error: invalid value '0' for '--nodes <nodes>': ",
+    ),
+    (
+        "bound x 1000001",
+        "error: invalid value '1000001' for '<K>': ",
+    ),
+    (
+        "simplify x --nodes 8",
+        "error: unexpected argument '--nodes' found\n",
+    ),
+    (
+        "trace --help",
+        "Says of each action of a file whether the expression lets it be next\n\nUsage: ixm ",
+    ),
+];
+
 #[test]
 fn words_that_clap_refuses(rt: HostRuntime) -> Result<(), Fail> {
-    let rows = [
-        (
-            "trace x",
-            "error: the following required arguments were not provided:\n  <ACTIONS>\n",
-        ),
-        ("trace x a b", "error: unexpected argument 'b' found\n"),
-        (
-            "trace x a --nodes 0",
-            "error: invalid value '0' for '--nodes <nodes>': ",
-        ),
-        (
-            "trace x a --nodes 1000001",
-            "error: invalid value '1000001' for '--nodes <nodes>': ",
-        ),
-        (
-            "trace x a --nodes eight",
-            "error: invalid value 'eight' for '--nodes <nodes>': ",
-        ),
-        (
-            "trace x a --nodes",
-            "error: a value is required for '--nodes <nodes>' but none was supplied\n",
-        ),
-        (
-            "trace x a --node 8",
-            "error: unexpected argument '--node' found\n",
-        ),
-        (
-            "trace x a --turns 8",
-            "error: unexpected argument '--turns' found\n",
-        ),
-        (
-            "replay x j",
-            "error: the following required arguments were not provided:\n  <SCRIPT>\n",
-        ),
-        (
-            "replay x j s --turns 0",
-            "error: invalid value '0' for '--turns <turns>': ",
-        ),
-        (
-            "replay x j s --turns 1000000001",
-            "error: invalid value '1000000001' for '--turns <turns>': ",
-        ),
-        (
-            "replay --turns 1 --turns 1 x j s",
-            "error: the argument '--turns <turns>' cannot be used multiple times\n",
-        ),
-        ("serve x j s t", "error: unexpected argument 't' found\n"),
-        ("work 5 -1", "error: unexpected argument '-1' found\n"),
-        (
-            "work 1000001 1",
-            "error: invalid value '1000001' for '<N>': ",
-        ),
-        (
-            "work 5 18446744073709551616",
-            "error: invalid value '18446744073709551616' for '<SEED>': ",
-        ),
-        (
-            "work 5 1 --nodes 0",
-            "error: invalid value '0' for '--nodes <nodes>': ",
-        ),
-        (
-            "bound x 1000001",
-            "error: invalid value '1000001' for '<K>': ",
-        ),
-        (
-            "simplify x --nodes 8",
-            "error: unexpected argument '--nodes' found\n",
-        ),
-        (
-            "trace --help",
-            "Says of each action of a file whether the expression lets it be next\n\nUsage: ixm ",
-        ),
-    ];
-    for (words, text) in rows {
+    for (words, text) in REFUSED {
         let words = words_of(rt.alloc(), words)?;
         let answer = answer(rt.alloc(), words.as_slice())?;
         assert!(rt; answer.as_str().starts_with(text), "{text} {answer}");
