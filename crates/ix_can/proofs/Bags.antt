@@ -114,10 +114,15 @@ module _ {A B : Type 0} (f : A → B) where
   Reordered-map swapped = swapped
   Reordered-map (and_then r s) = and_then (Reordered-map r) (Reordered-map s)
 
-  -- what is taken out of a list is taken out of its image
+  -- what is taken out of a list is taken out of its image, and the other way round
   pub map_taken : {a : A} {u w : List A} → Taken a u w → Taken (f a) (map f u) (map f w)
   map_taken first = first
   map_taken (later t) = later (map_taken t)
+
+  pub taken_map : (u : List A) (b : B) (v : List B) → Taken b (map f u) v → (a : A) × (w : List A) × Taken a u w × (b ≡ f a) × (v ≡ map f w)
+  taken_map [] b v t = elim t [ ]
+  taken_map (a ∷ u) b v first = (a, u, first, refl, refl)
+  taken_map (a ∷ u) b v (later {v = w} t) = let k = taken_map u b w t in (k.0, a ∷ k.1, later k.2, k.3, ap (λ x. f a ∷ x) k.4)
 
   -- what is taken out of what a test keeps of a mapped list
   abbrev pub TakenKept : (B → Bool) → List A → B → List B → Type 0

@@ -11,11 +11,15 @@ pub mod Agreeing
 pub mod Proper
 pub mod Ends
 pub mod MayTell
+pub mod TimesMay
 pub mod MovesShared
 pub mod MovesOperators
 pub mod Bags
 pub mod Numberings
+pub mod Sharings
+pub mod TimesTell
 pub mod MovesParallel
+pub mod MovesTimes
 pub mod Entries
 pub mod MovesAlike
 pub mod MayQuantifiers

@@ -12,7 +12,7 @@ use Rattle.ix_can.proofs.Bags.{Reordered, behind, and_then, Reordered-sym, Reord
 -- Numbers that differ
 
 -- each number stands once
-abbrev Distinct : List ℕ → Type 0
+abbrev pub Distinct : List ℕ → Type 0
 Distinct [] = Unit {0}
 Distinct (n ∷ ns) = Each (λ m. ¬ (m ≡ n)) ns × Distinct ns
 
@@ -23,7 +23,7 @@ distinct_end (m ∷ ns) n b d = (
   distinct_end ns n (Each-tail b) d.1,
 )
 
-distinct_below : (n : ℕ) → Distinct (numbers_below n)
+pub distinct_below : (n : ℕ) → Distinct (numbers_below n)
 distinct_below zero = tt
 distinct_below (suc n) = distinct_end (numbers_below n) n (Each-members (numbers_below n) (λ k m. below_to n k m)) (distinct_below n)
 
@@ -33,11 +33,11 @@ distinct_taken (later t) d = item (λ e. Each-member d.0 (Taken-member t) (sym e
 
 module _ {A : Type 0} where
   -- whether a part has an item
-  abbrev filled : List A → Bool
+  abbrev pub filled : List A → Bool
   filled u = not (is_empty u)
 
   -- the parts of these numbers that aren't empty
-  abbrev parts_over : List ℕ → List ℕ → List A → List (List A)
+  abbrev pub parts_over : List ℕ → List ℕ → List A → List (List A)
   parts_over ns owners w = filter filled (map (numbered_part owners w) ns)
 
   numbering_is : (w : List A) (owners : List ℕ) → Member owners (numberings w) → (length owners ≡ length w) × Each (λ k. k < length w) owners
@@ -81,7 +81,7 @@ module _ {A : Type 0} where
     others_same (j ∷ ns) h = ap₂ (λ u us. u ∷ us) (other_same j (Each-head h)) (others_same ns (Each-tail h))
 
     -- one part has grown, and the others are as before
-    grown_parts : {ns ms : List ℕ} → Taken k ns ms → Distinct ns → Reordered (parts_over ns (owners ++ k ∷ []) (w ++ a ∷ [])) ((numbered_part owners w k ++ a ∷ []) ∷ parts_over ms owners w)
+    pub grown_parts : {ns ms : List ℕ} → Taken k ns ms → Distinct ns → Reordered (parts_over ns (owners ++ k ∷ []) (w ++ a ∷ [])) ((numbered_part owners w k ++ a ∷ []) ∷ parts_over ms owners w)
     grown_parts {ns} {ms} t d =
         and_then (Reordered-filter filled (Reordered-map (numbered_part (owners ++ k ∷ []) (w ++ a ∷ [])) (Taken-reordered t)))
         (Reordered-eq

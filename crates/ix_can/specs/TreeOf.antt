@@ -61,6 +61,10 @@ live_pair x y = when (is_live x && is_live y) (pair_of x y ∷ [])
 abbrev pub live_bag : List Plain → List Plain
 live_bag xs = when (list_all is_live xs) (bag_of (listed (sorted (filter is_open xs))) ∷ [])
 
+-- the bag of the trees, those that are done among them, if all are live
+abbrev pub whole_bag : List Plain → List Plain
+whole_bag xs = when (list_all is_live xs) (bag_of (listed (sorted xs)) ∷ [])
+
 -- for each value its tree, where it differs from the common tree
 abbrev pub entries_of : Plain → (List ℕ → Plain) → List (List ℕ) → List Plain
 entries_of common tree values = flat_map

@@ -35,15 +35,23 @@ lists_as_long choices [] = [] ∷ []
 lists_as_long choices (a ∷ w) = flat_map (λ owners. map (λ choice. choice ∷ owners) choices)
     (lists_as_long choices w)
 
+-- every way to give the actions of w owner numbers below n
+abbrev pub sharings : {A : Type 0} → ℕ → List A → List (List ℕ)
+sharings n w = lists_as_long (numbers_below n) w
+
+-- the parts of the numbers below n that aren't empty
+abbrev pub parts_below : {A : Type 0} → ℕ → List ℕ → List A → List (List A)
+parts_below n owners w =
+    filter (λ u. not (is_empty u))
+    (map (λ number. part (λ owner. number == owner) owners w) (numbers_below n))
+
 -- every way to give the actions of w owner numbers below its length
 abbrev pub numberings : {A : Type 0} → List A → List (List ℕ)
-numberings w = lists_as_long (numbers_below (length w)) w
+numberings w = sharings (length w) w
 
 -- the parts of the numbers below the length of w that aren't empty
 abbrev pub nonempty_parts : {A : Type 0} → List ℕ → List A → List (List A)
-nonempty_parts owners w =
-    filter (λ u. not (is_empty u))
-    (map (λ number. part (λ owner. number == owner) owners w) (numbers_below (length w)))
+nonempty_parts owners w = parts_below (length w) owners w
 
 -- every way to give each action of w one of its own values as its owner
 abbrev pub ownings : Word → List (List (List ℕ))

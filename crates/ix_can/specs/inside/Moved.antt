@@ -26,6 +26,10 @@ put_unless_done x others = if is_done x then others else put_in x others
 abbrev pub bag_with : Plain → List Plain → List Plain
 bag_with x others = when (is_live x) (bag_of (listed (put_unless_done x others)) ∷ [])
 
+-- the bag of the trees and one more in its place, if that one is live; one that is done stays in it
+abbrev pub keep_with : Plain → List Plain → List Plain
+keep_with x others = when (is_live x) (bag_of (listed (put_in x others)) ∷ [])
+
 -- the entry of the value, where its tree differs from the common one
 abbrev pub entry_with : Plain → List ℕ → Plain → List Plain
 entry_with common v x = when (not (same_tree x common)) (entry_of v x ∷ [])
