@@ -12,7 +12,7 @@ use Rattle.ix_words.proofs.Ways.{cut_is, split_is}
 use Rattle.ix_values.specs.Order.{text_eq, text_cmp}
 use Rattle.ix_values.specs.lemmas.Order.{text_eq-decides}
 use Rattle.ix_values.specs.PlainAction.{PlainAction, Word, values_of}
-use Rattle.ix_expr.specs.Form.{PlainAtom, Form, atom, opt, seq, star, par, par_star, or, and, couple, any, every, sync, all}
+use Rattle.ix_expr.specs.Form.{PlainAtom, Form, atom, opt, seq, star, par, par_star, or, and, couple, any, every, sync, all, times}
 use Rattle.ix_expr.specs.Environment.{Environment, bind}
 use Rattle.ix_expr.specs.FormFaults.{Fits}
 use Rattle.ix_expr.specs.Meaning.{InAlphabet, IsComplete, IsPartial}
@@ -134,6 +134,7 @@ positive (any p y) k = first_one (bound_of y k) (k * (1 + bound_of y k))
 positive (every p y) k = first_one (bound_of y k) (k * (1 + bound_of y k))
 positive (sync p y) k = first_one (bound_of y k) (k * (1 + bound_of y k))
 positive (all p y) k = omega arith
+positive (times n y) k = omega arith
 
 -- a part within its bound, and an entry for each value
 entries_small : (common : Plain) (tree : List ℕ → Plain) (b k : ℕ) (vs : List (List ℕ)) → ((v : List ℕ) → size_of (tree v) ≤ b) → length (canon text_cmp vs) ≤ k → size_of (set_of (entries_of common tree vs)) ≤ k * (1 + b)
@@ -420,3 +421,4 @@ bounded (all p y) e w k f h v =
     small_dead (is_empty all_maps) (all_tree (set_of all_maps)) (bound_of (all p y) k) (positive (all p y) k)
     (all_small p y e w each_all (bound_of y k) k (is_so (is_keyed p y) 53 (Each-head h)) names v
     (λ owners u. bounded y (bind p (Some u) e) (part (text_eq u) owners w) k (g (Some u)) (Each-tail h) (few_part (text_eq u) owners w k v)))
+bounded (times n y) e w k f h v = absurd (let c : Some 54 ≡ None = Each-head h in cc)

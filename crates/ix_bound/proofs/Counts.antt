@@ -1,6 +1,6 @@
 -- An expression has as many codes as nodes, at most 512.
 use Rattle.std.proofs.Common.{◌≡◌, ◌≤◌, ℕ, suc, List, [], ◌∷◌, ◌++◌, length, refl, ap, arith, false, true}
-use Rattle.ix_expr.specs.Form.{Form, atom, opt, seq, star, par, par_star, or, and, couple, any, every, sync, all}
+use Rattle.ix_expr.specs.Form.{Form, atom, opt, seq, star, par, par_star, or, and, couple, any, every, sync, all, times}
 use Rattle.ix_expr.specs.FormFaults.{Binder, nodes_below, IsWellFormed}
 use Rattle.ix_expr.proofs.Parts.{well-formed-few}
 use Rattle.ix_bound.specs.Refusals.{codes_of}
@@ -24,6 +24,7 @@ codes_count d around (any p y) = ap suc (codes_count (suc d) (record { is_all = 
 codes_count d around (every p y) = ap suc (codes_count (suc d) (record { is_all = false; parameter = p } ∷ around) y)
 codes_count d around (sync p y) = ap suc (codes_count (suc d) (record { is_all = false; parameter = p } ∷ around) y)
 codes_count d around (all p y) = ap suc (codes_count (suc d) (record { is_all = true; parameter = p } ∷ around) y)
+codes_count d around (times n y) = ap suc (codes_count (suc d) around y)
 
 pub few_codes : (x : Form) → IsWellFormed x → length (codes_of x) ≤ 512
 few_codes x h = omega (arith, codes_count 1 [] x, well-formed-few x h)

@@ -8,7 +8,7 @@ use Rattle.ix_values.specs.lemmas.Order.{text_eq-decides}
 use Rattle.ix_values.specs.PlainAction.{PlainAction}
 use Rattle.ix_expr.specs.declared.arg.Arg.{Arg}
 use Rattle.ix_expr.specs.declared.arg.Arg.TheVariants.{Fixed, Param}
-use Rattle.ix_expr.specs.Form.{PlainAtom, Form, atom, opt, seq, star, par, par_star, or, and, couple, any, every, sync, all}
+use Rattle.ix_expr.specs.Form.{PlainAtom, Form, atom, opt, seq, star, par, par_star, or, and, couple, any, every, sync, all, times}
 use Rattle.ix_expr.specs.FormFaults.{is_parameter}
 use Rattle.ix_expr.specs.Environment.{Environment, bind, value_in, HasValue, HaveValues, Matches}
 use Rattle.ix_expr.specs.Meaning.{InAlphabet}
@@ -47,6 +47,7 @@ matching p v (any q y) e a n h i = matching p v y (bind q (Some i.0) e) a n.1 (b
 matching p v (every q y) e a n h i = matching p v y (bind q (Some i.0) e) a n.1 (bind-other p q (Some i.0) (Some v) e n.0 h) i.1
 matching p v (sync q y) e a n h i = matching p v y (bind q (Some i.0) e) a n.1 (bind-other p q (Some i.0) (Some v) e n.0 h) i.1
 matching p v (all q y) e a n h i = matching p v y (bind q (Some i.0) e) a n.1 (bind-other p q (Some i.0) (Some v) e n.0 h) i.1
+matching p v (times m y) e a n h i = matching p v y e a n h i
 
 own_value : (e : Environment) (p v u : List ℕ) (x : Arg) → is_parameter p x ≡ true → value_in e p ≡ Some v → HasValue e x u → u ≡ v
 own_value e p v u (Fixed w) i h k = absurd (true≢false (sym i))

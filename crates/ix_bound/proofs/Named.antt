@@ -9,7 +9,7 @@ use Rattle.ix_words.proofs.Words.{Reach, reach}
 use Rattle.ix_values.specs.Order.{text_eq}
 use Rattle.ix_values.specs.lemmas.Order.{text_eq-decides}
 use Rattle.ix_values.specs.PlainAction.{PlainAction, Word}
-use Rattle.ix_expr.specs.Form.{PlainAtom, Form, atom, opt, seq, star, par, par_star, or, and, couple, any, every, sync, all}
+use Rattle.ix_expr.specs.Form.{PlainAtom, Form, atom, opt, seq, star, par, par_star, or, and, couple, any, every, sync, all, times}
 use Rattle.ix_expr.specs.Environment.{Environment, bind, Matches}
 use Rattle.ix_expr.specs.Meaning.{InAlphabet, IsComplete, IsPartial}
 use Rattle.ix_expr.proofs.LawsOfMeaning.{complete-partial, partial-alphabet}
@@ -46,6 +46,7 @@ named (any p y) e a i = named y (bind p (Some i.0) e) a i.1
 named (every p y) e a i = named y (bind p (Some i.0) e) a i.1
 named (sync p y) e a i = named y (bind p (Some i.0) e) a i.1
 named (all p y) e a i = named y (bind p (Some i.0) e) a i.1
+named (times n y) e a i = named y e a i
 
 pub has_its_name : (x : Form) (e : Environment) (a : PlainAction) → InAlphabet x e a → has_name x a.name ≡ true
 has_its_name x e a i =
@@ -174,6 +175,7 @@ headed (any q y) e a w h p = headed y (bind q (Some p.0) e) a w h p.1
 headed (every q y) e a w h p = headed y (bind q (Some []) e) a w h (p [])
 headed (sync q y) e a w h p = absurd (true≢false (sym h))
 headed (all q y) e a w h p = absurd (true≢false (sym h))
+headed (times n y) e a w h p = absurd (true≢false (sym h))
 
 -- no action comes first and again behind the first
 no_return : (y : Form) (e : Environment) (a : PlainAction) → is_headed y ≡ true → InAlphabet y e a → is_head y a.name ≡ true → is_in_rest y a.name ≡ true → ⊥

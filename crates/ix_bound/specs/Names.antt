@@ -3,7 +3,7 @@ use Rattle.std.specs.Prelude.{ℕ, Bool, List, [], ◌∷◌, ◌++◌}
 use Rattle.std.specs.List.{list_any}
 use Rattle.ix_values.specs.Order.{text_eq}
 use Rattle.ix_expr.specs.Form.{PlainAtom, Form, atom, opt, seq, star, par, par_star, or, and}
-use Rattle.ix_expr.specs.Form.{couple, any, every, sync, all}
+use Rattle.ix_expr.specs.Form.{couple, any, every, sync, all, times}
 
 -- the atoms, from left to right
 abbrev pub atoms : Form → List PlainAtom
@@ -20,6 +20,7 @@ atoms (any p y) = atoms y
 atoms (every p y) = atoms y
 atoms (sync p y) = atoms y
 atoms (all p y) = atoms y
+atoms (times n y) = atoms y
 
 -- whether an atom of the expression has this name
 abbrev pub has_name : Form → List ℕ → Bool

@@ -1,19 +1,20 @@
 -- The nodes for which no bound is given, in pre-order.
 use Rattle.std.specs.Prelude.{ℕ, suc, List, [], ◌∷◌, ◌++◌, Option, Some, None, if◌then◌else◌}
 use Rattle.ix_expr.specs.Form.{Form, atom, opt, seq, star, par, par_star, or, and, couple}
-use Rattle.ix_expr.specs.Form.{any, every, sync, all}
+use Rattle.ix_expr.specs.Form.{any, every, sync, all, times}
 use Rattle.ix_bound.specs.Names.{share_a_name}
 use Rattle.ix_bound.specs.Heads.{is_headed}
 use Rattle.ix_bound.specs.Keys.{is_keyed}
 
 -- why the node itself is refused: 51, its operands share a name; 52, its operand isn't headed; 53,
--- it isn't keyed; 54, it is a `#`
+-- it isn't keyed; 54, it is a `#` or a `times`
 abbrev pub code_of : Form → Option ℕ
 code_of (seq y z) = if share_a_name y z then Some 51 else None
 code_of (par y z) = if share_a_name y z then Some 51 else None
 code_of (star y) = if is_headed y then None else Some 52
 code_of (all p y) = if is_keyed p y then None else Some 53
 code_of (par_star y) = Some 54
+code_of (times n y) = Some 54
 code_of x = None
 
 -- the codes of all nodes: of a node, then of its left operand's, then of its right's
@@ -31,6 +32,7 @@ codes_of (any p y) = code_of (any p y) ∷ codes_of y
 codes_of (every p y) = code_of (every p y) ∷ codes_of y
 codes_of (sync p y) = code_of (sync p y) ∷ codes_of y
 codes_of (all p y) = code_of (all p y) ∷ codes_of y
+codes_of (times n y) = code_of (times n y) ∷ codes_of y
 
 -- the first code, and the number of its node, where the nodes are numbered from n
 abbrev pub first_refused : ℕ → List (Option ℕ) → Option (ℕ × ℕ)

@@ -10,6 +10,6 @@ pub enum Bound {
     Above,
     /// No bound is given, because of the node with this number, counted from 0 in pre-order: 51
     /// where the operands of a `-` or a `+` share a name, 52 where the operand of a `*` isn't
-    /// headed, 53 where an `all` isn't keyed, 54 at a `#`.
+    /// headed, 53 where an `all` isn't keyed, 54 at a `#` or a `times`.
     Refused { code: u8, node: usize },
 }

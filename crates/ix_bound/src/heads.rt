@@ -68,7 +68,8 @@ fn some_come_again(whole: &Expr, part: &Expr) -> bool
         | Expr::Any(_, y)
         | Expr::Every(_, y)
         | Expr::Sync(_, y)
-        | Expr::All(_, y) => some_come_again(whole, y),
+        | Expr::All(_, y)
+        | Expr::Times(_, y) => some_come_again(whole, y),
         Expr::Seq(y, z) | Expr::Par(y, z) | Expr::Or(y, z) | Expr::And(y, z) | Expr::Couple(y, z) =>
             { some_come_again(whole, y) || some_come_again(whole, z) }
     }

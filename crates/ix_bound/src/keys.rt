@@ -47,7 +47,8 @@ fn all_keep(parameter: &Name, atom: &Atom, place: usize, expr: &Expr) -> bool
         | Expr::Any(_, y)
         | Expr::Every(_, y)
         | Expr::Sync(_, y)
-        | Expr::All(_, y) => all_keep(parameter, atom, place, y),
+        | Expr::All(_, y)
+        | Expr::Times(_, y) => all_keep(parameter, atom, place, y),
         Expr::Seq(y, z) | Expr::Par(y, z) | Expr::Or(y, z) | Expr::And(y, z) | Expr::Couple(y, z) =>
             { all_keep(parameter, atom, place, y) && all_keep(parameter, atom, place, z) }
     }
@@ -76,7 +77,8 @@ fn all_have_keys(parameter: &Name, whole: &Expr, part: &Expr) -> bool
         | Expr::Any(_, y)
         | Expr::Every(_, y)
         | Expr::Sync(_, y)
-        | Expr::All(_, y) => all_have_keys(parameter, whole, y),
+        | Expr::All(_, y)
+        | Expr::Times(_, y) => all_have_keys(parameter, whole, y),
         Expr::Seq(y, z) | Expr::Par(y, z) | Expr::Or(y, z) | Expr::And(y, z) | Expr::Couple(y, z) =>
             { all_have_keys(parameter, whole, y) && all_have_keys(parameter, whole, z) }
     }

@@ -19,7 +19,8 @@ pub(crate) fn has_name(expr: &Expr, name: &Name) -> bool
         | Expr::Any(_, y)
         | Expr::Every(_, y)
         | Expr::Sync(_, y)
-        | Expr::All(_, y) => has_name(y, name),
+        | Expr::All(_, y)
+        | Expr::Times(_, y) => has_name(y, name),
         Expr::Seq(y, z) | Expr::Par(y, z) | Expr::Or(y, z) | Expr::And(y, z) | Expr::Couple(y, z) =>
             { has_name(y, name) || has_name(z, name) }
     }
@@ -37,7 +38,8 @@ pub(crate) fn share_a_name(one: &Expr, other: &Expr) -> bool
         | Expr::Any(_, y)
         | Expr::Every(_, y)
         | Expr::Sync(_, y)
-        | Expr::All(_, y) => share_a_name(y, other),
+        | Expr::All(_, y)
+        | Expr::Times(_, y) => share_a_name(y, other),
         Expr::Seq(y, z) | Expr::Par(y, z) | Expr::Or(y, z) | Expr::And(y, z) | Expr::Couple(y, z) =>
             { share_a_name(y, other) || share_a_name(z, other) }
     }

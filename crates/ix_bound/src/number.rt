@@ -15,7 +15,7 @@ pub(crate) fn capped_bound(expr: &Expr, values: u32) -> u64
     ensures { result ≡ min 1000001 (bound_of (form_of expr.now) values) }
 {
     match expr {
-        Expr::Atom(_) | Expr::ParStar(_) => 1,
+        Expr::Atom(_) | Expr::ParStar(_) | Expr::Times(_, _) => 1,
         Expr::Opt(y) | Expr::Star(y) => capped(1 + capped_bound(y, values)),
         Expr::Seq(y, z) | Expr::Or(y, z) | Expr::And(y, z) | Expr::Couple(y, z) => capped(
             1 + capped_bound(y, values) + capped_bound(z, values),

@@ -23,6 +23,7 @@ fn bounds_by_hand(rt: HostRuntime) -> Result<(), Fail> {
         (b"*(a - b | b)".as_slice(), 3, refused(52, 0)),
         (b"all $p (a($p,x) | a(x,$p))".as_slice(), 3, refused(53, 0)),
         (b"?#a".as_slice(), 3, refused(54, 1)),
+        (b"?times 2 a".as_slice(), 3, refused(54, 1)),
         (b"(a | b) - (c + c)".as_slice(), 3, refused(51, 4)),
         (
             b"all $p (a(x,$p) | a(y,$p))".as_slice(),

@@ -30,7 +30,7 @@ fn code_of(expr: &Expr) -> Option<u8>
         } else {
             Some(53)
         },
-        Expr::ParStar(_) => Some(54),
+        Expr::ParStar(_) | Expr::Times(_, _) => Some(54),
         _ => None,
     }
 }
@@ -52,7 +52,8 @@ pub(crate) fn walk(expr: &Expr, node: usize) -> Walked
         | Expr::Any(_, y)
         | Expr::Every(_, y)
         | Expr::Sync(_, y)
-        | Expr::All(_, y) => walk(y, node + 1),
+        | Expr::All(_, y)
+        | Expr::Times(_, y) => walk(y, node + 1),
         Expr::Seq(y, z) | Expr::Par(y, z) | Expr::Or(y, z) | Expr::And(y, z) | Expr::Couple(y, z) =>
             match walk(y, node + 1) {
                 Walked::Passed(next) => walk(z, next),

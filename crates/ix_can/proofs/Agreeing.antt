@@ -10,7 +10,7 @@ use Rattle.ix_words.proofs.Canon.{Member-map}
 use Rattle.ix_words.proofs.Ways.{cut_is, split_is}
 use Rattle.ix_values.specs.Order.{text_eq}
 use Rattle.ix_values.specs.PlainAction.{PlainAction, Word, values_of}
-use Rattle.ix_expr.specs.Form.{PlainAtom, Form, atom, opt, seq, star, par, par_star, or, and, couple, any, every, sync, all}
+use Rattle.ix_expr.specs.Form.{PlainAtom, Form, atom, opt, seq, star, par, par_star, or, and, couple, any, every, sync, all, times}
 use Rattle.ix_expr.specs.Environment.{Environment, bind}
 use Rattle.ix_expr.specs.Meaning.{InAlphabet}
 use Rattle.ix_expr.specs.Laws.{AgreeAt, AgreeOn}
@@ -18,9 +18,9 @@ use Rattle.ix_expr.proofs.Agreement.{alphabet-leads}
 use Rattle.ix_expr.proofs.LawsOfMeaning.{agree-sym, bind-agree}
 use Rattle.ix_tree.specs.Plain.{Plain, done, dead}
 use Rattle.ix_can.specs.Tests.{in_alphabet, values_and_outside}
-use Rattle.ix_can.specs.Ways.{is_empty, ways_into_pieces, is_concatenation, numberings, nonempty_parts, numbers_below, ownings}
-use Rattle.ix_can.specs.Nodes.{live, opt_node, seq_node, star_node, par_node, par_star_node, or_node, and_node, couple_node, any_node, every_node, sync_node, all_node}
-use Rattle.ix_can.specs.TreeOf.{is_final, tree_of, atom_tree, live_pair, live_bag, entries_of, live_map}
+use Rattle.ix_can.specs.Ways.{is_empty, ways_into_pieces, is_concatenation, numberings, nonempty_parts, numbers_below, ownings, sharings, parts_below}
+use Rattle.ix_can.specs.Nodes.{live, opt_node, seq_node, star_node, par_node, par_star_node, or_node, and_node, couple_node, any_node, every_node, sync_node, all_node, times_node}
+use Rattle.ix_can.specs.TreeOf.{is_final, tree_of, atom_tree, live_pair, live_bag, whole_bag, entries_of, live_map}
 use Rattle.ix_can.proofs.Lists.{one_test, Member-filter}
 use Rattle.ix_can.proofs.Testing.{alphabet_says}
 use Rattle.ix_can.proofs.Ways.{pieces_join}
@@ -90,6 +90,11 @@ module _ {e f : Environment} {w : Word} (k : AgreeOn e f w) where
       let j = Member-map (λ number. part (λ owner. number == owner) owners w) (numbers_below (length w)) (Member-filter (λ x. not (is_empty x)) _ m).0 in
       Each-same (sym j.2) (part-each (λ owner. j.0 == owner) owners k)
 
+  below_agree : (n : ℕ) (owners : List ℕ) {u : Word} → Member u (parts_below n owners w) → AgreeOn e f u
+  below_agree n owners {u} m =
+      let j = Member-map (λ number. part (λ owner. number == owner) owners w) (numbers_below n) (Member-filter (λ x. not (is_empty x)) _ m).0 in
+      Each-same (sym j.2) (part-each (λ owner. j.0 == owner) owners k)
+
   bound : (p : List ℕ) (v : Option (List ℕ)) → AgreeOn (bind p v e) (bind p v f) w
   bound p v = Each-weaker (λ a g. bind-agree p v a g) k
 
@@ -152,6 +157,9 @@ same_tree_of (all p y) e f w k =
     let initial : tree_of y e [] ≡ tree_of y f [] = same_tree_of y e f [] no_item in
     ap all_node (flat_map-alike {f = λ owners. live_map (tree_of y e []) (λ v. tree_of y (bind p (Some v) e) (part (text_eq v) owners w)) owners} {g = λ owners. live_map (tree_of y f []) (λ v. tree_of y (bind p (Some v) f) (part (text_eq v) owners w)) owners} (ownings w) (λ owners m.
     (λ j. live_map (initial j) (λ v. same_tree_of y (bind p (Some v) e) (bind p (Some v) f) (part (text_eq v) owners w) (part-each (text_eq v) owners (bound k p (Some v))) j) owners)))
+same_tree_of (times n y) e f w k =
+    ap (times_node n) (flat_map-alike {f = λ owners. whole_bag (map (tree_of y e) (parts_below n owners w))} {g = λ owners. whole_bag (map (tree_of y f) (parts_below n owners w))} (sharings n w) (λ owners m.
+    ap whole_bag (map-alike (parts_below n owners w) (λ u h. same_tree_of y e f u (below_agree k n owners h)))))
 
 -- the empty word has one tree
 pub empty_tree : (x : Form) (e f : Environment) → tree_of x e [] ≡ tree_of x f []

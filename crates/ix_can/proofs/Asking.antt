@@ -7,10 +7,10 @@ use Rattle.ix_values.specs.Order.{text_cmp}
 use Rattle.ix_expr.specs.Environment.{Environment, bind}
 use Rattle.ix_expr.specs.Fitting.{FitsInside}
 use Rattle.ix_expr.specs.FormFaults.{Fits}
-use Rattle.ix_expr.specs.Form.{Form, opt, seq, star, par, par_star, or, and, couple, any, every, sync, all}
+use Rattle.ix_expr.specs.Form.{Form, opt, seq, star, par, par_star, or, and, couple, any, every, sync, all, times}
 use Rattle.ix_expr.proofs.Parts.{fits-operands}
 use Rattle.ix_tree.specs.Order.{key, first_part, second_part}
-use Rattle.ix_tree.specs.Plain.{Plain, dead, is_dead, listed, items_of, opt as opt_of, seq as seq_of, star as star_of, par as par_of, par_star as par_star_of, or as or_of, and as and_of, couple as couple_of, any as any_of, every as every_of, sync as sync_of, all as all_of}
+use Rattle.ix_tree.specs.Plain.{Plain, dead, is_dead, listed, items_of, opt as opt_of, seq as seq_of, star as star_of, par as par_of, par_star as par_star_of, or as or_of, and as and_of, couple as couple_of, any as any_of, every as every_of, sync as sync_of, all as all_of, times as times_of}
 use Rattle.ix_tree.specs.PlainOf.{plain_entry, plain_entries}
 use Rattle.ix_tree.proofs.PlainLists.{items_of-listed}
 use Rattle.ix_can.specs.inside.CanAsk.{CanAsk, AreProper}
@@ -78,6 +78,9 @@ module _ {e : Environment} where
 
   pub par_star_bags : {y : Form} {s : Plain} → CanAsk (par_star y) e (par_star_of s) → Fits y e × Each (λ b. IsRising (items_of (first_part b)) × Each (IsProper y) (items_of (first_part b))) (items_of s)
   par_star_bags {y} h = (fits-operands (par_star y) e h.fits, h.proper.each)
+
+  pub times_bags : {n : ℕ} {y : Form} {s : Plain} → CanAsk (times n y) e (times_of s) → Fits y e × Each (λ b. IsRising (items_of (first_part b)) × Each (IsProper y) (items_of (first_part b))) (items_of s)
+  times_bags {n} {y} h = (fits-operands (times n y) e h.fits, h.proper.each)
 
   pub or_first : {y z : Form} {t u : Plain} → CanAsk (or y z) e (or_of t u) → CanAsk y e t
   or_first {y} {z} h = record { fits = (fits-operands (or y z) e h.fits).0; proper = h.proper.0 }

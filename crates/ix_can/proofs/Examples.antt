@@ -5,8 +5,8 @@ use Rattle.ix_values.specs.PlainAction.{PlainAction, Word}
 use Rattle.ix_values.specs.inside.ActionOf.{action_of}
 use Rattle.ix_expr.specs.declared.arg.Arg.{Arg}
 use Rattle.ix_expr.specs.declared.arg.Arg.TheVariants.{Fixed, Param}
-use Rattle.ix_expr.specs.Form.{Form, atom, opt, seq, star, par, par_star, or, and, couple, any, every, sync, all}
-use Rattle.ix_tree.specs.Plain.{Plain, dead, start, done, opt as opt_tree, seq as seq_tree, star as star_tree, par as par_tree, par_star as par_star_tree, couple as couple_tree, sync as sync_tree, all as all_tree, pair, bag, map, entry}
+use Rattle.ix_expr.specs.Form.{Form, atom, opt, seq, star, par, par_star, or, and, couple, any, every, sync, all, times}
+use Rattle.ix_tree.specs.Plain.{Plain, dead, start, done, opt as opt_tree, seq as seq_tree, star as star_tree, par as par_tree, par_star as par_star_tree, couple as couple_tree, sync as sync_tree, all as all_tree, times as times_tree, pair, bag, map, entry}
 use Rattle.ix_can.specs.Nodes.{listed}
 use Rattle.ix_can.specs.TreeOf.{tree_of, tree_size}
 
@@ -232,3 +232,22 @@ sync_other = refl
 -- `all $p *b($p)`: a value whose runs are over has no entry
 pub all_thrice : after (all (codes "p") (star with_p)) (do_bv ∷ do_bu ∷ do_bv ∷ []) ≡ all_tree (listed (map (listed []) ∷ []))
 all_thrice = refl
+
+-- `times 2 (a - b)`: a run that is over stays, since so many are wanted
+abbrev two_runs : Form
+two_runs = times 2 (seq only_a only_b)
+
+pub times_before : after two_runs [] ≡ times_tree (listed (bag (listed []) ∷ []))
+times_before = refl
+
+pub times_over : after two_runs (do_a ∷ do_b ∷ []) ≡ times_tree (listed (bag (listed (done ∷ [])) ∷ []))
+times_over = refl
+
+pub times_begun : after two_runs (do_a ∷ do_a ∷ []) ≡ times_tree (listed (bag (listed (seq_tree dead false (listed (start ∷ [])) ∷ seq_tree dead false (listed (start ∷ [])) ∷ [])) ∷ []))
+times_begun = refl
+
+pub times_full : after two_runs (do_a ∷ do_a ∷ do_b ∷ do_b ∷ []) ≡ done
+times_full = refl
+
+pub times_too_many : after two_runs (do_a ∷ do_a ∷ do_a ∷ []) ≡ dead
+times_too_many = refl

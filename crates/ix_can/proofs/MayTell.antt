@@ -23,13 +23,13 @@ use Rattle.ix_tree.specs.Plain.{Plain, dead, done, opt as opt_tree, star as star
 use Rattle.ix_tree.specs.Order.{first_part, second_part}
 use Rattle.ix_can.specs.Tests.{is_match, in_alphabet, accepts_empty}
 use Rattle.ix_can.specs.Ways.{is_empty, numberings, nonempty_parts, numbers_below}
-use Rattle.ix_can.specs.Nodes.{is_dead, is_live, is_open, listed, items_of, set_of, sorted, live, dead_if, unless_done, settled, seq_parts}
+use Rattle.ix_can.specs.Nodes.{is_dead, is_live, is_open, listed, items_of, set_of, sorted, live, dead_if, done_if, unless_done, is_spent, settled, seq_parts}
 use Rattle.ix_can.specs.TreeOf.{tree_of}
 use Rattle.ix_can.specs.inside.May.{both_move, may_first, may}
 use Rattle.ix_can.proofs.Lists.{itself, both_iff, same_test, iff_trans, iff_sym, when_either, when_both, when_not, SomeWay, when_passes, one_passes, made_says, all_map, any_map, filled_says, filter-Member, Member-filter}
 use Rattle.ix_can.proofs.Testing.{match_says, alphabet_says, empty_complete}
 use Rattle.ix_can.proofs.Ways.{numbered_part, long_to, long_from, parts_to, parts_from, numbers_to, each_below, below_from, owner_or_none}
-use Rattle.ix_can.proofs.Spent.{may_dead, may_done, unless_may, settled_live, settled_may, any_open}
+use Rattle.ix_can.proofs.Spent.{may_dead, may_done, unless_may, spent_may, done_live, done_may, any_open}
 use Rattle.ix_can.proofs.Nodes.{tree_live, any_set, any_sorted, projected_says}
 use Rattle.ix_can.proofs.OperatorsTell.{Tells, opt_told, seq_told, par_told, or_told, and_told, couple_told, star_told, par_star_told, again, again_says, seq_rest, seq_says, par_pair, star_rest, par_star_bag}
 use Rattle.ix_can.proofs.Ends.{joined_end, joined_more, split_end, repeated_end, filter_end}
@@ -293,9 +293,13 @@ module _ (a : PlainAction) where
   abbrev pub MayTells : Form → Environment → Type 0
   MayTells y e = (w : Word) → (may y e (tree_of y e w) a ≡ true) ↔ IsPartial y e (w ++ a ∷ [])
 
+  -- a node that is dead where one test holds, and done where the other does and it is stuck
+  pub either_may : (x : Form) (e : Environment) (b d : Bool) (t : Plain) {P Q : Type 0} → (d ≡ true → may x e t a ≡ false) → is_dead t ≡ false → (is_dead (dead_if b (done_if d t)) ≡ false) ↔ P → (Q → P) → (P → (may x e t a ≡ true) ↔ Q) → (may x e (dead_if b (done_if d t)) a ≡ true) ↔ Q
+  either_may x e true d t f l p g c = (λ h. absurd (true≢false (sym h ∙ may_dead x e a)), λ q. absurd (true≢false (p.1 (g q))))
+  either_may x e false d t f l p g c = same_test (done_may x e d t a f) (c (p.0 (done_live d t l)))
+
   pub node_may : (x : Form) (e : Environment) (b : Bool) (t : Plain) {P Q : Type 0} → is_dead t ≡ false → (is_dead (dead_if b (settled t)) ≡ false) ↔ P → (Q → P) → (P → (may x e t a ≡ true) ↔ Q) → (may x e (dead_if b (settled t)) a ≡ true) ↔ Q
-  node_may x e true t l p g c = (λ h. absurd (true≢false (sym h ∙ may_dead x e a)), λ q. absurd (true≢false (p.1 (g q))))
-  node_may x e false t l p g c = same_test (settled_may x e t a) (c (p.0 (settled_live t l)))
+  node_may x e b t l p g c = either_may x e b (is_spent t) t (spent_may x e t a) l p g c
 
   pub live_may : (y : Form) (e : Environment) → Tells y e → MayTells y e → (v : Word) → (list_any (λ s. may y e s a) (live (tree_of y e v)) ≡ true) ↔ IsPartial y e (v ++ a ∷ [])
   live_may y e k m v = iff_trans

@@ -1,6 +1,6 @@
 -- A measure of recursions over an expression: how many nodes it has.
 use Rattle.std.proofs.Common.{ℕ, suc, ◌+◌}
-use Rattle.ix_expr.specs.Form.{Form, atom, opt, seq, star, par, par_star, or, and, couple, any, every, sync, all}
+use Rattle.ix_expr.specs.Form.{Form, atom, opt, seq, star, par, par_star, or, and, couple, any, every, sync, all, times}
 
 -- the number of nodes
 abbrev pub count : Form → ℕ
@@ -16,4 +16,5 @@ count (couple y z) = suc (count y + count z)
 count (any p y) = suc (count y)
 count (every p y) = suc (count y)
 count (sync p y) = suc (count y)
+count (times n y) = suc (count y)
 count (all p y) = suc (count y)

@@ -1,20 +1,21 @@
 -- Environments under which the atoms of an expression match an action alike let it come next alike, and move each tree
 -- alike.
-use Rattle.std.proofs.Common.{◌≡◌, false, not, ◌&&◌, ◌||◌, [], ◌∷◌, ◌++◌, Some, None, flat_map, filter, refl, ap, if◌then◌else◌}
+use Rattle.std.proofs.Common.{◌≡◌, length, false, not, ◌&&◌, ◌||◌, [], ◌∷◌, ◌++◌, Some, None, flat_map, filter, refl, ap, if◌then◌else◌}
+use Rattle.std.specs.Prelude.{nat_lt}
 use Rattle.std.specs.List.{list_any, list_all}
 use Rattle.ix_words.specs.Canon.{when}
 use Rattle.ix_values.specs.PlainAction.{PlainAction}
-use Rattle.ix_expr.specs.Form.{Form, atom, opt, seq, star, par, par_star, or, and, couple, any, every, sync, all}
+use Rattle.ix_expr.specs.Form.{Form, atom, opt, seq, star, par, par_star, or, and, couple, any, every, sync, all, times}
 use Rattle.ix_expr.specs.Environment.{Environment, bind}
 use Rattle.ix_expr.specs.Laws.{AtomsAgreeAt}
 use Rattle.ix_expr.proofs.AgreeingAtoms.{atoms-back, alphabet-same}
-use Rattle.ix_tree.specs.Plain.{Plain, dead, start, done, opt as opt_of, seq as seq_of, star as star_of, par as par_of, par_star as par_star_of, or as or_of, and as and_of, couple as couple_of, any as any_of, every as every_of, sync as sync_of, all as all_of, pair as pair_of}
+use Rattle.ix_tree.specs.Plain.{Plain, dead, start, done, opt as opt_of, seq as seq_of, star as star_of, par as par_of, par_star as par_star_of, or as or_of, and as and_of, couple as couple_of, any as any_of, every as every_of, sync as sync_of, all as all_of, times as times_of, pair as pair_of}
 use Rattle.ix_tree.specs.Order.{key, first_part, second_part}
 use Rattle.ix_can.specs.Tests.{in_alphabet, values_and_outside, accepts_empty}
-use Rattle.ix_can.specs.Nodes.{is_dead, is_live, is_open, items_of, set_of, live, dead_if, settled, seq_parts}
+use Rattle.ix_can.specs.Nodes.{is_dead, is_live, is_open, items_of, set_of, live, dead_if, settled, settled_times, seq_parts}
 use Rattle.ix_can.specs.TreeOf.{is_final, tree_of}
 use Rattle.ix_can.specs.inside.May.{both_move, moves_within, tree_at, may_first, may}
-use Rattle.ix_can.specs.inside.Moved.{picks, bag_with, entry_with, map_with, or_initial, moved_inside, moved}
+use Rattle.ix_can.specs.inside.Moved.{picks, bag_with, keep_with, entry_with, map_with, or_initial, moved_inside, moved}
 use Rattle.ix_can.proofs.Lists.{one_test}
 use Rattle.ix_can.proofs.Testing.{alphabet_says}
 
@@ -43,6 +44,7 @@ module _ (a : PlainAction) where
       (λ i. list_any (λ v. atoms_alphabet y (bind p v e) (bind p v f) (k v) i) (values_and_outside a)
       && list_all (λ v. moves_within (atoms_alphabet y (bind p v e) (bind p v f) (k v) i) (first_alike y (bind p v e) (bind p v f) (k v) i)) (values_and_outside a))
   first_alike (all p y) e f k = (λ i. list_any (λ v. first_alike y (bind p (Some v) e) (bind p (Some v) f) (k (Some v)) i) a.values)
+  first_alike (times n y) e f k = (λ i. nat_lt 0 n && first_alike y e f k i)
 
   -- the action may come next alike
   pub may_alike : (x : Form) (t : Plain) (e f : Environment) → AtomsAgreeAt x e f a → may x e t a ≡ may x f t a
@@ -70,6 +72,7 @@ module _ (a : PlainAction) where
       && list_all (λ v. moves_within (atoms_alphabet y (bind p (Some v) e) (bind p (Some v) f) (k (Some v)) i) (may_alike y (tree_at v common (items_of entries)) (bind p (Some v) e) (bind p (Some v) f) (k (Some v)) i)) a.values)))
   may_alike (all p y) (all_of maps) e f k =
       (λ i. list_any (λ m. list_any (λ v. if is_dead (tree_at v dead (items_of (first_part m))) then first_alike y (bind p (Some v) e) (bind p (Some v) f) (k (Some v)) i else may_alike y (tree_at v dead (items_of (first_part m))) (bind p (Some v) e) (bind p (Some v) f) (k (Some v)) i) a.values) (items_of maps))
+  may_alike (times n y) (times_of bags) e f k = (λ i. list_any (λ b. (nat_lt (length (items_of (first_part b))) n && first_alike y e f k i) || list_any (λ s. may_alike y s e f k i) (items_of (first_part b))) (items_of bags))
   may_alike _ _ e f k = refl
 
   -- the action moves each tree alike
@@ -115,4 +118,8 @@ module _ (a : PlainAction) where
   moved_alike (all p y) (all_of maps) e f k =
       (λ i. dead_if (not (may_alike (all p y) (all_of maps) e f k i)) (all_of (set_of (flat_map (λ m. flat_map (λ v.
       map_with (tree_of y [] []) v (moved_alike y (or_initial (tree_of y [] []) (tree_at v dead (items_of (first_part m)))) (bind p (Some v) e) (bind p (Some v) f) (k (Some v)) i) (items_of (first_part m))) a.values) (items_of maps)))))
+  moved_alike (times n y) (times_of bags) e f k =
+      (λ i. dead_if (not (may_alike (times n y) (times_of bags) e f k i)) (settled_times n (set_of (flat_map (λ b.
+      flat_map (λ p. keep_with (moved_alike y p.0 e f k i) p.1) (picks (items_of (first_part b)))
+      ++ when (nat_lt (length (items_of (first_part b))) n) (keep_with (moved_alike y (tree_of y [] []) e f k i) (items_of (first_part b)))) (items_of bags)))))
   moved_alike _ _ e f k = refl

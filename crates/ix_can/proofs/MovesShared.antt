@@ -1,26 +1,27 @@
 -- What the moved trees of all forms have in common: nodes, and lists of alternatives that are moved.
 use Rattle.std.proofs.Common.{◌≡◌, ◌↔◌, inl, inr, Bool, true, false, not, if◌then◌else◌, List, [], ◌∷◌, ◌++◌, Some, None, map, flat_map, filter, refl, sym, ap, ◌∙◌, true≢false, append-nil}
 use Rattle.std.specs.List.{list_any}
+use Rattle.std.specs.Prelude.{nat_lt, length}
 use Rattle.ix_words.specs.Each.{Member}
 use Rattle.ix_words.specs.Canon.{SameMembers, canon, when, cuts, with_start, with_end}
 use Rattle.ix_words.proofs.Each.{Member-left, Member-right, Member-either}
 use Rattle.ix_words.proofs.Ways.{cuts-end}
 use Rattle.ix_words.proofs.Canon.{Member-flat_map, flat_map-Member, SameMembers-refl, SameMembers-trans, SameMembers-eq, SameMembers-flat_map, canon-members, canon-same, flat_map-append, flat_map-flat_map}
 use Rattle.ix_values.specs.PlainAction.{PlainAction}
-use Rattle.ix_expr.specs.Form.{Form, atom, opt, seq, star, par, par_star, or, and, couple, any, every, sync, all}
+use Rattle.ix_expr.specs.Form.{Form, atom, opt, seq, star, par, par_star, or, and, couple, any, every, sync, all, times}
 use Rattle.ix_expr.specs.Environment.{Environment, bind}
 use Rattle.ix_expr.proofs.LawsOfMeaning.{empty-partial}
-use Rattle.ix_tree.specs.Plain.{Plain, dead, start, done, opt as opt_of, seq as seq_of, star as star_of, par as par_of, par_star as par_star_of, or as or_of, and as and_of, couple as couple_of, any as any_of, every as every_of, sync as sync_of, all as all_of, pair as pair_of}
+use Rattle.ix_tree.specs.Plain.{Plain, dead, start, done, opt as opt_of, seq as seq_of, star as star_of, par as par_of, par_star as par_star_of, or as or_of, and as and_of, couple as couple_of, any as any_of, every as every_of, sync as sync_of, all as all_of, times as times_of, pair as pair_of}
 use Rattle.ix_tree.specs.Order.{tree_cmp, key, first_part, second_part}
 use Rattle.ix_tree.specs.lemmas.TreeOrder.{tree_order}
 use Rattle.ix_can.specs.Tests.{is_match, in_alphabet}
 use Rattle.ix_can.specs.Ways.{is_empty}
-use Rattle.ix_can.specs.Nodes.{is_dead, is_live, is_open, listed, items_of, set_of, live, dead_if, settled, seq_parts}
+use Rattle.ix_can.specs.Nodes.{is_dead, is_live, is_open, listed, items_of, set_of, live, dead_if, done_if, only_bag_done, is_spent, settled, seq_parts}
 use Rattle.ix_can.specs.TreeOf.{is_final, tree_of}
 use Rattle.ix_can.specs.inside.May.{may_first, may, tree_at}
-use Rattle.ix_can.specs.inside.Moved.{picks, bag_with, entry_with, map_with, or_initial, moved_inside, moved}
+use Rattle.ix_can.specs.inside.Moved.{picks, bag_with, keep_with, entry_with, map_with, or_initial, moved_inside, moved}
 use Rattle.ix_can.proofs.Lists.{one_test, iff_trans, iff_sym}
-use Rattle.ix_can.proofs.Spent.{dead_is, may_dead, moved_dead, moved_done, settled_live, settled_may, settled_moved, open_made, open_same}
+use Rattle.ix_can.proofs.Spent.{dead_is, may_dead, spent_may, moved_dead, moved_done, done_live, done_may, done_moved, open_made, open_same}
 use Rattle.ix_can.proofs.Nodes.{live_says, items_listed}
 use Rattle.ix_can.proofs.OperatorsTell.{Tells}
 use Rattle.ix_can.proofs.MayTell.{Begins, MayTells}
@@ -28,9 +29,12 @@ use Rattle.ix_can.proofs.Agreeing.{empty_tree}
 
 -- Dead and live
 
+either_live : (b d : Bool) (t : Plain) → is_dead t ≡ false → is_live (dead_if (not b) (done_if d t)) ≡ b
+either_live true d t l = ap not (done_live d t l)
+either_live false d t l = refl
+
 kept_live : (b : Bool) (t : Plain) → is_dead t ≡ false → is_live (dead_if (not b) (settled t)) ≡ b
-kept_live true t l = ap not (settled_live t l)
-kept_live false t l = refl
+kept_live b t l = either_live b (is_spent t) t l
 
 match_live : (b : Bool) → is_live (if b then done else dead) ≡ b
 match_live true = refl
@@ -39,19 +43,25 @@ match_live false = refl
 module _ {P : Type 0} (x : Form) (e : Environment) (a : PlainAction) where
   -- a node moves where its parts do: b and c say where it and the next one are dead, t and u are the nodes before it is
   -- asked whether they are spent, s is the node with moved parts
+  pub either_moves : (test : Plain → Bool) (b c : Bool) (t u s : Plain) → (test t ≡ true → may x e t a ≡ false) → moved x e t a ≡ dead_if (not (may x e t a)) (done_if (test s) s) →
+      (may x e (dead_if b (done_if (test t) t)) a ≡ true) ↔ P → is_dead u ≡ false → (is_dead (dead_if c (done_if (test u) u)) ≡ false) ↔ P →
+      (b ≡ false → P → s ≡ u) → moved x e (dead_if b (done_if (test t) t)) a ≡ dead_if c (done_if (test u) u)
+  either_moves test true true t u s d m f l g same = moved_dead x e a
+  either_moves test true false t u s d m f l g same = absurd (true≢false (sym (f.1 (g.0 (done_live (test u) u l))) ∙ may_dead x e a))
+  either_moves test false true t u s d m f l g same = done_moved x e (test t) t (done_if (test s) s) a d m ∙ m ∙ stays (may x e t a) refl
+    where
+      stays : (q : Bool) → may x e t a ≡ q → dead_if (not q) (done_if (test s) s) ≡ dead
+      stays true h = absurd (true≢false (g.1 (f.0 (done_may x e (test t) t a d ∙ h))))
+      stays false h = refl
+  either_moves test false false t u s d m f l g same =
+      let p : P = g.0 (done_live (test u) u l) in
+      done_moved x e (test t) t (done_if (test s) s) a d m ∙ m ∙ ap (λ q. dead_if (not q) (done_if (test s) s)) (sym (done_may x e (test t) t a d) ∙ f.1 p) ∙ ap (λ z. done_if (test z) z) (same refl p)
+
+  -- so with a node that is done where it is spent
   pub node_moves : (b c : Bool) (t u s : Plain) → moved x e t a ≡ dead_if (not (may x e t a)) (settled s) →
       (may x e (dead_if b (settled t)) a ≡ true) ↔ P → is_dead u ≡ false → (is_dead (dead_if c (settled u)) ≡ false) ↔ P →
       (b ≡ false → P → s ≡ u) → moved x e (dead_if b (settled t)) a ≡ dead_if c (settled u)
-  node_moves true true t u s m f l g same = moved_dead x e a
-  node_moves true false t u s m f l g same = absurd (true≢false (sym (f.1 (g.0 (settled_live u l))) ∙ may_dead x e a))
-  node_moves false true t u s m f l g same = settled_moved x e t (settled s) a m ∙ m ∙ stays (may x e t a) refl
-    where
-      stays : (q : Bool) → may x e t a ≡ q → dead_if (not q) (settled s) ≡ dead
-      stays true h = absurd (true≢false (g.1 (f.0 (settled_may x e t a ∙ h))))
-      stays false h = refl
-  node_moves false false t u s m f l g same =
-      let p : P = g.0 (settled_live u l) in
-      settled_moved x e t (settled s) a m ∙ m ∙ ap (λ q. dead_if (not q) (settled s)) (sym (settled_may x e t a) ∙ f.1 p) ∙ ap settled (same refl p)
+  node_moves b c t u s m f l g same = either_moves is_spent b c t u s (spent_may x e t a) m f l g same
 
 -- a tree is live after an action exactly where the action may come next
 pub moved_live : (x : Form) (e : Environment) (t : Plain) (a : PlainAction) → is_live (moved x e t a) ≡ may x e t a
@@ -99,6 +109,11 @@ moved_live (sync p y) e (sync_of common entries) a =
 moved_live (all p y) e (all_of maps) a =
     kept_live (may (all p y) e (all_of maps) a) (all_of (set_of (flat_map (λ m. flat_map (λ v.
     map_with (tree_of y [] []) v (moved y (bind p (Some v) e) (or_initial (tree_of y [] []) (tree_at v dead (items_of (first_part m)))) a) (items_of (first_part m))) a.values) (items_of maps)))) refl
+moved_live (times n y) e (times_of bags) a =
+    let moves : Plain = set_of (flat_map (λ b.
+    flat_map (λ p. keep_with (moved y e p.0 a) p.1) (picks (items_of (first_part b)))
+    ++ when (nat_lt (length (items_of (first_part b))) n) (keep_with (moved y e (tree_of y [] []) a) (items_of (first_part b)))) (items_of bags)) in
+    either_live (may (times n y) e (times_of bags) a) (only_bag_done n (items_of moves)) (times_of moves) refl
 moved_live _ e _ a = refl
 
 -- the tree of the empty word is live

@@ -1,7 +1,7 @@
 -- One more action, assembled form by form: whether it may come next, and the tree that it leads to.
 use Rattle.std.proofs.Common.{ℕ, Option, List, []}
 use Rattle.ix_values.specs.PlainAction.{PlainAction}
-use Rattle.ix_expr.specs.Form.{PlainAtom, Form, atom, opt, seq, star, par, par_star, or, and, couple, any, every, sync, all}
+use Rattle.ix_expr.specs.Form.{PlainAtom, Form, atom, opt, seq, star, par, par_star, or, and, couple, any, every, sync, all, times}
 use Rattle.ix_expr.specs.Environment.{Environment, bind}
 use Rattle.ix_expr.specs.FormFaults.{Fits}
 use Rattle.ix_expr.proofs.LawsOfMeaning.{empty-partial}
@@ -19,6 +19,9 @@ use Rattle.ix_can.proofs.MayAll.{first_all, all_may}
 use Rattle.ix_can.proofs.MovesQuantifiers.{any_moves, every_moves, sync_moves}
 use Rattle.ix_can.proofs.MovesAll.{all_moves}
 use Rattle.ix_can.proofs.MovesParallel.{par_moves, par_star_moves}
+use Rattle.ix_can.proofs.TimesTell.{times_told}
+use Rattle.ix_can.proofs.TimesMay.{first_times, times_may}
+use Rattle.ix_can.proofs.MovesTimes.{times_moves}
 use Rattle.ix_can.proofs.MovesOperators.{atom_moves, opt_moves, seq_moves, star_moves, or_moves, and_moves, couple_moves}
 
 module _ (a : PlainAction) where
@@ -54,6 +57,14 @@ module _ (a : PlainAction) where
     first = first_par_star a y e k.first;
     next = par_star_may a y e k.trees k.first k.next;
     moves = par_star_moves y e a k.trees k.first k.next k.moves;
+  }
+
+  times_steps : (n : ℕ) (y : Form) (e : Environment) → Steps y e → Steps (times n y) e
+  times_steps n y e k = record {
+    trees = times_told y e n k.trees;
+    first = first_times a n y e k.first;
+    next = times_may a y e n k.trees k.first k.next;
+    moves = times_moves y e n a k.trees k.first k.next k.moves;
   }
 
   module _ (y z : Form) (e : Environment) where
@@ -158,6 +169,7 @@ module _ (a : PlainAction) where
   steps (every p y) n e = every_steps p y e (steps y n)
   steps (sync p y) n e = sync_steps p y e (steps y n)
   steps (all p y) n e = all_steps p y e (steps y n.1) n.0
+  steps (times m y) n e = times_steps m y e (steps y n e)
 
 -- all that the trees of the words of an expression that fits tell of one more action
 pub each_step : (x : Form) (e : Environment) (a : PlainAction) → Fits x e → Steps a x e

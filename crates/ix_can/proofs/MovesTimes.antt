@@ -7,12 +7,12 @@ use Rattle.ix_words.specs.Canon.{SameMembers, when}
 use Rattle.ix_words.proofs.Each.{Each-head, Each-tail, Member-left, Member-right, Member-either}
 use Rattle.ix_words.proofs.Canon.{Member-cases, Member-same, Member-when, when-Member, Member-flat_map, flat_map-Member, SameMembers-trans}
 use Rattle.ix_values.specs.PlainAction.{PlainAction, Word}
-use Rattle.ix_expr.specs.Form.{Form}
+use Rattle.ix_expr.specs.Form.{Form, times}
 use Rattle.ix_expr.specs.Environment.{Environment}
-use Rattle.ix_tree.specs.Plain.{Plain, bag as bag_of}
+use Rattle.ix_tree.specs.Plain.{Plain, bag as bag_of, times as times_of}
 use Rattle.ix_tree.specs.Order.{first_part}
-use Rattle.ix_can.specs.Ways.{numbers_below, sharings, parts_below}
-use Rattle.ix_can.specs.Nodes.{is_live, listed, items_of, set_of, put_in, sorted}
+use Rattle.ix_can.specs.Ways.{is_empty, numbers_below, sharings, parts_below}
+use Rattle.ix_can.specs.Nodes.{is_live, listed, items_of, set_of, put_in, sorted, only_bag_done}
 use Rattle.ix_can.specs.TreeOf.{tree_of}
 use Rattle.ix_can.specs.inside.Moved.{moved, picks, keep_with, Moves}
 use Rattle.ix_can.proofs.Lists.{all_to, all_from}
@@ -20,11 +20,14 @@ use Rattle.ix_can.proofs.Nodes.{items_listed}
 use Rattle.ix_can.proofs.OperatorsTell.{Tells}
 use Rattle.ix_can.proofs.Agreeing.{empty_tree}
 use Rattle.ix_can.proofs.Proper.{sorted_rises}
-use Rattle.ix_can.proofs.MovesShared.{set_flat_map}
+use Rattle.ix_can.proofs.MovesShared.{either_moves, set_same, set_flat_map}
 use Rattle.ix_can.proofs.Bags.{Reordered-sym, Reordered-map, Each-reordered, Each-taken, taken_along, map_taken, taken_map, picks_taken, sorted_same, sorted_reordered, rising_taken, rising_sorted, picks_put}
 use Rattle.ix_can.proofs.Numberings.{distinct_below}
 use Rattle.ix_can.proofs.Sharings.{numbers_count, same_length, sharing_among, IsShared, pieces_are, shared_begun, shared_grown, Began, Grew, shared_end}
-use Rattle.ix_can.proofs.TimesTell.{times_bag}
+use Rattle.ix_can.proofs.Spent.{full_may}
+use Rattle.ix_can.proofs.MayTell.{Begins, MayTells}
+use Rattle.ix_can.proofs.TimesTell.{times_bag, times_told}
+use Rattle.ix_can.proofs.TimesMay.{times_may}
 use Rattle.ix_can.proofs.MovesParallel.{front_live}
 
 module _ (y : Form) (e : Environment) (n : ℕ) where
@@ -170,3 +173,13 @@ module _ (y : Form) (e : Environment) (n : ℕ) where
           to = λ c m. bagged_from (w ++ a ∷ []) c (bags_to f w c m);
           from = λ c m. bags_from k f w c (bagged_to (w ++ a ∷ []) c m);
         })
+
+    pub times_moves : Tells y e → Begins a y e → MayTells a y e → Moves y e a → Moves (times n y) e a
+    times_moves k b m f w =
+        let bags : List Plain = flat_map (times_bag y e n w) (sharings n w) in
+        let next : List Plain = flat_map (times_bag y e n (w ++ a ∷ [])) (sharings n (w ++ a ∷ [])) in
+        let moves : List Plain = flat_map moved_bags (items_of (set_of bags)) in
+        either_moves (times n y) e a (λ t. only_bag_done n (items_of (first_part t))) (is_empty bags) (is_empty next) (times_of (set_of bags)) (times_of (set_of next)) (times_of (set_of moves))
+        (full_may n y e a (items_of (set_of bags))) refl
+        (times_may a y e n k b m w) refl (times_told y e n k (w ++ a ∷ [])).partial
+        (λ c p. ap times_of (set_same moves next (bags_move k f w)))

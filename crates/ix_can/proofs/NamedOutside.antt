@@ -1,6 +1,7 @@
 -- Where every atom names a parameter that is outside, no action is in the alphabet, and none goes on.
-use Rattle.std.proofs.Common.{◌≡◌, ◌≢◌, inl, inr, ℕ, Bool, true, false, ◌&&◌, ◌||◌, List, [], ◌∷◌, map, Option, Some, None, refl, sym, ap, ◌∙◌, if◌then◌else◌}
+use Rattle.std.proofs.Common.{◌≡◌, ◌≢◌, inl, inr, ℕ, length, Bool, true, false, ◌&&◌, ◌||◌, List, [], ◌∷◌, map, Option, Some, None, refl, sym, ap, ◌∙◌, if◌then◌else◌}
 use Rattle.std.specs.List.{list_any, list_all}
+use Rattle.std.specs.Prelude.{nat_lt}
 use Rattle.ix_words.specs.Each.{Member}
 use Rattle.ix_words.proofs.Canon.{Member-cases}
 use Rattle.ix_values.specs.Order.{text_eq}
@@ -8,14 +9,18 @@ use Rattle.ix_values.specs.lemmas.Order.{text_eq-decides}
 use Rattle.ix_values.specs.PlainAction.{PlainAction}
 use Rattle.ix_expr.specs.declared.arg.Arg.{Arg}
 use Rattle.ix_expr.specs.declared.arg.Arg.TheVariants.{Param}
-use Rattle.ix_expr.specs.Form.{PlainAtom, Form, atom, opt, seq, star, par, par_star, or, and, couple, any, every, sync, all}
+use Rattle.ix_expr.specs.Form.{PlainAtom, Form, atom, opt, seq, star, par, par_star, or, and, couple, any, every, sync, all, times}
 use Rattle.ix_expr.specs.Environment.{Environment, bind, value_in}
 use Rattle.ix_expr.specs.Laws.{EachAtomNames}
-use Rattle.ix_tree.specs.Plain.{Plain, dead, start, opt as opt_of, seq as seq_of, star as star_of, par as par_of, par_star as par_star_of, or as or_of, and as and_of, couple as couple_of, any as any_of, every as every_of, sync as sync_of, all as all_of}
+use Rattle.ix_tree.specs.Plain.{Plain, dead, start, opt as opt_of, seq as seq_of, star as star_of, par as par_of, par_star as par_star_of, or as or_of, and as and_of, couple as couple_of, any as any_of, every as every_of, sync as sync_of, all as all_of, times as times_of}
 use Rattle.ix_tree.specs.Order.{key, first_part, second_part}
 use Rattle.ix_can.specs.Tests.{is_value, has_value, have_values, is_match, in_alphabet, values_and_outside, accepts_empty}
 use Rattle.ix_can.specs.Nodes.{is_dead, items_of}
 use Rattle.ix_can.specs.inside.May.{both_move, moves_within, tree_at, may_first, may}
+
+and_false : (b : Bool) {c : Bool} → c ≡ false → (b && c) ≡ false
+and_false true e = e
+and_false false e = refl
 
 or_false : {b c : Bool} → b ≡ false → c ≡ false → (b || c) ≡ false
 or_false h k = λ i. h i || k i
@@ -71,6 +76,7 @@ module _ (p : List ℕ) (a : PlainAction) where
   none_inside (every q y) e k n = none_from (λ v. in_alphabet y (bind q v e) a) (λ v. none_inside y (bind q v e) k.1 (stays q v e k.0 n)) (values_and_outside a)
   none_inside (sync q y) e k n = none_from (λ v. in_alphabet y (bind q v e) a) (λ v. none_inside y (bind q v e) k.1 (stays q v e k.0 n)) (values_and_outside a)
   none_inside (all q y) e k n = none_from (λ v. in_alphabet y (bind q v e) a) (λ v. none_inside y (bind q v e) k.1 (stays q v e k.0 n)) (values_and_outside a)
+  none_inside (times m y) e k n = none_inside y e k n
 
   -- it doesn't come first
   pub none_first : (x : Form) (e : Environment) → EachAtomNames p x → value_in e p ≡ None → may_first x e a ≡ false
@@ -88,6 +94,7 @@ module _ (p : List ℕ) (a : PlainAction) where
   none_first (sync q y) e k n =
       ap (λ b. b && list_all (λ v. moves_within (in_alphabet y (bind q v e) a) (may_first y (bind q v e) a)) (values_and_outside a)) (none_inside (sync q y) e k n)
   none_first (all q y) e k n = none_from (λ v. may_first y (bind q (Some v) e) a) (λ v. none_first y (bind q (Some v) e) k.1 (stays q (Some v) e k.0 n)) a.values
+  none_first (times m y) e k n = and_false (nat_lt 0 m) (none_first y e k n)
 
   -- and doesn't come next
   pub none_next : (x : Form) (e : Environment) (t : Plain) → EachAtomNames p x → value_in e p ≡ None → may x e t a ≡ false
@@ -120,4 +127,7 @@ module _ (p : List ℕ) (a : PlainAction) where
       (λ m. none_from (λ v. if is_dead (tree_at v dead (items_of (first_part m))) then may_first y (bind q (Some v) e) a else may y (bind q (Some v) e) (tree_at v dead (items_of (first_part m))) a)
       (λ v. if_false (is_dead (tree_at v dead (items_of (first_part m)))) (none_first y (bind q (Some v) e) k.1 (stays q (Some v) e k.0 n)) (none_next y (bind q (Some v) e) (tree_at v dead (items_of (first_part m))) k.1 (stays q (Some v) e k.0 n)))
       a.values) (items_of maps)
+  none_next (times m y) e (times_of bags) k n =
+      none_from (λ b. (nat_lt (length (items_of (first_part b))) m && may_first y e a) || list_any (λ s. may y e s a) (items_of (first_part b)))
+      (λ b. or_false (and_false (nat_lt (length (items_of (first_part b))) m) (none_first y e k n)) (none_from (λ s. may y e s a) (λ s. none_next y e s k n) (items_of (first_part b)))) (items_of bags)
   none_next _ e _ k n = refl

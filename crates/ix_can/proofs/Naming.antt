@@ -1,6 +1,6 @@
 -- In an expression that fits, every atom in an `all` names its parameter.
 use Rattle.std.proofs.Common.{None}
-use Rattle.ix_expr.specs.Form.{Form, atom, opt, seq, star, par, par_star, or, and, couple, any, every, sync, all}
+use Rattle.ix_expr.specs.Form.{Form, atom, opt, seq, star, par, par_star, or, and, couple, any, every, sync, all, times}
 use Rattle.ix_expr.specs.Environment.{Environment, bind}
 use Rattle.ix_expr.specs.FormFaults.{Fits}
 use Rattle.ix_expr.proofs.Parts.{fits-operands}
@@ -22,3 +22,4 @@ fits_name (any p y) e h = fits_name y (bind p None e) ((fits-operands (any p y) 
 fits_name (every p y) e h = fits_name y (bind p None e) ((fits-operands (every p y) e h).body None)
 fits_name (sync p y) e h = fits_name y (bind p None e) ((fits-operands (sync p y) e h).body None)
 fits_name (all p y) e h = (fits-names p y e h, fits_name y (bind p None e) ((fits-operands (all p y) e h).body None))
+fits_name (times n y) e h = fits_name y e (fits-operands (times n y) e h)

@@ -16,9 +16,9 @@ use Rattle.ix_tree.specs.Plain.{Plain, dead, entry}
 use Rattle.ix_tree.specs.Order.{tree_cmp, first_part}
 use Rattle.ix_tree.specs.lemmas.TreeOrder.{tree_order, tree_cmp-same}
 use Rattle.ix_can.specs.Ways.{is_empty}
-use Rattle.ix_can.specs.Nodes.{is_dead, is_live, is_spent, settled, same_tree, listed, items_of, set_of, put_in, sorted, live, dead_if, has_dead_entry}
+use Rattle.ix_can.specs.Nodes.{is_dead, is_live, is_spent, settled, same_tree, listed, items_of, set_of, put_in, sorted, live, dead_if, done_if, has_dead_entry}
 use Rattle.ix_can.specs.TreeOf.{is_final, entries_of}
-use Rattle.ix_can.proofs.Spent.{dead_is, settled_live, settled_final, or_turn}
+use Rattle.ix_can.proofs.Spent.{dead_is, done_live, done_if_final, or_turn}
 use Rattle.ix_can.proofs.Lists.{itself, iff_trans, iff_sym, same_test, when_either, when_both, unless_either, unless_both, when_not, SomeWay, any_from, any_same, all_same, none_says, when_passes, one_passes, made_says, passes_all, filled, all_to, all_from}
 
 -- Dead and final
@@ -40,17 +40,21 @@ pub record Told (C P : Type 0) (x : Form) (t : Plain) : Type 0 where
   pub partial : (is_dead t ≡ false) ↔ P
   pub complete : (is_final x t ≡ true) ↔ C
 
--- a node that is dead where the test holds, done where it is spent, and else is asked whether it is final, tells; what is
--- spent is final
-pub node_tells : (x : Form) {C P : Type 0} (b : Bool) (t : Plain) → is_dead t ≡ false → (b ≡ false) ↔ P → (P → (is_final x t ≡ true) ↔ C) → (C → P) → (P → is_spent t ≡ true → is_final x t ≡ true) → Told C P x (dead_if b (settled t))
-node_tells x true t l p c g s = record {
+-- a node that is dead where one test holds, done where the other does, and else is asked whether it is final, tells; where
+-- the other test holds it is final
+pub either_tells : (x : Form) {C P : Type 0} (b d : Bool) (t : Plain) → is_dead t ≡ false → (b ≡ false) ↔ P → (P → (is_final x t ≡ true) ↔ C) → (C → P) → (P → d ≡ true → is_final x t ≡ true) → Told C P x (dead_if b (done_if d t))
+either_tells x true d t l p c g s = record {
   partial = (λ e. absurd (true≢false e), λ h. absurd (true≢false (p.1 h)));
   complete = (λ e. absurd (true≢false (sym e ∙ never_dead x)), λ h. absurd (true≢false (p.1 (g h))));
 }
-node_tells x false t l p c g s = record {
-  partial = (λ e. p.0 refl, λ h. settled_live t l);
-  complete = same_test (settled_final x t (s (p.0 refl))) (c (p.0 refl));
+either_tells x false d t l p c g s = record {
+  partial = (λ e. p.0 refl, λ h. done_live d t l);
+  complete = same_test (done_if_final x d t (s (p.0 refl))) (c (p.0 refl));
 }
+
+-- so with a node that is done where it is spent
+pub node_tells : (x : Form) {C P : Type 0} (b : Bool) (t : Plain) → is_dead t ≡ false → (b ≡ false) ↔ P → (P → (is_final x t ≡ true) ↔ C) → (C → P) → (P → is_spent t ≡ true → is_final x t ≡ true) → Told C P x (dead_if b (settled t))
+node_tells x b t l p c g s = either_tells x b (is_spent t) t l p c g s
 
 -- what is listed of the tree where it is live
 pub live_listed : {C P : Type 0} {x : Form} (t : Plain) → Told C P x t → (list_any passes_all (live t) ≡ true) ↔ P

@@ -11,15 +11,15 @@ use Rattle.ix_words.proofs.Canon.{Member-cases, Member-when, Member-flat_map, ca
 use Rattle.ix_values.specs.Order.{text_eq, text_cmp}
 use Rattle.ix_values.specs.lemmas.Order.{text_cmp-same}
 use Rattle.ix_values.specs.PlainAction.{Word, values_of}
-use Rattle.ix_expr.specs.Form.{Form, atom, opt, seq, star, par, par_star, or, and, couple, any, every, sync, all}
+use Rattle.ix_expr.specs.Form.{Form, atom, opt, seq, star, par, par_star, or, and, couple, any, every, sync, all, times}
 use Rattle.ix_expr.specs.Environment.{Environment, bind}
-use Rattle.ix_tree.specs.Plain.{Plain, dead, done, none, opt as opt_tree, seq as seq_tree, star as star_tree, par as par_tree, par_star as par_star_tree, or as or_tree, and as and_tree, couple as couple_tree, any as any_tree, every as every_tree, sync as sync_tree, all as all_tree, pair as pair_of, bag as bag_of, map as map_of, entry}
+use Rattle.ix_tree.specs.Plain.{Plain, dead, done, none, opt as opt_tree, seq as seq_tree, star as star_tree, par as par_tree, par_star as par_star_tree, or as or_tree, and as and_tree, couple as couple_tree, any as any_tree, every as every_tree, sync as sync_tree, all as all_tree, times as times_tree, pair as pair_of, bag as bag_of, map as map_of, entry}
 use Rattle.ix_tree.specs.Order.{key, tree_cmp, first_part, second_part}
 use Rattle.ix_tree.specs.lemmas.TreeOrder.{tree_order}
 use Rattle.ix_can.specs.Tests.{in_alphabet}
-use Rattle.ix_can.specs.Ways.{is_empty, is_concatenation, numberings, nonempty_parts, ownings}
+use Rattle.ix_can.specs.Ways.{is_empty, is_concatenation, numberings, nonempty_parts, ownings, sharings, parts_below}
 use Rattle.ix_can.specs.Nodes.{is_dead, is_done, is_live, is_open, same_tree, listed, items_of, set_of, put_in, sorted, live, dead_if, done_if, is_spent, settled}
-use Rattle.ix_can.specs.TreeOf.{is_final, tree_of, live_pair, live_bag, entries_of, live_map}
+use Rattle.ix_can.specs.TreeOf.{is_final, tree_of, live_pair, live_bag, whole_bag, entries_of, live_map}
 use Rattle.ix_can.specs.Laws.{EachOnce, ProperEntries, IsRising, IsProper}
 use Rattle.ix_can.proofs.Lists.{Member-filter}
 use Rattle.ix_can.proofs.Nodes.{items_listed, same_from, entry_is}
@@ -138,6 +138,7 @@ proper_none (any p y) = (proper_none y, no_entries)
 proper_none (every p y) = (proper_none y, no_entries)
 proper_none (sync p y) = (proper_none y, no_entries)
 proper_none (all p y) = nothing_once
+proper_none (times n y) = nothing_once
 
 proper_dead : (x : Form) → IsProper x dead
 proper_dead (atom x) = tt
@@ -153,6 +154,7 @@ proper_dead (any p y) = (proper_none y, no_entries)
 proper_dead (every p y) = (proper_none y, no_entries)
 proper_dead (sync p y) = (proper_none y, no_entries)
 proper_dead (all p y) = nothing_once
+proper_dead (times n y) = nothing_once
 
 proper_done : (x : Form) → IsProper x done
 proper_done (atom x) = tt
@@ -168,16 +170,21 @@ proper_done (any p y) = (proper_none y, no_entries)
 proper_done (every p y) = (proper_none y, no_entries)
 proper_done (sync p y) = (proper_none y, no_entries)
 proper_done (all p y) = nothing_once
+proper_done (times n y) = nothing_once
 
 -- a tree that is done where a test holds, or dead in place of done
 proper_unless : (x : Form) (b : Bool) (t : Plain) → IsProper x t → IsProper x (done_if b t) × IsProper x (dead_if b t)
 proper_unless x true t h = (proper_done x, proper_dead x)
 proper_unless x false t h = (h, h)
 
--- a node that is dead where a test holds, and done where it is spent
+-- a node that is dead where one test holds, and done where the other does
+proper_either : (x : Form) (b d : Bool) (t : Plain) → IsProper x t → IsProper x (dead_if b (done_if d t))
+proper_either x true d t h = proper_dead x
+proper_either x false d t h = (proper_unless x d t h).0
+
+-- so with a node that is done where it is spent
 proper_if : (x : Form) (b : Bool) (t : Plain) → IsProper x t → IsProper x (dead_if b (settled t))
-proper_if x true t h = proper_dead x
-proper_if x false t h = (proper_unless x (is_spent t) t h).0
+proper_if x b t h = proper_either x b (is_spent t) t h
 
 -- what is kept of a list
 each_kept : {A : Type 0} {G : A → Type 0} (test : A → Bool) (xs : List A) → Each G xs → Each G (filter test xs)
@@ -192,6 +199,11 @@ each_bag y trees h b m =
     let kept : List Plain = filter is_open trees in
     let is_bag : items_of (first_part b) ≡ sorted kept = ap (λ x. items_of (first_part x)) (one_listed (list_all is_live trees) (bag_of (listed (sorted kept))) m) ∙ items_listed (sorted kept) in
     (subst IsRising (sym is_bag) (sorted_rises kept), subst (Each (IsProper y)) (sym is_bag) (each_sorted (each_kept is_open trees h)))
+
+each_whole : (y : Form) (trees : List Plain) → Each (IsProper y) trees → (b : Plain) → Member b (whole_bag trees) → IsRising (items_of (first_part b)) × Each (IsProper y) (items_of (first_part b))
+each_whole y trees h b m =
+    let is_bag : items_of (first_part b) ≡ sorted trees = ap (λ x. items_of (first_part x)) (one_listed (list_all is_live trees) (bag_of (listed (sorted trees))) m) ∙ items_listed (sorted trees) in
+    (subst IsRising (sym is_bag) (sorted_rises trees), subst (Each (IsProper y)) (sym is_bag) (each_sorted h))
 
 each_pair : (y z : Form) (t u : Plain) → IsProper y t → IsProper z u → (p : Plain) → Member p (live_pair t u) → IsProper y (first_part p) × IsProper z (second_part p)
 each_pair y z t u g h p m =
@@ -237,3 +249,6 @@ proper (sync p y) e w =
 proper (all p y) e w =
     proper_if (all p y) _ (all_tree _)
     (each_once _ (each_made (λ owners. live_map (tree_of y e []) (λ v. tree_of y (bind p (Some v) e) (part (text_eq v) owners w)) owners) (ownings w) (λ owners m n. each_map y (tree_of y e []) (λ v. tree_of y (bind p (Some v) e) (part (text_eq v) owners w)) owners (λ v. proper y (bind p (Some v) e) (part (text_eq v) owners w)) (empty_tree y [] e) m n)))
+proper (times n y) e w =
+    proper_either (times n y) _ _ (times_tree _)
+    (each_once _ (each_made (λ owners. whole_bag (map (tree_of y e) (parts_below n owners w))) (sharings n w) (λ owners b m. each_whole y (map (tree_of y e) (parts_below n owners w)) (each_tree y e (parts_below n owners w) (proper y e)) b m)))

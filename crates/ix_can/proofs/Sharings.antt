@@ -49,6 +49,14 @@ module _ {A : Type 0} where
       let l = length-map ns (numbered_part owners w) in
       omega (arith, h, l)
 
+  none_filled : (ns : List ℕ) → parts_over {A = A} ns [] [] ≡ []
+  none_filled [] = refl
+  none_filled (k ∷ ns) = none_filled ns
+
+  -- no part of the empty word has an item
+  pub empty_parts : (n : ℕ) → parts_below {A = A} n [] [] ≡ []
+  empty_parts n = none_filled (numbers_below n)
+
   -- at most n parts below n have an item
   pub parts_count : (n : ℕ) (owners : List ℕ) (w : List A) → length (parts_below n owners w) ≤ n
   parts_count n owners w =

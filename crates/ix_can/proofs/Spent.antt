@@ -1,20 +1,22 @@
 -- Spent states: what a tree that is done tells, that no action moves a spent node, and lists without the trees that are
 -- done.
-use Rattle.std.proofs.Common.{◌≡◌, ℕ, Bool, true, false, not, cond, ◌&&◌, ◌||◌, List, [], ◌∷◌, ◌++◌, Option, Some, None, map, flat_map, filter, refl, sym, ap, ◌∙◌, true≢false, if◌then◌else◌}
+use Rattle.std.proofs.Common.{◌≡◌, ℕ, ◌==◌, length, eqb-true, arith, Bool, true, false, not, cond, ◌&&◌, ◌||◌, List, [], ◌∷◌, ◌++◌, Option, Some, None, map, flat_map, filter, refl, sym, ap, ◌∙◌, true≢false, if◌then◌else◌}
 use Rattle.std.specs.List.{list_any, list_all}
+use Rattle.std.specs.Prelude.{nat_lt}
+use Rattle.std.proofs.lemmas.Bool.{le-ltb}
 use Rattle.ix_words.specs.Canon.{SameMembers}
 use Rattle.ix_values.specs.Order.{text_eq}
 use Rattle.ix_values.specs.PlainAction.{PlainAction}
 use Rattle.ix_words.proofs.Each.{Each-member}
-use Rattle.ix_expr.specs.Form.{Form, atom, opt, seq, star, par, par_star, or, and, couple, any, every, sync, all}
+use Rattle.ix_expr.specs.Form.{Form, atom, opt, seq, star, par, par_star, or, and, couple, any, every, sync, all, times}
 use Rattle.ix_expr.specs.Environment.{Environment, bind}
-use Rattle.ix_tree.specs.Plain.{Plain, dead, start, done, opt as opt_of, seq as seq_of, star as star_of, par as par_of, par_star as par_star_of, or as or_of, and as and_of, couple as couple_of, any as any_of, every as every_of, sync as sync_of, all as all_of}
+use Rattle.ix_tree.specs.Plain.{Plain, dead, start, done, opt as opt_of, seq as seq_of, star as star_of, par as par_of, par_star as par_star_of, or as or_of, and as and_of, couple as couple_of, any as any_of, every as every_of, sync as sync_of, all as all_of, times as times_of}
 use Rattle.ix_tree.specs.Order.{key, first_part, second_part}
-use Rattle.ix_can.specs.Tests.{in_alphabet, values_and_outside}
+use Rattle.ix_can.specs.Tests.{in_alphabet, values_and_outside, accepts_empty}
 use Rattle.ix_can.specs.Ways.{is_empty}
-use Rattle.ix_can.specs.Nodes.{is_dead, is_done, is_live, is_ended, is_open, items_of, dead_if, done_if, unless_done, only_pair_done, is_spent, settled}
+use Rattle.ix_can.specs.Nodes.{is_dead, is_done, is_live, is_ended, is_open, items_of, dead_if, done_if, unless_done, only_pair_done, only_bag_done, is_spent, settled}
 use Rattle.ix_can.specs.TreeOf.{is_final}
-use Rattle.ix_can.specs.inside.May.{both_move, moves_within, tree_at, may}
+use Rattle.ix_can.specs.inside.May.{both_move, moves_within, tree_at, may_first, may}
 use Rattle.ix_can.specs.inside.Moved.{moved}
 use Rattle.ix_can.proofs.Lists.{itself, when_both, any_says, any_from, all_to, Member-filter, filter-Member}
 
@@ -158,6 +160,13 @@ none_where other test n (x ∷ xs) h =
     let k = both (other x) (list_all other xs) h in
     (λ i. n x k.0 i || none_where other test n xs k.1 i)
 
+-- all items of which the other test holds pass
+all_where : {A : Type 0} (other test : A → Bool) → ((x : A) → other x ≡ true → test x ≡ true) → (xs : List A) → list_all other xs ≡ true → list_all test xs ≡ true
+all_where other test n [] h = refl
+all_where other test n (x ∷ xs) h =
+    let k = both (other x) (list_all other xs) h in
+    (λ i. n x k.0 i && all_where other test n xs k.1 i)
+
 -- the tree of each value is ended
 ended_at : (common : Plain) → is_ended common ≡ true → (v : List ℕ) (xs : List Plain) → list_all (λ x. is_ended (first_part x)) xs ≡ true → is_ended (tree_at v common xs) ≡ true
 ended_at common c v [] h = c
@@ -241,42 +250,57 @@ spent_may (sync p y) e (sync_of common entries) a h =
     && list_all (λ v. moves_within (in_alphabet y (bind p (Some v) e) a) (may y (bind p (Some v) e) (tree_at v (k.0 i) (k.1 i)) a)) a.values)))
     ∙ sync_stuck (λ v. in_alphabet y (bind p v e) a) (λ v. may y (bind p v e) done a) (λ v. may_done y (bind p v e) a) a.values
 spent_may (all p y) e (all_of maps) a h = absurd (true≢false (sym h))
+spent_may (times n y) e (times_of bags) a h = absurd (true≢false (sym h))
 spent_may _ e _ a h = refl
+
+-- Done in place of a node where a test holds, which then is stuck and final
+
+-- a live node stays live
+pub done_live : (c : Bool) (t : Plain) → is_dead t ≡ false → is_dead (done_if c t) ≡ false
+done_live true t l = refl
+done_live false t l = l
+
+pub done_may : (x : Form) (e : Environment) (c : Bool) (t : Plain) (a : PlainAction) → (c ≡ true → may x e t a ≡ false) → may x e (done_if c t) a ≡ may x e t a
+done_may x e true t a f = may_done x e a ∙ sym (f refl)
+done_may x e false t a f = refl
+
+pub done_if_final : (x : Form) (c : Bool) (t : Plain) → (c ≡ true → is_final x t ≡ true) → is_final x (done_if c t) ≡ is_final x t
+done_if_final x true t f = final_done x ∙ sym (f refl)
+done_if_final x false t f = refl
+
+pub done_moved : (x : Form) (e : Environment) (c : Bool) (t s : Plain) (a : PlainAction) → (c ≡ true → may x e t a ≡ false) → moved x e t a ≡ dead_if (not (may x e t a)) s → moved x e (done_if c t) a ≡ moved x e t a
+done_moved x e true t s a f m = moved_done x e a ∙ sym (m ∙ ap (λ b. dead_if (not b) s) (f refl))
+done_moved x e false t s a f m = refl
 
 -- Done in place of a spent node
 
--- a live node stays live
 pub settled_live : (t : Plain) → is_dead t ≡ false → is_dead (settled t) ≡ false
-settled_live t l = chosen (is_spent t)
-  where
-    chosen : (b : Bool) → is_dead (done_if b t) ≡ false
-    chosen true = refl
-    chosen false = l
+settled_live t l = done_live (is_spent t) t l
 
 -- a node that is neither dead nor spent is what it is
 pub node_is : (b : Bool) (t : Plain) → b ≡ false → is_spent t ≡ false → dead_if b (settled t) ≡ t
 node_is b t n s = ap (λ c. dead_if c (settled t)) n ∙ ap (λ c. done_if c t) s
 
 pub settled_may : (x : Form) (e : Environment) (t : Plain) (a : PlainAction) → may x e (settled t) a ≡ may x e t a
-settled_may x e t a = chosen (is_spent t) refl
-  where
-    chosen : (b : Bool) → is_spent t ≡ b → may x e (done_if b t) a ≡ may x e t a
-    chosen true h = may_done x e a ∙ sym (spent_may x e t a h)
-    chosen false h = refl
+settled_may x e t a = done_may x e (is_spent t) t a (spent_may x e t a)
 
 pub settled_final : (x : Form) (t : Plain) → (is_spent t ≡ true → is_final x t ≡ true) → is_final x (settled t) ≡ is_final x t
-settled_final x t f = chosen (is_spent t) refl
-  where
-    chosen : (b : Bool) → is_spent t ≡ b → is_final x (done_if b t) ≡ is_final x t
-    chosen true h = final_done x ∙ sym (f h)
-    chosen false h = refl
+settled_final x t f = done_if_final x (is_spent t) t f
 
 pub settled_moved : (x : Form) (e : Environment) (t s : Plain) (a : PlainAction) → moved x e t a ≡ dead_if (not (may x e t a)) s → moved x e (settled t) a ≡ moved x e t a
-settled_moved x e t s a m = chosen (is_spent t) refl
-  where
-    chosen : (b : Bool) → is_spent t ≡ b → moved x e (done_if b t) a ≡ moved x e t a
-    chosen true h = moved_done x e a ∙ sym (m ∙ ap (λ b. dead_if (not b) s) (spent_may x e t a h))
-    chosen false h = refl
+settled_moved x e t s a m = done_moved x e (is_spent t) t s a (spent_may x e t a) m
+
+-- n runs that are all done are stuck
+pub full_may : (n : ℕ) (y : Form) (e : Environment) (a : PlainAction) (xs : List Plain) → only_bag_done n xs ≡ true →
+    list_any (λ b. (nat_lt (length (items_of (first_part b))) n && may_first y e a) || list_any (λ s. may y e s a) (items_of (first_part b))) xs ≡ false
+full_may n y e a [] h = absurd (true≢false (sym h))
+full_may n y e a (b ∷ []) h =
+    let runs : List Plain = items_of (first_part b) in
+    let k = both (not (is_empty runs)) ((length runs == n) && list_all is_done runs) h in
+    let l = both (length runs == n) (list_all is_done runs) k.1 in
+    let room : nat_lt (length runs) n ≡ false = let same : length runs ≡ n = eqb-true (length runs) n l.0 in le-ltb (length runs) n (omega arith) in
+    (λ i. ((room i && may_first y e a) || none_where is_done (λ s. may y e s a) (λ s g. may_is_done y e s a g) runs l.1 i) || false)
+full_may n y e a (b ∷ c ∷ xs) h = absurd (true≢false (sym h))
 
 -- What is spent is final
 
@@ -286,6 +310,17 @@ only_pair_final y z (p ∷ []) h =
     let k = both (is_done (first_part p)) (is_done (second_part p)) h in
     (λ i. (final_is_done y (first_part p) k.0 i && final_is_done z (second_part p) k.1 i) || false)
 only_pair_final y z (p ∷ q ∷ xs) h = absurd (true≢false (sym h))
+
+-- n runs that are all done are final
+pub full_final : (n : ℕ) (y : Form) (xs : List Plain) → only_bag_done n xs ≡ true →
+    list_any (λ b. list_all (is_final y) (items_of (first_part b)) && ((length (items_of (first_part b)) == n) || accepts_empty y)) xs ≡ true
+full_final n y [] h = absurd (true≢false (sym h))
+full_final n y (b ∷ []) h =
+    let runs : List Plain = items_of (first_part b) in
+    let k = both (not (is_empty runs)) ((length runs == n) && list_all is_done runs) h in
+    let l = both (length runs == n) (list_all is_done runs) k.1 in
+    (λ i. (all_where is_done (is_final y) (final_is_done y) runs l.1 i && (l.0 i || accepts_empty y)) || false)
+full_final n y (b ∷ c ∷ xs) h = absurd (true≢false (sym h))
 
 pub two_final : (y z : Form) (t u : Plain) → is_done t && is_done u ≡ true → is_final y t && is_final z u ≡ true
 two_final y z t u h =

@@ -1,18 +1,19 @@
 -- A word whose tree is done is complete and stuck, and the tree of the empty word is open.
-use Rattle.std.proofs.Common.{◌≡◌, Bool, true, false, not, ◌&&◌, ◌||◌, List, [], ◌∷◌, ◌++◌, None, flat_map, filter, refl, sym, ap, ◌∙◌, true≢false, if◌then◌else◌}
+use Rattle.std.proofs.Common.{◌≡◌, Bool, true, false, not, ◌&&◌, ◌||◌, List, [], ◌∷◌, ◌++◌, None, map, flat_map, filter, refl, sym, ap, ◌∙◌, true≢false, if◌then◌else◌}
 use Rattle.ix_words.specs.Canon.{when, cuts}
 use Rattle.ix_values.specs.PlainAction.{Word}
-use Rattle.ix_expr.specs.Form.{Form, atom, opt, seq, star, par, par_star, or, and, couple, any, every, sync, all}
+use Rattle.ix_expr.specs.Form.{Form, atom, opt, seq, star, par, par_star, or, and, couple, any, every, sync, all, times}
 use Rattle.ix_expr.specs.Environment.{Environment, bind}
 use Rattle.ix_expr.specs.FormFaults.{Fits}
 use Rattle.ix_tree.specs.Plain.{Plain, done, opt as opt_of, or as or_of, and as and_of, couple as couple_of, any as any_of, every as every_of, sync as sync_of, par as par_of, pair as pair_of, none, more}
-use Rattle.ix_can.specs.Nodes.{is_dead, is_done, is_live, is_ended, is_open, dead_if, is_spent, settled, par_node, seq_parts, live, set_of, items_of}
+use Rattle.ix_can.specs.Nodes.{is_dead, is_done, is_live, is_ended, is_open, dead_if, is_spent, settled, par_node, times_node, seq_parts, live, set_of, items_of}
 use Rattle.ix_can.specs.Ways.{is_empty}
-use Rattle.ix_can.specs.TreeOf.{is_final, tree_of}
+use Rattle.ix_can.specs.TreeOf.{is_final, tree_of, whole_bag}
 use Rattle.ix_can.specs.Laws.{IsCompleteAndStuck}
 use Rattle.ix_can.specs.inside.May.{may}
 use Rattle.ix_can.proofs.Naming.{fits_name}
 use Rattle.ix_can.proofs.Spent.{open_live, open_not_done, open_not_ended, unless_open, final_done, may_done, node_is}
+use Rattle.ix_can.proofs.Sharings.{empty_parts}
 use Rattle.ix_can.proofs.TreesTell.{tree_tells}
 use Rattle.ix_can.proofs.MovesTell.{each_step}
 
@@ -81,6 +82,7 @@ begins_open (sync p y) e =
     let o = begins_open y (bind p None e) in
     open_node (is_dead t || false) (sync_of t none) refl (ap (λ b. b || false) (open_live t o)) (ap (λ b. b && true) (open_not_done t o))
 begins_open (all p y) e = refl
+begins_open (times n y) e = ap (λ ps. is_open (times_node n (whole_bag (map (tree_of y e) ps) ++ []))) (empty_parts n)
 
 pub never_spent : (x : Form) (e : Environment) → ¬ (tree_of x e [] ≡ done)
 never_spent x e h = true≢false (sym (begins_open x e) ∙ ap is_open h)

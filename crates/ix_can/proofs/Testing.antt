@@ -1,5 +1,5 @@
 -- The tests of matching, of the alphabet and of the empty word are the relations.
-use Rattle.std.proofs.Common.{◌≡◌, ◌↔◌, ◌⊎◌, inl, inr, ℕ, true, not, List, [], ◌∷◌, ◌++◌, Option, Some, None, refl, sym, ap, subst, true≢false}
+use Rattle.std.proofs.Common.{◌≡◌, ◌↔◌, ◌⊎◌, inl, inr, ℕ, ◌==◌, true, not, List, [], ◌∷◌, ◌++◌, Option, Some, None, refl, sym, ap, subst, true≢false}
 use Rattle.std.specs.List.{list_any}
 use Rattle.ix_words.specs.Each.{no_item, Member, here, there}
 use Rattle.ix_words.specs.Words.{Joined, Split, Owned, Projected}
@@ -12,12 +12,13 @@ use Rattle.ix_values.specs.lemmas.Order.{text_eq-decides}
 use Rattle.ix_values.specs.PlainAction.{PlainAction, Word}
 use Rattle.ix_expr.specs.declared.arg.Arg.{Arg}
 use Rattle.ix_expr.specs.declared.arg.Arg.TheVariants.{Fixed, Param}
-use Rattle.ix_expr.specs.Form.{PlainAtom, Form, atom, opt, seq, star, par, par_star, or, and, couple, any, every, sync, all}
+use Rattle.ix_expr.specs.Form.{PlainAtom, Form, atom, opt, seq, star, par, par_star, or, and, couple, any, every, sync, all, times}
 use Rattle.ix_expr.specs.Environment.{Environment, value_in, bind, HasValue, HaveValues, Matches}
 use Rattle.ix_expr.specs.Meaning.{InAlphabet, IsComplete}
+use Rattle.ix_expr.proofs.Emptiness.{empty-shared}
 use Rattle.ix_expr.proofs.Agreement.{alphabet-leads, outside-leads, unused-leads, member-or-not}
 use Rattle.ix_can.specs.Tests.{is_value, has_value, have_values, is_match, values_and_outside, in_alphabet, accepts_empty}
-use Rattle.ix_can.proofs.Lists.{iff_trans, when_either, when_both, any_from, any_says}
+use Rattle.ix_can.proofs.Lists.{itself, iff_trans, when_either, when_both, any_from, any_says}
 
 is_value_says : (x : Option (List ℕ)) (v : List ℕ) → (is_value x v ≡ true) ↔ (x ≡ Some v)
 is_value_says None v = (λ e. absurd (true≢false (sym e)), λ e. absurd (cc))
@@ -69,6 +70,7 @@ alphabet_says (any p y) e a = quantified p y e a (λ v. alphabet_says y (bind p 
 alphabet_says (every p y) e a = quantified p y e a (λ v. alphabet_says y (bind p v e) a)
 alphabet_says (sync p y) e a = quantified p y e a (λ v. alphabet_says y (bind p v e) a)
 alphabet_says (all p y) e a = quantified p y e a (λ v. alphabet_says y (bind p v e) a)
+alphabet_says (times n y) e a = alphabet_says y e a
 
 -- The empty word
 
@@ -116,3 +118,4 @@ empty_complete (all p y) e = (
   λ h. Owned-empty (λ v. (empty_complete y (bind p (Some v) e)).0 h),
   λ h. (empty_complete y (bind p (Some []) e)).1 (Owned-part h []),
 )
+empty_complete (times n y) e = iff_trans (when_either (n == 0) (accepts_empty y) itself (empty_complete y e)) (empty-shared n (IsComplete y e))

@@ -7,20 +7,21 @@ use Rattle.ix_words.specs.Words.{Shared}
 use Rattle.ix_words.proofs.Each.{Each-weaker}
 use Rattle.ix_words.proofs.Canon.{Member-cases, Member-when, Member-flat_map}
 use Rattle.ix_values.specs.PlainAction.{Word}
-use Rattle.ix_expr.specs.Form.{Form}
+use Rattle.ix_expr.specs.Form.{Form, times}
 use Rattle.ix_expr.specs.Environment.{Environment}
 use Rattle.ix_expr.specs.Meaning.{IsComplete, IsPartial}
 use Rattle.ix_expr.proofs.LawsOfMeaning.{empty-partial, complete-partial}
-use Rattle.ix_tree.specs.Plain.{Plain, bag as bag_of}
+use Rattle.ix_tree.specs.Plain.{Plain, bag as bag_of, times as times_tree}
 use Rattle.ix_tree.specs.Order.{first_part}
 use Rattle.ix_can.specs.Tests.{accepts_empty}
-use Rattle.ix_can.specs.Ways.{sharings, parts_below}
-use Rattle.ix_can.specs.Nodes.{is_live, listed, items_of, sorted}
+use Rattle.ix_can.specs.Ways.{is_empty, sharings, parts_below}
+use Rattle.ix_can.specs.Nodes.{is_live, listed, items_of, set_of, sorted, only_bag_done}
 use Rattle.ix_can.specs.TreeOf.{is_final, tree_of, whole_bag}
-use Rattle.ix_can.proofs.Lists.{both_iff, same_test, iff_trans, when_either, when_both, when_passes, one_passes, made_says, all_map, passes_all}
+use Rattle.ix_can.proofs.Lists.{both_iff, same_test, iff_trans, when_either, when_both, when_passes, one_passes, made_says, all_map, passes_all, filled}
 use Rattle.ix_can.proofs.Testing.{empty_complete}
 use Rattle.ix_can.proofs.Bags.{sorted_reordered}
-use Rattle.ix_can.proofs.Nodes.{tree_live, items_listed, all_sorted}
+use Rattle.ix_can.proofs.Spent.{full_final}
+use Rattle.ix_can.proofs.Nodes.{either_tells, tree_live, items_listed, any_set, all_sorted}
 use Rattle.ix_can.proofs.OperatorsTell.{Tells}
 use Rattle.ix_can.proofs.Sharings.{parts_count, same_length, shared_says, shared_filled_says}
 
@@ -96,3 +97,13 @@ module _ (y : Form) (e : Environment) (n : ℕ) where
   bags_complete k w = iff_trans
       (made_says whole_final (times_bag w) (sharings n w) (λ owners m. times_final_says k w owners))
       (shared_says n w)
+
+-- so the trees of `times` tell
+pub times_told : (y : Form) (e : Environment) (n : ℕ) → Tells y e → Tells (times n y) e
+times_told y e n k w =
+    let bags : List Plain = flat_map (times_bag y e n w) (sharings n w) in
+    either_tells (times n y) (is_empty bags) (only_bag_done n (items_of (set_of bags))) (times_tree (set_of bags)) refl
+    (iff_trans (filled bags) (bags_partial y e n k w))
+    (λ p. same_test (any_set (whole_final y e n) bags) (bags_complete y e n k w))
+    (complete-partial (times n y) e w)
+    (λ p s. full_final n y (items_of (set_of bags)) s)

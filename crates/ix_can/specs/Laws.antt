@@ -6,7 +6,7 @@ use Rattle.ix_words.specs.Canon.{Ascending}
 use Rattle.ix_values.specs.Order.{text_cmp}
 use Rattle.ix_values.specs.PlainAction.{PlainAction, Word}
 use Rattle.ix_expr.specs.Form.{PlainAtom, Form, atom, opt, seq, star, par, par_star, or, and}
-use Rattle.ix_expr.specs.Form.{couple, any, every, sync, all}
+use Rattle.ix_expr.specs.Form.{couple, any, every, sync, all, times}
 use Rattle.ix_expr.specs.Environment.{Environment, Matches}
 use Rattle.ix_expr.specs.FormFaults.{Fits}
 use Rattle.ix_expr.specs.Meaning.{InAlphabet, IsComplete, IsPartial}
@@ -46,6 +46,7 @@ EachAllNames (any p y) = EachAllNames y
 EachAllNames (every p y) = EachAllNames y
 EachAllNames (sync p y) = EachAllNames y
 EachAllNames (all p y) = EachAtomNames p y × EachAllNames y
+EachAllNames (times n y) = EachAllNames y
 
 -- of an expression that fits its environment every `all` has its parameter in each atom
 abbrev pub FittingExpressionsName : Type 0
@@ -110,6 +111,9 @@ IsProper (sync p y) t = IsProper y (first_part t)
     × ProperEntries (IsProper y) (first_part t) (items_of (second_part t))
 IsProper (all p y) t = EachOnce
     (λ m. ProperEntries (IsProper y) (tree_of y [] []) (items_of (first_part m)))
+    (items_of (first_part t))
+IsProper (times n y) t = EachOnce
+    (λ b. IsRising (items_of (first_part b)) × Each (IsProper y) (items_of (first_part b)))
     (items_of (first_part t))
 
 -- the tree of every word is proper

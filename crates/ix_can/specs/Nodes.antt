@@ -1,10 +1,10 @@
 -- The nodes of trees: how each is made of its parts, and when it is dead or done instead.
-use Rattle.std.specs.Prelude.{Bool, false, not, ◌&&◌, ◌||◌, List, [], ◌∷◌, if◌then◌else◌, filter}
+use Rattle.std.specs.Prelude.{ℕ, ◌==◌, length, Bool, false, not, ◌&&◌, ◌||◌, List, [], ◌∷◌, if◌then◌else◌, filter}
 use Rattle.std.specs.List.{list_any, list_all}
 use Rattle.std.specs.Ordering.{is_eq, is_gt}
 use Rattle.ix_words.specs.Canon.{canon, when}
 use Rattle.ix_tree.specs.Plain.{Plain, dead, done, opt, seq, star, par, par_star, or, and, couple}
-use Rattle.ix_tree.specs.Plain.{any, every, sync, all}
+use Rattle.ix_tree.specs.Plain.{any, every, sync, all, times}
 use Rattle.ix_tree.specs.Order.{tree_cmp, first_part, second_part}
 use Rattle.ix_can.specs.Ways.{is_empty}
 pub use Rattle.ix_tree.specs.Plain.{is_dead, is_done, listed, items_of}
@@ -60,7 +60,14 @@ abbrev pub only_pair_done : List Plain → Bool
 only_pair_done (p ∷ []) = is_done (first_part p) && is_done (second_part p)
 only_pair_done pairs = false
 
--- whether a live node is spent: its word is complete, and no action moves it
+-- whether there is one bag alone, and in it n trees, of which there are some, that are all done
+abbrev pub only_bag_done : ℕ → List Plain → Bool
+only_bag_done n (b ∷ []) = not (is_empty (items_of (first_part b)))
+    && ((length (items_of (first_part b)) == n) && list_all is_done (items_of (first_part b)))
+only_bag_done n bags = false
+
+-- whether a live node is spent: its word is complete, and no action moves it; that of `times` is
+-- told by its number too
 abbrev pub is_spent : Plain → Bool
 is_spent (opt empty x) = is_done x
 is_spent (seq x ended alternatives) = is_dead x && is_empty (items_of alternatives)
@@ -133,3 +140,10 @@ sync_node inside common entries =
 
 abbrev pub all_node : List Plain → Plain
 all_node maps = dead_if (is_empty maps) (all (set_of maps))
+
+-- the node of n runs side by side, and done where it is spent
+abbrev pub settled_times : ℕ → Plain → Plain
+settled_times n bags = done_if (only_bag_done n (items_of bags)) (times bags)
+
+abbrev pub times_node : ℕ → List Plain → Plain
+times_node n bags = dead_if (is_empty bags) (settled_times n (set_of bags))

@@ -1,5 +1,5 @@
 -- The tests of matching and of the alphabet, as definitions that compute.
-use Rattle.std.specs.Prelude.{ℕ, Bool, true, false, ◌&&◌, ◌||◌, List, [], ◌∷◌, map, Option, Some}
+use Rattle.std.specs.Prelude.{ℕ, ◌==◌, Bool, true, false, ◌&&◌, ◌||◌, List, [], ◌∷◌, map, Option, Some}
 use Rattle.std.specs.Prelude.{None}
 use Rattle.std.specs.List.{list_any}
 use Rattle.ix_values.specs.Order.{text_eq}
@@ -7,7 +7,7 @@ use Rattle.ix_values.specs.PlainAction.{PlainAction}
 use Rattle.ix_expr.specs.declared.arg.Arg.{Arg}
 use Rattle.ix_expr.specs.declared.arg.Arg.TheVariants.{Fixed, Param}
 use Rattle.ix_expr.specs.Form.{PlainAtom, Form, atom, opt, seq, star, par, par_star, or, and}
-use Rattle.ix_expr.specs.Form.{couple, any, every, sync, all}
+use Rattle.ix_expr.specs.Form.{couple, any, every, sync, all, times}
 use Rattle.ix_expr.specs.Environment.{Environment, value_in, bind}
 
 -- whether the value is there and is v
@@ -53,6 +53,7 @@ in_alphabet (any p y) e a = list_any (λ v. in_alphabet y (bind p v e) a) (value
 in_alphabet (every p y) e a = list_any (λ v. in_alphabet y (bind p v e) a) (values_and_outside a)
 in_alphabet (sync p y) e a = list_any (λ v. in_alphabet y (bind p v e) a) (values_and_outside a)
 in_alphabet (all p y) e a = list_any (λ v. in_alphabet y (bind p v e) a) (values_and_outside a)
+in_alphabet (times n y) e a = in_alphabet y e a
 
 -- whether the empty word is complete
 abbrev pub accepts_empty : Form → Bool
@@ -69,3 +70,4 @@ accepts_empty (any p y) = accepts_empty y
 accepts_empty (every p y) = accepts_empty y
 accepts_empty (sync p y) = accepts_empty y
 accepts_empty (all p y) = accepts_empty y
+accepts_empty (times n y) = (n == 0) || accepts_empty y

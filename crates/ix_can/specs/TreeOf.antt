@@ -1,5 +1,5 @@
 -- The tree of a word: what the engine keeps, said of the whole word at once and without any step.
-use Rattle.std.specs.Prelude.{true, false, ℕ, Bool, not, ◌&&◌, ◌||◌, List, [], ◌∷◌, map, flat_map}
+use Rattle.std.specs.Prelude.{true, false, ℕ, ◌==◌, length, Bool, not, ◌&&◌, ◌||◌, List, [], ◌∷◌, map, flat_map}
 use Rattle.std.specs.Prelude.{filter, Some, None, if◌then◌else◌}
 use Rattle.std.specs.List.{list_any, list_all}
 use Rattle.ix_values.specs.Order.{text_eq}
@@ -7,20 +7,22 @@ use Rattle.ix_values.specs.PlainAction.{Word, values_of}
 use Rattle.ix_words.specs.Parts.{part}
 use Rattle.ix_words.specs.Canon.{when, cuts, splits}
 use Rattle.ix_expr.specs.Form.{PlainAtom, Form, atom, opt, seq, star, par, par_star, or, and}
-use Rattle.ix_expr.specs.Form.{couple, any, every, sync, all}
+use Rattle.ix_expr.specs.Form.{couple, any, every, sync, all, times}
 use Rattle.ix_expr.specs.Environment.{Environment, bind}
 use Rattle.ix_tree.specs.Plain.{Plain, dead, start, done, opt as opt_of, seq as seq_of}
 use Rattle.ix_tree.specs.Plain.{star as star_of, par as par_of, par_star as par_star_of}
 use Rattle.ix_tree.specs.Plain.{or as or_of, and as and_of, couple as couple_of, any as any_of}
-use Rattle.ix_tree.specs.Plain.{every as every_of, sync as sync_of, all as all_of, pair as pair_of}
+use Rattle.ix_tree.specs.Plain.{every as every_of, sync as sync_of, all as all_of, times as times_of, pair as pair_of}
 use Rattle.ix_tree.specs.Plain.{bag as bag_of, map as map_of, entry as entry_of}
 use Rattle.ix_tree.specs.Order.{first_part, second_part}
 use Rattle.ix_tree.specs.Size.{size_of}
 use Rattle.ix_can.specs.Tests.{is_match, in_alphabet, values_and_outside, accepts_empty}
-use Rattle.ix_can.specs.Ways.{is_empty, is_concatenation, numberings, nonempty_parts, ownings}
+use Rattle.ix_can.specs.Ways.{is_empty, is_concatenation, numberings, nonempty_parts}
+use Rattle.ix_can.specs.Ways.{ownings, sharings, parts_below}
 use Rattle.ix_can.specs.Nodes.{is_live, is_open, same_tree, listed, items_of, set_of, sorted, live}
 use Rattle.ix_can.specs.Nodes.{opt_node, seq_node, star_node, par_node, par_star_node, or_node}
 use Rattle.ix_can.specs.Nodes.{and_node, couple_node, any_node, every_node, sync_node, all_node}
+use Rattle.ix_can.specs.Nodes.{times_node}
 
 -- whether the word whose tree this is is complete in the expression; a tree of another form that
 -- isn't done tells of no word
@@ -45,6 +47,9 @@ is_final (sync p y) (sync_of common entries) = is_final y common
 is_final (all p y) (all_of maps) = accepts_empty y
     && list_any (λ m. list_all (λ x. is_final y (first_part x)) (items_of (first_part m)))
     (items_of maps)
+is_final (times n y) (times_of bags) = list_any
+    (λ b. list_all (is_final y) (items_of (first_part b))
+    && ((length (items_of (first_part b)) == n) || accepts_empty y)) (items_of bags)
 is_final x t = false
 
 -- start for the empty word, done for one matching action
@@ -117,6 +122,9 @@ tree_of (all p y) e w =
     (λ owners. live_map (tree_of y e [])
     (λ v. tree_of y (bind p (Some v) e) (part (text_eq v) owners w)) owners)
     (ownings w))
+tree_of (times n y) e w =
+    times_node n
+    (flat_map (λ owners. whole_bag (map (tree_of y e) (parts_below n owners w))) (sharings n w))
 
 -- the Size of the tree of a word of the whole expression
 abbrev pub tree_size : Form → Word → ℕ

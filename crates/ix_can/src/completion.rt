@@ -1,6 +1,6 @@
 //! Whether the word is complete, read off its tree.
 
-ghost use Rattle.std.specs.Prelude.{◌≡◌, ◌↔◌, ◌&&◌, map, IsTrue};
+ghost use Rattle.std.specs.Prelude.{◌≡◌, ◌↔◌, ◌&&◌, ◌||◌, ◌==◌, map, length, IsTrue};
 ghost use Rattle.std.specs.List.{list_all, list_any};
 ghost use Rattle.ix_values.specs.PlainAction.{Word};
 ghost use Rattle.ix_expr.specs.Environment.{Environment};
@@ -10,6 +10,7 @@ ghost use Rattle.ix_expr.specs.Meaning.{IsComplete};
 ghost use Rattle.ix_tree.specs.Order.{first_part, second_part};
 ghost use Rattle.ix_tree.specs.Plain.{listed, items_of};
 ghost use Rattle.ix_tree.specs.PlainOf.{plain_pair, plain_bag, plain_map, plain_entries};
+ghost use Rattle.ix_can.specs.Tests.{accepts_empty};
 ghost use Rattle.ix_can.specs.TreeOf.{is_final, tree_of};
 
 use crate::plain_tests::accepts_empty;
@@ -54,6 +55,7 @@ pub fn completes(expr: &Expr, state: &Knot) -> bool
             completes(y, common) && each_entry_completes(y, entries)
         }
         (Expr::All(_, y), Node::All(maps)) => accepts_empty(y) && some_map_completes(y, maps),
+        (Expr::Times(number, y), Node::Times(bags)) => some_limited_bag_completes(*number, y, bags),
         _ => false,
     }
 }
@@ -112,6 +114,33 @@ fn some_bag_completes(y: &Expr, bags: &[Bag]) -> bool
 {
     for bag in bags {
         if each_completes(y, &bag.items) {
+            return true;
+        }
+    }
+    false
+}
+
+/// Each run completes, and so does one that hasn't begun, unless there are as many as are wanted.
+#[cycle(completes)]
+fn limited_bag_completes(number: u8, y: &Expr, bag: &Bag) -> bool
+    ensures { result
+        ≡ (list_all (is_final (form_of y.now)) (items_of (listed bag.now.items.items))
+        && ((length (items_of (listed bag.now.items.items)) == number)
+        || accepts_empty (form_of y.now))) }
+{
+    each_completes(y, &bag.items) && (bag.items.len() == usize::from(number) || accepts_empty(y))
+}
+
+#[cycle(completes)]
+fn some_limited_bag_completes(number: u8, y: &Expr, bags: &[Bag]) -> bool
+    ensures { result
+        ≡ list_any
+        (λ b. list_all (is_final (form_of y.now)) (items_of (first_part b))
+        && ((length (items_of (first_part b)) == number) || accepts_empty (form_of y.now)))
+        (items_of (listed (map plain_bag bags.now))) }
+{
+    for bag in bags {
+        if limited_bag_completes(number, y, bag) {
             return true;
         }
     }

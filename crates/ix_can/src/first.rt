@@ -42,6 +42,7 @@ pub(crate) fn begins(expr: &Expr, env: &Env, action: &Action) -> bool
         Expr::Sync(p, y) => in_alphabet(expr, env, action)
             && begins_for_each(true, p, y, env, action),
         Expr::All(p, y) => some_value_begins(p, y, env, action),
+        Expr::Times(number, y) => *number > 0 && begins(y, env, action),
     }
 }
 

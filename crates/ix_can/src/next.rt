@@ -1,7 +1,7 @@
 //! Whether an action may come next, from the tree of the word before it.
 
 ghost use Rattle.std.specs.Prelude.{◌≡◌, ◌↔◌, true, false, ◌∷◌, ◌++◌, ◌&&◌, ◌||◌, [], None, Some};
-ghost use Rattle.std.specs.Prelude.{map, IsTrue};
+ghost use Rattle.std.specs.Prelude.{map, length, nat_lt, IsTrue};
 ghost use Rattle.std.specs.List.{list_all, list_any};
 ghost use Rattle.ix_words.specs.Each.{Each};
 ghost use Rattle.ix_values.specs.PlainAction.{Word};
@@ -96,6 +96,9 @@ pub fn goes_on(expr: &Expr, env: &Env, state: &Knot, action: &Action) -> bool
         (Expr::All(parameter, expr), Node::All(maps)) => {
             some_map_goes_on(Body { parameter, expr }, env, maps, action)
         }
+        (Expr::Times(number, y), Node::Times(bags)) => {
+            some_limited_bag_goes_on(*number, y, env, bags, action)
+        }
         _ => false,
     }
 }
@@ -179,6 +182,43 @@ fn some_bag_goes_on(y: &Expr, env: &Env, bags: &[Bag], action: &Action) -> bool
 {
     for bag in bags {
         if bag_goes_on(y, env, bag, action) {
+            return true;
+        }
+    }
+    false
+}
+
+/// One more run begins, where there are fewer than are wanted, or one goes on.
+#[cycle(goes_on)]
+fn limited_bag_goes_on(number: u8, y: &Expr, env: &Env, bag: &Bag, action: &Action) -> bool
+    requires fits { Fits (form_of y.now) env.now }
+    requires proper { Each (IsProper (form_of y.now)) (items_of (listed bag.now.items.items)) }
+    ensures { result
+        ≡ ((nat_lt (length (items_of (listed bag.now.items.items))) number
+        && may_first (form_of y.now) env.now action.now)
+        || list_any (λ x. may (form_of y.now) env.now x action.now)
+        (items_of (listed bag.now.items.items))) }
+{
+    let more = bag.items.len() < usize::from(number);
+    begins_again(more, y, env, action) || some_goes_on(y, env, &bag.items, action)
+}
+
+#[cycle(goes_on)]
+fn some_limited_bag_goes_on(number: u8, y: &Expr, env: &Env, bags: &[Bag], action: &Action) -> bool
+    requires fits { Fits (form_of y.now) env.now }
+    requires proper { Each
+        (λ b. IsRising (items_of (first_part b))
+        × Each (IsProper (form_of y.now)) (items_of (first_part b)))
+        (items_of (listed (map plain_bag bags.now))) }
+    ensures { result
+        ≡ list_any
+        (λ b. (nat_lt (length (items_of (first_part b))) number
+        && may_first (form_of y.now) env.now action.now)
+        || list_any (λ x. may (form_of y.now) env.now x action.now) (items_of (first_part b)))
+        (items_of (listed (map plain_bag bags.now))) }
+{
+    for bag in bags {
+        if limited_bag_goes_on(number, y, env, bag, action) {
             return true;
         }
     }

@@ -4,7 +4,7 @@
 ghost use Rattle.std.specs.Prelude.{◌≤◌};
 
 use super::*;
-use ix_expr::{Arg, Atom, Expr, Expression};
+use ix_expr::{Arg, Atom, Expr, Expression, has_numbers};
 use ix_step::BuildFault;
 use ix_values::{Action, Name, Value};
 use std::alloc::{AllocError, Global};
@@ -73,6 +73,13 @@ fn ask_all(alloc: Global, engine: &mut Engine, texts: &[&[u8]]) -> Result<Seen, 
     })
 }
 
+fn formed(expr: Expr) -> Result<Expression, Fail> {
+    if !has_numbers(&expr) {
+        return Err("a number isn't 2 to 64".into());
+    }
+    Ok(Expression::new(expr).map_err(|_| "not well formed")?)
+}
+
 /// What a new engine of the expression answers, or none where its first tree is above the limit.
 fn new_engine_answers(
     alloc: Global,
@@ -83,8 +90,7 @@ fn new_engine_answers(
     requires least { 1 ≤ limit }
     requires most { limit ≤ 1000000 }
 {
-    let expression = Expression::new(expr).map_err(|_| "not well formed")?;
-    match Engine::new(alloc, expression, limit) {
+    match Engine::new(alloc, formed(expr)?, limit) {
         Ok(mut engine) => Ok(Some(ask_all(alloc, &mut engine, texts)?)),
         Err(BuildFault::Over { .. }) => Ok(None),
         Err(BuildFault::Memory) => Err("no memory".into()),
@@ -310,6 +316,53 @@ fn finished_runs_are_left_out(rt: HostRuntime) -> Result<(), Fail> {
     Ok(())
 }
 
+/// `times N y`.
+fn wanted(alloc: Global, number: u8, expr: Expr) -> Result<Expr, Fail> {
+    Ok(Expr::Times(number, boxed(alloc, expr)?))
+}
+
+/// `times 2 (a - b)`.
+fn two_runs(alloc: Global) -> Result<Expr, Fail> {
+    wanted(
+        alloc,
+        2,
+        in_turn(alloc, atom(b"a", &[])?, atom(b"b", &[])?)?,
+    )
+}
+
+// The node is 1, its one bag 1, a run that has begun 3, and one that is over, which stays, 1.
+#[test]
+fn so_many_runs_are_wanted(rt: HostRuntime) -> Result<(), Fail> {
+    let alloc = rt.alloc();
+    let texts: [&[u8]; 5] = [b"a", b"a", b"a", b"b", b"b"];
+    for (asked, nodes, actions) in [(1, 5, 1), (3, 8, 2), (4, 6, 3), (5, 1, 4)] {
+        let seen = new_engine_answers(alloc, two_runs(alloc)?, 8, &texts[..asked])?;
+        assert!(rt;
+            answers_so(seen, &b"yynyy"[..asked], nodes, actions, asked == 5),
+            "{asked}"
+        );
+    }
+    Ok(())
+}
+
+// `times 2 (times 3 a)` ends with the sixth `a`; of `times 3 a` two runs that are over make 4
+// nodes; `times 2 ?a` needs no run.
+#[test]
+fn wanted_runs_end(rt: HostRuntime) -> Result<(), Fail> {
+    let alloc = rt.alloc();
+    let texts: [&[u8]; 7] = [b"a", b"a", b"a", b"a", b"a", b"a", b"a"];
+    let three = wanted(alloc, 3, atom(b"a", &[])?)?;
+    let seen = new_engine_answers(alloc, wanted(alloc, 2, three)?, 100, &texts)?;
+    assert!(rt; answers_so(seen, b"yyyyyyn", 1, 6, true));
+    let three = wanted(alloc, 3, atom(b"a", &[])?)?;
+    let seen = new_engine_answers(alloc, three, 3, &texts[..2])?;
+    assert!(rt; answers_so(seen, b"yl", 3, 1, false));
+    let option = Expr::Opt(boxed(alloc, atom(b"a", &[])?)?);
+    let seen = new_engine_answers(alloc, wanted(alloc, 2, option)?, 100, &[])?;
+    assert!(rt; answers_so(seen, b"", 2, 0, true));
+    Ok(())
+}
+
 // `sync $p *(a | b($p))`, where no value ever differs from the others, `every $p (b(u) | b($p))`,
 // which `b(u)` ends for every value, and `*(a @ b)`, of which one pass is over and one has begun.
 #[test]
@@ -342,8 +395,7 @@ enum Resumed {
 
 /// What a new engine of `*(a - b)` with a limit of 4 makes of these actions.
 fn resume(alloc: Global, texts: &[&[u8]]) -> Result<Resumed, Fail> {
-    let expression = Expression::new(repeated(alloc)?).map_err(|_| "not well formed")?;
-    let Ok(engine) = Engine::new(alloc, expression, 4) else {
+    let Ok(engine) = Engine::new(alloc, formed(repeated(alloc)?)?, 4) else {
         return Err("no engine".into());
     };
     let mut actions = Vec::new(alloc);

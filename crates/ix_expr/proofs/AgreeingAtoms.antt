@@ -5,11 +5,11 @@ use Rattle.ix_words.specs.Each.{Each}
 use Rattle.ix_words.specs.Words.{Projected}
 use Rattle.ix_words.specs.inside.Leads.{Leads}
 use Rattle.ix_words.proofs.Each.{Each-head, Each-same, Each-weaker, Each-both}
-use Rattle.ix_words.proofs.Words.{Joined-leads, Repeated-leads, Split-leads, Numbered-leads}
+use Rattle.ix_words.proofs.Words.{Joined-leads, Repeated-leads, Split-leads, Numbered-leads, Shared-leads}
 use Rattle.ix_words.proofs.Words.{Owned-leads, Projected-leads}
 use Rattle.ix_values.specs.PlainAction.{PlainAction, Word}
 use Rattle.ix_expr.specs.Form.{PlainAtom, Form, atom, opt, seq, star, par, par_star, or, and, couple}
-use Rattle.ix_expr.specs.Form.{any, every, sync, all}
+use Rattle.ix_expr.specs.Form.{any, every, sync, all, times}
 use Rattle.ix_expr.specs.Environment.{Environment, bind}
 use Rattle.ix_expr.specs.Meaning.{InAlphabet, IsOneMatch, IsComplete, IsPartial}
 use Rattle.ix_expr.specs.Laws.{AtomsAgreeAt, AtomsAgreeOn, MeansTheSame}
@@ -30,6 +30,7 @@ atoms-back (any p y) e f a g = λ v. atoms-back y (bind p v e) (bind p v f) a (g
 atoms-back (every p y) e f a g = λ v. atoms-back y (bind p v e) (bind p v f) a (g v)
 atoms-back (sync p y) e f a g = λ v. atoms-back y (bind p v e) (bind p v f) a (g v)
 atoms-back (all p y) e f a g = λ v. atoms-back y (bind p v e) (bind p v f) a (g v)
+atoms-back (times n y) e f a g = atoms-back y e f a g
 
 -- what is in the alphabet under e is in it under f
 pub alphabet-same : (x : Form) (e f : Environment) (a : PlainAction)
@@ -56,6 +57,7 @@ alphabet-same (sync p y) e f a g i =
     (i.0, alphabet-same y (bind p (Some i.0) e) (bind p (Some i.0) f) a (g (Some i.0)) i.1)
 alphabet-same (all p y) e f a g i =
     (i.0, alphabet-same y (bind p (Some i.0) e) (bind p (Some i.0) f) a (g (Some i.0)) i.1)
+alphabet-same (times n y) e f a g i = alphabet-same y e f a g i
 
 stay_in : (x : Form) (e f : Environment) (w : Word)
     → AtomsAgreeOn x e f w → Each (InAlphabet x e) w → Each (InAlphabet x f) w
@@ -128,6 +130,7 @@ complete-same (sync p y) e f w g h = (
 complete-same (all p y) e f w g h =
     Owned-leads {G = Inside p y e f}
     (λ v u k. complete-same y (bind p (Some v) e) (bind p (Some v) f) u (given p v y e f u k)) w g h
+complete-same (times n y) e f w g h = Shared-leads (complete-same y e f) w g h
 
 -- what is partial under e is partial under f
 pub partial-same : (x : Form) (e f : Environment) (w : Word)
@@ -172,6 +175,7 @@ partial-same (sync p y) e f w g h = (
 partial-same (all p y) e f w g h =
     Owned-leads {G = Inside p y e f}
     (λ v u k. partial-same y (bind p (Some v) e) (bind p (Some v) f) u (given p v y e f u k)) w g h
+partial-same (times n y) e f w g h = Shared-leads (partial-same y e f) w g h
 
 -- environments under which the atoms agree on a word mean the same of it
 pub atoms-same : (x : Form) (e f : Environment) (w : Word)

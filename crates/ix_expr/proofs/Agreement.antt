@@ -6,7 +6,7 @@ use Rattle.ix_values.specs.lemmas.Order.{text_eq-decides}
 use Rattle.ix_values.specs.PlainAction.{PlainAction}
 use Rattle.ix_expr.specs.declared.arg.Arg.{Arg}
 use Rattle.ix_expr.specs.declared.arg.Arg.TheVariants.{Fixed, Param}
-use Rattle.ix_expr.specs.Form.{Form, atom, opt, seq, star, par, par_star, or, and, couple, any, every, sync, all}
+use Rattle.ix_expr.specs.Form.{Form, atom, opt, seq, star, par, par_star, or, and, couple, any, every, sync, all, times}
 use Rattle.ix_expr.specs.Environment.{Environment, value_in, bind, HaveValues}
 use Rattle.ix_expr.specs.Meaning.{InAlphabet}
 
@@ -46,6 +46,7 @@ alphabet-leads (any p y) a leads h = (h.0, alphabet-leads y a (bind-leads p (Som
 alphabet-leads (every p y) a leads h = (h.0, alphabet-leads y a (bind-leads p (Some h.0) leads) h.1)
 alphabet-leads (sync p y) a leads h = (h.0, alphabet-leads y a (bind-leads p (Some h.0) leads) h.1)
 alphabet-leads (all p y) a leads h = (h.0, alphabet-leads y a (bind-leads p (Some h.0) leads) h.1)
+alphabet-leads (times n y) a leads h = alphabet-leads y a leads h
 
 -- what is in the alphabet with p outside is in it with any value of p
 pub outside-leads : (p v : List ℕ) (e : Environment) (values : List (List ℕ)) → Leads (bind p None e) (bind p (Some v) e) values

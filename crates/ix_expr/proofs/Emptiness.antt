@@ -1,10 +1,12 @@
 -- In which forms the empty word is complete.
-use Rattle.std.proofs.Common.{◌≡◌, ℕ, Bool, true, false, not, List, [], ◌∷◌, ◌++◌, Some, inl, refl, sym, subst}
+use Rattle.std.proofs.Common.{◌≡◌, ◌≢◌, ◌↔◌, ◌⊎◌, inr, eqb-true, eq-eqb, ℕ, zero, suc, ◌==◌, arith, Bool, true, false, not, List, [], ◌∷◌, ◌++◌, Some, inl, refl, sym, subst}
 use Rattle.std.specs.Prelude.{IsTrue}
 use Rattle.ix_words.specs.Each.{no_item}
 use Rattle.ix_words.specs.Parts.{part, Projection, ended}
-use Rattle.ix_words.specs.Words.{Joined, Split, Projected}
-use Rattle.ix_expr.specs.Form.{Form, opt, seq, star, par, par_star, and, couple, any, every, sync, all}
+use Rattle.ix_words.specs.Words.{Joined, Split, Shared, Projected}
+use Rattle.ix_words.proofs.Words.{Shared-empty}
+use Rattle.ix_values.specs.PlainAction.{Word}
+use Rattle.ix_expr.specs.Form.{Form, opt, seq, star, par, par_star, and, couple, any, every, sync, all, times}
 use Rattle.ix_expr.specs.Environment.{Environment, bind}
 use Rattle.ix_expr.specs.Meaning.{IsComplete}
 
@@ -84,4 +86,28 @@ pub all-accepts : (p : List ℕ) (y : Form) (b : Bool) → Accepts y b → Accep
 all-accepts p y b h e = (
   λ t. record { owners = []; as_long = refl; each_has = λ v. (h (bind p (Some v) e)).0 t },
   λ w. (h (bind p (Some []) e)).1 (subst (IsComplete y (bind p (Some []) e)) (part-nil _ w.owners) (w.each_has [])),
+)
+
+-- the empty word is shared among n runs where there is none, or where it is a run
+pub empty-shared : (n : ℕ) (C : Word → Type 0) → (((n == 0) ≡ true) ⊎ C []) ↔ Shared n C []
+empty-shared n C = (λ h. elim h [ inl z ↦ none_wanted n z | inr c ↦ Shared-empty c ], some_wanted n)
+  where
+    none_wanted : (m : ℕ) → (m == 0) ≡ true → Shared m C []
+    none_wanted zero z = record { owners = []; as_long = refl; below = no_item; each_has = λ k low. absurd (omega arith) }
+    none_wanted (suc m) z = let e : suc m ≡ 0 = eqb-true (suc m) 0 z in absurd (omega arith)
+
+    some_wanted : (m : ℕ) → Shared m C [] → ((m == 0) ≡ true) ⊎ C []
+    some_wanted zero h = inl (eq-eqb 0 0 refl)
+    some_wanted (suc m) h = inr (subst C (part-nil (λ other. 0 == other) h.owners) (h.each_has 0 (omega arith)))
+
+pub times-none : (n : ℕ) (y : Form) → n ≡ 0 → Accepts (times n y) (n == 0)
+times-none n y z e = (λ t. (empty-shared n (IsComplete y e)).0 (inl t), λ w. eq-eqb n 0 z)
+
+pub times-accepts : (n : ℕ) (y : Form) (b : Bool) → n ≢ 0 → Accepts y b → Accepts (times n y) b
+times-accepts n y b some h e = (
+  λ t. Shared-empty ((h e).0 t),
+  λ w. elim ((empty-shared n (IsComplete y e)).1 w) [
+    | inl z ↦ absurd (some (eqb-true n 0 z))
+    | inr c ↦ (h e).1 c
+  ],
 )

@@ -4,14 +4,14 @@ use Rattle.ix_words.specs.Each.{Each, no_item, item, Member, here, there}
 use Rattle.ix_words.specs.Words.{Gives}
 use Rattle.ix_words.proofs.Each.{Each-left, Each-same, Each-weaker, Each-both, Each-anything}
 use Rattle.ix_words.proofs.Canon.{Member-same}
-use Rattle.ix_words.proofs.Words.{Joined-leads, Split-leads, Numbered-leads, Owned-leads, Projected-leads, Joined-front, Repeated-front, Split-closed, Numbered-closed, Owned-closed, Projected-closed, Joined-gives, Repeated-gives, Split-gives, Numbered-gives, Owned-gives, Joined-empty, Repeated-empty, Split-empty, Numbered-empty, Owned-empty, Projected-empty}
+use Rattle.ix_words.proofs.Words.{Joined-leads, Split-leads, Numbered-leads, Shared-leads, Owned-leads, Projected-leads, Joined-front, Repeated-front, Split-closed, Numbered-closed, Shared-closed, Owned-closed, Projected-closed, Joined-gives, Repeated-gives, Split-gives, Numbered-gives, Shared-gives, Owned-gives, Joined-empty, Repeated-empty, Split-empty, Numbered-empty, Shared-empty, Owned-empty, Projected-empty}
 use Rattle.ix_words.proofs.Owners.{EachPair-long, Owned-pairs}
 use Rattle.ix_values.specs.Order.{text_eq}
 use Rattle.ix_values.specs.lemmas.Order.{text_eq-decides}
 use Rattle.ix_values.specs.PlainAction.{PlainAction, Word}
 use Rattle.ix_expr.specs.declared.arg.Arg.{Arg}
 use Rattle.ix_expr.specs.declared.arg.Arg.TheVariants.{Param}
-use Rattle.ix_expr.specs.Form.{PlainAtom, Form, atom, opt, seq, star, par, par_star, or, and, couple, any, every, sync, all}
+use Rattle.ix_expr.specs.Form.{PlainAtom, Form, atom, opt, seq, star, par, par_star, or, and, couple, any, every, sync, all, times}
 use Rattle.ix_expr.specs.Environment.{Environment, value_in, bind, HaveValues, Matches}
 use Rattle.ix_expr.specs.Meaning.{InAlphabet, IsOneMatch, IsComplete, IsPartial}
 use Rattle.ix_expr.specs.Laws.{AgreeAt, AgreeOn, AtomsAgreeAt, MeansTheSame, EachAtomNames, IsFresh, WithinTheValues}
@@ -34,6 +34,7 @@ empty-partial (any p y) e = ([], empty-partial y (bind p (Some []) e))
 empty-partial (every p y) e = λ v. empty-partial y (bind p (Some v) e)
 empty-partial (sync p y) e = (no_item, λ v. Projected-empty (empty-partial y (bind p (Some v) e)))
 empty-partial (all p y) e = Owned-empty (λ v. empty-partial y (bind p (Some v) e))
+empty-partial (times n y) e = Shared-empty (empty-partial y e)
 
 -- anything
 abbrev Whatever : PlainAction → Type 0
@@ -69,6 +70,8 @@ complete-partial (sync p y) e w h = (
 )
 complete-partial (all p y) e w h =
     Owned-leads {G = Whatever} (λ v u g c. complete-partial y (bind p (Some v) e) u c) w (whatever w) h
+complete-partial (times n y) e w h =
+    Shared-leads {G = Whatever} (λ u g c. complete-partial y e u c) w (whatever w) h
 
 nothing_before : (u v : Word) → u ++ v ≡ [] → u ≡ []
 nothing_before [] v e = refl
@@ -110,6 +113,7 @@ prefix-partial (any p y) e u v h = (h.0, prefix-partial y (bind p (Some h.0) e) 
 prefix-partial (every p y) e u v h = λ x. prefix-partial y (bind p (Some x) e) u v (h x)
 prefix-partial (sync p y) e u v h = (Each-left u v h.0, λ x. Projected-closed (prefix-partial y (bind p (Some x) e)) u v (h.1 x))
 prefix-partial (all p y) e u v h = Owned-closed (λ x. prefix-partial y (bind p (Some x) e)) u v h
+prefix-partial (times n y) e u v h = Shared-closed (prefix-partial y e) u v h
 
 match_gives : (x : PlainAtom) (e : Environment) (w : Word) → (w ≡ []) ⊎ IsOneMatch x e w → Each (Matches x e) w
 match_gives x e w (inl n) = Each-same (sym n) no_item
@@ -147,6 +151,7 @@ partial-alphabet (every p y) e w h = Each-weaker (λ a i. ([], i)) (partial-alph
 partial-alphabet (sync p y) e w h = h.0
 partial-alphabet (all p y) e w h =
     Owned-gives (λ v. (text_eq-decides v v).1 refl) (λ v. partial-alphabet y (bind p (Some v) e)) w h
+partial-alphabet (times n y) e w h = Shared-gives (partial-alphabet y e) w h
 
 -- Environments that agree
 
@@ -182,6 +187,7 @@ agree-atoms (any p y) e f a g = λ v. agree-atoms y (bind p v e) (bind p v f) a 
 agree-atoms (every p y) e f a g = λ v. agree-atoms y (bind p v e) (bind p v f) a (bind-agree p v a g)
 agree-atoms (sync p y) e f a g = λ v. agree-atoms y (bind p v e) (bind p v f) a (bind-agree p v a g)
 agree-atoms (all p y) e f a g = λ v. agree-atoms y (bind p v e) (bind p v f) a (bind-agree p v a g)
+agree-atoms (times n y) e f a g = agree-atoms y e f a g
 
 pub complete-leads : (x : Form) (e f : Environment) (w : Word) → AgreeOn e f w → IsComplete x e w → IsComplete x f w
 complete-leads x e f w g h = complete-same x e f w (Each-weaker (agree-atoms x e f) g) h
@@ -236,6 +242,7 @@ named-value (any q y) e p v a n h i = named-value y (bind q (Some i.0) e) p v a 
 named-value (every q y) e p v a n h i = named-value y (bind q (Some i.0) e) p v a n.1 (bind-other p q (Some i.0) (Some v) e n.0 h) i.1
 named-value (sync q y) e p v a n h i = named-value y (bind q (Some i.0) e) p v a n.1 (bind-other p q (Some i.0) (Some v) e n.0 h) i.1
 named-value (all q y) e p v a n h i = named-value y (bind q (Some i.0) e) p v a n.1 (bind-other p q (Some i.0) (Some v) e n.0 h) i.1
+named-value (times m y) e p v a n h i = named-value y e p v a n h i
 
 -- an owner whose part is partial is a value of each action that it owns
 pub owner-value : (p : List ℕ) (y : Form) (e : Environment) (w : Word) (v : List ℕ) → EachAtomNames p y → IsPartial y (bind p (Some v) e) w → Each (λ a. Member v a.values) w

@@ -8,7 +8,7 @@ use Rattle.ix_values.specs.Order.{text_eq}
 use Rattle.ix_values.specs.lemmas.Order.{text_eq-decides}
 use Rattle.ix_expr.specs.declared.arg.Arg.{Arg}
 use Rattle.ix_expr.specs.declared.arg.Arg.TheVariants.{Fixed, Param}
-use Rattle.ix_expr.specs.Form.{Form, atom, opt, seq, star, par, par_star, or, and, couple, any, every, sync, all}
+use Rattle.ix_expr.specs.Form.{Form, atom, opt, seq, star, par, par_star, or, and, couple, any, every, sync, all, times}
 use Rattle.ix_expr.specs.Environment.{Environment}
 use Rattle.ix_expr.specs.FormFaults.{Binder, Node, nodes_below, is_ninth_quantifier, binds_twice, is_unbound, misses_a_parameter, is_parameter, names_parameter, first_code, fault_at, binders_of, Fits}
 use Rattle.ix_expr.specs.Laws.{EachAtomNames}
@@ -89,9 +89,10 @@ names_from p (any q y) d around m h = (other p q around m (Each-head h).binds, n
 names_from p (every q y) d around m h = (other p q around m (Each-head h).binds, names_from p y (suc d) _ (there m) (Each-tail h))
 names_from p (sync q y) d around m h = (other p q around m (Each-head h).binds, names_from p y (suc d) _ (there m) (Each-tail h))
 names_from p (all q y) d around m h = (other p q around m (Each-head h).binds, names_from p y (suc d) _ (there m) (Each-tail h))
+names_from p (times n y) d around m h = names_from p y (suc d) around m (Each-tail h)
 
 -- in an `all $p y` that fits its environment, every atom of y names `$p`
 pub fits-names : (p : List ℕ) (y : Form) (e : Environment) → Fits (all p y) e → EachAtomNames p y
 fits-names p y e h =
     names_from p y 2 (record { is_all = true; parameter = p } ∷ binders_of e) here
-    (Each-tail (all_faultless (nodes_below 1 (binders_of e) (all p y)) (λ k. k) h.none))
+    (Each-tail (all_faultless (nodes_below 1 (binders_of e) (all p y)) (λ k. k) h.faultless.none))

@@ -6,7 +6,7 @@ use Rattle.ix_words.proofs.Each.{Each-head, Each-right}
 use Rattle.ix_words.proofs.Parts.{Projection-append, projection_cut}
 use Rattle.ix_values.specs.PlainAction.{PlainAction, Word}
 use Rattle.ix_expr.specs.Form.{Form, atom, opt, seq, star, par, par_star, or, and, couple}
-use Rattle.ix_expr.specs.Form.{any, every, sync, all}
+use Rattle.ix_expr.specs.Form.{any, every, sync, all, times}
 use Rattle.ix_expr.specs.Environment.{Environment, bind}
 use Rattle.ix_expr.specs.Meaning.{InAlphabet}
 use Rattle.ix_expr.specs.Mentions.{Mentions}
@@ -34,6 +34,7 @@ in-mentions (any p y) e a i = in-mentions y (bind p (Some i.0) e) a i.1
 in-mentions (every p y) e a i = in-mentions y (bind p (Some i.0) e) a i.1
 in-mentions (sync p y) e a i = in-mentions y (bind p (Some i.0) e) a i.1
 in-mentions (all p y) e a i = in-mentions y (bind p (Some i.0) e) a i.1
+in-mentions (times n y) e a i = in-mentions y e a i
 
 module _ {In : PlainAction → Type 0} where
   nothing : {a : PlainAction} {u : Word} → ¬ In a → Projection In (a ∷ []) u → u ≡ []

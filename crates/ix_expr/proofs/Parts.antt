@@ -7,9 +7,9 @@ use Rattle.std.proofs.lemmas.List.{length-map}
 use Rattle.ix_values.specs.Order.{text_eq}
 use Rattle.ix_expr.specs.declared.arg.Arg.{Arg}
 use Rattle.ix_expr.specs.declared.arg.Arg.TheVariants.{Fixed, Param}
-use Rattle.ix_expr.specs.Form.{PlainAtom, Form, atom, opt, seq, star, par, par_star, or, and, couple, any, every, sync, all}
+use Rattle.ix_expr.specs.Form.{PlainAtom, Form, atom, opt, seq, star, par, par_star, or, and, couple, any, every, sync, all, times}
 use Rattle.ix_expr.specs.Environment.{Environment}
-use Rattle.ix_expr.specs.FormFaults.{IsWellFormed, nodes_of, Binder, Node, Head, atom_head, quantifier_head, operator_head, nodes_below, is_bound, is_bound_argument, names_parameter, is_ninth_quantifier, binds_twice, is_unbound, misses_a_parameter, first_code, fault_at, HaveNoFault, binders_of, Fits}
+use Rattle.ix_expr.specs.FormFaults.{IsWellFormed, nodes_of, Binder, Node, Head, atom_head, quantifier_head, operator_head, nodes_below, is_bound, is_bound_argument, names_parameter, is_ninth_quantifier, binds_twice, is_unbound, misses_a_parameter, first_code, fault_at, HaveNoFault, HasNumbers, binders_of, Fits}
 use Rattle.ix_expr.specs.Fitting.{FitsInside, OperandsFit}
 use Rattle.ix_expr.specs.inside.Walk.{FreeFrom, free_end, free_node, operator_node, quantifier_node}
 use Rattle.ix_expr.proofs.Walks.{passed-HaveNoFault, HaveNoFault-free, free-parts, free-append}
@@ -144,6 +144,7 @@ length-nodes (any p y) d f inner outer = ap suc (length-nodes y (suc d) (suc f) 
 length-nodes (every p y) d f inner outer = ap suc (length-nodes y (suc d) (suc f) _ _)
 length-nodes (sync p y) d f inner outer = ap suc (length-nodes y (suc d) (suc f) _ _)
 length-nodes (all p y) d f inner outer = ap suc (length-nodes y (suc d) (suc f) _ _)
+length-nodes (times n y) d f inner outer = ap suc (length-nodes y (suc d) (suc f) inner outer)
 
 -- nodes without a fault end at the number 512 at most
 free-few : {n : ℕ} {nodes : List Node} → n ≤ 512 → FreeFrom n nodes → n + length nodes ≤ 512
@@ -208,6 +209,7 @@ lower (any p y) moved free = lower-one (quantifier_head p) _ _ moved (λ deeper.
 lower (every p y) moved free = lower-one (quantifier_head p) _ _ moved (λ deeper. lower y (inside-weaker false p deeper)) free
 lower (sync p y) moved free = lower-one (quantifier_head p) _ _ moved (λ deeper. lower y (inside-weaker false p deeper)) free
 lower (all p y) moved free = lower-one (quantifier_head p) _ _ moved (λ deeper. lower y (inside-weaker true p deeper)) free
+lower (times n y) moved free = lower-one operator_head _ _ moved (lower y) free
 
 abbrev binder_of : List ℕ → Binder
 binder_of p = record { is_all = false; parameter = p }
@@ -216,29 +218,35 @@ behind : {n : ℕ} {node : Node} {nodes : List Node} → FreeFrom n (node ∷ no
 behind (free_node none rest) = (none, rest)
 
 -- the one operand of an operator
-pub fits-one : (head : Head) (y : Form) (e : Environment) → HaveNoFault (record { depth = 1; around = binders_of e; head = head } ∷ nodes_below 2 (binders_of e) y) → Fits y e
-fits-one head y e h =
+pub fits-one : (head : Head) (y : Form) (e : Environment) → HaveNoFault (record { depth = 1; around = binders_of e; head = head } ∷ nodes_below 2 (binders_of e) y) → HasNumbers y → Fits y e
+fits-one head y e h numbers =
     let parts = behind (HaveNoFault-free (record { depth = 1; around = binders_of e; head = head } ∷ nodes_below 2 (binders_of e) y) h) in
-    passed-HaveNoFault (nodes_below 1 (binders_of e) y)
-    (lower y (record { less = omega arith; few = omega arith; above = omega arith; shallow = omega arith; weaker = weaker_same (binders_of e) }) parts.1)
+    let below = lower y (record { less = omega arith; few = omega arith; above = omega arith; shallow = omega arith; weaker = weaker_same (binders_of e) }) parts.1 in
+    record { faultless = passed-HaveNoFault (nodes_below 1 (binders_of e) y) below; numbers = numbers }
 
 -- the left and the right operand of an operator
-pub fits-two : (y z : Form) (e : Environment) → HaveNoFault (operator_node 1 (binders_of e) ∷ (nodes_below 2 (binders_of e) y ++ nodes_below 2 (binders_of e) z)) → Fits y e × Fits z e
-fits-two y z e h =
+pub fits-two : (y z : Form) (e : Environment) → HaveNoFault (operator_node 1 (binders_of e) ∷ (nodes_below 2 (binders_of e) y ++ nodes_below 2 (binders_of e) z)) → HasNumbers y → HasNumbers z → Fits y e × Fits z e
+fits-two y z e h m n =
     let around = binders_of e in
     let parts = behind (HaveNoFault-free (operator_node 1 around ∷ (nodes_below 2 around y ++ nodes_below 2 around z)) h) in
     let sides = free-parts 1 (nodes_below 2 around y) (nodes_below 2 around z) parts.1 in
     let one : 1 ≤ 512 = omega arith in
     let few : 1 + length (nodes_below 2 around y) ≤ 512 = free-few one sides.0 in (
-      passed-HaveNoFault (nodes_below 1 around y)
-          (lower y (record { less = omega arith; few = one; above = omega arith; shallow = omega arith; weaker = weaker_same around }) sides.0),
-      passed-HaveNoFault (nodes_below 1 around z)
-          (lower z (record { less = omega arith; few = few; above = omega arith; shallow = omega arith; weaker = weaker_same around }) sides.1),
+      record {
+        faultless = passed-HaveNoFault (nodes_below 1 around y)
+            (lower y (record { less = omega arith; few = one; above = omega arith; shallow = omega arith; weaker = weaker_same around }) sides.0);
+        numbers = m;
+      },
+      record {
+        faultless = passed-HaveNoFault (nodes_below 1 around z)
+            (lower z (record { less = omega arith; few = few; above = omega arith; shallow = omega arith; weaker = weaker_same around }) sides.1);
+        numbers = n;
+      },
     )
 
 -- what a quantifier that fits says of the environment and of its body
-pub fits-inside : (is_all : Bool) (p : List ℕ) (y : Form) (e : Environment) → HaveNoFault (quantifier_node 1 (binders_of e) p ∷ nodes_below 2 (record { is_all = is_all; parameter = p } ∷ binders_of e) y) → FitsInside p y e
-fits-inside is_all p y e h =
+pub fits-inside : (is_all : Bool) (p : List ℕ) (y : Form) (e : Environment) → HaveNoFault (quantifier_node 1 (binders_of e) p ∷ nodes_below 2 (record { is_all = is_all; parameter = p } ∷ binders_of e) y) → HasNumbers y → FitsInside p y e
+fits-inside is_all p y e h numbers =
     let around = binders_of e in
     let inner = record { is_all = is_all; parameter = p } ∷ around in
     let parts = behind (HaveNoFault-free (quantifier_node 1 around p ∷ nodes_below 2 inner y) h) in
@@ -251,8 +259,11 @@ fits-inside is_all p y e h =
     record {
       room = omega (arith, few, length-map e (λ (entry : List ℕ × Option (List ℕ)). binder_of entry.0));
       free = twice.0;
-      body = λ v. passed-HaveNoFault (nodes_below 1 (record { is_all = false; parameter = p } ∷ around) y)
-          (lower y (record { less = omega arith; few = omega arith; above = omega arith; shallow = omega arith; weaker = weaker_binder (λ h. refl) (weaker_same around) }) parts.1);
+      body = λ v. record {
+        faultless = passed-HaveNoFault (nodes_below 1 (record { is_all = false; parameter = p } ∷ around) y)
+            (lower y (record { less = omega arith; few = omega arith; above = omega arith; shallow = omega arith; weaker = weaker_binder (λ h. refl) (weaker_same around) }) parts.1);
+        numbers = numbers;
+      };
     }
   where
     at_most_seven : (n : ℕ) → nat_le 8 n ≡ false → n < 8
@@ -261,24 +272,25 @@ fits-inside is_all p y e h =
 -- the operands of an expression that fits an environment fit
 pub fits-operands : (x : Form) (e : Environment) → Fits x e → OperandsFit x e
 fits-operands (atom x) e h = tt
-fits-operands (opt y) e h = fits-one operator_head y e h
-fits-operands (seq y z) e h = fits-two y z e h
-fits-operands (star y) e h = fits-one operator_head y e h
-fits-operands (par y z) e h = fits-two y z e h
-fits-operands (par_star y) e h = fits-one operator_head y e h
-fits-operands (or y z) e h = fits-two y z e h
-fits-operands (and y z) e h = fits-two y z e h
-fits-operands (couple y z) e h = fits-two y z e h
-fits-operands (any p y) e h = fits-inside false p y e h
-fits-operands (every p y) e h = fits-inside false p y e h
-fits-operands (sync p y) e h = fits-inside false p y e h
-fits-operands (all p y) e h = fits-inside true p y e h
+fits-operands (opt y) e h = fits-one operator_head y e h.faultless h.numbers
+fits-operands (seq y z) e h = fits-two y z e h.faultless h.numbers.0 h.numbers.1
+fits-operands (star y) e h = fits-one operator_head y e h.faultless h.numbers
+fits-operands (par y z) e h = fits-two y z e h.faultless h.numbers.0 h.numbers.1
+fits-operands (par_star y) e h = fits-one operator_head y e h.faultless h.numbers
+fits-operands (or y z) e h = fits-two y z e h.faultless h.numbers.0 h.numbers.1
+fits-operands (and y z) e h = fits-two y z e h.faultless h.numbers.0 h.numbers.1
+fits-operands (couple y z) e h = fits-two y z e h.faultless h.numbers.0 h.numbers.1
+fits-operands (any p y) e h = fits-inside false p y e h.faultless h.numbers
+fits-operands (every p y) e h = fits-inside false p y e h.faultless h.numbers
+fits-operands (sync p y) e h = fits-inside false p y e h.faultless h.numbers
+fits-operands (all p y) e h = fits-inside true p y e h.faultless h.numbers
+fits-operands (times n y) e h = fits-one operator_head y e h.faultless h.numbers.1
 
 -- a well-formed expression has at most 512 nodes
 pub well-formed-few : (x : Form) → IsWellFormed x → length (nodes_of x) ≤ 512
 well-formed-few x h =
     let none : 0 ≤ 512 = omega arith in
-    let few = free-few none (HaveNoFault-free (nodes_of x) h) in
+    let few = free-few none (HaveNoFault-free (nodes_of x) h.faultless) in
     omega (arith, few)
 
 -- an expression has at least one node
@@ -296,3 +308,4 @@ some-nodes (any p y) = omega arith
 some-nodes (every p y) = omega arith
 some-nodes (sync p y) = omega arith
 some-nodes (all p y) = omega arith
+some-nodes (times n y) = omega arith

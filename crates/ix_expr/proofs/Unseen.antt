@@ -9,7 +9,7 @@ use Rattle.ix_values.specs.PlainAction.{PlainAction}
 use Rattle.ix_expr.specs.declared.arg.Arg.{Arg}
 use Rattle.ix_expr.specs.declared.arg.Arg.TheVariants.{Fixed, Param}
 use Rattle.ix_expr.specs.Form.{PlainAtom, Form, atom, opt, seq, star, par, par_star, or, and, couple}
-use Rattle.ix_expr.specs.Form.{any, every, sync, all}
+use Rattle.ix_expr.specs.Form.{any, every, sync, all, times}
 use Rattle.ix_expr.specs.Environment.{Environment, value_in, bind, HaveValues, Matches}
 use Rattle.ix_expr.specs.Sees.{AtomSees, Sees}
 use Rattle.ix_expr.specs.Laws.{AtomsAgreeAt}
@@ -100,6 +100,7 @@ unseen-atoms (any q y) p v a g n = λ w. unseen-atoms y p v a (bound q w g) n
 unseen-atoms (every q y) p v a g n = λ w. unseen-atoms y p v a (bound q w g) n
 unseen-atoms (sync q y) p v a g n = λ w. unseen-atoms y p v a (bound q w g) n
 unseen-atoms (all q y) p v a g n = λ w. unseen-atoms y p v a (bound q w g) n
+unseen-atoms (times m y) p v a g n = unseen-atoms y p v a g n
 
 -- a value that no atom sees counts as outside
 pub unseen-outside : (x : Form) (e : Environment) (p v : List ℕ) (a : PlainAction)

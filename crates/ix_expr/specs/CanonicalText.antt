@@ -1,9 +1,9 @@
 -- The canonical text of an expression.
-use Rattle.std.specs.Prelude.{ℕ, List, [], ◌∷◌, codes, ◌++◌, Bool, if◌then◌else◌, nat_lt, nat_le}
+use Rattle.std.specs.Prelude.{ℕ, List, [], ◌∷◌, codes, decimal, ◌++◌, Bool, if◌then◌else◌, nat_lt, nat_le}
 use Rattle.ix_expr.specs.declared.arg.Arg.{Arg}
 use Rattle.ix_expr.specs.declared.arg.Arg.TheVariants.{Fixed, Param}
 use Rattle.ix_expr.specs.Form.{PlainAtom, Form, atom, opt, seq, star, par, par_star, or, and}
-use Rattle.ix_expr.specs.Form.{couple, any, every, sync, all}
+use Rattle.ix_expr.specs.Form.{couple, any, every, sync, all, times}
 
 -- how tightly an expression binds: `|` 1, `&` 2, `@` 3, `+` 4, `-` 5, and 6 for a prefix or an atom
 abbrev pub binding : Form → ℕ
@@ -20,6 +20,7 @@ binding (any p y) = 6
 binding (every p y) = 6
 binding (sync p y) = 6
 binding (all p y) = 6
+binding (times n y) = 6
 
 -- the text, in parentheses where the test holds
 abbrev pub enclosed : Bool → List ℕ → List ℕ
@@ -61,7 +62,8 @@ operand_text operand = enclosed (nat_le operand.0 5) operand.1
 abbrev pub quantifier_text : List ℕ → List ℕ → (ℕ × List ℕ) → List ℕ
 quantifier_text word p operand = word ++ (32 ∷ 36 ∷ p) ++ (32 ∷ operand_text operand)
 
--- the canonical text
+-- the canonical text; `times` is followed by a space, its number in decimal, a space, and the
+-- operand
 abbrev pub canonical_text : Form → List ℕ
 canonical_text (atom x) = atom_text x
 canonical_text (opt y) = 63 ∷ operand_text (binding y, canonical_text y)
@@ -81,3 +83,5 @@ canonical_text (any p y) = quantifier_text (codes "any") p (binding y, canonical
 canonical_text (every p y) = quantifier_text (codes "every") p (binding y, canonical_text y)
 canonical_text (sync p y) = quantifier_text (codes "sync") p (binding y, canonical_text y)
 canonical_text (all p y) = quantifier_text (codes "all") p (binding y, canonical_text y)
+canonical_text (times n y) = codes "times" ++ (32 ∷ decimal n)
+    ++ (32 ∷ operand_text (binding y, canonical_text y))

@@ -2,7 +2,7 @@
 -- definitions alone.
 use Rattle.std.specs.Prelude.{◌≡◌, ℕ, ◌<◌, false, List, [], Option, length}
 use Rattle.ix_expr.specs.Form.{Form, atom, opt, seq, star, par, par_star, or, and, couple, any}
-use Rattle.ix_expr.specs.Form.{every, sync, all}
+use Rattle.ix_expr.specs.Form.{every, sync, all, times}
 use Rattle.ix_expr.specs.Environment.{Environment, bind}
 use Rattle.ix_expr.specs.FormFaults.{IsWellFormed, Fits, is_bound, binders_of}
 
@@ -28,6 +28,7 @@ OperandsFit (any p y) e = FitsInside p y e
 OperandsFit (every p y) e = FitsInside p y e
 OperandsFit (sync p y) e = FitsInside p y e
 OperandsFit (all p y) e = FitsInside p y e
+OperandsFit (times n y) e = Fits y e
 
 -- the operands of an expression that fits an environment fit
 abbrev pub OperandsOfFittingFit : Type 0

@@ -11,7 +11,8 @@ pub record PlainAtom : Type 0 where
 abbrev pub atom_of : List ℕ → List Arg → PlainAtom
 atom_of name arguments = record { name = name; arguments = arguments }
 
--- an expression, one constructor for each form; a quantifier has the name of its parameter first
+-- an expression, one constructor for each form; a quantifier has the name of its parameter first,
+-- `times` its number
 pub data Form : Type 0 where
   atom : PlainAtom → Form
   opt : Form → Form
@@ -26,3 +27,4 @@ pub data Form : Type 0 where
   every : List ℕ → Form → Form
   sync : List ℕ → Form → Form
   all : List ℕ → Form → Form
+  times : ℕ → Form → Form

@@ -1,13 +1,13 @@
 -- When an expression is well formed: the first fault in pre-order, and at one node the first of the
 -- table.
-use Rattle.std.specs.Prelude.{◌≡◌, ℕ, suc, ◌<◌, Bool, true, false, ◌&&◌, not, List, [], ◌∷◌, ◌++◌}
+use Rattle.std.specs.Prelude.{◌≡◌, ℕ, suc, ◌<◌, ◌≤◌, Bool, true, false, ◌&&◌, not, List, [], ◌∷◌, ◌++◌}
 use Rattle.std.specs.Prelude.{map, length, Option, Some, None, if◌then◌else◌, ◌==◌, nat_le}
 use Rattle.std.specs.Prelude.{slice_get, IsSomeAnd}
 use Rattle.std.specs.List.{list_any, list_all}
 use Rattle.ix_expr.specs.declared.arg.Arg.{Arg}
 use Rattle.ix_expr.specs.declared.arg.Arg.TheVariants.{Fixed, Param}
 use Rattle.ix_expr.specs.Form.{PlainAtom, Form, atom, opt, seq, star, par, par_star, or, and}
-use Rattle.ix_expr.specs.Form.{couple, any, every, sync, all}
+use Rattle.ix_expr.specs.Form.{couple, any, every, sync, all, times}
 use Rattle.ix_values.specs.Order.{text_eq}
 use Rattle.ix_expr.specs.Environment.{Environment}
 
@@ -56,6 +56,8 @@ nodes_below d around (sync p y) = record { depth = d; around = around; head = qu
     ∷ nodes_below (suc d) (record { is_all = false; parameter = p } ∷ around) y
 nodes_below d around (all p y) = record { depth = d; around = around; head = quantifier_head p }
     ∷ nodes_below (suc d) (record { is_all = true; parameter = p } ∷ around) y
+nodes_below d around (times n y) = record { depth = d; around = around; head = operator_head }
+    ∷ nodes_below (suc d) around y
 
 -- whether one of the quantifiers binds the parameter
 abbrev pub is_bound : List Binder → List ℕ → Bool
@@ -130,9 +132,31 @@ pub record IsFirstFault (nodes : List Node) (code number : ℕ) : Type 0 where
 abbrev pub nodes_of : Form → List Node
 nodes_of x = nodes_below 1 [] x
 
--- the expression is well formed: no node of it has a fault
-abbrev pub IsWellFormed : Form → Type 0
-IsWellFormed x = HaveNoFault (nodes_of x)
+-- a number that may stand behind `times`
+abbrev pub IsNumber : ℕ → Type 0
+IsNumber n = (2 ≤ n) × (n ≤ 64)
+
+-- each number behind a `times` of the expression may stand there
+abbrev pub HasNumbers : Form → Type 0
+HasNumbers (atom x) = Unit {0}
+HasNumbers (opt y) = HasNumbers y
+HasNumbers (seq y z) = HasNumbers y × HasNumbers z
+HasNumbers (star y) = HasNumbers y
+HasNumbers (par y z) = HasNumbers y × HasNumbers z
+HasNumbers (par_star y) = HasNumbers y
+HasNumbers (or y z) = HasNumbers y × HasNumbers z
+HasNumbers (and y z) = HasNumbers y × HasNumbers z
+HasNumbers (couple y z) = HasNumbers y × HasNumbers z
+HasNumbers (any p y) = HasNumbers y
+HasNumbers (every p y) = HasNumbers y
+HasNumbers (sync p y) = HasNumbers y
+HasNumbers (all p y) = HasNumbers y
+HasNumbers (times n y) = IsNumber n × HasNumbers y
+
+-- the expression is well formed: no node of it has a fault, and each number may stand where it does
+pub record IsWellFormed (x : Form) : Type 0 where
+  pub faultless : HaveNoFault (nodes_of x)
+  pub numbers : HasNumbers x
 
 -- the first form fault of the expression, by its code and the number of its node in pre-order from
 -- 0
@@ -146,6 +170,7 @@ binders_of e = map (λ entry. record { is_all = false; parameter = entry.0 }) e
 -- the expression fits the environment: with the environment's parameters around it no node has a
 -- fault, so each free parameter is there, none is bound again, each atom under an `all` names its
 -- parameter, and parameters with nested quantifiers are at most 8, nodes at most 512, depth at most
--- 256
-abbrev pub Fits : Form → Environment → Type 0
-Fits x e = HaveNoFault (nodes_below 1 (binders_of e) x)
+-- 256; and each number may stand where it does
+pub record Fits (x : Form) (e : Environment) : Type 0 where
+  pub faultless : HaveNoFault (nodes_below 1 (binders_of e) x)
+  pub numbers : HasNumbers x

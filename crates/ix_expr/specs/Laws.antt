@@ -6,7 +6,7 @@ use Rattle.ix_values.specs.Order.{text_eq}
 use Rattle.ix_values.specs.PlainAction.{PlainAction, Word}
 use Rattle.ix_expr.specs.declared.arg.Arg.TheVariants.{Param}
 use Rattle.ix_expr.specs.Form.{Form, atom, opt, seq, star, par, par_star, or, and, couple, any}
-use Rattle.ix_expr.specs.Form.{every, sync, all}
+use Rattle.ix_expr.specs.Form.{every, sync, all, times}
 use Rattle.ix_expr.specs.Environment.{Environment, value_in, bind, Matches}
 use Rattle.ix_expr.specs.FormFaults.{Fits}
 use Rattle.ix_expr.specs.Meaning.{InAlphabet, IsComplete, IsPartial}
@@ -37,6 +37,7 @@ AtomsAgreeAt (any p y) e f a = (v : Option (List ℕ)) → AtomsAgreeAt y (bind 
 AtomsAgreeAt (every p y) e f a = (v : Option (List ℕ)) → AtomsAgreeAt y (bind p v e) (bind p v f) a
 AtomsAgreeAt (sync p y) e f a = (v : Option (List ℕ)) → AtomsAgreeAt y (bind p v e) (bind p v f) a
 AtomsAgreeAt (all p y) e f a = (v : Option (List ℕ)) → AtomsAgreeAt y (bind p v e) (bind p v f) a
+AtomsAgreeAt (times n y) e f a = AtomsAgreeAt y e f a
 
 -- the atoms of the expression agree at each action of the word
 abbrev pub AtomsAgreeOn : Form → Environment → Environment → Word → Type 0
@@ -69,6 +70,7 @@ EachAtomNames p (any q y) = (q ≢ p) × EachAtomNames p y
 EachAtomNames p (every q y) = (q ≢ p) × EachAtomNames p y
 EachAtomNames p (sync q y) = (q ≢ p) × EachAtomNames p y
 EachAtomNames p (all q y) = (q ≢ p) × EachAtomNames p y
+EachAtomNames p (times n y) = EachAtomNames p y
 
 -- a complete word is partial
 abbrev pub CompleteWordsArePartial : Type 0

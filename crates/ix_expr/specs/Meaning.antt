@@ -3,10 +3,10 @@
 -- tree or function of the code is in them.
 use Rattle.std.specs.Prelude.{◌≡◌, ℕ, List, [], ◌∷◌, ◌⊎◌, Some}
 use Rattle.ix_words.specs.Each.{Each}
-use Rattle.ix_words.specs.Words.{Joined, Repeated, Split, Numbered, Owned, Projected}
+use Rattle.ix_words.specs.Words.{Joined, Repeated, Split, Numbered, Shared, Owned, Projected}
 use Rattle.ix_values.specs.PlainAction.{PlainAction, Word}
 use Rattle.ix_expr.specs.Form.{PlainAtom, Form, atom, opt, seq, star, par, par_star, or, and}
-use Rattle.ix_expr.specs.Form.{couple, any, every, sync, all}
+use Rattle.ix_expr.specs.Form.{couple, any, every, sync, all, times}
 use Rattle.ix_values.specs.Order.{text_eq}
 use Rattle.ix_expr.specs.Environment.{Environment, Matches, bind}
 
@@ -26,6 +26,7 @@ InAlphabet (any p y) e a = (v : List ℕ) × InAlphabet y (bind p (Some v) e) a
 InAlphabet (every p y) e a = (v : List ℕ) × InAlphabet y (bind p (Some v) e) a
 InAlphabet (sync p y) e a = (v : List ℕ) × InAlphabet y (bind p (Some v) e) a
 InAlphabet (all p y) e a = (v : List ℕ) × InAlphabet y (bind p (Some v) e) a
+InAlphabet (times n y) e a = InAlphabet y e a
 
 -- the word is one action that the atom matches
 abbrev pub IsOneMatch : PlainAtom → Environment → Word → Type 0
@@ -52,6 +53,7 @@ IsComplete (sync p y) e w =
     × ((v : List ℕ)
     → Projected (InAlphabet y (bind p (Some v) e)) (IsComplete y (bind p (Some v) e)) w)
 IsComplete (all p y) e w = Owned text_eq (λ v. IsComplete y (bind p (Some v) e)) w
+IsComplete (times n y) e w = Shared n (IsComplete y e) w
 
 -- the word is partial in the expression under the environment
 abbrev pub IsPartial : Form → Environment → Word → Type 0
@@ -74,3 +76,4 @@ IsPartial (sync p y) e w =
     × ((v : List ℕ)
     → Projected (InAlphabet y (bind p (Some v) e)) (IsPartial y (bind p (Some v) e)) w)
 IsPartial (all p y) e w = Owned text_eq (λ v. IsPartial y (bind p (Some v) e)) w
+IsPartial (times n y) e w = Shared n (IsPartial y e) w

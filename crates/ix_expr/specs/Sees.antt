@@ -6,7 +6,7 @@ use Rattle.ix_values.specs.PlainAction.{PlainAction}
 use Rattle.ix_expr.specs.declared.arg.Arg.TheVariants.{Param}
 use Rattle.ix_expr.specs.Form.{PlainAtom, Form, atom, opt, seq, star, par, par_star, or, and}
 use Rattle.ix_expr.specs.Form.{couple}
-use Rattle.ix_expr.specs.Form.{any, every, sync, all}
+use Rattle.ix_expr.specs.Form.{any, every, sync, all, times}
 
 -- by its parameter p the atom sees the value v of the action: it has the action's name and as many
 -- arguments as the action has values, and p stands in a place where the action's value is v
@@ -31,3 +31,4 @@ Sees (any q y) p v a = Sees y p v a
 Sees (every q y) p v a = Sees y p v a
 Sees (sync q y) p v a = Sees y p v a
 Sees (all q y) p v a = Sees y p v a
+Sees (times n y) p v a = Sees y p v a

@@ -4,7 +4,7 @@ use Rattle.ix_values.specs.Texts.{IsName, IsValue}
 use Rattle.ix_expr.specs.declared.arg.Arg.{Arg}
 use Rattle.ix_expr.specs.declared.arg.Arg.TheVariants.{Fixed, Param}
 use Rattle.ix_expr.specs.Form.{PlainAtom, Form, atom, opt, seq, star, par, par_star, or, and}
-use Rattle.ix_expr.specs.Form.{couple, any, every, sync, all}
+use Rattle.ix_expr.specs.Form.{couple, any, every, sync, all, times}
 use Rattle.ix_expr.specs.Reserved.{is_reserved}
 
 -- a fixed argument is a value, a parameter has a name
@@ -34,3 +34,4 @@ IsSpelled (any p y) = IsName p × IsSpelled y
 IsSpelled (every p y) = IsName p × IsSpelled y
 IsSpelled (sync p y) = IsName p × IsSpelled y
 IsSpelled (all p y) = IsName p × IsSpelled y
+IsSpelled (times n y) = IsSpelled y

@@ -23,7 +23,9 @@ pub fn contains(expr: &Expr, env: &Env, action: &Action) -> bool
 {
     match expr {
         Expr::Atom(atom) => matches(atom, env, action),
-        Expr::Opt(y) | Expr::Star(y) | Expr::ParStar(y) => contains(y, env, action),
+        Expr::Opt(y) | Expr::Star(y) | Expr::ParStar(y) | Expr::Times(_, y) => {
+            contains(y, env, action)
+        }
         Expr::Seq(y, z) | Expr::Par(y, z) | Expr::Or(y, z) | Expr::And(y, z) | Expr::Couple(y, z) =>
             { contains(y, env, action) || contains(z, env, action) }
         Expr::Any(parameter, y)

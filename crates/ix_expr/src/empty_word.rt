@@ -21,5 +21,6 @@ pub fn accepts_empty(expr: &Expr) -> bool
         Expr::Any(_, y) | Expr::Every(_, y) | Expr::Sync(_, y) | Expr::All(_, y) => accepts_empty(
             y,
         ),
+        Expr::Times(number, y) => *number == 0 || accepts_empty(y),
     }
 }

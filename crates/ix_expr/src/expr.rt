@@ -30,4 +30,6 @@ pub enum Expr {
     Sync(Name, Box<Expr>),
     /// `all $p y`: y for every value of p side by side.
     All(Name, Box<Expr>),
+    /// `times N y`: N times y side by side, all of them wanted; N is 2 to 64.
+    Times(u8, Box<Expr>),
 }

@@ -1,7 +1,7 @@
 //! Well-formed expressions.
 
 ghost use Rattle.std.specs.Prelude.{◌≡◌, ◌<◌, ◌≤◌, ◌↔◌, IsOk, IfOk, IfErr, length};
-ghost use Rattle.ix_expr.specs.FormFaults.{IsWellFormed, IsFirstFormFault, nodes_of};
+ghost use Rattle.ix_expr.specs.FormFaults.{IsWellFormed, IsFirstFormFault, HasNumbers, nodes_of};
 ghost use Rattle.ix_expr.specs.inside.FormOf.{form_of};
 ghost use Rattle.ix_expr.specs.Spelling.{IsSpelled};
 
@@ -49,8 +49,10 @@ impl Model for Expression {
 }
 
 impl Expression {
-    /// The expression, or its first form fault; a refused one is dropped.
+    /// The expression, or its first form fault; a refused one is dropped. The number of each
+    /// `times` must be 2 to 64.
     pub fn new(expr: Expr) -> Result<Expression, FormFault>
+        requires numbers { HasNumbers (form_of expr) }
         ensures ok { IsOk result ↔ IsWellFormed (form_of expr) }
         ensures value { IfOk result (λ expression. expression ≡ form_of expr) }
         ensures fault { IfErr result

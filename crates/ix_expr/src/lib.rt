@@ -12,6 +12,7 @@ pub mod fitting;
 pub mod laws;
 mod matching;
 mod names;
+mod numbers;
 mod scope;
 mod seen;
 mod walk;
@@ -25,6 +26,7 @@ pub use expr::Expr;
 pub use expression::{Expression, FormFault};
 pub use matching::matches;
 pub use names::mentions;
+pub use numbers::has_numbers;
 pub use seen::sees;
 
 #[cfg(test)]

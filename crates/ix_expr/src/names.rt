@@ -19,7 +19,8 @@ pub fn mentions(expr: &Expr, name: &Name) -> bool
         | Expr::Any(_, y)
         | Expr::Every(_, y)
         | Expr::Sync(_, y)
-        | Expr::All(_, y) => mentions(y, name),
+        | Expr::All(_, y)
+        | Expr::Times(_, y) => mentions(y, name),
         Expr::Seq(y, z) | Expr::Par(y, z) | Expr::Or(y, z) | Expr::And(y, z) | Expr::Couple(y, z) =>
             { mentions(y, name) || mentions(z, name) }
     }

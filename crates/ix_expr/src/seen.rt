@@ -26,7 +26,8 @@ pub fn sees(expr: &Expr, parameter: &Name, value: &Value, action: &Action) -> bo
         | Expr::Any(_, y)
         | Expr::Every(_, y)
         | Expr::Sync(_, y)
-        | Expr::All(_, y) => sees(y, parameter, value, action),
+        | Expr::All(_, y)
+        | Expr::Times(_, y) => sees(y, parameter, value, action),
         Expr::Seq(y, z) | Expr::Par(y, z) | Expr::Or(y, z) | Expr::And(y, z) | Expr::Couple(y, z) =>
             { sees(y, parameter, value, action) || sees(z, parameter, value, action) }
     }

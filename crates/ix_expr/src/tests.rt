@@ -1,5 +1,9 @@
 //! Form faults by the table, and each other public call once.
 
+ghost use Rattle.std.specs.Prelude.{IfOk};
+ghost use Rattle.ix_expr.specs.FormFaults.{HasNumbers};
+ghost use Rattle.ix_expr.specs.inside.FormOf.{form_of};
+
 use super::*;
 use ix_values::{Action, Name, Value};
 use std::alloc::{AllocError, Global};
@@ -69,10 +73,21 @@ fn expression(alloc: Global, text: &[u8]) -> Result<Expr, Fail> {
     Ok(stack.pop().ok_or("no expression")?)
 }
 
+/// The expression, whose numbers may stand where they do.
+fn numbered(expr: Expr) -> Result<Expr, Fail>
+    ensures { IfOk result (λ expr. HasNumbers (form_of expr)) }
+{
+    if has_numbers(&expr) {
+        Ok(expr)
+    } else {
+        Err("a number isn't 2 to 64".into())
+    }
+}
+
 /// 0 and the number of nodes, or the code and the node of the first form fault, of the expression
 /// in prefix notation.
 fn verdict(alloc: Global, text: &[u8]) -> Result<(u8, usize), Fail> {
-    match Expression::new(expression(alloc, text)?) {
+    match Expression::new(numbered(expression(alloc, text)?)?) {
         Ok(expression) => Ok((0, expression.nodes())),
         Err(fault) => Ok((fault.code, fault.node)),
     }
@@ -138,7 +153,7 @@ fn alphabets(rt: HostRuntime) -> Result<(), Fail> {
     assert!(rt; !matches(&named, &Env::new().with(p, None), &action));
     let option = Expr::Opt(boxed(rt.alloc(), Some(Expr::Atom(named)))?);
     let whole = Expr::Any(p, boxed(rt.alloc(), Some(option))?);
-    let expression = Expression::new(whole).map_err(|_| "refused")?;
+    let expression = Expression::new(numbered(whole)?).map_err(|_| "refused")?;
     assert!(rt; contains(expression.expr(), &Env::new(), &action));
     assert!(rt;
         !contains(

@@ -76,7 +76,9 @@ pub(crate) fn walk(
 {
     match expr {
         Expr::Atom(atom) => visit_atom(atom, depth, scope, number),
-        Expr::Opt(y) | Expr::Star(y) | Expr::ParStar(y) => walk_one(y, depth, scope, number),
+        Expr::Opt(y) | Expr::Star(y) | Expr::ParStar(y) | Expr::Times(_, y) => {
+            walk_one(y, depth, scope, number)
+        }
         Expr::Seq(y, z) | Expr::Par(y, z) | Expr::Or(y, z) | Expr::And(y, z) | Expr::Couple(y, z) =>
             {
                 match walk_one(y, depth, scope, number) {

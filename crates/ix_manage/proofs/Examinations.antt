@@ -68,10 +68,13 @@ perform_is_atom = record {
 }
 
 formed : IsWellFormed expression
-formed = passed-HaveNoFault (nodes_of expression)
-    (free_node refl (free_node refl (free_node refl (free_node refl (free_node refl (free_node refl
-    (free_node refl (free_node refl (free_node refl (free_node refl (free_node refl (free_node refl
-    (free_node refl free_end)))))))))))))
+formed = record {
+  faultless = passed-HaveNoFault (nodes_of expression)
+      (free_node refl (free_node refl (free_node refl (free_node refl (free_node refl (free_node refl
+      (free_node refl (free_node refl (free_node refl (free_node refl (free_node refl (free_node refl
+      (free_node refl free_end)))))))))))));
+  numbers = ((tt, tt), (tt, tt));
+}
 
 -- the text of one of the two rules
 abbrev text_of_each : List ℕ → List ℕ → List ℕ
@@ -88,7 +91,7 @@ each-printed p q p_name q_name at =
     printed-star visit text from 3
     (printed-group visit (canonical_text visit) (from + 1) 2
     (printed-loosen 1 6 visit (canonical_text visit) (from + 1 + 1) 2 2 (omega arith) (omega arith)
-    (omega arith) (printed visit spelled (from + 1 + 1)))))
+    (omega arith) (printed visit spelled (tt, tt) (from + 1 + 1)))))
 
 abbrev whole_text : List ℕ
 whole_text = (text_of_each (codes "p") (codes "x") ++ (32 ∷ 64 ∷ 32 ∷ []))

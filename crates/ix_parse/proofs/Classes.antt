@@ -4,11 +4,11 @@ use Rattle.ix_expr.specs.Reserved.{is_reserved}
 use Rattle.ix_values.specs.Texts.{begins_with_letter}
 use Rattle.ix_parse.specs.declared.signs.Quantifier.TheVariants as quantifiers
 use Rattle.ix_parse.specs.declared.signs.WordClass.{WordClass}
-use Rattle.ix_parse.specs.declared.signs.WordClass.TheVariants.{Quantifies, Withheld, Names, Other}
+use Rattle.ix_parse.specs.declared.signs.WordClass.TheVariants.{Quantifies, Counts, Names, Other}
 use Rattle.ix_parse.specs.Symbols.{class_of}
 
 class_by : Bool → Bool → Bool → Bool → Bool → Bool → WordClass
-class_by a b c d e f = cond a (Quantifies quantifiers.Any) (cond b (Quantifies quantifiers.Every) (cond c (Quantifies quantifiers.Sync) (cond d (Quantifies quantifiers.All) (cond e Withheld (cond f Names Other)))))
+class_by a b c d e f = cond a (Quantifies quantifiers.Any) (cond b (Quantifies quantifiers.Every) (cond c (Quantifies quantifiers.Sync) (cond d (Quantifies quantifiers.All) (cond e Counts (cond f Names Other)))))
 
 unreserved-by : (a b c d e f : Bool) → class_by a b c d e f ≡ Names → a || (b || (c || (d || (e || false)))) ≡ false
 unfolding class_by

@@ -1,13 +1,13 @@
 -- Whether a symbol may come is whether the machine makes a step of it.
-use Rattle.std.proofs.Common.{◌≡◌, ℕ, suc, ◌≤◌, Bool, true, false, ltb, leb, cond, List, [], ◌∷◌, ◌++◌, length, Some, None, refl, sym, ap, ◌∙◌, arith, lt-ltb}
+use Rattle.std.proofs.Common.{◌≡◌, ℕ, suc, ◌≤◌, Bool, true, false, ltb, leb, cond, List, [], ◌∷◌, ◌++◌, length, Option, Some, None, refl, sym, ap, ◌∙◌, arith, lt-ltb}
 use Rattle.std.specs.Prelude.{is_some}
 use Rattle.ix_expr.specs.declared.arg.Arg.{Arg}
 use Rattle.ix_parse.specs.declared.signs.WordClass.{WordClass}
-use Rattle.ix_parse.specs.declared.signs.WordClass.TheVariants.{Quantifies, Withheld, Names, Other}
+use Rattle.ix_parse.specs.declared.signs.WordClass.TheVariants.{Quantifies, Counts, Names, Other}
 use Rattle.ix_parse.specs.Symbols.{Symbol, word, param, opening, closing, comma, before, between, class_of, level, Meaning, joined, named, argument_of}
 use Rattle.ix_parse.specs.Grammar.{Stands}
-use Rattle.ix_parse.specs.inside.StackMachine.{Entry, group, sign, binder, left, Config, WithOperand, held, closed, reduced, left_group, step_operand, step_word, step_wanted, step_name, step_argument, step_quantifier, with_argument, step, groups}
-use Rattle.ix_parse.specs.inside.Judged.{begins_operand, may_begin, may_follow, may_follow_name, may_follow_argument, is_argument, is_param, may_come}
+use Rattle.ix_parse.specs.inside.StackMachine.{Entry, group, sign, binder, counter, left, Config, WithOperand, held, closed, reduced, left_group, step_operand, step_word, step_wanted, step_name, step_argument, step_quantifier, step_times, with_argument, with_number, number_of, step, groups}
+use Rattle.ix_parse.specs.inside.Judged.{begins_operand, may_begin, may_follow, may_follow_name, may_follow_argument, is_argument, is_param, is_number, may_come}
 use Rattle.ix_parse.proofs.Runs.{hole, level-some}
 use Rattle.ix_parse.proofs.Holding.{Holds, hole-low, Reads, Ended, Ended-closed, Reads-reduced}
 
@@ -16,6 +16,7 @@ groups-closed [] x = refl
 groups-closed (group ∷ s) x = refl
 groups-closed (sign at p ∷ s) x = groups-closed s _
 groups-closed (binder at q p ∷ s) x = groups-closed s _
+groups-closed (counter at n ∷ s) x = groups-closed s _
 groups-closed (left at o y ∷ s) x = refl
 
 groups-by : (v : Bool) (h g : WithOperand) (n : ℕ) → groups h.stack ≡ n → groups g.stack ≡ n → groups (cond v h g).stack ≡ n
@@ -27,6 +28,7 @@ groups-reduced k [] x = refl
 groups-reduced k (group ∷ s) x = refl
 groups-reduced k (sign at p ∷ s) x = refl
 groups-reduced k (binder at q p ∷ s) x = refl
+groups-reduced k (counter at n ∷ s) x = refl
 groups-reduced k (left at o y ∷ s) x = groups-by (leb k (level o)) (reduced k s (joined o at y x)) (held (left at o y ∷ s) x) (groups s) (groups-reduced k s (joined o at y x)) refl
 
 -- a group is inmost where nothing is left to join and one is open
@@ -35,6 +37,7 @@ inmost [] x fits = refl
 inmost (group ∷ s) x fits = lt-ltb 0 (suc (groups s)) (omega arith)
 inmost (sign at p ∷ s) x fits = absurd (omega arith)
 inmost (binder at q p ∷ s) x fits = absurd (omega arith)
+inmost (counter at n ∷ s) x fits = absurd (omega arith)
 inmost (left at o y ∷ s) x fits = let some = level-some o in absurd (omega arith)
 
 closes : (all : List Symbol) (h : WithOperand) → Ended all h → ltb 0 (groups h.stack) ≡ is_some (step_operand h.stack h.operand closing)
@@ -44,7 +47,7 @@ closes all h e =
 
 comes-word : (s : List Entry) (at : ℕ) (w : List ℕ) (k : WordClass) → begins_operand k ≡ is_some (step_word s at w k)
 comes-word s at w (Quantifies q) = refl
-comes-word s at w Withheld = refl
+comes-word s at w Counts = refl
 comes-word s at w Names = refl
 comes-word s at w Other = refl
 
@@ -97,6 +100,19 @@ comes-quantifier s at q comma = refl
 comes-quantifier s at q (before at' p) = refl
 comes-quantifier s at q (between at' o) = refl
 
+comes-number : (s : List Entry) (at : ℕ) (o : Option ℕ) → is_some o ≡ is_some (with_number s at o)
+comes-number s at None = refl
+comes-number s at (Some n) = refl
+
+comes-times : (s : List Entry) (at : ℕ) (t : Symbol) → is_number t ≡ is_some (step_times s at t)
+comes-times s at (word at' w) = comes-number s at (number_of w)
+comes-times s at (param p) = refl
+comes-times s at opening = refl
+comes-times s at closing = refl
+comes-times s at comma = refl
+comes-times s at (before at' p) = refl
+comes-times s at (between at' o) = refl
+
 comes-operand : (all : List Symbol) (s : List Entry) (x : Meaning) (t : Symbol) → Ended all (held s x) → may_follow (ltb 0 (groups s)) t ≡ is_some (step_operand s x t)
 comes-operand all s x (word at w) e = refl
 comes-operand all s x (param p) e = refl
@@ -113,4 +129,5 @@ may_come-step _ _ t (Reads.at_name ts s at w is h) = comes-name ts s at w t is h
 may_come-step _ _ t (Reads.at_argument ts us s at w args is listed few h) = comes-argument s at w args t
 may_come-step _ _ t (Reads.behind_argument ts us s at w args is listed few h) = comes-behind_argument s at w args t
 may_come-step _ _ t (Reads.behind_quantifier ts s at w q is h) = comes-quantifier s at q t
+may_come-step _ _ t (Reads.behind_times ts s at w is h) = comes-times s at t
 may_come-step _ _ t (Reads.behind_operand ts us s x clear stands h) = comes-operand (ts ++ us) s x t (record { front = ts; operand = us; split = refl; clear = clear; stands = stands; holds = h })

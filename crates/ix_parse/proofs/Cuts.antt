@@ -1,7 +1,7 @@
 -- Cuts of the grammar: levels, cuts inside cuts, and operands put in their places.
 use Rattle.std.proofs.Common.{◌≡◌, ℕ, suc, zero, ◌+◌, ◌-◌, ◌≤◌, List, [], ◌∷◌, ◌++◌, sym, ap, ◌∙◌, subst, arith, append_assoc}
 use Rattle.std.proofs.lemmas.List.{append-nil}
-use Rattle.ix_parse.specs.Symbols.{Symbol, word, param, opening, closing, before, between, level, Meaning, joined, prefixed, quantified}
+use Rattle.ix_parse.specs.Symbols.{Symbol, word, param, opening, closing, before, between, level, Meaning, joined, prefixed, quantified, counted}
 use Rattle.ix_parse.specs.Grammar.{Stands, Cut, CanGoOn}
 
 -- what binds tightly may stand where something looser may
@@ -39,6 +39,9 @@ Cut-then _ _ k _ e _ us (Cut.prefixes at p m d ts cut) inner =
 Cut-then _ _ k _ e _ us (Cut.quantifies at w q p m d ts is cut) inner =
     let same : suc (d + e) ≡ suc d + e = omega arith in
     subst (λ i. Cut 6 k i (word at w ∷ param p ∷ ts ++ us)) same (Cut.quantifies at w q p k (d + e) (ts ++ us) is (Cut-then 6 m k d e ts us cut inner))
+Cut-then _ _ k _ e _ us (Cut.counts at at' w v n m d ts is number cut) inner =
+    let same : suc (d + e) ≡ suc d + e = omega arith in
+    subst (λ i. Cut 6 k i (word at w ∷ word at' v ∷ ts ++ us)) same (Cut.counts at at' w v n k (d + e) (ts ++ us) is number (Cut-then 6 m k d e ts us cut inner))
 Cut-then _ _ k _ e _ us (Cut.group m d ts cut) inner =
     let same : suc (d + e) ≡ suc d + e = omega arith in
     subst (λ i. Cut 6 k i (opening ∷ ts ++ us)) same (Cut.group k (d + e) (ts ++ us) (Cut-then 1 m k d e ts us cut inner))
@@ -65,6 +68,9 @@ fill _ _ _ _ us x (Cut.prefixes at p m d ts cut) stands =
 fill _ _ _ _ us x (Cut.quantifies at w q p m d ts is cut) stands =
     let g = fill 6 m d ts us x cut stands in
     record { rest = g.rest; meaning = quantified q at p g.meaning; stands = Stands.quantifies at w q p ((ts ++ us) ++ g.rest) g.meaning is g.stands }
+fill _ _ _ _ us x (Cut.counts at at' w v n m d ts is number cut) stands =
+    let g = fill 6 m d ts us x cut stands in
+    record { rest = g.rest; meaning = counted n at g.meaning; stands = Stands.counts at at' w v n ((ts ++ us) ++ g.rest) g.meaning is number g.stands }
 fill _ _ _ _ us x (Cut.group m d ts cut) stands =
     let g = fill 1 m d ts us x cut stands in
     record { rest = g.rest ++ closing ∷ []; meaning = g.meaning; stands = subst (λ l. Stands 6 (opening ∷ l) g.meaning) (append_assoc (ts ++ us) g.rest (closing ∷ [])) (Stands.group ((ts ++ us) ++ g.rest) g.meaning g.stands) }

@@ -2,16 +2,19 @@
 use Rattle.std.proofs.Common.{ℕ, zero, suc, ◌<◌, List, [], ◌∷◌, length, arith, Ok, Err, Result, sym, subst}
 use Rattle.std.specs.Prelude.{IfOk, IfErr, IsSomeAnd, slice_get}
 use Rattle.ix_expr.specs.Form.{Form}
-use Rattle.ix_expr.specs.FormFaults.{IsWellFormed}
+use Rattle.ix_expr.specs.FormFaults.{HasNumbers, IsWellFormed}
 use Rattle.ix_parse.specs.declared.TextFault.{TextFault}
 use Rattle.ix_parse.specs.declared.TextFault.TheVariants.{Bad, Memory}
 use Rattle.ix_parse.specs.Symbols.{Meaning}
 use Rattle.ix_parse.specs.Faults.{HasMeaning, StandsFor, IsFirstFault}
 use Rattle.ix_parse.specs.inside.Outcomes.{IsFaultOf, HasPlaces, IsWellFormedOr}
-use Rattle.ix_parse.proofs.Places.{Stands-places}
+use Rattle.ix_parse.proofs.Places.{Stands-places, Stands-numbers}
 
 pub HasMeaning-places : (text : List ℕ) (x : Meaning) → HasMeaning text x → HasPlaces x
 HasMeaning-places text x means = Stands-places _ x means.stands
+
+pub HasMeaning-numbers : (text : List ℕ) (x : Meaning) → HasMeaning text x → HasNumbers x.form
+HasMeaning-numbers text x means = Stands-numbers 1 _ x means.stands
 
 pub read-ok : (text : List ℕ) (x : Meaning) (r : Result Form TextFault) → HasMeaning text x → IsWellFormedOr x r → IfOk r (λ form. StandsFor text form)
 read-ok text x (Ok form) means is =

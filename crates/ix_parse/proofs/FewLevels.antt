@@ -102,7 +102,7 @@ canonical-opens_few text x stands =
     let spelled = read-spelled text x stands in
     let bare = opened_by-bare (binding x) (binding x) (opened x) (omega arith) in
     let few = read-opened text x stands in
-    printed-shallow (canonical_text x) (opened_at (binding x) x) x (canonical-printed x spelled)
+    printed-shallow (canonical_text x) (opened_at (binding x) x) x (canonical-printed x spelled stands.well_formed.numbers)
     (omega arith)
 
 -- and reads back

@@ -10,13 +10,14 @@ use Rattle.ix_parse.proofs.Steps.{some_is}
 -- the fault with an order
 fault_at : ℕ → Fault
 fault_at n =
-    cond (eqb n 1) faults.NoToken (cond (eqb n 2) faults.Reserved (cond (eqb n 3) faults.FifthArgument (cond (eqb n 4) faults.Unexpected
-    (cond (eqb n 5) faults.LongName (cond (eqb n 6) faults.TooDeep (cond (eqb n 7) faults.TooManyNodes faults.Ended))))))
+    cond (eqb n 1) faults.NoToken (cond (eqb n 2) faults.Reserved (cond (eqb n 3) faults.NoNumber (cond (eqb n 4) faults.FifthArgument (cond (eqb n 5) faults.Unexpected
+    (cond (eqb n 6) faults.LongName (cond (eqb n 7) faults.TooDeep (cond (eqb n 8) faults.TooManyNodes faults.Ended)))))))
 
 fault_at-order : (f : Fault) → fault_at (order_of f) ≡ f
 unfolding fault_at
 fault_at-order faults.NoToken = refl
 fault_at-order faults.Reserved = refl
+fault_at-order faults.NoNumber = refl
 fault_at-order faults.FifthArgument = refl
 fault_at-order faults.Unexpected = refl
 fault_at-order faults.LongName = refl
@@ -28,9 +29,10 @@ fault_at-order faults.Ended = refl
 pub order-one : (f g : Fault) → order_of f ≡ order_of g → f ≡ g
 order-one f g e = sym (fault_at-order f) ∙ ap fault_at e ∙ fault_at-order g
 
-order-low : (f : Fault) → order_of f ≤ 8
+order-low : (f : Fault) → order_of f ≤ 9
 order-low faults.NoToken = omega arith
 order-low faults.Reserved = omega arith
+order-low faults.NoNumber = omega arith
 order-low faults.FifthArgument = omega arith
 order-low faults.Unexpected = omega arith
 order-low faults.LongName = omega arith
@@ -41,6 +43,7 @@ order-low faults.Ended = omega arith
 order-some : (f : Fault) → 1 ≤ order_of f
 order-some faults.NoToken = omega arith
 order-some faults.Reserved = omega arith
+order-some faults.NoNumber = omega arith
 order-some faults.FifthArgument = omega arith
 order-some faults.Unexpected = omega arith
 order-some faults.LongName = omega arith
@@ -77,11 +80,12 @@ chosen test f n others g false none is below more e = more (none-more test f n i
 pub first_met-some : (test : Fault → Bool) (g : Fault) → test faults.NoToken ≡ false → first_met test ≡ Some g → IsFirstMet test g
 first_met-some test g none e =
     chosen test faults.Reserved 2 _ g (test faults.Reserved) refl refl (none-more test faults.NoToken 1 refl (none-first test) none)
-    (λ below. chosen test faults.FifthArgument 3 _ g (test faults.FifthArgument) refl refl below
-    (λ below. chosen test faults.Unexpected 4 _ g (test faults.Unexpected) refl refl below
-    (λ below. chosen test faults.LongName 5 _ g (test faults.LongName) refl refl below
-    (λ below. chosen test faults.TooDeep 6 _ g (test faults.TooDeep) refl refl below
-    (λ below. chosen test faults.TooManyNodes 7 None g (test faults.TooManyNodes) refl refl below (λ below e. absurd cc)))))) e
+    (λ below. chosen test faults.NoNumber 3 _ g (test faults.NoNumber) refl refl below
+    (λ below. chosen test faults.FifthArgument 4 _ g (test faults.FifthArgument) refl refl below
+    (λ below. chosen test faults.Unexpected 5 _ g (test faults.Unexpected) refl refl below
+    (λ below. chosen test faults.LongName 6 _ g (test faults.LongName) refl refl below
+    (λ below. chosen test faults.TooDeep 7 _ g (test faults.TooDeep) refl refl below
+    (λ below. chosen test faults.TooManyNodes 8 None g (test faults.TooManyNodes) refl refl below (λ below e. absurd cc))))))) e
 
 skipped : (test : Fault → Bool) (f : Fault) (n : ℕ) (others : Option Fault) {A : Type 0} (v : Bool) → test f ≡ v → order_of f ≡ n → NoneBelow test n → (NoneBelow test (suc n) → others ≡ None → A) → cond v (Some f) others ≡ None → A
 skipped test f n others true holds is below more e = absurd cc
@@ -91,8 +95,9 @@ pub first_met-none : (test : Fault → Bool) → test faults.NoToken ≡ false �
 first_met-none test none none_ended e f =
     let low = order-low f in
     skipped test faults.Reserved 2 _ (test faults.Reserved) refl refl (none-more test faults.NoToken 1 refl (none-first test) none)
-    (λ below. skipped test faults.FifthArgument 3 _ (test faults.FifthArgument) refl refl below
-    (λ below. skipped test faults.Unexpected 4 _ (test faults.Unexpected) refl refl below
-    (λ below. skipped test faults.LongName 5 _ (test faults.LongName) refl refl below
-    (λ below. skipped test faults.TooDeep 6 _ (test faults.TooDeep) refl refl below
-    (λ below. skipped test faults.TooManyNodes 7 None (test faults.TooManyNodes) refl refl below (λ below e. none-more test faults.Ended 8 refl below none_ended f (omega arith))))))) e
+    (λ below. skipped test faults.NoNumber 3 _ (test faults.NoNumber) refl refl below
+    (λ below. skipped test faults.FifthArgument 4 _ (test faults.FifthArgument) refl refl below
+    (λ below. skipped test faults.Unexpected 5 _ (test faults.Unexpected) refl refl below
+    (λ below. skipped test faults.LongName 6 _ (test faults.LongName) refl refl below
+    (λ below. skipped test faults.TooDeep 7 _ (test faults.TooDeep) refl refl below
+    (λ below. skipped test faults.TooManyNodes 8 None (test faults.TooManyNodes) refl refl below (λ below e. none-more test faults.Ended 9 refl below none_ended f (omega arith)))))))) e

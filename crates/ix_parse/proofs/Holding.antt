@@ -4,10 +4,10 @@ use Rattle.ix_expr.specs.declared.arg.Arg.{Arg}
 use Rattle.ix_parse.specs.declared.signs.Operator.{Operator}
 use Rattle.ix_parse.specs.declared.signs.Prefix.{Prefix}
 use Rattle.ix_parse.specs.declared.signs.Quantifier.{Quantifier}
-use Rattle.ix_parse.specs.declared.signs.WordClass.TheVariants.{Quantifies, Names}
-use Rattle.ix_parse.specs.Symbols.{Symbol, word, param, opening, closing, comma, before, between, class_of, level, Meaning, joined, prefixed, quantified, argument_of}
+use Rattle.ix_parse.specs.declared.signs.WordClass.TheVariants.{Quantifies, Counts, Names}
+use Rattle.ix_parse.specs.Symbols.{Symbol, word, param, opening, closing, comma, before, between, class_of, IsNumberWord, level, Meaning, joined, prefixed, quantified, counted, argument_of}
 use Rattle.ix_parse.specs.Grammar.{Arguments, Stands, Cut, CanGoOn}
-use Rattle.ix_parse.specs.inside.StackMachine.{Entry, group, sign, binder, left, wanted, name_read, argument_wanted, argument_read, quantifier_read, operand_read, Config, WithOperand, held, config, closed, reduced, with_operand, left_group, with_left, step_operand, levels}
+use Rattle.ix_parse.specs.inside.StackMachine.{Entry, group, sign, binder, counter, left, wanted, name_read, argument_wanted, argument_read, quantifier_read, times_read, operand_read, Config, WithOperand, held, config, closed, reduced, with_operand, left_group, with_left, step_operand, levels}
 use Rattle.ix_parse.proofs.Runs.{hole, level-low, level-some}
 use Rattle.ix_parse.proofs.Cuts.{Stands-loosen, Cut-loosen, Cut-then, fill}
 
@@ -17,6 +17,7 @@ pub data Holds : List Symbol → List Entry → Type 0 where
   open_group : (ts : List Symbol) (s : List Entry) → Holds ts s → Holds (ts ++ opening ∷ []) (group ∷ s)
   open_sign : (ts : List Symbol) (s : List Entry) (at : ℕ) (p : Prefix) → Holds ts s → Holds (ts ++ before at p ∷ []) (sign at p ∷ s)
   open_binder : (ts : List Symbol) (s : List Entry) (at : ℕ) (w : List ℕ) (q : Quantifier) (p : List ℕ) → class_of w ≡ Quantifies q → Holds ts s → Holds (ts ++ word at w ∷ param p ∷ []) (binder at q p ∷ s)
+  open_counter : (ts : List Symbol) (s : List Entry) (at at' : ℕ) (w v : List ℕ) (n : ℕ) → class_of w ≡ Counts → IsNumberWord v n → Holds ts s → Holds (ts ++ word at w ∷ word at' v ∷ []) (counter at n ∷ s)
   open_left : (ts us : List Symbol) (s : List Entry) (at : ℕ) (o : Operator) (x : Meaning) → hole s ≤ level o → Stands (level o) us x → Holds ts s → Holds (ts ++ us ++ between at o ∷ []) (left at o x ∷ s)
 
 pub hole-low : (s : List Entry) → hole s ≤ 6
@@ -24,6 +25,7 @@ hole-low [] = omega arith
 hole-low (group ∷ s) = omega arith
 hole-low (sign at p ∷ s) = omega arith
 hole-low (binder at q p ∷ s) = omega arith
+hole-low (counter at n ∷ s) = omega arith
 hole-low (left at o x ∷ s) = let low = level-low o in omega arith
 
 -- a level that is opened in the place of an operand
@@ -38,6 +40,7 @@ Holds-cut _ _ Holds.nothing_open = Cut.here 1
 Holds-cut _ _ (Holds.open_group ts s h) = open-level (hole s) (levels s) ts (opening ∷ []) 1 (hole-low s) (Holds-cut ts s h) (Cut.group 1 0 [] (Cut.here 1))
 Holds-cut _ _ (Holds.open_sign ts s at p h) = open-level (hole s) (levels s) ts (before at p ∷ []) 6 (hole-low s) (Holds-cut ts s h) (Cut.prefixes at p 6 0 [] (Cut.here 6))
 Holds-cut _ _ (Holds.open_binder ts s at w q p is h) = open-level (hole s) (levels s) ts (word at w ∷ param p ∷ []) 6 (hole-low s) (Holds-cut ts s h) (Cut.quantifies at w q p 6 0 [] is (Cut.here 6))
+Holds-cut _ _ (Holds.open_counter ts s at at' w v n is number h) = open-level (hole s) (levels s) ts (word at w ∷ word at' v ∷ []) 6 (hole-low s) (Holds-cut ts s h) (Cut.counts at at' w v n 6 0 [] is number (Cut.here 6))
 Holds-cut _ _ (Holds.open_left ts us s at o x fits stands h) =
     let low = level-low o in
     let same : levels s + 0 ≡ levels s = omega arith in
@@ -73,6 +76,7 @@ IsClear [] = Unit {0}
 IsClear (group ∷ s) = Unit {0}
 IsClear (sign at p ∷ s) = ⊥
 IsClear (binder at q p ∷ s) = ⊥
+IsClear (counter at n ∷ s) = ⊥
 IsClear (left at o x ∷ s) = Unit {0}
 
 pub hole-clear : (s : List Entry) → hole s ≤ 5 → IsClear s
@@ -80,6 +84,7 @@ hole-clear [] low = tt
 hole-clear (group ∷ s) low = tt
 hole-clear (sign at p ∷ s) low = absurd (omega arith)
 hole-clear (binder at q p ∷ s) low = absurd (omega arith)
+hole-clear (counter at n ∷ s) low = absurd (omega arith)
 hole-clear (left at o x ∷ s) low = tt
 
 -- the symbols that led to a configuration
@@ -89,6 +94,7 @@ pub data Reads : List Symbol → Config → Type 0 where
   at_argument : (ts us : List Symbol) (s : List Entry) (at : ℕ) (w : List ℕ) (args : List Arg) → class_of w ≡ Names → Listed us args → length args < 4 → Holds ts s → Reads (ts ++ word at w ∷ opening ∷ us) (config s (argument_wanted at w args))
   behind_argument : (ts us : List Symbol) (s : List Entry) (at : ℕ) (w : List ℕ) (args : List Arg) → class_of w ≡ Names → Arguments us args → length args ≤ 4 → Holds ts s → Reads (ts ++ word at w ∷ opening ∷ us) (config s (argument_read at w args))
   behind_quantifier : (ts : List Symbol) (s : List Entry) (at : ℕ) (w : List ℕ) (q : Quantifier) → class_of w ≡ Quantifies q → Holds ts s → Reads (ts ++ word at w ∷ []) (config s (quantifier_read at q))
+  behind_times : (ts : List Symbol) (s : List Entry) (at : ℕ) (w : List ℕ) → class_of w ≡ Counts → Holds ts s → Reads (ts ++ word at w ∷ []) (config s (times_read at))
   behind_operand : (ts us : List Symbol) (s : List Entry) (x : Meaning) → IsClear s → Stands 6 us x → Holds ts s → Reads (ts ++ us) (config s (operand_read x))
 
 -- an operand that no prefix takes, behind what is open
@@ -110,6 +116,7 @@ Ended-closed _ us _ x Holds.nothing_open stands = record { front = []; operand =
 Ended-closed _ us _ x (Holds.open_group ts s h) stands = record { front = ts ++ opening ∷ []; operand = us; split = refl; clear = tt; stands = stands; holds = Holds.open_group ts s h }
 Ended-closed _ us _ x (Holds.open_sign ts s at p h) stands = regroup ts (before at p ∷ []) us _ (Ended-closed ts (before at p ∷ us) s (prefixed p at x) h (Stands.prefixes at p us x stands))
 Ended-closed _ us _ x (Holds.open_binder ts s at w q p is h) stands = regroup ts (word at w ∷ param p ∷ []) us _ (Ended-closed ts (word at w ∷ param p ∷ us) s (quantified q at p x) h (Stands.quantifies at w q p us x is stands))
+Ended-closed _ us _ x (Holds.open_counter ts s at at' w v n is number h) stands = regroup ts (word at w ∷ word at' v ∷ []) us _ (Ended-closed ts (word at w ∷ word at' v ∷ us) s (counted n at x) h (Stands.counts at at' w v n us x is number stands))
 Ended-closed _ us _ x (Holds.open_left ts vs s at o y fits first h) stands = record { front = ts ++ vs ++ between at o ∷ []; operand = us; split = refl; clear = tt; stands = stands; holds = Holds.open_left ts vs s at o y fits first h }
 
 pub Reads-ended : (all : List Symbol) (h : WithOperand) → Ended all h → Reads all (with_operand h)
@@ -135,6 +142,7 @@ Reads-reduced k j _ us _ x some below low fits clear stands (Holds.open_group ts
     record { front = ts ++ opening ∷ []; operand = us; split = refl; fits = some; holds = Holds.open_group ts s h; stands = Stands-loosen j k us x below low stands }
 Reads-reduced k j _ us _ x some below low fits clear stands (Holds.open_sign ts s at p h) = absurd clear
 Reads-reduced k j _ us _ x some below low fits clear stands (Holds.open_binder ts s at w q p is h) = absurd clear
+Reads-reduced k j _ us _ x some below low fits clear stands (Holds.open_counter ts s at at' w v n is number h) = absurd clear
 Reads-reduced k j _ us _ x some below low fits clear stands (Holds.open_left ts vs s at o y left_fits first h) =
     by-test (leb k (level o)) refl
     (λ tight.
@@ -167,6 +175,7 @@ Reads-group _ us _ x c (Holds.open_group ts s h) stands e =
     (subst (λ l. Reads l (with_operand (closed s x))) (sym same) (Reads-closed ts (opening ∷ us ++ closing ∷ []) s x h (Stands.group us x stands)))
 Reads-group _ us _ x c (Holds.open_sign ts s at p h) stands e = absurd cc
 Reads-group _ us _ x c (Holds.open_binder ts s at w q p is h) stands e = absurd cc
+Reads-group _ us _ x c (Holds.open_counter ts s at at' w v n is number h) stands e = absurd cc
 Reads-group _ us _ x c (Holds.open_left ts vs s at o y fits first h) stands e = absurd cc
 
 -- a symbol behind an operand

@@ -1,17 +1,18 @@
 -- A text of the grammar meets none of the faults that speak of the grammar.
-use Rattle.std.proofs.Common.{◌≡◌, ℕ, ◌≤◌, cond, ltb, List, [], ◌∷◌, ◌++◌, length, map, Some, None, refl, sym, ap, ◌∙◌, subst, arith, append_assoc}
+use Rattle.std.proofs.Common.{◌≡◌, ℕ, ◌≤◌, cond, ltb, List, [], ◌∷◌, ◌++◌, length, map, Option, Some, None, refl, sym, ap, ◌∙◌, subst, arith, append_assoc}
 use Rattle.std.proofs.lemmas.List.{append-nil}
 use Rattle.ix_lex.specs.Lexing.{PlainToken, Piece, token, Pieces}
 use Rattle.ix_parse.specs.declared.faults.Fault.{Fault}
 use Rattle.ix_parse.specs.declared.signs.Quantifier.{Quantifier}
 use Rattle.ix_parse.specs.declared.signs.WordClass.{WordClass}
-use Rattle.ix_parse.specs.declared.signs.WordClass.TheVariants.{Quantifies, Withheld}
-use Rattle.ix_parse.specs.Symbols.{Symbol, word, param, opening, closing, comma, before, between, symbol_of, class_of, Meaning}
-use Rattle.ix_parse.specs.Grammar.{Stands, Wanted, AfterArgument}
-use Rattle.ix_parse.specs.Faults.{ParamNext, BeginsNoOperand, OpensLevel, IsNode, Nodes, IsLong, Met, symbols_of, HasMeaning}
-use Rattle.ix_parse.specs.inside.StackMachine.{Entry, Config, config, wanted, quantifier_read, argument_read, argument_wanted, step_word, run, start, whole}
-use Rattle.ix_parse.proofs.Runs.{run-append, run-none, run-wanted, run-after_argument, run-stands, whole-stands}
+use Rattle.ix_parse.specs.declared.signs.WordClass.TheVariants.{Quantifies, Counts}
+use Rattle.ix_parse.specs.Symbols.{Symbol, word, param, opening, closing, comma, before, between, symbol_of, class_of, IsNumberWord, Meaning}
+use Rattle.ix_parse.specs.Grammar.{Stands, Wanted, AfterTimes, AfterArgument}
+use Rattle.ix_parse.specs.Faults.{ParamNext, WordNext, BeginsNoOperand, OpensLevel, IsNode, Nodes, IsLong, Met, symbols_of, HasMeaning}
+use Rattle.ix_parse.specs.inside.StackMachine.{Entry, Config, config, wanted, quantifier_read, times_read, argument_read, argument_wanted, step_word, with_number, run, start, whole}
+use Rattle.ix_parse.proofs.Runs.{run-append, run-none, run-wanted, run-after_times, run-after_argument, run-stands, whole-stands}
 use Rattle.ix_parse.proofs.Steps.{some_is}
+use Rattle.ix_parse.proofs.Numbers.{number-none}
 
 -- the run of a text of the grammar
 module _ (ts : List Symbol) (x : Meaning) (stands : Stands 1 ts x) where
@@ -40,20 +41,38 @@ module _ (ts : List Symbol) (x : Meaning) (stands : Stands 1 ts x) where
   quantifier-next s at q (before at' p ∷ rest) is = absurd (let stuck = run-none rest in let h : None ≡ Some last = sym stuck ∙ is in cc)
   quantifier-next s at q (between at' o ∷ rest) is = absurd (let stuck = run-none rest in let h : None ≡ Some last = sym stuck ∙ is in cc)
 
+  -- `times` isn't the last symbol, and a word follows it
+  times-next : (s : List Entry) (at : ℕ) (vs : List Symbol) → run (Some (config s (times_read at))) vs ≡ Some last → (at' : ℕ) × (v : List ℕ) × (rest : List Symbol) × (vs ≡ word at' v ∷ rest)
+  times-next s at [] is = absurd (let same : config s (times_read at) ≡ last = some_is _ last is in let none : whole last ≡ None = ap whole (sym same) in let some = last-whole in let h : None ≡ Some x = sym none ∙ some in cc)
+  times-next s at (word at' v ∷ rest) is = (at', v, rest, refl)
+  times-next s at (param p ∷ rest) is = absurd (let stuck = run-none rest in let h : None ≡ Some last = sym stuck ∙ is in cc)
+  times-next s at (opening ∷ rest) is = absurd (let stuck = run-none rest in let h : None ≡ Some last = sym stuck ∙ is in cc)
+  times-next s at (closing ∷ rest) is = absurd (let stuck = run-none rest in let h : None ≡ Some last = sym stuck ∙ is in cc)
+  times-next s at (comma ∷ rest) is = absurd (let stuck = run-none rest in let h : None ≡ Some last = sym stuck ∙ is in cc)
+  times-next s at (before at' p ∷ rest) is = absurd (let stuck = run-none rest in let h : None ≡ Some last = sym stuck ∙ is in cc)
+  times-next s at (between at' o ∷ rest) is = absurd (let stuck = run-none rest in let h : None ≡ Some last = sym stuck ∙ is in cc)
+
   -- no word that begins nothing stands where an operand is wanted
-  pub not-withheld : (us vs : List Symbol) (d at : ℕ) (w : List ℕ) → ts ≡ us ++ word at w ∷ vs → Wanted d us → class_of w ≡ Withheld → ⊥
-  not-withheld us vs d at w split wants is =
+  pub times-word : (us vs : List Symbol) (d at : ℕ) (w : List ℕ) → ts ≡ us ++ word at w ∷ vs → Wanted d us → class_of w ≡ Counts → (at' : ℕ) × (v : List ℕ) × (rest : List Symbol) × (vs ≡ word at' v ∷ rest)
+  times-word us vs d at w split wants is =
       let r = run-wanted d us wants in
       let more = rest-runs us (word at w ∷ vs) (config r.stack wanted) split r.is in
-      let stuck : run (Some (config r.stack wanted)) (word at w ∷ vs) ≡ None = ap (λ (k : WordClass). run (step_word r.stack at w k) vs) is ∙ run-none vs in
-      let h : None ≡ Some last = sym stuck ∙ more in
-      cc
+      times-next r.stack at vs (ap (λ (k : WordClass). run (step_word r.stack at w k) vs) (sym is) ∙ more)
 
   pub quantifier-param : (us vs : List Symbol) (d at : ℕ) (w : List ℕ) (q : Quantifier) → ts ≡ us ++ word at w ∷ vs → Wanted d us → class_of w ≡ Quantifies q → (p : List ℕ) × (rest : List Symbol) × (vs ≡ param p ∷ rest)
   quantifier-param us vs d at w q split wants is =
       let r = run-wanted d us wants in
       let more = rest-runs us (word at w ∷ vs) (config r.stack wanted) split r.is in
       quantifier-next r.stack at q vs (ap (λ (k : WordClass). run (step_word r.stack at w k) vs) (sym is) ∙ more)
+
+  -- no word that stands for no number stands behind `times`
+  pub not-numberless : (us vs : List Symbol) (at : ℕ) (w : List ℕ) → ts ≡ us ++ word at w ∷ vs → AfterTimes us → ((n : ℕ) → ¬ IsNumberWord w n) → ⊥
+  not-numberless us vs at w split after none =
+      let r = run-after_times us after in
+      let more = rest-runs us (word at w ∷ vs) (config r.stack (times_read r.at)) split r.is in
+      let stuck : run (Some (config r.stack (times_read r.at))) (word at w ∷ vs) ≡ None = ap (λ (o : Option ℕ). run (with_number r.stack r.at o) vs) (number-none w none) ∙ run-none vs in
+      let h : None ≡ Some last = sym stuck ∙ more in
+      cc
 
   -- no comma stands behind a fourth argument
   pub not-fifth : (us vs : List Symbol) → ts ≡ us ++ comma ∷ vs → AfterArgument 4 us → ⊥
@@ -79,17 +98,24 @@ param-follows : (vs : List PlainToken) (p : List ℕ) (rest : List Symbol) → s
 param-follows [] p rest e = absurd cc
 param-follows (v ∷ vs) p rest e = let is : symbol_of v ≡ param p = cc in ParamNext.param_next v p (map token vs) is
 
+word-follows : (vs : List PlainToken) (at : ℕ) (w : List ℕ) (rest : List Symbol) → symbols_of vs ≡ word at w ∷ rest → WordNext (map token vs)
+word-follows [] at w rest e = absurd cc
+word-follows (v ∷ vs) at w rest e = let is : symbol_of v ≡ word at w = cc in WordNext.word_next v at w (map token vs) is
+
 -- a text of the grammar within the limits meets no fault
 module _ (tokens : List PlainToken) (x : Meaning) (stands : Stands 1 (symbols_of tokens) x) (within : IsWithin tokens) where
   split-symbols : (us vs : List PlainToken) (t : PlainToken) → tokens ≡ us ++ t ∷ vs → symbols_of tokens ≡ symbols_of us ++ symbol_of t ∷ symbols_of vs
   split-symbols us vs t split = ap symbols_of split ∙ map-split us (t ∷ vs)
 
   none-met : (us vs : List PlainToken) (t : PlainToken) (f : Fault) → tokens ≡ us ++ t ∷ vs → ¬ Met (symbols_of us) (token t ∷ map token vs) f
-  none-met us vs t _ split (Met.reserved _ _ at d w is wants (BeginsNoOperand.withheld _ _ held)) =
-      not-withheld (symbols_of tokens) x stands (symbols_of us) (symbols_of vs) d at w (split-symbols us vs t split ∙ ap (λ u. symbols_of us ++ u ∷ symbols_of vs) is) wants held
+  none-met us vs t _ split (Met.reserved _ _ at d w is wants (BeginsNoOperand.no_word _ _ class none)) =
+      let follows = times-word (symbols_of tokens) x stands (symbols_of us) (symbols_of vs) d at w (split-symbols us vs t split ∙ ap (λ u. symbols_of us ++ u ∷ symbols_of vs) is) wants class in
+      none (word-follows vs follows.0 follows.1 follows.2 follows.3)
   none-met us vs t _ split (Met.reserved _ _ at d w is wants (BeginsNoOperand.no_param _ q _ class none)) =
       let follows = quantifier-param (symbols_of tokens) x stands (symbols_of us) (symbols_of vs) d at w q (split-symbols us vs t split ∙ ap (λ u. symbols_of us ++ u ∷ symbols_of vs) is) wants class in
       none (param-follows vs follows.0 follows.1 follows.2)
+  none-met us vs t _ split (Met.no_number _ _ at w is after none) =
+      not-numberless (symbols_of tokens) x stands (symbols_of us) (symbols_of vs) at w (split-symbols us vs t split ∙ ap (λ u. symbols_of us ++ u ∷ symbols_of vs) is) after none
   none-met us vs t _ split (Met.fifth_argument _ _ is four) =
       not-fifth (symbols_of tokens) x stands (symbols_of us) (symbols_of vs) (split-symbols us vs t split ∙ ap (λ u. symbols_of us ++ u ∷ symbols_of vs) is) four
   none-met us vs t _ split (Met.unexpected _ _ cannot) =

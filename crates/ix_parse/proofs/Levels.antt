@@ -13,12 +13,12 @@ use Rattle.ix_parse.specs.declared.signs.Prefix.TheVariants as prefixes
 use Rattle.ix_parse.specs.declared.signs.Quantifier.{Quantifier}
 use Rattle.ix_parse.specs.declared.signs.Quantifier.TheVariants as quantifiers
 use Rattle.ix_parse.specs.declared.signs.WordClass.{WordClass}
-use Rattle.ix_parse.specs.declared.signs.WordClass.TheVariants.{Quantifies, Names}
-use Rattle.ix_parse.specs.Symbols.{Symbol, word, param, opening, closing, comma, before, between, class_of, level, Meaning, joined_form, prefixed_form, quantified_form, argument_of}
+use Rattle.ix_parse.specs.declared.signs.WordClass.TheVariants.{Quantifies, Counts, Names}
+use Rattle.ix_parse.specs.Symbols.{Symbol, word, param, opening, closing, comma, before, between, class_of, IsNumberWord, level, Meaning, joined_form, prefixed_form, quantified_form, argument_of}
 use Rattle.ix_parse.specs.Grammar.{Arguments, Stands}
-use Rattle.ix_parse.specs.Faults.{OpensLevel}
-use Rattle.ix_parse.specs.inside.StackMachine.{Entry, group, sign, binder, left, Mode, Config, config, wanted, name_read, argument_wanted, argument_read, step_word, with_argument, step_some, run, levels}
-use Rattle.ix_parse.proofs.Runs.{hole, run-none, run-left, run-stands, level-low}
+use Rattle.ix_parse.specs.Faults.{TakesOperand, OpensLevel}
+use Rattle.ix_parse.specs.inside.StackMachine.{Entry, group, sign, binder, counter, left, Mode, Config, config, wanted, name_read, argument_wanted, argument_read, times_read, step_word, with_argument, step_some, run, levels}
+use Rattle.ix_parse.proofs.Runs.{hole, run-none, run-left, run-counts, run-stands, level-low}
 use Rattle.ix_parse.proofs.Steps.{some_is}
 
 -- the levels of an operand of level n that binds as tightly as b and opens d levels by itself: one
@@ -46,6 +46,7 @@ opened (forms.any p y) = suc (opened_by 6 (binding y) (opened y))
 opened (forms.every p y) = suc (opened_by 6 (binding y) (opened y))
 opened (forms.sync p y) = suc (opened_by 6 (binding y) (opened y))
 opened (forms.all p y) = suc (opened_by 6 (binding y) (opened y))
+opened (forms.times n y) = suc (opened_by 6 (binding y) (opened y))
 
 -- the same as an operand of level n
 abbrev pub opened_at : ℕ → Form → ℕ
@@ -211,6 +212,30 @@ opens-quantified at w q p ts d is inner s s' (u ∷ v ∷ us) vs t fits split ra
     let low = inner (binder at q p ∷ s) s' us vs t (omega arith) tail ran' opens in
     omega arith
 
+-- `times` and its number in front of an operand
+pub opens-counted :
+    (at at' : ℕ) (w v : List ℕ) (n : ℕ) (ts : List Symbol) (d : ℕ) → class_of w ≡ Counts
+    → IsNumberWord v n → OpensWithin 6 ts d
+    → OpensWithin 6 (word at w ∷ word at' v ∷ ts) (suc d)
+opens-counted at at' w v n ts d is number inner s s' [] vs t fits split ran opens =
+    let same = same-levels s s' ran in omega arith
+opens-counted at at' w v n ts d is number inner s s' (u ∷ []) vs t fits split ran opens =
+    let head : word at w ≡ u = cc in
+    let h : Some (config s (times_read at)) ≡ Some (config s' wanted) =
+    sym (ap (step_word s at w) is) ∙ ap (λ a. run (Some (config s wanted)) (a ∷ [])) head ∙ ran in
+    let mode = same-mode s s' (times_read at) h in
+    absurd cc
+opens-counted at at' w v n ts d is number inner s s' (u ∷ u' ∷ us) vs t fits split ran opens =
+    let first : word at w ≡ u = cc in
+    let second : word at' v ≡ u' = cc in
+    let tail : ts ≡ us ++ t ∷ vs = cc in
+    let ran' : run (Some (config (counter at n ∷ s) wanted)) us ≡ Some (config s' wanted) =
+    sym (run-counts s at at' w v n us is number)
+    ∙ ap (λ a. run (Some (config s wanted)) (a ∷ word at' v ∷ us)) first
+    ∙ ap (λ a. run (Some (config s wanted)) (u ∷ a ∷ us)) second ∙ ran in
+    let low = inner (counter at n ∷ s) s' us vs t (omega arith) tail ran' opens in
+    omega arith
+
 -- parentheses around an operand
 pub opens-group :
     (ts : List Symbol) (d : ℕ) → OpensWithin 1 ts d
@@ -233,7 +258,7 @@ opens-group ts d inner s s' (u ∷ us) vs t fits split ran opens =
 
 -- the name of an atom opens no level
 names-open_none : (at : ℕ) (w : List ℕ) → class_of w ≡ Names → ¬ OpensLevel (word at w)
-names-open_none at w is opens = let h : Names ≡ Quantifies opens.0 = sym is ∙ opens.1 in cc
+names-open_none at w is opens = subst TakesOperand is opens
 
 -- an atom without arguments opens none
 pub opens-bare : (at : ℕ) (w : List ℕ) → class_of w ≡ Names → OpensWithin 6 (word at w ∷ []) 0
@@ -354,7 +379,8 @@ stands-opened l _ _ _ (Stands.prefixes at p ts x operand) s fits few shallow =
     let is = opened-prefixed p x.form in
     omega arith
 stands-opened l _ _ _ (Stands.quantifies at w q p ts x is operand) s fits few shallow =
-    let room : levels s ≢ l = shallow [] (param p ∷ ts) (word at w) s refl refl (q, is) in
+    let room : levels s ≢ l = shallow [] (param p ∷ ts) (word at w) s refl refl
+    (subst TakesOperand (sym is) tt) in
     let goes : (front : List Symbol) → run (Some (config s wanted)) (word at w ∷ param p ∷ front)
     ≡ run (Some (config (binder at q p ∷ s) wanted)) front =
     λ front. ap (λ (k : WordClass). run (step_some (step_word s at w k) (param p)) front) is in
@@ -363,6 +389,15 @@ stands-opened l _ _ _ (Stands.quantifies at w q p ts x is operand) s fits few sh
     (λ front back t s' split ran opens. shallow (word at w ∷ param p ∷ front) back t s'
     (ap (λ k. word at w ∷ param p ∷ k) split) (goes front ∙ ran) opens) in
     let same = opened-quantified q p x.form in
+    omega arith
+stands-opened l _ _ _ (Stands.counts at at' w v n ts x is number operand) s fits few shallow =
+    let room : levels s ≢ l = shallow [] (word at' v ∷ ts) (word at w) s refl refl
+    (subst TakesOperand (sym is) tt) in
+    let more =
+    stands-opened l 6 ts x operand (counter at n ∷ s) (omega arith) (omega arith)
+    (λ front back t s' split ran opens. shallow (word at w ∷ word at' v ∷ front) back t s'
+    (ap (λ k. word at w ∷ word at' v ∷ k) split)
+    (run-counts s at at' w v n front is number ∙ ran) opens) in
     omega arith
 stands-opened l _ _ _ (Stands.group ts x inner) s fits few shallow =
     let room : levels s ≢ l = shallow [] (ts ++ closing ∷ []) opening s refl refl tt in

@@ -5,15 +5,15 @@ use Rattle.ix_lex.specs.Lexing.{PlainToken, Piece, token, bad_byte}
 use Rattle.ix_lex.proofs.PiecesOf.{both_true}
 use Rattle.ix_parse.specs.declared.faults.Fault.{Fault}
 use Rattle.ix_parse.specs.declared.faults.Fault.TheVariants as faults
-use Rattle.ix_parse.specs.declared.signs.Quantifier.{Quantifier}
 use Rattle.ix_parse.specs.declared.signs.WordClass.{WordClass}
-use Rattle.ix_parse.specs.declared.signs.WordClass.TheVariants.{Quantifies, Withheld, Names, Other}
-use Rattle.ix_parse.specs.Symbols.{Symbol, word, param, opening, closing, comma, before, between, symbol_of, class_of}
-use Rattle.ix_parse.specs.Grammar.{CanGoOn, Wanted, AfterArgument}
-use Rattle.ix_parse.specs.Faults.{ParamNext, BeginsNoOperand, OpensLevel, IsNode, Nodes, IsLong, Met}
-use Rattle.ix_parse.specs.inside.StackMachine.{Mode, Config, config, step, step_some, run, start, levels}
-use Rattle.ix_parse.specs.inside.Judged.{is_wanted, begins_nothing, is_reserved_word, is_comma, has_four, may_come, is_long, is_quantifier, opens_level, is_node, meets, is_param, param_next}
-use Rattle.ix_parse.proofs.Runs.{run-append, run-wanted, run-after_argument, run-can}
+use Rattle.ix_parse.specs.declared.signs.WordClass.TheVariants.{Quantifies, Counts, Names, Other}
+use Rattle.ix_parse.specs.Symbols.{Symbol, word, param, opening, closing, comma, before, between, symbol_of, class_of, IsNumberWord}
+use Rattle.ix_parse.specs.Grammar.{CanGoOn, Wanted, AfterTimes, AfterArgument}
+use Rattle.ix_parse.specs.Faults.{ParamNext, WordNext, BeginsNoOperand, TakesOperand, OpensLevel, IsNode, Nodes, IsLong, Met}
+use Rattle.ix_parse.specs.inside.StackMachine.{Mode, Config, config, step, step_some, run, start, levels, number_of}
+use Rattle.ix_parse.specs.inside.Judged.{is_wanted, is_param_next, is_word_next, begins_nothing, is_reserved_word, is_times, is_no_number, is_comma, has_four, may_come, is_long, takes_operand, opens_level, is_node, meets, as_follower, follower_of}
+use Rattle.ix_parse.proofs.Runs.{run-append, run-wanted, run-after_times, run-after_argument, run-can}
+use Rattle.ix_parse.proofs.Numbers.{number-is, number-when}
 use Rattle.ix_parse.proofs.Holding.{Reads, Holds-cut}
 use Rattle.ix_parse.proofs.Steps.{Reads-step, Reads-start, Reads-can, some_is}
 use Rattle.ix_parse.proofs.Coming.{may_come-step}
@@ -25,7 +25,7 @@ not_both : {A : Type 0} (v : Bool) → v ≡ true → v ≡ false → A
 not_both v e f = absurd cc
 
 -- a parameter is next
-param-is : (t : PlainToken) (rest : List Piece) (u : Symbol) → symbol_of t ≡ u → is_param u ≡ true → ParamNext (token t ∷ rest)
+param-is : (t : PlainToken) (rest : List Piece) (u : Symbol) → symbol_of t ≡ u → is_param_next (as_follower u) ≡ true → ParamNext (token t ∷ rest)
 param-is t rest (word at w) is e = absurd cc
 param-is t rest (param p) is e = ParamNext.param_next t p rest is
 param-is t rest opening is e = absurd cc
@@ -34,31 +34,46 @@ param-is t rest comma is e = absurd cc
 param-is t rest (before at p) is e = absurd cc
 param-is t rest (between at o) is e = absurd cc
 
-pub ParamNext-when : (rest : List Piece) → param_next rest ≡ true → ParamNext rest
+ParamNext-when : (rest : List Piece) → is_param_next (follower_of rest) ≡ true → ParamNext rest
 ParamNext-when [] e = absurd cc
 ParamNext-when (token t ∷ rest) e = param-is t rest (symbol_of t) refl e
 ParamNext-when (bad_byte at ∷ rest) e = absurd cc
 
-pub ParamNext-is : (rest : List Piece) → ParamNext rest → param_next rest ≡ true
-ParamNext-is _ (ParamNext.param_next t p rest is) = ap is_param is
+ParamNext-is : (rest : List Piece) → ParamNext rest → is_param_next (follower_of rest) ≡ true
+ParamNext-is _ (ParamNext.param_next t p rest is) = ap (λ u. is_param_next (as_follower u)) is
+
+-- a word is next
+word-is : (t : PlainToken) (rest : List Piece) (u : Symbol) → symbol_of t ≡ u → is_word_next (as_follower u) ≡ true → WordNext (token t ∷ rest)
+word-is t rest (word at w) is e = WordNext.word_next t at w rest is
+word-is t rest (param p) is e = absurd cc
+word-is t rest opening is e = absurd cc
+word-is t rest closing is e = absurd cc
+word-is t rest comma is e = absurd cc
+word-is t rest (before at p) is e = absurd cc
+word-is t rest (between at o) is e = absurd cc
+
+WordNext-when : (rest : List Piece) → is_word_next (follower_of rest) ≡ true → WordNext rest
+WordNext-when [] e = absurd cc
+WordNext-when (token t ∷ rest) e = word-is t rest (symbol_of t) refl e
+WordNext-when (bad_byte at ∷ rest) e = absurd cc
+
+WordNext-is : (rest : List Piece) → WordNext rest → is_word_next (follower_of rest) ≡ true
+WordNext-is _ (WordNext.word_next t at w rest is) = ap (λ u. is_word_next (as_follower u)) is
 
 -- a word that begins nothing
-begins-when : (w : List ℕ) (rest : List Piece) (k : WordClass) → class_of w ≡ k → begins_nothing k (param_next rest) ≡ true → BeginsNoOperand w rest
-begins-when w rest (Quantifies q) is e = BeginsNoOperand.no_param w q rest is (λ next. let is_next = ParamNext-is rest next in let h : not (param_next rest) ≡ false = ap not is_next in not_both (not (param_next rest)) e h)
-begins-when w rest Withheld is e = BeginsNoOperand.withheld w rest is
+begins-when : (w : List ℕ) (rest : List Piece) (k : WordClass) → class_of w ≡ k → begins_nothing k (follower_of rest) ≡ true → BeginsNoOperand w rest
+begins-when w rest (Quantifies q) is e = BeginsNoOperand.no_param w q rest is (λ next. not_both (not (is_param_next (follower_of rest))) e (ap not (ParamNext-is rest next)))
+begins-when w rest Counts is e = BeginsNoOperand.no_word w rest is (λ next. not_both (not (is_word_next (follower_of rest))) e (ap not (WordNext-is rest next)))
 begins-when w rest Names is e = absurd cc
 begins-when w rest Other is e = absurd cc
 
-not-param : (rest : List Piece) → ¬ ParamNext rest → not (param_next rest) ≡ true
-not-param rest none = by-test (param_next rest) refl
-  where
-    by-test : (v : Bool) → param_next rest ≡ v → not v ≡ true
-    by-test true e = absurd (none (ParamNext-when rest e))
-    by-test false e = refl
+not-true : (v : Bool) → (v ≡ true → ⊥) → not v ≡ true
+not-true true never = absurd (never refl)
+not-true false never = refl
 
-begins-is : (w : List ℕ) (rest : List Piece) → BeginsNoOperand w rest → begins_nothing (class_of w) (param_next rest) ≡ true
-begins-is _ _ (BeginsNoOperand.withheld w rest is) = ap (λ k. begins_nothing k (param_next rest)) is
-begins-is _ _ (BeginsNoOperand.no_param w q rest is none) = ap (λ k. begins_nothing k (param_next rest)) is ∙ not-param rest none
+begins-is : (w : List ℕ) (rest : List Piece) → BeginsNoOperand w rest → begins_nothing (class_of w) (follower_of rest) ≡ true
+begins-is _ _ (BeginsNoOperand.no_word w rest is none) = ap (λ k. begins_nothing k (follower_of rest)) is ∙ not-true (is_word_next (follower_of rest)) (λ e. none (WordNext-when rest e))
+begins-is _ _ (BeginsNoOperand.no_param w q rest is none) = ap (λ k. begins_nothing k (follower_of rest)) is ∙ not-true (is_param_next (follower_of rest)) (λ e. none (ParamNext-when rest e))
 
 -- of the symbols behind others, so many are nodes' tokens and no other number
 pub Nodes-unique : (ts us : List Symbol) (n m : ℕ) → Nodes ts us n → Nodes ts us m → n ≡ m
@@ -95,14 +110,20 @@ long-is comma long = absurd long
 long-is (before at p) long = absurd long
 long-is (between at o) long = absurd long
 
-quantifier-when : (w : List ℕ) (k : WordClass) → class_of w ≡ k → is_quantifier k ≡ true → (q : Quantifier) × (class_of w ≡ Quantifies q)
-quantifier-when w (Quantifies q) is e = (q, is)
-quantifier-when w Withheld is e = absurd cc
-quantifier-when w Names is e = absurd cc
-quantifier-when w Other is e = absurd cc
+takes-when : (k : WordClass) → takes_operand k ≡ true → TakesOperand k
+takes-when (Quantifies q) e = tt
+takes-when Counts e = tt
+takes-when Names e = absurd cc
+takes-when Other e = absurd cc
+
+takes-is : (k : WordClass) → TakesOperand k → takes_operand k ≡ true
+takes-is (Quantifies q) takes = refl
+takes-is Counts takes = refl
+takes-is Names takes = absurd takes
+takes-is Other takes = absurd takes
 
 opens-when : (u : Symbol) → opens_level u ≡ true → OpensLevel u
-opens-when (word at w) e = quantifier-when w (class_of w) refl e
+opens-when (word at w) e = takes-when (class_of w) e
 opens-when (param p) e = absurd cc
 opens-when opening e = tt
 opens-when closing e = absurd cc
@@ -111,7 +132,7 @@ opens-when (before at p) e = tt
 opens-when (between at o) e = absurd cc
 
 opens-is : (u : Symbol) → OpensLevel u → opens_level u ≡ true
-opens-is (word at w) opens = ap is_quantifier opens.1
+opens-is (word at w) opens = takes-is (class_of w) opens
 opens-is (param p) opens = absurd opens
 opens-is opening opens = refl
 opens-is closing opens = absurd opens
@@ -125,6 +146,7 @@ wanted-by _ _ (Reads.at_name ts s at w is h) e = absurd cc
 wanted-by _ _ (Reads.at_argument ts us s at w args is listed few h) e = absurd cc
 wanted-by _ _ (Reads.behind_argument ts us s at w args is listed few h) e = absurd cc
 wanted-by _ _ (Reads.behind_quantifier ts s at w q is h) e = absurd cc
+wanted-by _ _ (Reads.behind_times ts s at w is h) e = absurd cc
 wanted-by _ _ (Reads.behind_operand ts us s x clear stands h) e = absurd cc
 
 four-by : (ts : List Symbol) (d : Config) → Reads ts d → has_four d.mode ≡ true → AfterArgument 4 ts
@@ -136,7 +158,28 @@ four-by _ _ (Reads.behind_argument ts us s at w args is listed few h) e =
     let same : length args ≡ 4 = omega arith in
     subst (λ n. AfterArgument n (ts ++ word at w ∷ opening ∷ us)) same (AfterArgument.after (levels s) at w ts us args (record { hole = _; cut = Holds-cut ts s h }) is listed)
 four-by _ _ (Reads.behind_quantifier ts s at w q is h) e = absurd cc
+four-by _ _ (Reads.behind_times ts s at w is h) e = absurd cc
 four-by _ _ (Reads.behind_operand ts us s x clear stands h) e = absurd cc
+
+times-by : (ts : List Symbol) (d : Config) → Reads ts d → is_times d.mode ≡ true → AfterTimes ts
+times-by _ _ (Reads.at_operand ts s h) e = absurd cc
+times-by _ _ (Reads.at_name ts s at w is h) e = absurd cc
+times-by _ _ (Reads.at_argument ts us s at w args is listed few h) e = absurd cc
+times-by _ _ (Reads.behind_argument ts us s at w args is listed few h) e = absurd cc
+times-by _ _ (Reads.behind_quantifier ts s at w q is h) e = absurd cc
+times-by _ _ (Reads.behind_times ts s at w is h) e = AfterTimes.behind (levels s) at w ts (record { hole = _; cut = Holds-cut ts s h }) is
+times-by _ _ (Reads.behind_operand ts us s x clear stands h) e = absurd cc
+
+-- a word that stands for no number
+no-number-when : (w : List ℕ) → not (is_some (number_of w)) ≡ true → (n : ℕ) → ¬ IsNumberWord w n
+no-number-when w e n is = not_both (not (is_some (number_of w))) e (ap (λ (o : Option ℕ). not (is_some o)) (number-is w n is))
+
+no-number-is : (w : List ℕ) → ((n : ℕ) → ¬ IsNumberWord w n) → not (is_some (number_of w)) ≡ true
+no-number-is w none = by-option (number_of w) refl
+  where
+    by-option : (o : Option ℕ) → number_of w ≡ o → not (is_some o) ≡ true
+    by-option None e = refl
+    by-option (Some n) e = absurd (none n (number-when w n e))
 
 -- where the machine stands after the symbols ts
 module _ (ts : List Symbol) (c : Config) (ran : run (Some start) ts ≡ Some c) where
@@ -160,6 +203,15 @@ module _ (ts : List Symbol) (c : Config) (ran : run (Some start) ts ≡ Some c) 
       let r = run-after_argument 4 ts (omega arith) four in
       let same : config r.stack (Mode.argument_read r.at r.name r.args) ≡ c = some_is _ c (sym r.is ∙ ran) in
       ap (λ (b : Config). has_four b.mode) (sym same) ∙ ap (λ n. leb 4 n) r.count
+
+  pub times-when : is_times c.mode ≡ true → AfterTimes ts
+  times-when e = times-by ts c reads e
+
+  pub times-is : AfterTimes ts → is_times c.mode ≡ true
+  times-is after =
+      let r = run-after_times ts after in
+      let same : config r.stack (Mode.times_read r.at) ≡ c = some_is _ c (sym r.is ∙ ran) in
+      ap (λ (b : Config). is_times b.mode) (sym same)
 
   -- a symbol can come only where the machine makes a step
   pub comes-when : (u : Symbol) → may_come c u ≡ true → CanGoOn (ts ++ u ∷ [])
@@ -197,7 +249,7 @@ module _ (ts : List Symbol) (c : Config) (ran : run (Some start) ts ≡ Some c) 
   node-is (between at o) one = refl
 
   module _ (n : ℕ) (counted : Nodes [] ts n) (t : PlainToken) (rest : List Piece) where
-    reserved-when : (u : Symbol) → symbol_of t ≡ u → is_wanted c.mode ≡ true → is_reserved_word u (param_next rest) ≡ true → Met ts (token t ∷ rest) faults.Reserved
+    reserved-when : (u : Symbol) → symbol_of t ≡ u → is_wanted c.mode ≡ true → is_reserved_word u (follower_of rest) ≡ true → Met ts (token t ∷ rest) faults.Reserved
     reserved-when (word at w) is wants e = Met.reserved t rest at (levels c.stack) w is (wanted-when wants) (begins-when w rest (class_of w) refl e)
     reserved-when (param p) is wants e = absurd cc
     reserved-when opening is wants e = absurd cc
@@ -205,6 +257,15 @@ module _ (ts : List Symbol) (c : Config) (ran : run (Some start) ts ≡ Some c) 
     reserved-when comma is wants e = absurd cc
     reserved-when (before at p) is wants e = absurd cc
     reserved-when (between at o) is wants e = absurd cc
+
+    number-met : (u : Symbol) → symbol_of t ≡ u → is_times c.mode ≡ true → is_no_number u ≡ true → Met ts (token t ∷ rest) faults.NoNumber
+    number-met (word at w) is times e = Met.no_number t rest at w is (times-when times) (no-number-when w e)
+    number-met (param p) is times e = absurd cc
+    number-met opening is times e = absurd cc
+    number-met closing is times e = absurd cc
+    number-met comma is times e = absurd cc
+    number-met (before at p) is times e = absurd cc
+    number-met (between at o) is times e = absurd cc
 
     fifth-when : (u : Symbol) → symbol_of t ≡ u → has_four c.mode ≡ true → is_comma u ≡ true → Met ts (token t ∷ rest) faults.FifthArgument
     fifth-when (word at w) is four e = absurd cc
@@ -220,9 +281,10 @@ module _ (ts : List Symbol) (c : Config) (ran : run (Some start) ts ≡ Some c) 
     not_true false e = refl
 
     -- where the test holds, the fault is met
-    pub Met-when : (f : Fault) → meets c n (symbol_of t) (param_next rest) f ≡ true → Met ts (token t ∷ rest) f
+    pub Met-when : (f : Fault) → meets c n (symbol_of t) (follower_of rest) f ≡ true → Met ts (token t ∷ rest) f
     Met-when faults.NoToken e = absurd cc
     Met-when faults.Reserved e = let parts = both_true _ _ e in reserved-when (symbol_of t) refl parts.0 parts.1
+    Met-when faults.NoNumber e = let parts = both_true _ _ e in number-met (symbol_of t) refl parts.0 parts.1
     Met-when faults.FifthArgument e = let parts = both_true _ _ e in fifth-when (symbol_of t) refl parts.0 parts.1
     Met-when faults.Unexpected e = Met.unexpected t rest (λ can. comes-is (symbol_of t) can (not_true (may_come c (symbol_of t)) e))
     Met-when faults.LongName e = Met.long_name t rest (long-when (symbol_of t) e)
@@ -236,8 +298,9 @@ module _ (ts : List Symbol) (c : Config) (ran : run (Some start) ts ≡ Some c) 
     Met-when faults.Ended e = absurd cc
 
     -- where it doesn't, the fault isn't met
-    pub Met-is : (f : Fault) → Met ts (token t ∷ rest) f → meets c n (symbol_of t) (param_next rest) f ≡ true
-    Met-is _ (Met.reserved _ _ at d w is wants begins) = both _ _ (wanted-is d wants).0 (ap (λ u. is_reserved_word u (param_next rest)) is ∙ begins-is w rest begins)
+    pub Met-is : (f : Fault) → Met ts (token t ∷ rest) f → meets c n (symbol_of t) (follower_of rest) f ≡ true
+    Met-is _ (Met.reserved _ _ at d w is wants begins) = both _ _ (wanted-is d wants).0 (ap (λ u. is_reserved_word u (follower_of rest)) is ∙ begins-is w rest begins)
+    Met-is _ (Met.no_number _ _ at w is after none) = both _ _ (times-is after) (ap is_no_number is ∙ no-number-is w none)
     Met-is _ (Met.fifth_argument _ _ is four) = both _ _ (four-is four) (ap is_comma is)
     Met-is _ (Met.unexpected _ _ cannot) = by-test (may_come c (symbol_of t)) refl
       where

@@ -6,8 +6,8 @@ use Rattle.ix_parse.specs.declared.signs.WordClass.{WordClass}
 use Rattle.ix_parse.specs.Symbols.{Symbol, word, param, opening, closing, comma, before, between, level, Meaning, argument_of}
 use Rattle.ix_parse.specs.Grammar.{Arguments, Stands}
 use Rattle.ix_parse.specs.Faults.{IsNode, Nodes}
-use Rattle.ix_parse.specs.inside.StackMachine.{Entry, group, sign, binder, left, Config, config, wanted, argument_wanted, step_some, step_word, with_argument, run, start, levels}
-use Rattle.ix_parse.proofs.Runs.{hole, level-low, run-append, run-left, run-stands, some_arguments}
+use Rattle.ix_parse.specs.inside.StackMachine.{Entry, group, sign, binder, counter, left, Config, config, wanted, argument_wanted, times_read, step_some, step_word, with_argument, run, start, levels}
+use Rattle.ix_parse.proofs.Runs.{hole, level-low, run-append, run-left, run-counts, run-stands, some_arguments}
 use Rattle.ix_parse.proofs.Meeting.{wanted-when, wanted-is}
 
 pub Nodes-append : (ctx ts us : List Symbol) (n m : ℕ) → Nodes ctx ts n → Nodes (ctx ++ ts) us m → Nodes ctx (ts ++ us) (n + m)
@@ -79,6 +79,15 @@ operand-nodes _ _ _ (Stands.quantifies at w q p ts x is operand) ctx s ran fits 
     (Nodes.other (ctx ++ word at w ∷ []) ts (param p) (length x.places) (λ one. one)
     (subst (λ l. Nodes l ts (length x.places)) (sym (append_assoc ctx (word at w ∷ []) (param p ∷ [])))
     (operand-nodes 6 ts x operand (ctx ++ word at w ∷ param p ∷ []) (binder at q p ∷ s) (run-more ctx (word at w ∷ param p ∷ []) _ _ ran next) (omega arith))))
+operand-nodes _ _ _ (Stands.counts at at' w v n ts x is number operand) ctx s ran fits =
+    let first : run (Some (config s wanted)) (word at w ∷ []) ≡ Some (config s (times_read at)) = ap (λ (k : WordClass). step_word s at w k) is in
+    let behind = run-more ctx (word at w ∷ []) _ _ ran first in
+    let next : run (Some (config s wanted)) (word at w ∷ word at' v ∷ []) ≡ Some (config (counter at n ∷ s) wanted) = run-counts s at at' w v n [] is number in
+    Nodes.node ctx (word at' v ∷ ts) (word at w) (length x.places) (levels s, wanted-when ctx (config s wanted) ran refl)
+    (Nodes.other (ctx ++ word at w ∷ []) ts (word at' v) (length x.places)
+    (λ one. (let h = (wanted-is (ctx ++ word at w ∷ []) (config s (times_read at)) behind one.0 one.1).0 in cc))
+    (subst (λ l. Nodes l ts (length x.places)) (sym (append_assoc ctx (word at w ∷ []) (word at' v ∷ [])))
+    (operand-nodes 6 ts x operand (ctx ++ word at w ∷ word at' v ∷ []) (counter at n ∷ s) (run-more ctx (word at w ∷ word at' v ∷ []) _ _ ran next) (omega arith))))
 operand-nodes _ _ _ (Stands.group ts x inner) ctx s ran fits =
     let count : length x.places + 0 ≡ length x.places = omega arith in
     Nodes.other ctx (ts ++ closing ∷ []) opening (length x.places) (λ one. one)

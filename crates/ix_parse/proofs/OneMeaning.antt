@@ -118,7 +118,7 @@ faulty-none text _ _ x (IsFirstFault.form_fault m code number at means first pla
     (meaning-one text m (record { form = x; places = stands.places }) means stands.means) in
     let here =
     fault-of x code number (subst (λ (f : Form). IsFirstFormFault f code number) same first) in
-    let none = stands.well_formed.none number here.0 here.1 in
+    let none = stands.well_formed.faultless.none number here.0 here.1 in
     let h : Some code ≡ None = sym here.2 ∙ none in
     cc
 

@@ -1,7 +1,7 @@
--- A meaning has as many places as nodes.
+-- A meaning has as many places as nodes, and each of its numbers may stand behind `times`.
 use Rattle.std.proofs.Common.{◌≡◌, ℕ, suc, ◌+◌, List, [], length, refl, sym, ap, ◌∙◌, arith, length-append}
 use Rattle.ix_expr.specs.Form.{Form}
-use Rattle.ix_expr.specs.FormFaults.{Binder, nodes_below}
+use Rattle.ix_expr.specs.FormFaults.{Binder, nodes_below, HasNumbers}
 use Rattle.ix_parse.specs.declared.signs.Operator.{Operator}
 use Rattle.ix_parse.specs.declared.signs.Operator.TheVariants as operators
 use Rattle.ix_parse.specs.declared.signs.Prefix.{Prefix}
@@ -40,9 +40,38 @@ places-count _ _ _ (Stands.binary at o ts us x y first second) d around =
     omega arith
 places-count _ _ _ (Stands.prefixes at p ts x operand) d around = ap suc (places-count 6 ts x operand (suc d) around) ∙ sym (prefixed-count p d around x.form)
 places-count _ _ _ (Stands.quantifies at w q p ts x is operand) d around = quantified-count q p d (length x.places) around x.form (λ inner. places-count 6 ts x operand (suc d) inner)
+places-count _ _ _ (Stands.counts at at' w v n ts x is number operand) d around = ap suc (places-count 6 ts x operand (suc d) around)
 places-count _ _ _ (Stands.group ts x inner) d around = places-count 1 ts x inner d around
 places-count _ _ _ (Stands.bare at w is) d around = refl
 places-count _ _ _ (Stands.applied at w ts args is arguments few) d around = refl
 
 pub Stands-places : (ts : List Symbol) (x : Meaning) → Stands 1 ts x → HasPlaces x
 Stands-places ts x stands = places-count 1 ts x stands 1 []
+
+joined-numbers : (o : Operator) (x y : Form) → HasNumbers x → HasNumbers y → HasNumbers (joined_form o x y)
+joined-numbers operators.Or x y first second = (first, second)
+joined-numbers operators.And x y first second = (first, second)
+joined-numbers operators.Couple x y first second = (first, second)
+joined-numbers operators.Par x y first second = (first, second)
+joined-numbers operators.Seq x y first second = (first, second)
+
+prefixed-numbers : (p : Prefix) (x : Form) → HasNumbers x → HasNumbers (prefixed_form p x)
+prefixed-numbers prefixes.Opt x inner = inner
+prefixed-numbers prefixes.Star x inner = inner
+prefixed-numbers prefixes.ParStar x inner = inner
+
+quantified-numbers : (q : Quantifier) (p : List ℕ) (x : Form) → HasNumbers x → HasNumbers (quantified_form q p x)
+quantified-numbers quantifiers.Any p x inner = inner
+quantified-numbers quantifiers.Every p x inner = inner
+quantified-numbers quantifiers.Sync p x inner = inner
+quantified-numbers quantifiers.All p x inner = inner
+
+pub Stands-numbers : (n : ℕ) (ts : List Symbol) (x : Meaning) → Stands n ts x → HasNumbers x.form
+Stands-numbers _ _ _ (Stands.tighter n ts x low stands) = Stands-numbers (suc n) ts x stands
+Stands-numbers _ _ _ (Stands.binary at o ts us x y first second) = joined-numbers o x.form y.form (Stands-numbers _ ts x first) (Stands-numbers _ us y second)
+Stands-numbers _ _ _ (Stands.prefixes at p ts x operand) = prefixed-numbers p x.form (Stands-numbers 6 ts x operand)
+Stands-numbers _ _ _ (Stands.quantifies at w q p ts x is operand) = quantified-numbers q p x.form (Stands-numbers 6 ts x operand)
+Stands-numbers _ _ _ (Stands.counts at at' w v n ts x is number operand) = (number.number, Stands-numbers 6 ts x operand)
+Stands-numbers _ _ _ (Stands.group ts x inner) = Stands-numbers 1 ts x inner
+Stands-numbers _ _ _ (Stands.bare at w is) = tt
+Stands-numbers _ _ _ (Stands.applied at w ts args is arguments few) = tt

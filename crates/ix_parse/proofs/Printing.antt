@@ -1,5 +1,5 @@
 -- The canonical text of an expression is cut into tokens that stand for it.
-use Rattle.std.proofs.Common.{◌≡◌, ℕ, suc, ◌+◌, ◌<◌, ◌≤◌, Bool, true, false, leb, ltb, List, [], ◌∷◌, ◌++◌, length, map, max, codes, Some, refl, sym, ap, ◌∙◌, subst, arith, append_assoc, leb-false, leb-true, ltb-false, ltb-true}
+use Rattle.std.proofs.Common.{◌≡◌, ℕ, suc, ◌+◌, ◌<◌, ◌≤◌, Bool, true, false, leb, ltb, List, [], ◌∷◌, ◌++◌, length, map, max, codes, decimal, Some, refl, sym, ap, ◌∙◌, subst, arith, append_assoc, leb-false, leb-true, ltb-false, ltb-true}
 use Rattle.std.specs.Prelude.{All}
 use Rattle.std.specs.List.{list_all}
 use Rattle.std.proofs.lemmas.List.{append-nil}
@@ -9,6 +9,7 @@ use Rattle.ix_expr.specs.declared.arg.Arg.{Arg}
 use Rattle.ix_expr.specs.declared.arg.Arg.TheVariants.{Fixed, Param}
 use Rattle.ix_expr.specs.Form as forms
 use Rattle.ix_expr.specs.Form.{Form, PlainAtom, atom_of}
+use Rattle.ix_expr.specs.FormFaults.{IsNumber, HasNumbers}
 use Rattle.ix_expr.specs.Spelling.{IsArgument, IsAtom, IsSpelled}
 use Rattle.ix_expr.specs.CanonicalText.{binding, enclosed, argument_text, more_arguments_text, arguments_text, operand_text, canonical_text}
 use Rattle.ix_lex.specs.declared.TokenKind.{TokenKind}
@@ -21,13 +22,14 @@ use Rattle.ix_parse.specs.declared.signs.Prefix.{Prefix}
 use Rattle.ix_parse.specs.declared.signs.Prefix.TheVariants as prefixes
 use Rattle.ix_parse.specs.declared.signs.Quantifier.{Quantifier}
 use Rattle.ix_parse.specs.declared.signs.Quantifier.TheVariants as quantifiers
-use Rattle.ix_parse.specs.declared.signs.WordClass.TheVariants.{Quantifies}
+use Rattle.ix_parse.specs.declared.signs.WordClass.TheVariants.{Quantifies, Counts}
 use Rattle.ix_parse.specs.Symbols.{Symbol, word, opening, closing, before, between, symbol_by, symbol_of, class_of, level, Meaning, joined_form, prefixed_form, quantified_form, argument_of}
 use Rattle.ix_parse.specs.Grammar.{Arguments, Stands}
 use Rattle.ix_parse.specs.Faults.{IsLong, symbols_of}
 use Rattle.ix_parse.proofs.Classes.{named-class}
 use Rattle.ix_parse.proofs.Cuts.{Stands-loosen}
-use Rattle.ix_parse.proofs.Levels.{opened, opened_at, opened_by-bare, opened_by-least, opened_by-enclosed, OpensWithin, opens-loosen, opens-binary, opens-prefixed, opens-quantified, opens-group, opens-bare, opens-applied}
+use Rattle.ix_parse.proofs.Numbers.{decimal-word, decimal-some, decimal-short}
+use Rattle.ix_parse.proofs.Levels.{opened, opened_at, opened_by-bare, opened_by-least, opened_by-enclosed, OpensWithin, opens-loosen, opens-binary, opens-prefixed, opens-quantified, opens-counted, opens-group, opens-bare, opens-applied}
 use Rattle.ix_parse.proofs.Cutting.{token_at, CutsEnded, any-ended, any-then, any-any, ended-any, ended-ended, cuts-blank, cuts-sign, cuts-word, cuts-param}
 
 abbrev pub meaning : Form → List ℕ → Meaning
@@ -74,6 +76,7 @@ binding-some (forms.any p y) = omega arith
 binding-some (forms.every p y) = omega arith
 binding-some (forms.sync p y) = omega arith
 binding-some (forms.all p y) = omega arith
+binding-some (forms.times n y) = omega arith
 
 pub binding-low : (x : Form) → binding x ≤ 6
 binding-low (forms.atom a) = omega arith
@@ -89,6 +92,7 @@ binding-low (forms.any p y) = omega arith
 binding-low (forms.every p y) = omega arith
 binding-low (forms.sync p y) = omega arith
 binding-low (forms.all p y) = omega arith
+binding-low (forms.times n y) = omega arith
 
 -- an operand in parentheses
 pub printed-group :
@@ -222,6 +226,33 @@ printed-quantifier q w p x at t d is some all few name inner =
       opens = opens-quantified at w q p (symbols_of r.tokens) d is r.opens;
     }
 
+times_class : class_of (codes "times") ≡ Counts
+unfolding class_of
+times_class = refl
+
+-- `times` and its number in front of an operand
+printed-counted : (n : ℕ) (x : Form) (at : ℕ) (t : List ℕ) (d : ℕ) → IsNumber n → ((from : ℕ) → Printed from t 6 x d) → Printed at ((codes "times" ++ (32 ∷ decimal n)) ++ (32 ∷ t)) 6 (forms.times n x) (suc d)
+printed-counted n x at t d number inner =
+    let w = codes "times" in
+    let word_token = token_at kinds.Word w at in
+    let number_at = at + length w + 1 in
+    let number_token = token_at kinds.Word (decimal n) number_at in
+    let from = at + length (w ++ (32 ∷ decimal n)) in
+    let r = inner (from + 1) in
+    let digits = decimal-short n number in
+    record {
+      tokens = word_token ∷ number_token ∷ r.tokens;
+      places = at ∷ r.places;
+      cuts =
+          ended-ended at 32 (w ++ (32 ∷ decimal n)) t (word_token ∷ number_token ∷ []) r.tokens refl
+          (ended-ended at 32 w (decimal n) (word_token ∷ []) (number_token ∷ []) refl (cuts-word at w (omega arith) refl)
+          (any-then (at + length w) (32 ∷ []) (decimal n) [] (number_token ∷ []) (cuts-blank (at + length w)) (cuts-word number_at (decimal n) (decimal-some n number) (decimal-word n number))))
+          (any-then from (32 ∷ []) t [] r.tokens (cuts-blank from) r.cuts);
+      short = (not_long (length w) (omega arith), (not_long (length (decimal n)) (omega arith), r.short));
+      stands = Stands.counts at number_at w (decimal n) n (symbols_of r.tokens) (meaning x r.places) times_class (record { same = refl; number = number }) r.stands;
+      opens = opens-counted at number_at w (decimal n) n (symbols_of r.tokens) d times_class (record { same = refl; number = number }) r.opens;
+    }
+
 -- an argument
 pub record PrintedArgument (at : ℕ) (a : Arg) : Type 0 where
   pub the_token : PlainToken
@@ -338,20 +369,21 @@ unfolding class_of
 all_class = refl
 
 -- the canonical text of an expression is cut into tokens that stand for it
-pub printed : (x : Form) → IsSpelled x → (at : ℕ) → Printed at (canonical_text x) (binding x) x (opened_at (binding x) x)
-printed (forms.atom a) spelled at = printed-atom at a.name a.arguments spelled
-printed (forms.opt y) spelled at = printed-prefix prefixes.Opt 63 kinds.Question y at _ _ refl (λ n. refl) (operand y (canonical_text y) (at + 1) (printed y spelled))
-printed (forms.star y) spelled at = printed-prefix prefixes.Star 42 kinds.Star y at _ _ refl (λ n. refl) (operand y (canonical_text y) (at + 1) (printed y spelled))
-printed (forms.par_star y) spelled at = printed-prefix prefixes.ParStar 35 kinds.Hash y at _ _ refl (λ n. refl) (operand y (canonical_text y) (at + 1) (printed y spelled))
-printed (forms.or y z) spelled at = printed-binary operators.Or 124 kinds.Bar y z at _ _ _ _ refl (λ n. refl) (left-operand 1 y (canonical_text y) at (omega arith) (printed y spelled.0)) (λ from. right-operand 1 z (canonical_text z) from (omega arith) (printed z spelled.1))
-printed (forms.and y z) spelled at = printed-binary operators.And 38 kinds.Amp y z at _ _ _ _ refl (λ n. refl) (left-operand 2 y (canonical_text y) at (omega arith) (printed y spelled.0)) (λ from. right-operand 2 z (canonical_text z) from (omega arith) (printed z spelled.1))
-printed (forms.couple y z) spelled at = printed-binary operators.Couple 64 kinds.At y z at _ _ _ _ refl (λ n. refl) (left-operand 3 y (canonical_text y) at (omega arith) (printed y spelled.0)) (λ from. right-operand 3 z (canonical_text z) from (omega arith) (printed z spelled.1))
-printed (forms.par y z) spelled at = printed-binary operators.Par 43 kinds.Plus y z at _ _ _ _ refl (λ n. refl) (left-operand 4 y (canonical_text y) at (omega arith) (printed y spelled.0)) (λ from. right-operand 4 z (canonical_text z) from (omega arith) (printed z spelled.1))
-printed (forms.seq y z) spelled at = printed-binary operators.Seq 45 kinds.Minus y z at _ _ _ _ refl (λ n. refl) (left-operand 5 y (canonical_text y) at (omega arith) (printed y spelled.0)) (λ from. right-operand 5 z (canonical_text z) from (omega arith) (printed z spelled.1))
-printed (forms.any p y) spelled at = printed-quantifier quantifiers.Any (codes "any") p y at _ _ any_class (omega arith) refl (omega arith) spelled.0 (λ from. operand y (canonical_text y) from (printed y spelled.1))
-printed (forms.every p y) spelled at = printed-quantifier quantifiers.Every (codes "every") p y at _ _ every_class (omega arith) refl (omega arith) spelled.0 (λ from. operand y (canonical_text y) from (printed y spelled.1))
-printed (forms.sync p y) spelled at = printed-quantifier quantifiers.Sync (codes "sync") p y at _ _ sync_class (omega arith) refl (omega arith) spelled.0 (λ from. operand y (canonical_text y) from (printed y spelled.1))
-printed (forms.all p y) spelled at = printed-quantifier quantifiers.All (codes "all") p y at _ _ all_class (omega arith) refl (omega arith) spelled.0 (λ from. operand y (canonical_text y) from (printed y spelled.1))
+pub printed : (x : Form) → IsSpelled x → HasNumbers x → (at : ℕ) → Printed at (canonical_text x) (binding x) x (opened_at (binding x) x)
+printed (forms.atom a) spelled numbers at = printed-atom at a.name a.arguments spelled
+printed (forms.opt y) spelled numbers at = printed-prefix prefixes.Opt 63 kinds.Question y at _ _ refl (λ n. refl) (operand y (canonical_text y) (at + 1) (printed y spelled numbers))
+printed (forms.star y) spelled numbers at = printed-prefix prefixes.Star 42 kinds.Star y at _ _ refl (λ n. refl) (operand y (canonical_text y) (at + 1) (printed y spelled numbers))
+printed (forms.par_star y) spelled numbers at = printed-prefix prefixes.ParStar 35 kinds.Hash y at _ _ refl (λ n. refl) (operand y (canonical_text y) (at + 1) (printed y spelled numbers))
+printed (forms.or y z) spelled numbers at = printed-binary operators.Or 124 kinds.Bar y z at _ _ _ _ refl (λ n. refl) (left-operand 1 y (canonical_text y) at (omega arith) (printed y spelled.0 numbers.0)) (λ from. right-operand 1 z (canonical_text z) from (omega arith) (printed z spelled.1 numbers.1))
+printed (forms.and y z) spelled numbers at = printed-binary operators.And 38 kinds.Amp y z at _ _ _ _ refl (λ n. refl) (left-operand 2 y (canonical_text y) at (omega arith) (printed y spelled.0 numbers.0)) (λ from. right-operand 2 z (canonical_text z) from (omega arith) (printed z spelled.1 numbers.1))
+printed (forms.couple y z) spelled numbers at = printed-binary operators.Couple 64 kinds.At y z at _ _ _ _ refl (λ n. refl) (left-operand 3 y (canonical_text y) at (omega arith) (printed y spelled.0 numbers.0)) (λ from. right-operand 3 z (canonical_text z) from (omega arith) (printed z spelled.1 numbers.1))
+printed (forms.par y z) spelled numbers at = printed-binary operators.Par 43 kinds.Plus y z at _ _ _ _ refl (λ n. refl) (left-operand 4 y (canonical_text y) at (omega arith) (printed y spelled.0 numbers.0)) (λ from. right-operand 4 z (canonical_text z) from (omega arith) (printed z spelled.1 numbers.1))
+printed (forms.seq y z) spelled numbers at = printed-binary operators.Seq 45 kinds.Minus y z at _ _ _ _ refl (λ n. refl) (left-operand 5 y (canonical_text y) at (omega arith) (printed y spelled.0 numbers.0)) (λ from. right-operand 5 z (canonical_text z) from (omega arith) (printed z spelled.1 numbers.1))
+printed (forms.any p y) spelled numbers at = printed-quantifier quantifiers.Any (codes "any") p y at _ _ any_class (omega arith) refl (omega arith) spelled.0 (λ from. operand y (canonical_text y) from (printed y spelled.1 numbers))
+printed (forms.every p y) spelled numbers at = printed-quantifier quantifiers.Every (codes "every") p y at _ _ every_class (omega arith) refl (omega arith) spelled.0 (λ from. operand y (canonical_text y) from (printed y spelled.1 numbers))
+printed (forms.sync p y) spelled numbers at = printed-quantifier quantifiers.Sync (codes "sync") p y at _ _ sync_class (omega arith) refl (omega arith) spelled.0 (λ from. operand y (canonical_text y) from (printed y spelled.1 numbers))
+printed (forms.all p y) spelled numbers at = printed-quantifier quantifiers.All (codes "all") p y at _ _ all_class (omega arith) refl (omega arith) spelled.0 (λ from. operand y (canonical_text y) from (printed y spelled.1 numbers))
+printed (forms.times n y) spelled numbers at = printed-counted n y at _ _ numbers.0 (λ from. operand y (canonical_text y) from (printed y spelled numbers.1))
 
 -- a text that is cut into tokens is cut into these alone
 pub printed-pieces :
@@ -363,10 +395,10 @@ printed-pieces text n d x p =
     (p.cuts [] [] refl (Pieces.done (0 + length text))))
 
 -- canonical text is, at the level of a whole text
-pub canonical-printed : (x : Form) → IsSpelled x → Printed 0 (canonical_text x) 1 x (opened_at (binding x) x)
-canonical-printed x spelled =
+pub canonical-printed : (x : Form) → IsSpelled x → HasNumbers x → Printed 0 (canonical_text x) 1 x (opened_at (binding x) x)
+canonical-printed x spelled numbers =
     printed-loosen 1 (binding x) x (canonical_text x) 0 (opened_at (binding x) x)
-    (opened_at (binding x) x) (binding-some x) (binding-low x) (omega arith) (printed x spelled 0)
+    (opened_at (binding x) x) (binding-some x) (binding-low x) (omega arith) (printed x spelled numbers 0)
 
 -- `*`, `all` and `@` of texts that may have more parentheses than canonical ones
 pub printed-star : (x : Form) (text : List ℕ) (at d : ℕ) → Printed (at + 1) text 6 x d → Printed at (42 ∷ text) 6 (forms.star x) (suc d)

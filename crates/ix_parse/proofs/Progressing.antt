@@ -10,7 +10,7 @@ use Rattle.ix_parse.specs.Symbols.{Symbol, symbol_of, Meaning}
 use Rattle.ix_parse.specs.Grammar.{Stands}
 use Rattle.ix_parse.specs.Faults.{order_of, code_of, IsNode, Nodes, Met, NothingMet, symbols_of, IsFirstSyntaxFault, HasMeaning}
 use Rattle.ix_parse.specs.inside.StackMachine.{Config, step, step_some, run, start, whole}
-use Rattle.ix_parse.specs.inside.Judged.{is_wanted, may_come, is_node, meets, judged, param_next}
+use Rattle.ix_parse.specs.inside.Judged.{is_wanted, may_come, is_node, meets, judged, follower_of}
 use Rattle.ix_parse.specs.inside.Progress.{Progress, nodes_after}
 use Rattle.ix_parse.proofs.Runs.{run-append, whole-stands}
 use Rattle.ix_parse.proofs.Steps.{Reads-start, Reads-whole}
@@ -63,10 +63,10 @@ module _ (pieces rest : List Piece) (t : PlainToken) (c : Config) (n : ℕ) (p :
   u = symbol_of t
 
   abbrev test : Fault → Bool
-  test = meets c n u (param_next rest)
+  test = meets c n u (follower_of rest)
 
   -- the fault that is judged is the first
-  pub Progress-fault : (f : Fault) (end : ℕ) → judged c n u (param_next rest) ≡ Some f → IsFirstSyntaxFault pieces end (code_of f) t.start
+  pub Progress-fault : (f : Fault) (end : ℕ) → judged c n u (follower_of rest) ≡ Some f → IsFirstSyntaxFault pieces end (code_of f) t.start
   Progress-fault f end e =
       let first = first_met-some test f refl e in
       record {
@@ -84,18 +84,18 @@ module _ (pieces rest : List Piece) (t : PlainToken) (c : Config) (n : ℕ) (p :
       clash : {v : Bool} → v ≡ false → v ≡ true → ⊥
       clash e f = cc
 
-  none_met : judged c n u (param_next rest) ≡ None → (f : Fault) → test f ≡ false
+  none_met : judged c n u (follower_of rest) ≡ None → (f : Fault) → test f ≡ false
   none_met e = first_met-none test refl refl e
 
   -- where no fault is judged, none is met
-  nothing-here : judged c n u (param_next rest) ≡ None → (f : Fault) → ¬ Met (symbols_of p.before) (token t ∷ rest) f
+  nothing-here : judged c n u (follower_of rest) ≡ None → (f : Fault) → ¬ Met (symbols_of p.before) (token t ∷ rest) f
   nothing-here e f met = clash (none_met e f) (Met-is (symbols_of p.before) c p.ran n p.counted t rest f met)
     where
       clash : {v : Bool} → v ≡ false → v ≡ true → ⊥
       clash e f = cc
 
   -- and the machine makes a step
-  pub Progress-can : judged c n u (param_next rest) ≡ None → is_some (step c u) ≡ true
+  pub Progress-can : judged c n u (follower_of rest) ≡ None → is_some (step c u) ≡ true
   Progress-can e = sym (may_come-step (symbols_of p.before) c u (Reads-start (symbols_of p.before) c p.ran)) ∙ not_false (may_come c u) (none_met e faults.Unexpected)
     where
       not_false : (v : Bool) → not v ≡ false → v ≡ true
@@ -118,7 +118,7 @@ module _ (pieces rest : List Piece) (t : PlainToken) (c : Config) (n : ℕ) (p :
       clash e f = cc
 
   -- one step further
-  pub Progress-step : (d : Config) → judged c n u (param_next rest) ≡ None → step c u ≡ Some d → Progress pieces rest d (nodes_after c n u)
+  pub Progress-step : (d : Config) → judged c n u (follower_of rest) ≡ None → step c u ≡ Some d → Progress pieces rest d (nodes_after c n u)
   Progress-step d e is =
       let symbols : symbols_of (p.before ++ t ∷ []) ≡ symbols_of p.before ++ u ∷ [] = map-end symbol_of p.before t in
       let counts = counted-by (is_node (is_wanted c.mode) u) refl (none_met e faults.TooManyNodes) in
@@ -159,6 +159,7 @@ Progress-bad pieces rest at end c n p =
     first : (f : Fault) → order_of f < 1 → ⊥
     first faults.NoToken low = omega arith
     first faults.Reserved low = omega arith
+    first faults.NoNumber low = omega arith
     first faults.FifthArgument low = omega arith
     first faults.Unexpected low = omega arith
     first faults.LongName low = omega arith
@@ -167,7 +168,7 @@ Progress-bad pieces rest at end c n p =
     first faults.Ended low = omega arith
 
 -- at the end no fault but one is met
-Met-end : (ts : List Symbol) (f : Fault) → Met ts [] f → order_of f ≡ 8
+Met-end : (ts : List Symbol) (f : Fault) → Met ts [] f → order_of f ≡ 9
 Met-end ts _ (Met.ended none) = refl
 
 -- a text that ends too early

@@ -31,7 +31,7 @@ some-at (x ∷ xs) (suc i) low = some-at xs i (omega arith)
 few-nodes : (x : Form) → IsWellFormed x → length (nodes_of x) ≤ 512
 few-nodes x formed =
     ⊎_elim
-    (λ many. absurd (let node = some-at (nodes_of x) 512 many in let none = formed.none 512 node.0 node.1 in let full : fault_at 512 node.0 ≡ Some 8 = refl in let h : Some 8 ≡ None = sym full ∙ none in cc))
+    (λ many. absurd (let node = some-at (nodes_of x) 512 many in let none = formed.faultless.none 512 node.0 node.1 in let full : fault_at 512 node.0 ≡ Some 8 = refl in let h : Some 8 ≡ None = sym full ∙ none in cc))
     (λ few. few)
     (order 512 (length (nodes_of x)))
 
@@ -58,5 +58,5 @@ printed-stands text d x p formed short shallow =
 
 pub canonical-reads_back : CanonicalTextReadsBack
 canonical-reads_back x spelled formed short shallow =
-    printed-stands (canonical_text x) (opened_at (binding x) x) x (canonical-printed x spelled) formed
+    printed-stands (canonical_text x) (opened_at (binding x) x) x (canonical-printed x spelled formed.numbers) formed
     short shallow

@@ -1,5 +1,5 @@
 -- One round of the reader's loop, and its end.
-use Rattle.std.proofs.Common.{◌≡◌, ℕ, ◌≤◌, Bool, true, List, [], ◌∷◌, length, Option, Some, None, Ok, Err, Result, refl, sym, ap, ◌∙◌, subst, MatchResult}
+use Rattle.std.proofs.Common.{◌≡◌, ℕ, ◌≤◌, true, List, [], ◌∷◌, length, Option, Some, None, Ok, Err, Result, refl, sym, ap, ◌∙◌, subst, MatchResult}
 use Rattle.std.specs.Prelude.{is_some}
 use Rattle.std.specs.Iterator.{YieldsFirstBy}
 use Rattle.ix_lex.specs.declared.Token.{Token}
@@ -10,17 +10,18 @@ use Rattle.ix_lex.specs.inside.Items.{plain_token, piece_of, pieces_left, pieces
 use Rattle.ix_lex.proofs.PiecesExist.{Pieces-pieces_of, Pieces-are}
 use Rattle.ix_parse.specs.declared.faults.Fault.{Fault}
 use Rattle.ix_parse.specs.declared.faults.Fault.TheVariants as faults
+use Rattle.ix_parse.specs.declared.signs.Follower.{Follower}
 use Rattle.ix_parse.specs.declared.operand.Operand.{Operand}
 use Rattle.ix_parse.specs.declared.TextFault.{TextFault}
 use Rattle.ix_parse.specs.declared.TextFault.TheVariants.{Bad, Memory}
 use Rattle.ix_parse.specs.Symbols.{Symbol, symbol_of}
 use Rattle.ix_parse.specs.Faults.{code_of, symbols_of, IsFirstFault}
 use Rattle.ix_parse.specs.inside.StackMachine.{Config, step, start, whole}
-use Rattle.ix_parse.specs.inside.Judged.{judged, meets, param_next}
+use Rattle.ix_parse.specs.inside.Judged.{judged, meets, follower_of}
 use Rattle.ix_parse.specs.inside.Progress.{Progress, nodes_after}
 use Rattle.ix_parse.specs.inside.Operands.{meaning_of}
 use Rattle.ix_parse.specs.inside.Configs.{IsSound, IsReadable}
-use Rattle.ix_parse.specs.inside.Outcomes.{is_param_piece, pending, IsTaken, IsFaultOf, IsMeaning, IsEnded}
+use Rattle.ix_parse.specs.inside.Outcomes.{piece_follower, pending, IsTaken, IsFaultOf, IsMeaning, IsEnded}
 use Rattle.ix_parse.proofs.Holding.{Reads}
 use Rattle.ix_parse.proofs.Steps.{Reads-start}
 use Rattle.ix_parse.proofs.FirstFaults.{first_met-none}
@@ -32,10 +33,10 @@ pub next-pending : (item : Option (Result Token LexFault)) (s t : Tokens) → Yi
 next-pending None s t ended = ended.0
 next-pending (Some item) s t is = is
 
-pub param_next-pending : (item : Option (Result Token LexFault)) (t : Tokens) → param_next (pending item t) ≡ is_param_piece item
-param_next-pending None t = refl
-param_next-pending (Some (Ok item)) t = refl
-param_next-pending (Some (Err fault)) t = refl
+pub follower-pending : (item : Option (Result Token LexFault)) (t : Tokens) → follower_of (pending item t) ≡ piece_follower item
+follower-pending None t = refl
+follower-pending (Some (Ok item)) t = refl
+follower-pending (Some (Err fault)) t = refl
 
 sound-by : (ts : List Symbol) (c : Config) → Reads ts c → IsSound c.mode
 sound-by _ _ (Reads.at_operand ts s h) = tt
@@ -43,17 +44,18 @@ sound-by _ _ (Reads.at_name ts s at w is h) = is
 sound-by _ _ (Reads.at_argument ts us s at w args is listed few h) = (is, few)
 sound-by _ _ (Reads.behind_argument ts us s at w args is listed few h) = (is, few)
 sound-by _ _ (Reads.behind_quantifier ts s at w q is h) = tt
+sound-by _ _ (Reads.behind_times ts s at w is h) = tt
 sound-by _ _ (Reads.behind_operand ts us s x clear stands h) = tt
 
 -- what is read of an atom is sound
 pub Progress-sound : (pieces rest : List Piece) (c : Config) (n : ℕ) → Progress pieces rest c n → IsSound c.mode
 Progress-sound pieces rest c n p = sound-by (symbols_of p.before) c (Reads-start (symbols_of p.before) c p.ran)
 
-module _ (text : List ℕ) (rest : List Piece) (t : PlainToken) (c : Config) (n : ℕ) (b : Bool) (p : Progress (pieces_of 0 text) (token t ∷ rest) c n) (is_next : param_next rest ≡ b) where
+module _ (text : List ℕ) (rest : List Piece) (t : PlainToken) (c : Config) (n : ℕ) (b : Follower) (p : Progress (pieces_of 0 text) (token t ∷ rest) c n) (is_next : follower_of rest ≡ b) where
   abbrev judged_so : Option Fault → Type 0
   judged_so f = judged c n (symbol_of t) b ≡ f
 
-  judged-here : (f : Option Fault) → judged_so f → judged c n (symbol_of t) (param_next rest) ≡ f
+  judged-here : (f : Option Fault) → judged_so f → judged c n (symbol_of t) (follower_of rest) ≡ f
   judged-here f e = ap (judged c n (symbol_of t)) is_next ∙ e
 
   -- a token that meets no fault may come, and can be taken
@@ -108,6 +110,6 @@ pub at-end : (pieces : List Piece) (ahead : Option (Result Token LexFault)) (s :
 at-end pieces ahead s c n p is = subst (λ l. Progress pieces l c n) (ap (λ a. pending a s) is) p
 
 -- a token that met a fault
-pub round-err : (text : List ℕ) (rest : List Piece) (t : PlainToken) (c : Config) (n : ℕ) (b : Bool) (fault : TextFault) → Progress (pieces_of 0 text) (token t ∷ rest) c n → param_next rest ≡ b → length text ≤ 16384 → IsTaken c n t b (Err fault) → IsFaultOf text fault
+pub round-err : (text : List ℕ) (rest : List Piece) (t : PlainToken) (c : Config) (n : ℕ) (b : Follower) (fault : TextFault) → Progress (pieces_of 0 text) (token t ∷ rest) c n → follower_of rest ≡ b → length text ≤ 16384 → IsTaken c n t b (Err fault) → IsFaultOf text fault
 round-err text rest t c n b (Bad code at) p is_next short taken = round-fault text rest t c n b p is_next taken.0 code at short taken.1 taken.2 taken.3
 round-err text rest t c n b Memory p is_next short taken = tt

@@ -5,9 +5,11 @@ use Rattle.ix_expr.specs.declared.arg.Arg.{Arg}
 use Rattle.ix_parse.specs.declared.signs.Operator.{Operator}
 use Rattle.ix_parse.specs.declared.signs.Operator.TheVariants as operators
 use Rattle.ix_parse.specs.declared.signs.WordClass.{WordClass}
-use Rattle.ix_parse.specs.Symbols.{Symbol, word, param, opening, closing, comma, between, level, Meaning, joined, quantified, named}
-use Rattle.ix_parse.specs.Grammar.{Arguments, Stands, Cut, CanGoOn, Wanted, AfterArgument}
-use Rattle.ix_parse.specs.inside.StackMachine.{Entry, group, sign, binder, left, Mode, wanted, name_read, argument_wanted, argument_read, quantifier_read, operand_read, Config, WithOperand, held, config, closed, reduced, with_operand, left_group, with_left, step_operand, step_word, with_argument, step_by, step, settled_by, settled, alone, joined_all, whole, start, step_some, run, levels}
+use Rattle.ix_parse.specs.declared.signs.WordClass.TheVariants.{Counts}
+use Rattle.ix_parse.specs.Symbols.{Symbol, word, param, opening, closing, comma, between, class_of, IsNumberWord, level, Meaning, joined, quantified, counted, named}
+use Rattle.ix_parse.specs.Grammar.{Arguments, Stands, Cut, CanGoOn, Wanted, AfterTimes, AfterArgument}
+use Rattle.ix_parse.specs.inside.StackMachine.{Entry, group, sign, binder, counter, left, Mode, wanted, name_read, argument_wanted, argument_read, quantifier_read, times_read, operand_read, Config, WithOperand, held, config, closed, reduced, with_operand, left_group, with_left, step_operand, step_word, with_argument, with_number, step_by, step, settled_by, settled, alone, joined_all, whole, start, step_some, run, levels}
+use Rattle.ix_parse.proofs.Numbers.{number-is}
 
 -- a run over an appended list is a run over its parts
 pub run-append : (c : Option Config) (ts us : List Symbol) → run c (ts ++ us) ≡ run (run c ts) us
@@ -25,6 +27,7 @@ hole [] = 1
 hole (group ∷ s) = 1
 hole (sign at p ∷ s) = 6
 hole (binder at q p ∷ s) = 6
+hole (counter at n ∷ s) = 6
 hole (left at o x ∷ s) = suc (level o)
 
 -- where an operand of this level may stand, nothing is joined to it
@@ -33,6 +36,7 @@ reduced-clear k [] x h = refl
 reduced-clear k (group ∷ s) x h = refl
 reduced-clear k (sign at p ∷ s) x h = refl
 reduced-clear k (binder at q p ∷ s) x h = refl
+reduced-clear k (counter at n ∷ s) x h = refl
 reduced-clear k (left at o y ∷ s) x h = let below : leb k (level o) ≡ false = grind (arith, nat_tests) in rw below refl
 
 -- at the end of an operand that no prefix takes, nothing is closed
@@ -41,6 +45,7 @@ closed-clear [] x h = refl
 closed-clear (group ∷ s) x h = refl
 closed-clear (sign at p ∷ s) x h = absurd (omega arith)
 closed-clear (binder at q p ∷ s) x h = absurd (omega arith)
+closed-clear (counter at n ∷ s) x h = absurd (omega arith)
 closed-clear (left at o y ∷ s) x h = refl
 
 -- behind an operand the machine goes on as from the operand
@@ -50,6 +55,7 @@ step-closing s (name_read at w) h e = let same : closed s (named at w []) ≡ h 
 step-closing s (argument_wanted at w args) h e = absurd cc
 step-closing s (argument_read at w args) h e = absurd cc
 step-closing s (quantifier_read at q) h e = absurd cc
+step-closing s (times_read at) h e = absurd cc
 step-closing s (operand_read x) h e = let same : held s x ≡ h = cc in ap (λ (g : WithOperand). step_operand g.stack g.operand closing) same
 
 pub step-between : (s : List Entry) (mode : Mode) (h : WithOperand) (at : ℕ) (o : Operator) → settled_by s mode ≡ Some h → step_by s mode (between at o) ≡ step_operand h.stack h.operand (between at o)
@@ -58,6 +64,7 @@ step-between s (name_read at' w) h at o e = let same : closed s (named at' w [])
 step-between s (argument_wanted at' w args) h at o e = absurd cc
 step-between s (argument_read at' w args) h at o e = absurd cc
 step-between s (quantifier_read at' q) h at o e = absurd cc
+step-between s (times_read at') h at o e = absurd cc
 step-between s (operand_read x) h at o e = let same : held s x ≡ h = cc in ap (λ (g : WithOperand). step_operand g.stack g.operand (between at o)) same
 
 abbrev pub reduced_held : ℕ → WithOperand → WithOperand
@@ -113,6 +120,12 @@ run-left at o ts us x s fits r =
     let stepped : step r.last (between at o) ≡ Some (config (left at o x ∷ s) wanted) = step-between r.last.stack r.last.mode r.held at o r.settled_is ∙ ap (λ (h : WithOperand). Some (with_left at o h)) found in
     run-append (Some (config s wanted)) ts (between at o ∷ us) ∙ ap (λ (c : Option Config). run (step_some c (between at o)) us) r.is ∙ ap (λ (c : Option Config). run c us) stepped
 
+-- `times` and its number in front of an operand
+pub run-counts : (s : List Entry) (at at' : ℕ) (w v : List ℕ) (n : ℕ) (ts : List Symbol) → class_of w ≡ Counts → IsNumberWord v n → run (Some (config s wanted)) (word at w ∷ word at' v ∷ ts) ≡ run (Some (config (counter at n ∷ s) wanted)) ts
+run-counts s at at' w v n ts is number =
+    ap (λ (k : WordClass). run (step_some (step_word s at w k) (word at' v)) ts) is
+    ∙ ap (λ (o : Option ℕ). run (with_number s at o) ts) (number-is v n number)
+
 -- each symbol list that stands for a meaning is read as it
 pub run-stands : (n : ℕ) (ts : List Symbol) (x : Meaning) → Stands n ts x → (s : List Entry) → hole s ≤ n → Reached n (closed s x) (run (Some (config s wanted)) ts)
 run-stands _ _ _ (Stands.tighter n ts x low tight) s fits =
@@ -133,6 +146,8 @@ run-stands _ _ _ (Stands.prefixes at p ts x operand) s fits = run-stands 6 ts x 
 run-stands _ _ _ (Stands.quantifies at w q p ts x is operand) s fits =
     let ran : run (Some (config s wanted)) (word at w ∷ param p ∷ ts) ≡ run (Some (config (binder at q p ∷ s) wanted)) ts = ap (λ (k : WordClass). run (step_some (step_word s at w k) (param p)) ts) is in
     subst (Reached 6 (closed s (quantified q at p x))) (sym ran) (run-stands 6 ts x operand (binder at q p ∷ s) (omega arith))
+run-stands _ _ _ (Stands.counts at at' w v n ts x is number operand) s fits =
+    subst (Reached 6 (closed s (counted n at x))) (sym (run-counts s at at' w v n ts is number)) (run-stands 6 ts x operand (counter at n ∷ s) (omega arith))
 run-stands _ _ _ (Stands.group ts x inner) s fits =
     let r = run-stands 1 ts x inner (group ∷ s) (omega arith) in
     let found : reduced_held 1 r.held ≡ held (group ∷ s) x = r.same 1 (omega arith) in
@@ -193,11 +208,30 @@ run-cut _ _ _ _ (Cut.prefixes at p m d ts cut) s fits = one_deeper s (sign at p 
 run-cut _ _ _ _ (Cut.quantifies at w q p m d ts is cut) s fits =
     let ran : run (Some (config s wanted)) (word at w ∷ param p ∷ ts) ≡ run (Some (config (binder at q p ∷ s) wanted)) ts = ap (λ (k : WordClass). run (step_some (step_word s at w k) (param p)) ts) is in
     subst (ReachedCut s (suc d)) (sym ran) (one_deeper s (binder at q p ∷ s) d _ refl (run-cut 6 m d ts cut (binder at q p ∷ s) (omega arith)))
+run-cut _ _ _ _ (Cut.counts at at' w v n m d ts is number cut) s fits =
+    subst (ReachedCut s (suc d)) (sym (run-counts s at at' w v n ts is number)) (one_deeper s (counter at n ∷ s) d _ refl (run-cut 6 m d ts cut (counter at n ∷ s) (omega arith)))
 run-cut _ _ _ _ (Cut.group m d ts cut) s fits = one_deeper s (group ∷ s) d _ refl (run-cut 1 m d ts cut (group ∷ s) (omega arith))
 
 -- where the grammar wants an operand, so does the machine
 pub run-wanted : (d : ℕ) (ts : List Symbol) → Wanted d ts → ReachedCut [] d (run (Some start) ts)
 run-wanted d ts wants = run-cut 1 wants.hole d ts wants.cut [] (omega arith)
+
+-- where the grammar has read `times`, so has the machine
+pub record ReachedTimes (c : Option Config) : Type 0 where
+  pub stack : List Entry
+  pub at : ℕ
+  pub is : c ≡ Some (config stack (times_read at))
+
+pub run-after_times : (ts : List Symbol) → AfterTimes ts → ReachedTimes (run (Some start) ts)
+run-after_times _ (AfterTimes.behind d at w ts wants is) =
+    let r = run-wanted d ts wants in
+    record {
+      stack = r.stack;
+      at = at;
+      is =
+          run-append (Some start) ts (word at w ∷ []) ∙ ap (λ (c : Option Config). run c (word at w ∷ [])) r.is
+          ∙ ap (λ (k : WordClass). step_word r.stack at w k) is;
+    }
 
 -- where the grammar has read n arguments, so has the machine
 pub record ReachedArgument (n : ℕ) (c : Option Config) : Type 0 where

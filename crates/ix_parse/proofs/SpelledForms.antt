@@ -104,6 +104,8 @@ stands-spelled _ _ _ (Stands.prefixes at sign ts x operand) all =
     prefixed-spelled sign x.form (stands-spelled 6 ts x operand all.1)
 stands-spelled _ _ _ (Stands.quantifies at w q p ts x is operand) all =
     quantified-spelled q p x.form all.1.0 (stands-spelled 6 ts x operand all.1.1)
+stands-spelled _ _ _ (Stands.counts at at' w v n ts x is number operand) all =
+    stands-spelled 6 ts x operand all.1.1
 stands-spelled _ _ _ (Stands.group ts x inner) all =
     stands-spelled 1 ts x inner (readable-front ts (closing ∷ []) all.1)
 stands-spelled _ _ _ (Stands.bare at w is) all =

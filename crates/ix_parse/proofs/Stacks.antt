@@ -4,11 +4,11 @@ use Rattle.std.proofs.lemmas.List.{append-nil}
 use Rattle.std.specs.List.{slice_get, count_by, fold}
 use Rattle.ix_parse.specs.declared.stack.Entry.{Entry}
 use Rattle.ix_parse.specs.declared.stack.Entry.TheVariants as entries
-use Rattle.ix_parse.specs.declared.stack.Taking.TheVariants.{Sign, Binder}
+use Rattle.ix_parse.specs.declared.stack.Taking.TheVariants.{Sign, Binder, Counter}
 use Rattle.ix_parse.specs.Symbols.{Meaning, level, joined}
 use Rattle.ix_parse.specs.inside.Operands.{meaning_of}
 use Rattle.ix_parse.specs.inside.StackMachine as machine
-use Rattle.ix_parse.specs.inside.StackMachine.{group, sign, binder, left, closed, reduced, held, left_group, alone, levels, groups}
+use Rattle.ix_parse.specs.inside.StackMachine.{group, sign, binder, counter, left, closed, reduced, held, left_group, alone, levels, groups}
 use Rattle.ix_parse.specs.inside.Stack.{taking_of, is_counted, entry_of, stack_onto, stack_of, is_prefix_inmost, is_left_inmost}
 
 -- the last entry is the inmost
@@ -22,6 +22,7 @@ closed-none [] x e = refl
 closed-none (group ∷ s) x e = refl
 closed-none (sign at p ∷ s) x e = absurd cc
 closed-none (binder at q p ∷ s) x e = absurd cc
+closed-none (counter at n ∷ s) x e = absurd cc
 closed-none (left at o y ∷ s) x e = refl
 
 -- nothing is joined where no operator that binds so tightly is inmost
@@ -30,15 +31,18 @@ reduced-none k [] x e = refl
 reduced-none k (group ∷ s) x e = refl
 reduced-none k (sign at p ∷ s) x e = refl
 reduced-none k (binder at q p ∷ s) x e = refl
+reduced-none k (counter at n ∷ s) x e = refl
 reduced-none k (left at o y ∷ s) x e = rw e refl
 
 taken-level : (t : _) (s : List machine.Entry) → levels (taking_of t ∷ s) ≡ suc (levels s)
 taken-level (Sign at p) s = refl
 taken-level (Binder at q p) s = refl
+taken-level (Counter at n) s = refl
 
 taken-group : (t : _) (s : List machine.Entry) → groups (taking_of t ∷ s) ≡ groups s
 taken-group (Sign at p) s = refl
 taken-group (Binder at q p) s = refl
+taken-group (Counter at n) s = refl
 
 levels-fold : (s : List machine.Entry) (n : ℕ) (es : List Entry) → n ≡ levels s → fold (λ a x. a + cond (is_counted true x) 1 0) n es ≡ levels (stack_onto s es)
 levels-fold s n [] is = is
@@ -93,6 +97,7 @@ popped_none f es fs is = ap (λ l. f (stack_of l)) (is ∙ append-nil fs)
 pub taking-no_left : (k : ℕ) (t : _) (s : List machine.Entry) → is_left_inmost k (taking_of t ∷ s) ≡ false
 taking-no_left k (Sign at p) s = refl
 taking-no_left k (Binder at q p) s = refl
+taking-no_left k (Counter at n) s = refl
 
 -- the prefix that is inmost is closed first
 pub closed-taking : (es : List Entry) (t : _) (x : Meaning) → slice_get es (length es - 1) ≡ Some (entries.Taking t) → closed (stack_of es) x ≡ closed (taking_of t ∷ stack_of (take (length es - 1) es)) x
@@ -122,6 +127,7 @@ left_group-popped s x es fs e y r is = ap (λ (h : machine.WithOperand). left_gr
 pub taking-no_group : (t : _) (s : List machine.Entry) (y : Meaning) → left_group (taking_of t ∷ s) y ≡ None
 taking-no_group (Sign at p) s y = refl
 taking-no_group (Binder at q p) s y = refl
+taking-no_group (Counter at n) s y = refl
 
 -- whether nothing is open
 alone-onto : (e : machine.Entry) (s : List machine.Entry) (es : List Entry) (y : Meaning) → alone (stack_onto (e ∷ s) es) y ≡ None

@@ -1,14 +1,16 @@
 -- A step of the machine keeps what it read, and what it read stands for what it holds.
 use Rattle.std.proofs.Common.{◌≡◌, ℕ, ◌+◌, ◌<◌, ◌≤◌, Bool, true, false, ltb, cond, List, [], ◌∷◌, ◌++◌, length, Option, Some, None, refl, sym, ap, ◌∙◌, subst, arith, append_assoc, length-append, ltb-true}
+use Rattle.std.proofs.lemmas.Fmt.{decimal_digit}
 use Rattle.std.proofs.lemmas.List.{append-nil}
 use Rattle.ix_expr.specs.declared.arg.Arg.{Arg}
 use Rattle.ix_expr.specs.declared.arg.Arg.TheVariants.{Fixed}
 use Rattle.ix_parse.specs.declared.signs.Quantifier.{Quantifier}
 use Rattle.ix_parse.specs.declared.signs.WordClass.{WordClass}
-use Rattle.ix_parse.specs.declared.signs.WordClass.TheVariants.{Quantifies, Withheld, Names, Other}
-use Rattle.ix_parse.specs.Symbols.{Symbol, word, param, opening, closing, comma, before, between, class_of, Meaning, named, argument_of}
+use Rattle.ix_parse.specs.declared.signs.WordClass.TheVariants.{Quantifies, Counts, Names, Other}
+use Rattle.ix_parse.specs.Symbols.{Symbol, word, param, opening, closing, comma, before, between, class_of, IsNumberWord, Meaning, named, argument_of}
 use Rattle.ix_parse.specs.Grammar.{Arguments, Stands, CanGoOn}
-use Rattle.ix_parse.specs.inside.StackMachine.{Entry, group, sign, binder, argument_wanted, Config, WithOperand, held, config, closed, reduced, step_operand, step_word, step_wanted, step_name, step_argument, step_quantifier, with_argument, step, alone, joined_all, whole, start, run}
+use Rattle.ix_parse.specs.inside.StackMachine.{Entry, group, sign, binder, counter, argument_wanted, Config, WithOperand, held, config, closed, reduced, step_operand, step_word, step_wanted, step_name, step_argument, step_quantifier, step_times, with_argument, with_number, number_of, step, alone, joined_all, whole, start, run}
+use Rattle.ix_parse.proofs.Numbers.{number-when}
 use Rattle.ix_parse.proofs.Runs.{run-none}
 use Rattle.ix_parse.proofs.Cuts.{CanGoOn-front}
 use Rattle.ix_parse.proofs.Holding.{Holds, hole-low, Holds-fill, Listed, Listed-argument, Arguments-comma, Reads, Ended, Ended-closed, Reads-closed, ReadTo, Reads-reduced, Reads-operand}
@@ -19,7 +21,7 @@ some_is x y e = cc
 -- a word where an operand is wanted
 word-step : (ts : List Symbol) (s : List Entry) (at : ℕ) (w : List ℕ) (k : WordClass) (c : Config) → class_of w ≡ k → Holds ts s → step_word s at w k ≡ Some c → Reads (ts ++ word at w ∷ []) c
 word-step ts s at w (Quantifies q) c is h e = subst (Reads (ts ++ word at w ∷ [])) (some_is _ c e) (Reads.behind_quantifier ts s at w q is h)
-word-step ts s at w Withheld c is h e = absurd cc
+word-step ts s at w Counts c is h e = subst (Reads (ts ++ word at w ∷ [])) (some_is _ c e) (Reads.behind_times ts s at w is h)
 word-step ts s at w Names c is h e = subst (Reads (ts ++ word at w ∷ [])) (some_is _ c e) (Reads.at_name ts s at w is h)
 word-step ts s at w Other c is h e = absurd cc
 
@@ -90,6 +92,22 @@ quantifier-step ts s at w q comma c is h e = absurd cc
 quantifier-step ts s at w q (before at' p) c is h e = absurd cc
 quantifier-step ts s at w q (between at' o) c is h e = absurd cc
 
+-- a symbol behind `times`
+number-step : (ts : List Symbol) (s : List Entry) (at at' : ℕ) (w v : List ℕ) (o : Option ℕ) (c : Config) → number_of v ≡ o → class_of w ≡ Counts → Holds ts s → with_number s at o ≡ Some c → Reads ((ts ++ word at w ∷ []) ++ word at' v ∷ []) c
+number-step ts s at at' w v None c found is h e = absurd cc
+number-step ts s at at' w v (Some n) c found is h e =
+    subst (λ l. Reads l c) (sym (append_assoc ts (word at w ∷ []) (word at' v ∷ [])))
+    (subst (Reads (ts ++ word at w ∷ word at' v ∷ [])) (some_is _ c e) (Reads.at_operand (ts ++ word at w ∷ word at' v ∷ []) (counter at n ∷ s) (Holds.open_counter ts s at at' w v n is (number-when v n found) h)))
+
+times-step : (ts : List Symbol) (s : List Entry) (at : ℕ) (w : List ℕ) (t : Symbol) (c : Config) → class_of w ≡ Counts → Holds ts s → step_times s at t ≡ Some c → Reads ((ts ++ word at w ∷ []) ++ t ∷ []) c
+times-step ts s at w (word at' v) c is h e = number-step ts s at at' w v (number_of v) c refl is h e
+times-step ts s at w (param p) c is h e = absurd cc
+times-step ts s at w opening c is h e = absurd cc
+times-step ts s at w closing c is h e = absurd cc
+times-step ts s at w comma c is h e = absurd cc
+times-step ts s at w (before at' p) c is h e = absurd cc
+times-step ts s at w (between at' o) c is h e = absurd cc
+
 -- a step keeps what was read
 pub Reads-step : (ts : List Symbol) (c d : Config) (t : Symbol) → Reads ts c → step c t ≡ Some d → Reads (ts ++ t ∷ []) d
 Reads-step _ _ d t (Reads.at_operand ts s h) e = wanted-step ts s t d h e
@@ -97,6 +115,7 @@ Reads-step _ _ d t (Reads.at_name ts s at w is h) e = name-step ts s at w t d is
 Reads-step _ _ d t (Reads.at_argument ts us s at w args is listed few h) e = argument-step ts us s at w args t (argument_of t) d refl is listed few h e
 Reads-step _ _ d t (Reads.behind_argument ts us s at w args is listed few h) e = behind_argument-step ts us s at w args t d is listed few h e
 Reads-step _ _ d t (Reads.behind_quantifier ts s at w q is h) e = quantifier-step ts s at w q t d is h e
+Reads-step _ _ d t (Reads.behind_times ts s at w is h) e = times-step ts s at w t d is h e
 Reads-step _ _ d t (Reads.behind_operand ts us s x clear stands h) e = Reads-operand ts us s x t d clear stands h e
 
 -- a run keeps what was read
@@ -118,6 +137,7 @@ Holds-none _ _ Holds.nothing_open e = refl
 Holds-none _ _ (Holds.open_group ts s h) e = absurd cc
 Holds-none _ _ (Holds.open_sign ts s at p h) e = absurd cc
 Holds-none _ _ (Holds.open_binder ts s at w q p is h) e = absurd cc
+Holds-none _ _ (Holds.open_counter ts s at at' w v n is number h) e = absurd cc
 Holds-none _ _ (Holds.open_left ts us s at o x fits stands h) e = absurd cc
 
 -- an operand with nothing open around it is whole
@@ -140,6 +160,7 @@ Reads-whole _ _ x (Reads.at_name ts s at w is h) e = ended-whole (ts ++ word at 
 Reads-whole _ _ x (Reads.at_argument ts us s at w args is listed few h) e = absurd cc
 Reads-whole _ _ x (Reads.behind_argument ts us s at w args is listed few h) e = absurd cc
 Reads-whole _ _ x (Reads.behind_quantifier ts s at w q is h) e = absurd cc
+Reads-whole _ _ x (Reads.behind_times ts s at w is h) e = absurd cc
 Reads-whole _ _ x (Reads.behind_operand ts us s y clear stands h) e =
     ended-whole (ts ++ us) (held s y) x (record { front = ts; operand = us; split = refl; clear = clear; stands = stands; holds = h }) e
 
@@ -150,6 +171,10 @@ a_word = refl
 
 a_operand : Stands 6 (word 0 (97 ∷ []) ∷ []) (named 0 (97 ∷ []) [])
 a_operand = Stands.bare 0 (97 ∷ []) a_word
+
+-- a number for what may follow `times`
+a_number : IsNumberWord (50 ∷ []) 2
+a_number = record { same = sym (decimal_digit 2 (omega arith)); number = (omega arith, omega arith) }
 
 -- an operand whose front was read can go on
 front-can : (ts us vs : List Symbol) (s : List Entry) (x : Meaning) → Holds ts s → Stands 6 (us ++ vs) x → CanGoOn (ts ++ us)
@@ -168,4 +193,6 @@ Reads-can _ _ (Reads.at_argument ts us s at w args is listed few h) =
 Reads-can _ _ (Reads.behind_argument ts us s at w args is listed few h) = front-can ts (word at w ∷ opening ∷ us) (closing ∷ []) s (named at w args) h (Stands.applied at w us args is listed few)
 Reads-can _ _ (Reads.behind_quantifier ts s at w q is h) =
     front-can ts (word at w ∷ []) (param (97 ∷ []) ∷ word 0 (97 ∷ []) ∷ []) s _ h (Stands.quantifies at w q (97 ∷ []) (word 0 (97 ∷ []) ∷ []) _ is a_operand)
+Reads-can _ _ (Reads.behind_times ts s at w is h) =
+    front-can ts (word at w ∷ []) (word 0 (50 ∷ []) ∷ word 0 (97 ∷ []) ∷ []) s _ h (Stands.counts at 0 w (50 ∷ []) 2 (word 0 (97 ∷ []) ∷ []) _ is a_number a_operand)
 Reads-can _ _ (Reads.behind_operand ts us s x clear stands h) = Holds-fill ts us s x h stands

@@ -7,26 +7,29 @@ use Rattle.ix_expr.specs.FormFaults.{IsWellFormed, IsFirstFormFault}
 use Rattle.ix_parse.specs.declared.faults.Fault.{Fault}
 use Rattle.ix_parse.specs.declared.faults.Fault.TheVariants as faults
 use Rattle.ix_parse.specs.declared.signs.Quantifier.{Quantifier}
-use Rattle.ix_parse.specs.declared.signs.WordClass.TheVariants.{Quantifies, Withheld}
+use Rattle.ix_parse.specs.declared.signs.WordClass.{WordClass}
+use Rattle.ix_parse.specs.declared.signs.WordClass.TheVariants.{Quantifies, Counts, Names, Other}
 use Rattle.ix_parse.specs.Symbols.{Symbol, word, param, opening, closing, comma, before, between}
-use Rattle.ix_parse.specs.Symbols.{symbol_of, class_of, Meaning}
-use Rattle.ix_parse.specs.Grammar.{Stands, CanGoOn, Wanted, AfterArgument}
+use Rattle.ix_parse.specs.Symbols.{symbol_of, class_of, IsNumberWord, Meaning}
+use Rattle.ix_parse.specs.Grammar.{Stands, CanGoOn, Wanted, AfterTimes, AfterArgument}
 
 -- the order in which the faults that are met at one place are told
 abbrev pub order_of : Fault → ℕ
 order_of faults.NoToken = 1
 order_of faults.Reserved = 2
-order_of faults.FifthArgument = 3
-order_of faults.Unexpected = 4
-order_of faults.LongName = 5
-order_of faults.TooDeep = 6
-order_of faults.TooManyNodes = 7
-order_of faults.Ended = 8
+order_of faults.NoNumber = 3
+order_of faults.FifthArgument = 4
+order_of faults.Unexpected = 5
+order_of faults.LongName = 6
+order_of faults.TooDeep = 7
+order_of faults.TooManyNodes = 8
+order_of faults.Ended = 9
 
 -- the codes that are told
 abbrev pub code_of : Fault → ℕ
 code_of faults.NoToken = 2
 code_of faults.Reserved = 12
+code_of faults.NoNumber = 16
 code_of faults.FifthArgument = 10
 code_of faults.Unexpected = 3
 code_of faults.LongName = 11
@@ -39,16 +42,30 @@ pub data ParamNext : List Piece → Type 0 where
   param_next : (t : PlainToken) (p : List ℕ) (rest : List Piece) → symbol_of t ≡ param p
       → ParamNext (token t ∷ rest)
 
--- a word that begins nothing: `times`, or a quantifier's word with no parameter behind it
+-- the next piece is a word
+pub data WordNext : List Piece → Type 0 where
+  word_next : (t : PlainToken) (at : ℕ) (w : List ℕ) (rest : List Piece) → symbol_of t ≡ word at w
+      → WordNext (token t ∷ rest)
+
+-- a word that begins nothing: `times` with no word behind it, or a quantifier's word with no
+-- parameter behind it
 pub data BeginsNoOperand : List ℕ → List Piece → Type 0 where
-  withheld : (w : List ℕ) (rest : List Piece) → class_of w ≡ Withheld → BeginsNoOperand w rest
+  no_word : (w : List ℕ) (rest : List Piece) → class_of w ≡ Counts → ¬ WordNext rest
+      → BeginsNoOperand w rest
   no_param : (w : List ℕ) (q : Quantifier) (rest : List Piece) → class_of w ≡ Quantifies q
       → ¬ ParamNext rest → BeginsNoOperand w rest
 
--- the symbol opens a level in the place of an operand: a parenthesis, a prefix or a quantifier's
--- word
+-- a word that takes an operand: a quantifier's word, or `times`
+abbrev pub TakesOperand : WordClass → Type 0
+TakesOperand (Quantifies q) = Unit {0}
+TakesOperand Counts = Unit {0}
+TakesOperand Names = ⊥
+TakesOperand Other = ⊥
+
+-- the symbol opens a level in the place of an operand: a parenthesis, a prefix, a quantifier's word
+-- or `times`
 abbrev pub OpensLevel : Symbol → Type 0
-OpensLevel (word at w) = (q : Quantifier) × (class_of w ≡ Quantifies q)
+OpensLevel (word at w) = TakesOperand (class_of w)
 OpensLevel (param p) = ⊥
 OpensLevel opening = Unit {0}
 OpensLevel closing = ⊥
@@ -90,6 +107,8 @@ pub data Met (ts : List Symbol) : List Piece → Fault → Type 0 where
   no_token : (at : ℕ) (rest : List Piece) → Met ts (bad_byte at ∷ rest) faults.NoToken
   reserved : (t : PlainToken) (rest : List Piece) (at d : ℕ) (w : List ℕ) → symbol_of t ≡ word at w
       → Wanted d ts → BeginsNoOperand w rest → Met ts (token t ∷ rest) faults.Reserved
+  no_number : (t : PlainToken) (rest : List Piece) (at : ℕ) (w : List ℕ) → symbol_of t ≡ word at w
+      → AfterTimes ts → ((n : ℕ) → ¬ IsNumberWord w n) → Met ts (token t ∷ rest) faults.NoNumber
   fifth_argument : (t : PlainToken) (rest : List Piece) → symbol_of t ≡ comma → AfterArgument 4 ts
       → Met ts (token t ∷ rest) faults.FifthArgument
   unexpected : (t : PlainToken) (rest : List Piece) → ¬ CanGoOn (ts ++ symbol_of t ∷ [])

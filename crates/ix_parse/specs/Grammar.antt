@@ -4,10 +4,10 @@ use Rattle.ix_expr.specs.declared.arg.Arg.{Arg}
 use Rattle.ix_parse.specs.declared.signs.Operator.{Operator}
 use Rattle.ix_parse.specs.declared.signs.Prefix.{Prefix}
 use Rattle.ix_parse.specs.declared.signs.Quantifier.{Quantifier}
-use Rattle.ix_parse.specs.declared.signs.WordClass.TheVariants.{Quantifies, Names}
+use Rattle.ix_parse.specs.declared.signs.WordClass.TheVariants.{Quantifies, Counts, Names}
 use Rattle.ix_parse.specs.Symbols.{Symbol, word, param, opening, closing, comma, before, between}
-use Rattle.ix_parse.specs.Symbols.{class_of, level, Meaning, joined, prefixed, quantified, named}
-use Rattle.ix_parse.specs.Symbols.{argument_of}
+use Rattle.ix_parse.specs.Symbols.{class_of, IsNumberWord, level, Meaning, joined, prefixed}
+use Rattle.ix_parse.specs.Symbols.{quantified, counted, named, argument_of}
 
 -- the arguments of an atom, with commas between them
 pub data Arguments : List Symbol → List Arg → Type 0 where
@@ -30,6 +30,10 @@ pub data Stands : ℕ → List Symbol → Meaning → Type 0 where
   quantifies : (at : ℕ) (w : List ℕ) (q : Quantifier) (p : List ℕ) (ts : List Symbol) (x : Meaning)
       → class_of w ≡ Quantifies q → Stands 6 ts x
       → Stands 6 (word at w ∷ param p ∷ ts) (quantified q at p x)
+  -- `times` and its number
+  counts : (at at' : ℕ) (w v : List ℕ) (n : ℕ) (ts : List Symbol) (x : Meaning)
+      → class_of w ≡ Counts → IsNumberWord v n → Stands 6 ts x
+      → Stands 6 (word at w ∷ word at' v ∷ ts) (counted n at x)
   -- parentheses
   group : (ts : List Symbol) (x : Meaning) → Stands 1 ts x
       → Stands 6 (opening ∷ ts ++ closing ∷ []) x
@@ -57,12 +61,19 @@ pub data Cut : ℕ → ℕ → ℕ → List Symbol → Type 0 where
       → Cut 6 m (suc d) (before at sign ∷ ts)
   quantifies : (at : ℕ) (w : List ℕ) (q : Quantifier) (p : List ℕ) (m d : ℕ) (ts : List Symbol)
       → class_of w ≡ Quantifies q → Cut 6 m d ts → Cut 6 m (suc d) (word at w ∷ param p ∷ ts)
+  counts : (at at' : ℕ) (w v : List ℕ) (n m d : ℕ) (ts : List Symbol) → class_of w ≡ Counts
+      → IsNumberWord v n → Cut 6 m d ts → Cut 6 m (suc d) (word at w ∷ word at' v ∷ ts)
   group : (m d : ℕ) (ts : List Symbol) → Cut 1 m d ts → Cut 6 m (suc d) (opening ∷ ts)
 
 -- an operand is wanted after these symbols, where d levels are open
 pub record Wanted (d : ℕ) (ts : List Symbol) : Type 0 where
   pub hole : ℕ
   pub cut : Cut 1 hole d ts
+
+-- the symbols end in the word `times`, which stands where an operand is wanted
+pub data AfterTimes : List Symbol → Type 0 where
+  behind : (d at : ℕ) (w : List ℕ) (ts : List Symbol) → Wanted d ts → class_of w ≡ Counts
+      → AfterTimes (ts ++ word at w ∷ [])
 
 -- the symbols end in the n-th argument of an atom
 pub data AfterArgument : ℕ → List Symbol → Type 0 where

@@ -1,6 +1,6 @@
 -- Tokens as the grammar sees them, and what operators and words mean.
-use Rattle.std.specs.Prelude.{ℕ, List, [], ◌∷◌, ◌++◌, Option, Some, None, drop, codes}
-use Rattle.std.specs.Prelude.{if◌then◌else◌}
+use Rattle.std.specs.Prelude.{◌≡◌, ℕ, List, [], ◌∷◌, ◌++◌, Option, Some, None, drop, codes}
+use Rattle.std.specs.Prelude.{if◌then◌else◌, decimal}
 use Rattle.ix_lex.specs.declared.TokenKind.{TokenKind}
 use Rattle.ix_lex.specs.declared.TokenKind.TheVariants as kinds
 use Rattle.ix_lex.specs.Lexing.{PlainToken}
@@ -10,6 +10,7 @@ use Rattle.ix_expr.specs.declared.arg.Arg.{Arg}
 use Rattle.ix_expr.specs.declared.arg.Arg.TheVariants.{Fixed, Param}
 use Rattle.ix_expr.specs.Form as forms
 use Rattle.ix_expr.specs.Form.{Form, atom_of}
+use Rattle.ix_expr.specs.FormFaults.{IsNumber}
 use Rattle.ix_parse.specs.declared.signs.Operator.{Operator}
 use Rattle.ix_parse.specs.declared.signs.Operator.TheVariants as operators
 use Rattle.ix_parse.specs.declared.signs.Prefix.{Prefix}
@@ -17,7 +18,7 @@ use Rattle.ix_parse.specs.declared.signs.Prefix.TheVariants as prefixes
 use Rattle.ix_parse.specs.declared.signs.Quantifier.{Quantifier}
 use Rattle.ix_parse.specs.declared.signs.Quantifier.TheVariants as quantifiers
 use Rattle.ix_parse.specs.declared.signs.WordClass.{WordClass}
-use Rattle.ix_parse.specs.declared.signs.WordClass.TheVariants.{Quantifies, Withheld, Names, Other}
+use Rattle.ix_parse.specs.declared.signs.WordClass.TheVariants.{Quantifies, Counts, Names, Other}
 
 -- a token of an expression's text; those that may be a node's have their start
 pub data Symbol : Type 0 where
@@ -57,9 +58,15 @@ class_of w =
     else (if text_eq w (codes "every") then Quantifies quantifiers.Every
     else (if text_eq w (codes "sync") then Quantifies quantifiers.Sync
     else (if text_eq w (codes "all") then Quantifies quantifiers.All
-    else (if text_eq w (codes "times") then Withheld
+    else (if text_eq w (codes "times") then Counts
     else (if begins_with_letter w then Names
     else Other)))))
+
+-- the word stands for a number that may stand behind `times`: 2 to 64, in decimal without leading
+-- zeros
+pub record IsNumberWord (w : List ℕ) (n : ℕ) : Type 0 where
+  pub same : w ≡ decimal n
+  pub number : IsNumber n
 
 -- how tightly an operator binds, the weakest first
 abbrev pub level : Operator → ℕ
@@ -107,6 +114,10 @@ prefixed sign at x = record { form = prefixed_form sign x.form; places = at ∷ 
 -- a quantifier in front of an operand
 abbrev pub quantified : Quantifier → ℕ → List ℕ → Meaning → Meaning
 quantified q at p x = record { form = quantified_form q p x.form; places = at ∷ x.places }
+
+-- `times` and its number in front of an operand
+abbrev pub counted : ℕ → ℕ → Meaning → Meaning
+counted n at x = record { form = forms.times n x.form; places = at ∷ x.places }
 
 -- an atom
 abbrev pub named : ℕ → List ℕ → List Arg → Meaning

@@ -5,8 +5,11 @@
 pub(crate) enum Fault {
     /// A byte that begins no token.
     NoToken,
-    /// Where an operand is wanted: `times`, or a quantifier's word with no parameter behind it.
+    /// Where an operand is wanted: `times` with no word behind it, or a quantifier's word with no
+    /// parameter behind it.
     Reserved,
+    /// The word behind `times`, where it is no number from 2 to 64 in decimal.
+    NoNumber,
     /// The comma after a fourth argument.
     FifthArgument,
     /// A token with which no text could go on.

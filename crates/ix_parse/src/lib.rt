@@ -5,6 +5,8 @@ ghost use Rattle.std.specs.Prelude.{◌≡◌, IfOk, IfErr};
 ghost use Rattle.ix_parse.specs.Faults as spec;
 ghost use Rattle.ix_parse.specs.inside.Outcomes.{IsFaultOf, HasPlaces, IsWellFormedOr};
 ghost use Rattle.ix_parse.specs.inside.Operands.{meaning_of};
+ghost use Rattle.ix_expr.specs.FormFaults.{HasNumbers};
+ghost use Rattle.ix_expr.specs.inside.FormOf.{form_of};
 
 mod faults;
 pub mod laws;
@@ -40,6 +42,7 @@ fn fault_at(fault: Fault, at: usize) -> TextFault
     let code = match fault {
         Fault::NoToken => 2,
         Fault::Reserved => 12,
+        Fault::NoNumber => 16,
         Fault::FifthArgument => 10,
         Fault::Unexpected => 3,
         Fault::LongName => 11,
@@ -55,17 +58,22 @@ fn fault_at(fault: Fault, at: usize) -> TextFault
 /// The codes, and where each is met:
 /// - 1, at 16384: the text has more than 16,384 bytes. This fault comes before all others.
 /// - 2: a byte that begins no token.
-/// - 12: in the place of an operand `times`, or another reserved word with no parameter behind it.
+/// - 12: in the place of an operand `times` with no word behind it, or another reserved word with
+///   no parameter behind it.
+/// - 16: the word behind `times`, where it isn't a number from 2 to 64 in decimal without leading
+///   zeros.
 /// - 10: the comma after a fourth argument.
 /// - 3: a token with which no text of the grammar could go on.
 /// - 11: a word, or a parameter without its `$`, of more than 32 bytes.
-/// - 9: a parenthesis of a group or a prefix that opens the 65th level.
+/// - 9: a parenthesis of a group, a prefix, a quantifier's word or `times` that opens the 65th
+///   level.
 /// - 8: the token of the 513th node.
 /// - 4, at the text's end: the text isn't whole.
 ///
 /// Of these the one at the least place is given, and at one place the first of this list. Where
 /// none is met, the first form fault is given (5, 6, 7, 8, 9 and 13, as `ix_expr` tells them), at
-/// the start of its node's token: an atom's name, an operator, a prefix or a quantifier's word.
+/// the start of its node's token: an atom's name, an operator, a prefix, a quantifier's word or
+/// `times`.
 pub fn read(alloc: Global, text: &[u8]) -> Result<Expression, TextFault>
     ensures ok { IfOk result (λ x. spec.StandsFor text.now x) }
     ensures fault { IfErr result (λ fault. IsFaultOf text.now fault) }
@@ -84,7 +92,8 @@ pub fn read(alloc: Global, text: &[u8]) -> Result<Expression, TextFault>
 
 /// A form fault is told at the token of its node.
 fn checked(operand: Operand) -> Result<Expression, TextFault>
-    requires { HasPlaces (meaning_of operand) }
+    requires places { HasPlaces (meaning_of operand) }
+    requires numbers { HasNumbers (form_of operand.expr) }
     ensures { IsWellFormedOr (meaning_of operand) result }
 {
     let Operand { expr, places } = operand;

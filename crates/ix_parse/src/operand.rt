@@ -79,6 +79,16 @@ impl Operand {
         Ok(Operand { expr, places })
     }
 
+    pub(crate) fn counted(self, alloc: Global, number: u8, at: usize) -> Result<Operand, AllocError>
+        ensures { IfOk result (λ x. meaning_of x ≡ spec.counted number at (meaning_of self)) }
+    {
+        let Operand { expr, mut places } = self;
+        places.insert(0, at)?;
+        let inner = Box::new(alloc, expr)?;
+        let expr = Expr::Times(number, inner);
+        Ok(Operand { expr, places })
+    }
+
     pub(crate) fn joined(
         self,
         alloc: Global,

@@ -13,15 +13,16 @@ ghost use Rattle.ix_parse.specs.declared.signs.WordClass.TheVariants.{Names};
 
 use crate::faults::Fault;
 use crate::operand::Operand;
-use crate::signs::{Quantifier, WordClass};
+use crate::signs::{Follower, Quantifier, WordClass};
 use crate::stack::{Entry, Left, Taking, closed, groups, level, levels, reduced};
 use crate::symbols::Sign;
-use crate::words::class_of;
+use crate::words::{class_of, number_of};
 use ix_expr::Arg;
 use ix_values::Name;
 use std::alloc::{AllocError, Global};
 
-/// What was read last. Beside the name of an atom and the word of a quantifier stands its place.
+/// What was read last. Beside the name of an atom, the word of a quantifier and `times` stands its
+/// place.
 #[derive(Drop)]
 pub(crate) enum Mode {
     /// Nothing that an operand could follow: one is wanted.
@@ -31,6 +32,7 @@ pub(crate) enum Mode {
     ArgumentWanted(usize, Name, Vec<Arg>),
     ArgumentRead(usize, Name, Vec<Arg>),
     QuantifierRead(usize, Quantifier),
+    TimesRead(usize),
     OperandRead(Operand),
 }
 
@@ -52,20 +54,22 @@ impl Reader {
     }
 
     /// The fault that the next token meets, if any, where `nodes` is how many tokens before it
-    /// were nodes'. `param_next` tells whether a parameter follows it: without one a
-    /// quantifier's word is reserved.
+    /// were nodes'. `next` tells what follows it: without a parameter a quantifier's word is
+    /// reserved, without a word `times`.
     pub(crate) fn fault_of(
         &self,
         nodes: usize,
         at: usize,
         sign: Sign<'_>,
-        param_next: bool,
+        next: Follower,
     ) -> Option<Fault>
         ensures { result
-            ≡ judging.judged (config_of self.now) nodes (symbol_at at sign.entry) param_next }
+            ≡ judging.judged (config_of self.now) nodes (symbol_at at sign.entry) next }
     {
-        if self.wants_operand() && is_reserved_word(sign, param_next) {
+        if self.wants_operand() && is_reserved_word(sign, next) {
             Some(Fault::Reserved)
+        } else if self.wants_number() && is_no_number(sign) {
+            Some(Fault::NoNumber)
         } else if self.has_four_arguments() && matches!(sign, Sign::Comma) {
             Some(Fault::FifthArgument)
         } else if !self.may_come(sign) {
@@ -85,6 +89,12 @@ impl Reader {
         ensures { result ≡ judging.is_wanted (mode_of self.now.mode) }
     {
         matches!(&self.mode, Mode::Wanted)
+    }
+
+    fn wants_number(&self) -> bool
+        ensures { result ≡ judging.is_times (mode_of self.now.mode) }
+    {
+        matches!(&self.mode, Mode::TimesRead(_))
     }
 
     fn has_four_arguments(&self) -> bool
@@ -108,20 +118,39 @@ impl Reader {
             Mode::ArgumentWanted(_, _, _) => matches!(sign, Sign::Word(_) | Sign::Param(_)),
             Mode::ArgumentRead(_, _, args) => may_follow_argument(args.len(), sign),
             Mode::QuantifierRead(_, _) => matches!(sign, Sign::Param(_)),
+            Mode::TimesRead(_) => is_number(sign),
             Mode::OperandRead(_) => may_follow(in_group, sign),
         }
     }
 }
 
-fn is_reserved_word(sign: Sign<'_>, param_next: bool) -> bool
-    ensures { (at : ℕ) → result ≡ judging.is_reserved_word (symbol_at at sign.entry) param_next }
+fn is_reserved_word(sign: Sign<'_>, next: Follower) -> bool
+    ensures { (at : ℕ) → result ≡ judging.is_reserved_word (symbol_at at sign.entry) next }
 {
     let Sign::Word(word) = sign else { return false };
     match class_of(word) {
-        WordClass::Quantifies(_) => !param_next,
-        WordClass::Withheld => true,
+        WordClass::Quantifies(_) => !matches!(next, Follower::Param),
+        WordClass::Counts => !matches!(next, Follower::Word),
         WordClass::Names => false,
         WordClass::Other => false,
+    }
+}
+
+fn is_number(sign: Sign<'_>) -> bool
+    ensures { (at : ℕ) → result ≡ judging.is_number (symbol_at at sign.entry) }
+{
+    match sign {
+        Sign::Word(word) => number_of(word).is_some(),
+        _ => false,
+    }
+}
+
+fn is_no_number(sign: Sign<'_>) -> bool
+    ensures { (at : ℕ) → result ≡ judging.is_no_number (symbol_at at sign.entry) }
+{
+    match sign {
+        Sign::Word(word) => number_of(word).is_none(),
+        _ => false,
     }
 }
 
@@ -141,7 +170,7 @@ fn begins_operand(class: WordClass) -> bool
 {
     match class {
         WordClass::Quantifies(_) => true,
-        WordClass::Withheld => false,
+        WordClass::Counts => true,
         WordClass::Names => true,
         WordClass::Other => false,
     }
@@ -181,19 +210,19 @@ fn opens_level(sign: Sign<'_>) -> bool
     ensures { (at : ℕ) → result ≡ judging.opens_level (symbol_at at sign.entry) }
 {
     match sign {
-        Sign::Word(word) => is_quantifier(class_of(word)),
+        Sign::Word(word) => takes_operand(class_of(word)),
         Sign::Opening => true,
         Sign::Before(_) => true,
         _ => false,
     }
 }
 
-fn is_quantifier(class: WordClass) -> bool
-    ensures { result ≡ judging.is_quantifier class }
+fn takes_operand(class: WordClass) -> bool
+    ensures { result ≡ judging.takes_operand class }
 {
     match class {
         WordClass::Quantifies(_) => true,
-        WordClass::Withheld => false,
+        WordClass::Counts => true,
         WordClass::Names => false,
         WordClass::Other => false,
     }

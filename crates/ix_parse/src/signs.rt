@@ -31,10 +31,18 @@ pub(crate) enum Quantifier {
 pub(crate) enum WordClass {
     /// The word of a quantifier.
     Quantifies(Quantifier),
-    /// The word `times`, which is reserved and begins nothing.
-    Withheld,
+    /// The word `times`, whose number and operand follow.
+    Counts,
     /// A word that begins with a letter and isn't reserved.
     Names,
     /// A word that begins with a digit or `_`.
     Other,
+}
+
+/// What follows a word: whether the next token is a word, a parameter, or neither.
+#[derive(Clone, Copy, Debug, PartialEq, Eq)]
+pub(crate) enum Follower {
+    Word,
+    Param,
+    Neither,
 }

@@ -1,5 +1,5 @@
-//! What is open while a text is read: parentheses, prefixes, quantifiers, and operators with their
-//! left operands.
+//! What is open while a text is read: parentheses, prefixes, quantifiers, `times` with its number,
+//! and operators with their left operands.
 
 ghost use Rattle.std.specs.Prelude.{◌≡◌, ◌≤◌, List, ◌++◌, ◌∷◌, [], false, IfOk, MatchOption};
 ghost use Rattle.std.specs.Prelude.{count_by, length, ◌-◌, slice_get};
@@ -19,6 +19,7 @@ use std::alloc::{AllocError, Global};
 pub(crate) enum Taking {
     Sign(usize, Prefix),
     Binder(usize, Quantifier, Name),
+    Counter(usize, u8),
 }
 
 /// An operator with its left operand.
@@ -29,7 +30,7 @@ pub(crate) struct Left {
     pub operand: Operand,
 }
 
-/// What is open: a group, a prefix or quantifier, or an operator with its left operand.
+/// What is open: a group, what takes an operand alone, or an operator with its left operand.
 #[derive(Drop)]
 pub(crate) enum Entry {
     Group,
@@ -104,6 +105,7 @@ fn with_taking(alloc: Global, taking: Taking, operand: Operand) -> Result<Operan
         Taking::Binder(at, quantifier, param) => {
             operand.quantified(alloc, quantifier, at, param)
         }
+        Taking::Counter(at, number) => operand.counted(alloc, number, at),
     }
 }
 
@@ -159,7 +161,7 @@ pub(crate) fn groups(stack: &[Entry]) -> usize
     count_of(stack, false)
 }
 
-/// How many groups are open, and with `takings` the prefixes and quantifiers too.
+/// How many groups are open, and with `takings` also what takes an operand alone.
 fn count_of(stack: &[Entry], takings: bool) -> usize
     ensures { result ≡ count_by (λ e. is_counted takings e) stack.now }
 {

@@ -16,7 +16,7 @@ use crate::reader::{Mode, Reader};
 use crate::signs::{Operator, Quantifier, WordClass};
 use crate::stack::{Entry, Left, Taking, closed, level, reduced};
 use crate::symbols::Sign;
-use crate::words::class_of;
+use crate::words::{class_of, number_of};
 use ix_expr::Arg;
 use ix_values::{Name, Value};
 use std::alloc::{AllocError, Global};
@@ -64,7 +64,7 @@ fn word_mode(at: usize, word: &[u8]) -> Option<Mode>
     match class_of(word) {
         WordClass::Quantifies(quantifier) => Some(Mode::QuantifierRead(at, quantifier)),
         WordClass::Names => Some(Mode::NameRead(at, Name::of_text(word))),
-        WordClass::Withheld => None,
+        WordClass::Counts => Some(Mode::TimesRead(at)),
         WordClass::Other => None,
     }
 }
@@ -247,6 +247,26 @@ fn step_quantifier(
     Ok(Some(wanting(stack)))
 }
 
+#[tactic(auto, using(crate::proofs::Stacks::pushed))]
+fn step_times(
+    stack: Vec<Entry>,
+    word_at: usize,
+    sign: Sign<'_>,
+) -> Result<Option<Reader>, AllocError>
+    ensures { IfOk result (λ r. (at : ℕ) → option_map config_of r
+        ≡ machine.step_times (stack_of stack.items) word_at (symbol_at at sign.entry)) }
+{
+    let Sign::Word(word) = sign else {
+        return Ok(None);
+    };
+    let Some(number) = number_of(word) else {
+        return Ok(None);
+    };
+    let mut stack = stack;
+    stack.push(Entry::Taking(Taking::Counter(word_at, number)))?;
+    Ok(Some(wanting(stack)))
+}
+
 /// The reader behind the token, or None where the token can't come.
 pub(crate) fn step(
     alloc: Global,
@@ -272,6 +292,7 @@ pub(crate) fn step(
         Mode::QuantifierRead(word_at, quantifier) => {
             step_quantifier(stack, word_at, quantifier, at, sign)
         }
+        Mode::TimesRead(word_at) => step_times(stack, word_at, sign),
         Mode::OperandRead(operand) => step_operand(alloc, stack, operand, at, sign),
     }
 }
@@ -294,6 +315,7 @@ pub(crate) fn whole(alloc: Global, reader: Reader) -> Result<Option<Operand>, Al
         Mode::ArgumentWanted(_, _, _) => Ok(None),
         Mode::ArgumentRead(_, _, _) => Ok(None),
         Mode::QuantifierRead(_, _) => Ok(None),
+        Mode::TimesRead(_) => Ok(None),
     }
 }
 

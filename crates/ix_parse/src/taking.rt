@@ -8,11 +8,12 @@ ghost use Rattle.ix_parse.specs.inside.StackMachine as machine;
 ghost use Rattle.ix_parse.specs.inside.Judged as judging;
 ghost use Rattle.ix_parse.specs.inside.Operands.{meaning_of};
 ghost use Rattle.ix_parse.specs.inside.Configs.{config_of, mode_of, IsSound, IsReadable};
-ghost use Rattle.ix_parse.specs.inside.Outcomes.{IsTaken, IsMeaning, IsEnded, is_param_piece};
+ghost use Rattle.ix_parse.specs.inside.Outcomes.{IsTaken, IsMeaning, IsEnded, piece_follower};
 
 use crate::faults::Fault;
 use crate::operand::Operand;
 use crate::reader::{Reader, is_node};
+use crate::signs::Follower;
 use crate::step::{step, whole};
 use crate::symbols::sign_of;
 use crate::{MOST_BYTES, TextFault, fault_at};
@@ -26,13 +27,17 @@ pub(crate) struct Reading {
     pub nodes: usize,
 }
 
-fn is_param(ahead: &Option<Result<Token<'_>, LexFault>>) -> bool
-    ensures { result ≡ is_param_piece ahead.now }
+fn follower(ahead: &Option<Result<Token<'_>, LexFault>>) -> Follower
+    ensures { result ≡ piece_follower ahead.now }
 {
     match ahead {
-        Some(Ok(token)) => matches!(token.kind, TokenKind::Param),
-        Some(Err(_)) => false,
-        None => false,
+        Some(Ok(token)) => match token.kind {
+            TokenKind::Word => Follower::Word,
+            TokenKind::Param => Follower::Param,
+            _ => Follower::Neither,
+        },
+        Some(Err(_)) => Follower::Neither,
+        None => Follower::Neither,
     }
 }
 
@@ -40,23 +45,23 @@ fn take(
     alloc: Global,
     reading: Reading,
     token: &Token<'_>,
-    param_next: bool,
+    next: Follower,
 ) -> Result<Reading, TextFault>
     requires may { judging.judged (config_of reading.reader) reading.nodes
-        (symbol_of (plain_token token.now)) param_next ≡ None
+        (symbol_of (plain_token token.now)) next ≡ None
         → IsSome (machine.step (config_of reading.reader) (symbol_of (plain_token token.now))) }
     requires readable { judging.judged (config_of reading.reader) reading.nodes
-        (symbol_of (plain_token token.now)) param_next ≡ None
+        (symbol_of (plain_token token.now)) next ≡ None
         → IsReadable (symbol_of (plain_token token.now)) }
     requires sound { IsSound (mode_of reading.reader.mode) }
     requires few { reading.nodes ≤ 512 }
     ensures { IsTaken (config_of reading.reader) reading.nodes
-        (plain_token token.now) param_next result }
+        (plain_token token.now) next result }
 {
     let Reading { reader, nodes } = reading;
     let at = token.start;
     let sign = sign_of(token);
-    if let Some(fault) = reader.fault_of(nodes, at, sign, param_next) {
+    if let Some(fault) = reader.fault_of(nodes, at, sign, next) {
         return Err(fault_at(fault, at));
     }
     let more = with_node(nodes, is_node(reader.wants_operand(), sign));
@@ -93,7 +98,7 @@ pub(crate) fn read_operand(alloc: Global, text: &[u8]) -> Result<Operand, TextFa
             Ok(token) => token,
             Err(fault) => return Err(fault_at(Fault::NoToken, fault.at)),
         };
-        reading = match take(alloc, reading, &token, is_param(&ahead)) {
+        reading = match take(alloc, reading, &token, follower(&ahead)) {
             Ok(reading) => reading,
             Err(fault) => return Err(fault),
         };

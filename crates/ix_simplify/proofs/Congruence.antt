@@ -4,9 +4,9 @@ use Rattle.ix_words.specs.Each.{Each}
 use Rattle.ix_words.specs.inside.Leads.{Leads}
 use Rattle.ix_words.specs.Words.{Projected}
 use Rattle.ix_words.proofs.Each.{Each-weaker, Each-anything}
-use Rattle.ix_words.proofs.Words.{Joined-leads, Repeated-leads, Split-leads, Numbered-leads, Owned-leads, Projected-leads}
+use Rattle.ix_words.proofs.Words.{Joined-leads, Repeated-leads, Split-leads, Numbered-leads, Shared-leads, Owned-leads, Projected-leads}
 use Rattle.ix_values.specs.PlainAction.{PlainAction, Word}
-use Rattle.ix_expr.specs.Form.{Form, opt, seq, star, par, par_star, or, and, couple, any, every, sync, all}
+use Rattle.ix_expr.specs.Form.{Form, opt, seq, star, par, par_star, or, and, couple, any, every, sync, all, times}
 use Rattle.ix_expr.specs.Environment.{Environment, bind}
 use Rattle.ix_expr.specs.Meaning.{InAlphabet, IsComplete, IsPartial}
 use Rattle.ix_simplify.specs.Laws.{MeanTheSame}
@@ -46,6 +46,7 @@ pub data Alike : Form → Form → Type 0 where
   alike_every : {y z : Form} (p : List ℕ) → MeanTheSame y z → Alike (every p y) (every p z)
   alike_sync : {y z : Form} (p : List ℕ) → MeanTheSame y z → Alike (sync p y) (sync p z)
   alike_all : {y z : Form} (p : List ℕ) → MeanTheSame y z → Alike (all p y) (all p z)
+  alike_times : {y z : Form} (n : ℕ) → MeanTheSame y z → Alike (times n y) (times n z)
 
 alike-back : {x z : Form} → Alike x z → Alike z x
 alike-back (alike_opt m) = alike_opt (same_back m)
@@ -60,6 +61,7 @@ alike-back (alike_any p m) = alike_any p (same_back m)
 alike-back (alike_every p m) = alike_every p (same_back m)
 alike-back (alike_sync p m) = alike_sync p (same_back m)
 alike-back (alike_all p m) = alike_all p (same_back m)
+alike-back (alike_times n m) = alike_times n (same_back m)
 
 -- anything
 abbrev Whatever : PlainAction → Type 0
@@ -91,6 +93,7 @@ alike-alphabet (alike_any p m) e a h = (h.0, (m.alphabet (bind p (Some h.0) e) a
 alike-alphabet (alike_every p m) e a h = (h.0, (m.alphabet (bind p (Some h.0) e) a).0 h.1)
 alike-alphabet (alike_sync p m) e a h = (h.0, (m.alphabet (bind p (Some h.0) e) a).0 h.1)
 alike-alphabet (alike_all p m) e a h = (h.0, (m.alphabet (bind p (Some h.0) e) a).0 h.1)
+alike-alphabet (alike_times n m) e a h = (m.alphabet e a).0 h
 
 alike-complete : {x z : Form} → Alike x z → (e : Environment) (w : Word) → IsComplete x e w → IsComplete z e w
 alike-complete (alike_opt m) e w h = elim h [ inl n ↦ inl n | inr c ↦ inr ((m.complete e w).0 c) ]
@@ -107,6 +110,7 @@ alike-complete (alike_every p m) e w h = λ v. (m.complete (bind p (Some v) e) w
 alike-complete (alike_sync p m) e w h =
     (Each-weaker (alike-alphabet (alike_sync p m) e) h.0, λ v. projected m (bind p (Some v) e) (to_complete m (bind p (Some v) e)) w (h.1 v))
 alike-complete (alike_all p m) e w h = Owned-leads {G = Whatever} (λ v. to_complete m (bind p (Some v) e)) w (whatever w) h
+alike-complete (alike_times n m) e w h = Shared-leads (to_complete m e) w (whatever w) h
 
 alike-partial : {x z : Form} → Alike x z → (e : Environment) (w : Word) → IsPartial x e w → IsPartial z e w
 alike-partial (alike_opt m) e w h = (m.partial e w).0 h
@@ -124,6 +128,7 @@ alike-partial (alike_every p m) e w h = λ v. (m.partial (bind p (Some v) e) w).
 alike-partial (alike_sync p m) e w h =
     (Each-weaker (alike-alphabet (alike_sync p m) e) h.0, λ v. projected m (bind p (Some v) e) (to_partial m (bind p (Some v) e)) w (h.1 v))
 alike-partial (alike_all p m) e w h = Owned-leads {G = Whatever} (λ v. to_partial m (bind p (Some v) e)) w (whatever w) h
+alike-partial (alike_times n m) e w h = Shared-leads (to_partial m e) w (whatever w) h
 
 -- the same operator over operands that mean the same means the same
 pub alike-same : {x z : Form} → Alike x z → MeanTheSame x z

@@ -5,7 +5,7 @@ use Rattle.ix_values.specs.Order.{text_eq}
 use Rattle.ix_values.specs.lemmas.Order.{text_eq-decides}
 use Rattle.ix_expr.specs.declared.arg.Arg.{Arg}
 use Rattle.ix_expr.specs.declared.arg.Arg.TheVariants.{Fixed, Param}
-use Rattle.ix_expr.specs.Form.{PlainAtom, Form, atom, opt, seq, star, par, par_star, or, and, couple, any, every, sync, all}
+use Rattle.ix_expr.specs.Form.{PlainAtom, Form, atom, opt, seq, star, par, par_star, or, and, couple, any, every, sync, all, times}
 use Rattle.ix_simplify.specs.inside.Alike.{same_argument, is_twice, same_arguments, same_atom, same_form}
 
 first_true : (a b : Bool) → a && b ≡ true → a ≡ true
@@ -76,6 +76,7 @@ same-itself (any p y) = both_true (text_eq p p) (same_form y y) (own-text p) (sa
 same-itself (every p y) = both_true (text_eq p p) (same_form y y) (own-text p) (same-itself y)
 same-itself (sync p y) = both_true (text_eq p p) (same_form y y) (own-text p) (same-itself y)
 same-itself (all p y) = both_true (text_eq p p) (same_form y y) (own-text p) (same-itself y)
+same-itself (times n y) = both_true (n == n) (same_form y y) (eq-eqb n n refl) (same-itself y)
 
 -- expressions that pass the test are one
 pub same-told : (x y : Form) → same_form x y ≡ true → x ≡ y
@@ -102,4 +103,6 @@ same-told (sync p y) (sync q z) e =
     λ i. sync ((text_eq-decides p q).0 (first_true (text_eq p q) (same_form y z) e) i) (same-told y z (second_true (text_eq p q) (same_form y z) e) i)
 same-told (all p y) (all q z) e =
     λ i. all ((text_eq-decides p q).0 (first_true (text_eq p q) (same_form y z) e) i) (same-told y z (second_true (text_eq p q) (same_form y z) e) i)
+same-told (times m y) (times n z) e =
+    λ i. times (eqb-true m n (first_true (m == n) (same_form y z) e) i) (same-told y z (second_true (m == n) (same_form y z) e) i)
 same-told _ _ e = absurd (true≢false (sym e))

@@ -1,13 +1,13 @@
 -- What an expression becomes means the same, and has no more nodes.
 use Rattle.std.proofs.Common.{◌≡◌, ℕ, suc, ◌+◌, ◌<◌, ◌≤◌, List, [], length, ◌++◌, length-append, refl, sym, ap, subst, arith}
-use Rattle.ix_expr.specs.Form.{Form, atom, opt, seq, star, par, par_star, or, and, couple, any, every, sync, all}
+use Rattle.ix_expr.specs.Form.{Form, atom, opt, seq, star, par, par_star, or, and, couple, any, every, sync, all, times}
 use Rattle.ix_expr.specs.FormFaults.{Binder, Node, nodes_below, nodes_of}
 use Rattle.ix_simplify.specs.Laws.{MeanTheSame}
 use Rattle.ix_simplify.specs.Rewriting.{Law, opt_opt, opt_star, opt_par_star, star_star, star_opt, star_par_star, par_star_par_star, par_star_star}
 use Rattle.ix_simplify.specs.Rewriting.{par_star_opt, or_same, and_same, couple_same, any_unnamed, every_unnamed, sync_unnamed, AtRoot, rests}
 use Rattle.ix_simplify.specs.Rewriting.{goes_on, Becomes}
 use Rattle.ix_simplify.proofs.Congruence.{same_itself, same_through, alike-same, alike_opt, alike_seq, alike_star, alike_par, alike_par_star}
-use Rattle.ix_simplify.proofs.Congruence.{alike_or, alike_and, alike_couple, alike_any, alike_every, alike_sync, alike_all}
+use Rattle.ix_simplify.proofs.Congruence.{alike_or, alike_and, alike_couple, alike_any, alike_every, alike_sync, alike_all, alike_times}
 use Rattle.ix_simplify.proofs.Sides.{law-same}
 
 root-same : {x s : Form} → AtRoot x s → MeanTheSame x s
@@ -29,6 +29,7 @@ becomes-same (any p y) s h = same_through (alike-same (alike_any p (becomes-same
 becomes-same (every p y) s h = same_through (alike-same (alike_every p (becomes-same y h.0 h.1))) (root-same h.2)
 becomes-same (sync p y) s h = same_through (alike-same (alike_sync p (becomes-same y h.0 h.1))) (root-same h.2)
 becomes-same (all p y) s h = same_through (alike-same (alike_all p (becomes-same y h.0 h.1))) (root-same h.2)
+becomes-same (times n y) s h = same_through (alike-same (alike_times n (becomes-same y h.0 h.1))) (root-same h.2)
 
 -- how many nodes an expression has
 abbrev count : Form → ℕ
@@ -45,6 +46,7 @@ count (any p y) = suc (count y)
 count (every p y) = suc (count y)
 count (sync p y) = suc (count y)
 count (all p y) = suc (count y)
+count (times n y) = suc (count y)
 
 two : (xs ys : List Node) (m n : ℕ) → length xs ≡ m → length ys ≡ n → suc (length (xs ++ ys)) ≡ suc (m + n)
 two xs ys m n e f = omega (arith, length-append xs ys, e, f)
@@ -63,6 +65,7 @@ count-nodes (any p y) d around = ap suc (count-nodes y (suc d) _)
 count-nodes (every p y) d around = ap suc (count-nodes y (suc d) _)
 count-nodes (sync p y) d around = ap suc (count-nodes y (suc d) _)
 count-nodes (all p y) d around = ap suc (count-nodes y (suc d) _)
+count-nodes (times n y) d around = ap suc (count-nodes y (suc d) around)
 
 fewer : (x l z r : Form) → x ≡ l → z ≡ r → count r < count l → count z < count x
 fewer x l z r e f h = omega (arith, ap count e, ap count f, h)
@@ -81,6 +84,7 @@ some_nodes (any p y) = omega arith
 some_nodes (every p y) = omega arith
 some_nodes (sync p y) = omega arith
 some_nodes (all p y) = omega arith
+some_nodes (times n y) = omega arith
 
 law-count : (x z : Form) → Law x z → count z < count x
 law-count x z (opt_opt y e f) = fewer x _ z _ e f (omega arith)
@@ -121,6 +125,7 @@ becomes-count (any p y) s h = omega (arith, root-count h.2, becomes-count y h.0 
 becomes-count (every p y) s h = omega (arith, root-count h.2, becomes-count y h.0 h.1)
 becomes-count (sync p y) s h = omega (arith, root-count h.2, becomes-count y h.0 h.1)
 becomes-count (all p y) s h = omega (arith, root-count h.2, becomes-count y h.0 h.1)
+becomes-count (times n y) s h = omega (arith, root-count h.2, becomes-count y h.0 h.1)
 
 -- what an expression becomes has no more nodes
 pub becomes-nodes : (x s : Form) → Becomes x s → length (nodes_of s) ≤ length (nodes_of x)

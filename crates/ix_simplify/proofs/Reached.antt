@@ -1,6 +1,6 @@
 -- The computed expression is what the expression becomes.
 use Rattle.std.proofs.Common.{◌≡◌, Bool, true, false, cond, not, ℕ, List, refl, sym, ap}
-use Rattle.ix_expr.specs.Form.{Form, atom, opt, seq, star, par, par_star, or, and, couple, any, every, sync, all}
+use Rattle.ix_expr.specs.Form.{Form, atom, opt, seq, star, par, par_star, or, and, couple, any, every, sync, all, times}
 use Rattle.ix_simplify.specs.Names.{names}
 use Rattle.ix_simplify.specs.Rewriting.{opt_opt, opt_star, opt_par_star, star_star, star_opt, star_par_star, par_star_par_star, par_star_star}
 use Rattle.ix_simplify.specs.Rewriting.{par_star_opt, or_same, and_same, couple_same, any_unnamed, every_unnamed, sync_unnamed, IsNoLeftSide, AtRoot}
@@ -38,6 +38,7 @@ opt-root (any p y) h = rests (no-law (opt (any p y)) refl)
 opt-root (every p y) h = rests (no-law (opt (every p y)) refl)
 opt-root (sync p y) h = rests (no-law (opt (sync p y)) refl)
 opt-root (all p y) h = rests (no-law (opt (all p y)) refl)
+opt-root (times n y) h = rests (no-law (opt (times n y)) refl)
 
 star-root : (y : Form) → HasNoLeftSide y → AtRoot (star y) (repeated y)
 star-root (opt y) h = goes_on (star_opt y refl refl) (rests (no-law (star y) (no-prefix-opt y h.0)))
@@ -53,6 +54,7 @@ star-root (any p y) h = rests (no-law (star (any p y)) refl)
 star-root (every p y) h = rests (no-law (star (every p y)) refl)
 star-root (sync p y) h = rests (no-law (star (sync p y)) refl)
 star-root (all p y) h = rests (no-law (star (all p y)) refl)
+star-root (times n y) h = rests (no-law (star (times n y)) refl)
 
 par_star-root : (y : Form) → HasNoLeftSide y → AtRoot (par_star y) (side_by_side y)
 par_star-root (opt y) h = goes_on (par_star_opt y refl refl) (rests (no-law (par_star y) (no-prefix-opt y h.0)))
@@ -68,6 +70,7 @@ par_star-root (any p y) h = rests (no-law (par_star (any p y)) refl)
 par_star-root (every p y) h = rests (no-law (par_star (every p y)) refl)
 par_star-root (sync p y) h = rests (no-law (par_star (sync p y)) refl)
 par_star-root (all p y) h = rests (no-law (par_star (all p y)) refl)
+par_star-root (times n y) h = rests (no-law (par_star (times n y)) refl)
 
 -- an operator between two operands, which are one or not
 
@@ -136,3 +139,4 @@ simplest-becomes (any p y) = let u = simplest-becomes y in (simplest y, u, any-r
 simplest-becomes (every p y) = let u = simplest-becomes y in (simplest y, u, every-root p (simplest y) (settled y u))
 simplest-becomes (sync p y) = let u = simplest-becomes y in (simplest y, u, sync-root p (simplest y) (settled y u))
 simplest-becomes (all p y) = (simplest y, simplest-becomes y, rests (no-law (all p (simplest y)) refl))
+simplest-becomes (times n y) = (simplest y, simplest-becomes y, rests (no-law (times n (simplest y)) refl))

@@ -7,7 +7,7 @@ use Rattle.ix_values.specs.lemmas.Order.{text_eq-decides}
 use Rattle.ix_values.specs.PlainAction.{PlainAction, Word}
 use Rattle.ix_expr.specs.declared.arg.Arg.{Arg}
 use Rattle.ix_expr.specs.declared.arg.Arg.TheVariants.{Fixed, Param}
-use Rattle.ix_expr.specs.Form.{Form, atom, opt, seq, star, par, par_star, or, and, couple, any, every, sync, all}
+use Rattle.ix_expr.specs.Form.{Form, atom, opt, seq, star, par, par_star, or, and, couple, any, every, sync, all, times}
 use Rattle.ix_expr.specs.Environment.{Environment, value_in, bind, HaveValues}
 use Rattle.ix_expr.specs.FormFaults.{is_parameter}
 use Rattle.ix_expr.specs.Meaning.{InAlphabet, IsComplete, IsPartial}
@@ -73,6 +73,7 @@ unnamed-atoms (any q y) p a g n = λ v. unnamed-atoms y p a (bound q v g) n
 unnamed-atoms (every q y) p a g n = λ v. unnamed-atoms y p a (bound q v g) n
 unnamed-atoms (sync q y) p a g n = λ v. unnamed-atoms y p a (bound q v g) n
 unnamed-atoms (all q y) p a g n = λ v. unnamed-atoms y p a (bound q v g) n
+unnamed-atoms (times m y) p a g n = unnamed-atoms y p a g n
 
 agree : (p v : List ℕ) (y : Form) → names p y ≡ false → (e : Environment) (a : PlainAction) → AtomsAgreeAt y (bind p (Some v) e) e a
 agree p v y n e a = unnamed-atoms y p a (given p (Some v) e) n

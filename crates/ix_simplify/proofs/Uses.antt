@@ -1,6 +1,6 @@
 -- Uses of the laws: where one applies, what it gives, and where none does any more.
 use Rattle.std.proofs.Common.{◌≡◌, Bool, true, false, not, refl, sym, ap, ◌∙◌, subst, true≢false}
-use Rattle.ix_expr.specs.Form.{Form, atom, opt, seq, star, par, par_star, or, and, couple, any, every, sync, all}
+use Rattle.ix_expr.specs.Form.{Form, atom, opt, seq, star, par, par_star, or, and, couple, any, every, sync, all, times}
 use Rattle.ix_simplify.specs.Names.{names}
 use Rattle.ix_simplify.specs.Rewriting.{Law, opt_opt, opt_star, opt_par_star, star_star, star_opt, star_par_star, par_star_par_star, par_star_star}
 use Rattle.ix_simplify.specs.Rewriting.{par_star_opt, or_same, and_same, couple_same, any_unnamed, every_unnamed, sync_unnamed, IsNoLeftSide, AtRoot}
@@ -113,6 +113,7 @@ becomes-once (any p y) s t h k = root-once (subst (λ r. AtRoot r s) (ap (any p)
 becomes-once (every p y) s t h k = root-once (subst (λ r. AtRoot r s) (ap (every p) (becomes-once y h.0 k.0 h.1 k.1)) h.2) k.2
 becomes-once (sync p y) s t h k = root-once (subst (λ r. AtRoot r s) (ap (sync p) (becomes-once y h.0 k.0 h.1 k.1)) h.2) k.2
 becomes-once (all p y) s t h k = root-once (subst (λ r. AtRoot r s) (ap (all p) (becomes-once y h.0 k.0 h.1 k.1)) h.2) k.2
+becomes-once (times n y) s t h k = root-once (subst (λ r. AtRoot r s) (ap (times n) (becomes-once y h.0 k.0 h.1 k.1)) h.2) k.2
 
 -- no operand has a left side in it
 abbrev pub OperandsSettled : Form → Type 0
@@ -129,6 +130,7 @@ OperandsSettled (any p y) = HasNoLeftSide y
 OperandsSettled (every p y) = HasNoLeftSide y
 OperandsSettled (sync p y) = HasNoLeftSide y
 OperandsSettled (all p y) = HasNoLeftSide y
+OperandsSettled (times n y) = HasNoLeftSide y
 
 pub operands-settled : (x : Form) → HasNoLeftSide x → OperandsSettled x
 operands-settled (atom x) h = tt
@@ -144,6 +146,7 @@ operands-settled (any p y) h = h.1
 operands-settled (every p y) h = h.1
 operands-settled (sync p y) h = h.1
 operands-settled (all p y) h = h.1
+operands-settled (times n y) h = h.1
 
 pub root-settled-self : (x : Form) → HasNoLeftSide x → IsNoLeftSide x
 root-settled-self (atom x) h = h
@@ -159,6 +162,7 @@ root-settled-self (any p y) h = h.0
 root-settled-self (every p y) h = h.0
 root-settled-self (sync p y) h = h.0
 root-settled-self (all p y) h = h.0
+root-settled-self (times n y) h = h.0
 
 settled-of : (x : Form) → IsNoLeftSide x → OperandsSettled x → HasNoLeftSide x
 settled-of (atom x) n h = n
@@ -174,6 +178,7 @@ settled-of (any p y) n h = (n, h)
 settled-of (every p y) n h = (n, h)
 settled-of (sync p y) n h = (n, h)
 settled-of (all p y) n h = (n, h)
+settled-of (times m y) n h = (n, h)
 
 moved : (x l z r : Form) → x ≡ l → z ≡ r → (OperandsSettled l → OperandsSettled r) → OperandsSettled x → OperandsSettled z
 moved x l z r e f g h = subst OperandsSettled (sym f) (g (subst OperandsSettled e h))
@@ -215,6 +220,7 @@ becomes-settled (any p y) s h = root-settled h.2 (becomes-settled y h.0 h.1)
 becomes-settled (every p y) s h = root-settled h.2 (becomes-settled y h.0 h.1)
 becomes-settled (sync p y) s h = root-settled h.2 (becomes-settled y h.0 h.1)
 becomes-settled (all p y) s h = root-settled h.2 (becomes-settled y h.0 h.1)
+becomes-settled (times n y) s h = root-settled h.2 (becomes-settled y h.0 h.1)
 
 -- where no left side stands in it, an expression becomes itself
 settled-stays : (x : Form) → HasNoLeftSide x → Becomes x x
@@ -231,6 +237,7 @@ settled-stays (any p y) h = (y, settled-stays y h.1, rests h.0)
 settled-stays (every p y) h = (y, settled-stays y h.1, rests h.0)
 settled-stays (sync p y) h = (y, settled-stays y h.1, rests h.0)
 settled-stays (all p y) h = (y, settled-stays y h.1, rests h.0)
+settled-stays (times n y) h = (y, settled-stays y h.1, rests h.0)
 
 -- what an expression becomes becomes itself
 pub becomes-stays : (x s : Form) → Becomes x s → Becomes s s

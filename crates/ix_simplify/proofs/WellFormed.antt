@@ -9,8 +9,8 @@ use Rattle.ix_words.proofs.Each.{Each-append, Each-left, Each-right, Each-head, 
 use Rattle.ix_values.specs.Order.{text_eq}
 use Rattle.ix_expr.specs.declared.arg.Arg.{Arg}
 use Rattle.ix_expr.specs.declared.arg.Arg.TheVariants.{Fixed, Param}
-use Rattle.ix_expr.specs.Form.{PlainAtom, Form, atom, opt, seq, star, par, par_star, or, and, couple, any, every, sync, all}
-use Rattle.ix_expr.specs.FormFaults.{IsWellFormed, nodes_of, Binder, Node, Head, atom_head, quantifier_head, operator_head, nodes_below, is_bound}
+use Rattle.ix_expr.specs.Form.{PlainAtom, Form, atom, opt, seq, star, par, par_star, or, and, couple, any, every, sync, all, times}
+use Rattle.ix_expr.specs.FormFaults.{IsWellFormed, HasNumbers, nodes_of, Binder, Node, Head, atom_head, quantifier_head, operator_head, nodes_below, is_bound}
 use Rattle.ix_expr.specs.FormFaults.{is_parameter, is_bound_argument, names_parameter, is_ninth_quantifier, binds_twice, is_unbound}
 use Rattle.ix_expr.specs.FormFaults.{misses_a_parameter, first_code, fault_at}
 use Rattle.ix_expr.specs.inside.Walk.{FreeFrom, free_end, free_node}
@@ -144,6 +144,8 @@ clean-nodes (sync p y) n d around shallow free =
     one-clean n d around (quantifier_head p) _ shallow (λ less. clean-nodes y (suc n) (suc d) _ (omega (arith, less))) free
 clean-nodes (all p y) n d around shallow free =
     one-clean n d around (quantifier_head p) _ shallow (λ less. clean-nodes y (suc n) (suc d) _ (omega (arith, less))) free
+clean-nodes (times k y) n d around shallow free =
+    one-clean n d around operator_head _ shallow (λ less. clean-nodes y (suc n) (suc d) around (omega (arith, less))) free
 
 clean-free : (n : ℕ) (nodes : List Node) → n + length nodes ≤ 512 → Each Clean nodes → FreeFrom n nodes
 clean-free n [] few h = free_end
@@ -271,6 +273,7 @@ lower (sync q y) less r h =
     item (quantifier-lower q less r (Each-head h)) (lower y (omega (arith, less)) (around_kept (around-operand (λ p n. n) r)) (Each-tail h))
 lower (all q y) less r h =
     item (quantifier-lower q less r (Each-head h)) (lower y (omega (arith, less)) (around_kept (around-operand (λ p n. n) r)) (Each-tail h))
+lower (times n y) less r h = item (operator-lower less r (Each-head h)) (lower y (omega (arith, less)) (around-operand (λ p n. n) r) (Each-tail h))
 
 -- the nodes of an expression are clean, at this depth and within these quantifiers
 abbrev AreClean : ℕ → List Binder → Form → Type 0
@@ -337,10 +340,58 @@ becomes-clean (any p y) s d around h c = root-clean d around h.2 (item (Each-hea
 becomes-clean (every p y) s d around h c = root-clean d around h.2 (item (Each-head c) (becomes-clean y h.0 (suc d) _ h.1 (Each-tail c)))
 becomes-clean (sync p y) s d around h c = root-clean d around h.2 (item (Each-head c) (becomes-clean y h.0 (suc d) _ h.1 (Each-tail c)))
 becomes-clean (all p y) s d around h c = root-clean d around h.2 (item (Each-head c) (becomes-clean y h.0 (suc d) _ h.1 (Each-tail c)))
+becomes-clean (times n y) s d around h c = root-clean d around h.2 (item (Each-head c) (becomes-clean y h.0 (suc d) around h.1 (Each-tail c)))
+
+-- The numbers behind `times`
+
+kept-numbers : (x l z r : Form) → x ≡ l → z ≡ r → (HasNumbers l → HasNumbers r) → HasNumbers x → HasNumbers z
+kept-numbers x l z r e f g h = subst HasNumbers (sym f) (g (subst HasNumbers e h))
+
+-- a law keeps the numbers
+law-numbers : (x z : Form) → Law x z → HasNumbers x → HasNumbers z
+law-numbers x z (opt_opt y e f) h = kept-numbers x _ z _ e f (λ g. g) h
+law-numbers x z (opt_star y e f) h = kept-numbers x _ z _ e f (λ g. g) h
+law-numbers x z (opt_par_star y e f) h = kept-numbers x _ z _ e f (λ g. g) h
+law-numbers x z (star_star y e f) h = kept-numbers x _ z _ e f (λ g. g) h
+law-numbers x z (star_opt y e f) h = kept-numbers x _ z _ e f (λ g. g) h
+law-numbers x z (star_par_star y e f) h = kept-numbers x _ z _ e f (λ g. g) h
+law-numbers x z (par_star_par_star y e f) h = kept-numbers x _ z _ e f (λ g. g) h
+law-numbers x z (par_star_star y e f) h = kept-numbers x _ z _ e f (λ g. g) h
+law-numbers x z (par_star_opt y e f) h = kept-numbers x _ z _ e f (λ g. g) h
+law-numbers x z (or_same y e f) h = kept-numbers x _ z _ e f (λ g. g.0) h
+law-numbers x z (and_same y e f) h = kept-numbers x _ z _ e f (λ g. g.0) h
+law-numbers x z (couple_same y e f) h = kept-numbers x _ z _ e f (λ g. g.0) h
+law-numbers x z (any_unnamed p y e n f) h = kept-numbers x _ z _ e f (λ g. g) h
+law-numbers x z (every_unnamed p y e n f) h = kept-numbers x _ z _ e f (λ g. g) h
+law-numbers x z (sync_unnamed p y e n f) h = kept-numbers x _ z _ e f (λ g. g) h
+
+root-numbers : {x s : Form} → AtRoot x s → HasNumbers x → HasNumbers s
+root-numbers (rests n) h = h
+root-numbers (goes_on {x} {y} l r) h = root-numbers r (law-numbers x y l h)
+
+-- what an expression becomes has numbers that may stand there
+becomes-numbers : (x s : Form) → Becomes x s → HasNumbers x → HasNumbers s
+becomes-numbers (atom x) s h n = subst HasNumbers (sym h) n
+becomes-numbers (opt y) s h n = root-numbers h.2 (becomes-numbers y h.0 h.1 n)
+becomes-numbers (seq y z) s h n = root-numbers h.4 (becomes-numbers y h.0 h.2 n.0, becomes-numbers z h.1 h.3 n.1)
+becomes-numbers (star y) s h n = root-numbers h.2 (becomes-numbers y h.0 h.1 n)
+becomes-numbers (par y z) s h n = root-numbers h.4 (becomes-numbers y h.0 h.2 n.0, becomes-numbers z h.1 h.3 n.1)
+becomes-numbers (par_star y) s h n = root-numbers h.2 (becomes-numbers y h.0 h.1 n)
+becomes-numbers (or y z) s h n = root-numbers h.4 (becomes-numbers y h.0 h.2 n.0, becomes-numbers z h.1 h.3 n.1)
+becomes-numbers (and y z) s h n = root-numbers h.4 (becomes-numbers y h.0 h.2 n.0, becomes-numbers z h.1 h.3 n.1)
+becomes-numbers (couple y z) s h n = root-numbers h.4 (becomes-numbers y h.0 h.2 n.0, becomes-numbers z h.1 h.3 n.1)
+becomes-numbers (any p y) s h n = root-numbers h.2 (becomes-numbers y h.0 h.1 n)
+becomes-numbers (every p y) s h n = root-numbers h.2 (becomes-numbers y h.0 h.1 n)
+becomes-numbers (sync p y) s h n = root-numbers h.2 (becomes-numbers y h.0 h.1 n)
+becomes-numbers (all p y) s h n = root-numbers h.2 (becomes-numbers y h.0 h.1 n)
+becomes-numbers (times m y) s h n = root-numbers h.2 (n.0, becomes-numbers y h.0 h.1 n.1)
 
 -- what a well-formed expression becomes is well formed
 pub becomes-well-formed : (x s : Form) → Becomes x s → IsWellFormed x → IsWellFormed s
 becomes-well-formed x s h w =
-    let clean = becomes-clean x s 1 [] h (clean-nodes x 0 1 [] (omega arith) (HaveNoFault-free (nodes_of x) w)) in
+    let clean = becomes-clean x s 1 [] h (clean-nodes x 0 1 [] (omega arith) (HaveNoFault-free (nodes_of x) w.faultless)) in
     let few : 0 + length (nodes_of s) ≤ 512 = omega (arith, becomes-nodes x s h, well-formed-few x w) in
-    passed-HaveNoFault (nodes_of s) (clean-free 0 (nodes_of s) few clean)
+    record {
+      faultless = passed-HaveNoFault (nodes_of s) (clean-free 0 (nodes_of s) few clean);
+      numbers = becomes-numbers x s h w.numbers;
+    }

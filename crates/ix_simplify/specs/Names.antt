@@ -1,7 +1,7 @@
 -- Whether an expression names a parameter.
 use Rattle.std.specs.Prelude.{ℕ, List, Bool, ◌||◌}
 use Rattle.ix_expr.specs.Form.{Form, atom, opt, seq, star, par, par_star, or, and, couple, any}
-use Rattle.ix_expr.specs.Form.{every, sync, all}
+use Rattle.ix_expr.specs.Form.{every, sync, all, times}
 use Rattle.ix_expr.specs.FormFaults.{names_parameter}
 
 -- whether some atom of the expression names the parameter p; one below a quantifier that binds p
@@ -20,3 +20,4 @@ names p (any q y) = names p y
 names p (every q y) = names p y
 names p (sync q y) = names p y
 names p (all q y) = names p y
+names p (times n y) = names p y

@@ -1,7 +1,7 @@
 -- The laws that rewrite an expression, and what it becomes by them.
 use Rattle.std.specs.Prelude.{◌≡◌, ℕ, List, false}
 use Rattle.ix_expr.specs.Form.{Form, atom, opt, seq, star, par, par_star, or, and, couple, any}
-use Rattle.ix_expr.specs.Form.{every, sync, all}
+use Rattle.ix_expr.specs.Form.{every, sync, all, times}
 use Rattle.ix_simplify.specs.Names.{names}
 
 -- a law takes its left side, x, to its right side, z
@@ -47,6 +47,7 @@ Becomes (any p y) s = (u : Form) × Becomes y u × AtRoot (any p u) s
 Becomes (every p y) s = (u : Form) × Becomes y u × AtRoot (every p u) s
 Becomes (sync p y) s = (u : Form) × Becomes y u × AtRoot (sync p u) s
 Becomes (all p y) s = (u : Form) × Becomes y u × AtRoot (all p u) s
+Becomes (times n y) s = (u : Form) × Becomes y u × AtRoot (times n u) s
 
 -- neither the expression nor a part of it is the left side of a law
 abbrev pub HasNoLeftSide : Form → Type 0
@@ -63,3 +64,4 @@ HasNoLeftSide (any p y) = IsNoLeftSide (any p y) × HasNoLeftSide y
 HasNoLeftSide (every p y) = IsNoLeftSide (every p y) × HasNoLeftSide y
 HasNoLeftSide (sync p y) = IsNoLeftSide (sync p y) × HasNoLeftSide y
 HasNoLeftSide (all p y) = IsNoLeftSide (all p y) × HasNoLeftSide y
+HasNoLeftSide (times n y) = IsNoLeftSide (times n y) × HasNoLeftSide y

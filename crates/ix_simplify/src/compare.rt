@@ -26,6 +26,7 @@ pub(crate) fn same(x: &Expr, y: &Expr) -> bool
         (Expr::Every(p, x), Expr::Every(q, y)) => p == q && same(x, y),
         (Expr::Sync(p, x), Expr::Sync(q, y)) => p == q && same(x, y),
         (Expr::All(p, x), Expr::All(q, y)) => p == q && same(x, y),
+        (Expr::Times(m, x), Expr::Times(n, y)) => m == n && same(x, y),
         _ => false,
     }
 }

@@ -21,7 +21,8 @@ pub(crate) fn names(expr: &Expr, parameter: &Name) -> bool
         | Expr::Any(_, y)
         | Expr::Every(_, y)
         | Expr::Sync(_, y)
-        | Expr::All(_, y) => names(y, parameter),
+        | Expr::All(_, y)
+        | Expr::Times(_, y) => names(y, parameter),
         Expr::Seq(y, z) | Expr::Par(y, z) | Expr::Or(y, z) | Expr::And(y, z) | Expr::Couple(y, z) =>
             { names(y, parameter) || names(z, parameter) }
     }

@@ -29,6 +29,7 @@ pub(crate) fn simple(alloc: Global, expr: &Expr) -> Result<Expr, AllocError>
         Expr::Every(parameter, y) => for_every(alloc, *parameter, simple(alloc, y)?),
         Expr::Sync(parameter, y) => in_sync(alloc, *parameter, simple(alloc, y)?),
         Expr::All(parameter, y) => Ok(Expr::All(*parameter, boxed(alloc, y)?)),
+        Expr::Times(number, y) => Ok(Expr::Times(*number, boxed(alloc, y)?)),
     }
 }
 

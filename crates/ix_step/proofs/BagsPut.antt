@@ -1,5 +1,5 @@
 -- Bags with one more tree in its place, and the bags in which each tree in turn is taken out.
-use Rattle.std.proofs.Common.{⊎_elim, ◌≡◌, ℕ, zero, suc, ◌<◌, ◌≤◌, ◌+◌, Bool, true, false, List, [], ◌∷◌, ◌++◌, map, length, get_or, take, drop, refl, sym, ap, ◌∙◌, subst, arith, if◌then◌else◌}
+use Rattle.std.proofs.Common.{Option, Some, None, ⊎_elim, ◌≡◌, ℕ, zero, suc, ◌<◌, ◌≤◌, ◌+◌, Bool, true, false, List, [], ◌∷◌, ◌++◌, map, length, get_or, take, drop, refl, sym, ap, ◌∙◌, subst, arith, if◌then◌else◌}
 use Rattle.std.proofs.lemmas.Bool.{cases_lt}
 use Rattle.std.specs.List.{AllWithin, insert, remove}
 use Rattle.std.specs.List.Sorted.{IsPartitionPoint}
@@ -9,7 +9,8 @@ use Rattle.ix_tree.specs.Plain.{Plain, listed}
 use Rattle.ix_tree.specs.Order.{tree_cmp}
 use Rattle.ix_tree.specs.Size.{size_of}
 use Rattle.ix_can.specs.Nodes.{is_done, put_in}
-use Rattle.ix_can.specs.inside.Moved.{picks, put_unless_done}
+use Rattle.ix_can.specs.inside.Moved.{picks}
+use Rattle.ix_step.specs.inside.ParallelMoves.{more_runs}
 
 -- Each item with the others
 
@@ -115,9 +116,10 @@ size-put_in x (y ∷ ys) = by_test (is_gt (tree_cmp x y)) (size-put_in x ys)
     by_test true h = omega (arith, h)
     by_test false h = omega arith
 
--- a tree that is put in unless it is done adds at most its Size
-pub size-unless_done : (x : Plain) (ys : List Plain) → size_of (listed (put_unless_done x ys)) ≤ size_of x + size_of (listed ys)
-size-unless_done x ys = by_test (is_done x)
+-- one more run adds at most its Size
+pub size-more_runs : (wanted : Option ℕ) (x : Plain) (ys : List Plain) → size_of (listed (more_runs wanted x ys)) ≤ size_of x + size_of (listed ys)
+size-more_runs (Some n) x ys = omega (arith, size-put_in x ys)
+size-more_runs None x ys = by_test (is_done x)
   where
     by_test : (b : Bool) → size_of (listed (if b then ys else put_in x ys)) ≤ size_of x + size_of (listed ys)
     by_test true = omega arith

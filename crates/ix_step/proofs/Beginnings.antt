@@ -1,20 +1,21 @@
 -- The tree of the empty word is the one that is said form by form; it is live, final where the empty word is complete, and small.
-use Rattle.std.proofs.Common.{Option, slice_get, ⊎_elim, zero, ◌≡◌, ℕ, suc, ◌<◌, ◌≤◌, ◌*◌, Bool, true, false, not, ◌&&◌, ◌||◌, List, [], ◌∷◌, ◌++◌, length, None, Some, refl, ap, ◌∙◌, subst, arith, length-append, filter, cond, if◌then◌else◌}
+use Rattle.std.proofs.Common.{◌==◌, ne_eqb, sym, map, Option, slice_get, ⊎_elim, zero, ◌≡◌, ℕ, suc, ◌<◌, ◌≤◌, ◌*◌, Bool, true, false, not, ◌&&◌, ◌||◌, List, [], ◌∷◌, ◌++◌, length, None, Some, refl, ap, ◌∙◌, subst, arith, length-append, filter, cond, if◌then◌else◌}
 use Rattle.std.specs.List.{list_any}
 use Rattle.ix_words.specs.Canon.{when}
-use Rattle.ix_expr.specs.Form.{Form, atom, opt, seq, star, par, par_star, or, and, couple, any, every, sync, all}
+use Rattle.ix_expr.specs.Form.{Form, atom, opt, seq, star, par, par_star, or, and, couple, any, every, sync, all, times}
 use Rattle.ix_expr.specs.Environment.{Environment, bind}
 use Rattle.std.proofs.lemmas.Bool.{cases_lt}
 use Rattle.ix_expr.specs.FormFaults.{Binder, Node, nodes_below, binders_of, HaveNoFault, fault_at, Fits}
 use Rattle.ix_can.specs.Laws.{IsProper}
 use Rattle.ix_can.proofs.Proper.{proper}
+use Rattle.ix_can.proofs.Sharings.{empty_parts}
 use Rattle.ix_can.proofs.Spent.{open_live, open_not_done, open_not_ended, node_is}
 use Rattle.ix_tree.specs.Plain.{Plain, dead, opt as opt_of, seq as seq_of, par as par_of, or as or_of, and as and_of, couple as couple_of, any as any_of, every as every_of, sync as sync_of, pair as pair_of, none, listed, items_of}
 use Rattle.ix_tree.specs.Size.{size_of}
 use Rattle.ix_can.specs.Tests.{accepts_empty}
-use Rattle.ix_can.specs.Nodes.{is_dead, is_done, is_live, is_ended, is_open, is_spent, settled, done_if, opt_node, seq_parts, seq_node, par_node, or_node, and_node, couple_node, any_node, every_node, sync_node, live, set_of, dead_if}
+use Rattle.ix_can.specs.Nodes.{is_dead, is_done, is_live, is_ended, is_open, is_spent, settled, done_if, opt_node, seq_parts, seq_node, par_node, or_node, and_node, couple_node, any_node, every_node, sync_node, times_node, live, set_of, dead_if}
 use Rattle.ix_can.specs.Ways.{is_empty}
-use Rattle.ix_can.specs.TreeOf.{is_final, tree_of, live_pair}
+use Rattle.ix_can.specs.TreeOf.{is_final, tree_of, live_pair, whole_bag}
 use Rattle.ix_step.specs.inside.Initial.{initial_tree}
 
 pub initial_open : (x : Form) → is_open (initial_tree x) ≡ true
@@ -44,6 +45,11 @@ last_listed : (test : Plain → Bool) (b : Bool) (t : Plain) → list_any test (
 last_listed test true t = or_false (test t)
 last_listed test false t = refl
 
+-- whether none is wanted, asked the other way round
+none_wanted : (n : ℕ) → (0 == n) ≡ (n == 0)
+none_wanted zero = refl
+none_wanted (suc n) = ne_eqb 0 (suc n) (λ e. absurd (omega arith)) ∙ sym (ne_eqb (suc n) 0 (λ e. absurd (omega arith)))
+
 pub initial_final : (x : Form) → is_final x (initial_tree x) ≡ accepts_empty x
 initial_final (atom x) = refl
 initial_final (opt y) = refl
@@ -58,6 +64,7 @@ initial_final (any p y) = or_false (is_final y (initial_tree y)) ∙ initial_fin
 initial_final (every p y) = and_true (is_final y (initial_tree y)) ∙ initial_final y
 initial_final (sync p y) = and_true (is_final y (initial_tree y)) ∙ initial_final y
 initial_final (all p y) = and_true (accepts_empty y)
+initial_final (times n y) = or_false ((0 == n) || accepts_empty y) ∙ ap (λ b. b || accepts_empty y) (none_wanted n)
 
 -- The tree of the empty word
 
@@ -129,6 +136,7 @@ initial_is (any p y) e =
 initial_is (every p y) e = ap (λ t. every_node t []) (initial_is y (bind p None e)) ∙ common_first (initial_tree y) (every_of (initial_tree y) none) (initial_open y) refl
 initial_is (sync p y) e = ap (λ t. sync_node true t []) (initial_is y (bind p None e)) ∙ common_first (initial_tree y) (sync_of (initial_tree y) none) (initial_open y) refl
 initial_is (all p y) e = refl
+initial_is (times n y) e = ap (λ ps. times_node n (whole_bag (map (tree_of y e) ps) ++ [])) (empty_parts n)
 
 -- Its Size
 
@@ -154,6 +162,7 @@ initial_size d around (any p y) = omega (arith, initial_size (suc d) (record { i
 initial_size d around (every p y) = omega (arith, initial_size (suc d) (record { is_all = false; parameter = p } ∷ around) y)
 initial_size d around (sync p y) = omega (arith, initial_size (suc d) (record { is_all = false; parameter = p } ∷ around) y)
 initial_size d around (all p y) = omega (arith, nodes_least (suc d) (record { is_all = true; parameter = p } ∷ around) y)
+initial_size d around (times n y) = omega (arith, nodes_least (suc d) around y)
 
 some_at : (nodes : List Node) (k : ℕ) → k < length nodes → (node : Node) × (slice_get nodes k ≡ Some node)
 some_at [] k lt = absurd (omega arith)
@@ -173,7 +182,7 @@ few_nodes nodes h = ⊎_elim (λ lt. absurd (too_many lt)) (λ le. le) (cases_lt
 
 -- of an expression that fits its environment the tree of the empty word is small
 pub initial_small : (x : Form) (e : Environment) → Fits x e → size_of (initial_tree x) ≤ 1000000
-initial_small x e h = omega (arith, initial_size 1 (binders_of e) x, few_nodes (nodes_below 1 (binders_of e) x) h)
+initial_small x e h = omega (arith, initial_size 1 (binders_of e) x, few_nodes (nodes_below 1 (binders_of e) x) h.faultless)
 
 -- and it is proper
 pub initial_proper : (x : Form) → IsProper x (initial_tree x)

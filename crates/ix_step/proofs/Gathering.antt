@@ -1,11 +1,13 @@
 -- Lists into which several lots of trees are put, one lot after another.
-use Rattle.std.proofs.Common.{◌≡◌, ℕ, zero, suc, ◌<◌, ◌≤◌, ◌+◌, List, [], ◌∷◌, ◌++◌, map, flat_map, length, get_or, take, drop, Result, Ok, Err, refl, sym, ap, ◌∙◌, subst, arith, append-nil, if◌then◌else◌}
+use Rattle.std.proofs.Common.{inl, inr, not, Bool, true, false, Option, Some, None, ◌≡◌, ℕ, zero, suc, ◌<◌, ◌≤◌, ◌+◌, List, [], ◌∷◌, ◌++◌, map, flat_map, length, get_or, take, drop, Result, Ok, Err, refl, sym, ap, ◌∙◌, subst, arith, append-nil, if◌then◌else◌}
 use Rattle.std.proofs.lemmas.List.{take-append-drop, take_more}
 use Rattle.std.proofs.Math.ListN.{get_or-map}
 use Rattle.std.proofs.Math.Seq.{take-length}
-use Rattle.ix_words.specs.Each.{Each, item}
+use Rattle.std.specs.List.{list_any}
+use Rattle.ix_words.specs.Each.{Each, item, Member, here}
 use Rattle.ix_words.specs.Canon.{when}
-use Rattle.ix_words.proofs.Canon.{flat_map-append}
+use Rattle.ix_words.proofs.Each.{Each-members, Member-right, Member-either}
+use Rattle.ix_words.proofs.Canon.{flat_map-append, Member-cases, Member-when, when-Member, Member-flat_map, flat_map-Member}
 use Rattle.ix_values.specs.PlainAction.{PlainAction}
 use Rattle.ix_expr.specs.Environment.{Environment}
 use Rattle.ix_expr.specs.Form.{Form}
@@ -15,13 +17,14 @@ use Rattle.ix_tree.specs.Size.{size_of}
 use Rattle.ix_tree.proofs.PlainLists.{items_of-listed}
 use Rattle.ix_can.specs.Nodes.{is_live, put_in, set_of}
 use Rattle.ix_can.proofs.Spent.{open_not_done}
-use Rattle.ix_can.specs.inside.Moved.{put_unless_done, bag_with}
+use Rattle.ix_can.specs.inside.Moved.{moved, picks}
+use Rattle.ix_can.proofs.Lists.{any_says}
 use Rattle.ix_step.specs.inside.Makes.{IsOver, put_all, Gathers}
 use Rattle.ix_step.specs.inside.Moves.{if_open, begun}
-use Rattle.ix_step.specs.inside.ParallelMoves.{pairs_of, pick_moves, bag_moves}
+use Rattle.ix_step.specs.inside.ParallelMoves.{pairs_of, pick_move, pick_moves, bag_moves, more_runs, runs_with, begun_runs, has_room}
 use Rattle.ix_step.specs.declared.fault.Unbuilt.{Unbuilt}
 use Rattle.ix_step.proofs.BagsPut.{size-put_in}
-use Rattle.ix_step.proofs.Gathered.{put_all-nothing, put_all-append, put_all_grows, live_over, above_open, open_over, size_all}
+use Rattle.ix_step.proofs.Gathered.{put_all-nothing, put_all-append, put_all_grows, put_all_holds, live_over, above_open, above_lives, open_over, size_all}
 
 -- an item of a list, and what stands for it in the list's image
 pub image_at : {M K : Type 0} (view : M → K) (xs : List M) (i : ℕ) (x : M) → x ≡ get_or xs i x → view x ≡ get_or (map view xs) i (view x)
@@ -113,35 +116,68 @@ module _ (limit : ℕ) (x u left right : Plain) (old : List Plain) (le : 1 ≤ l
 
 -- Bags
 
-module _ (y : Form) (e : Environment) (a : PlainAction) (ts us : List Plain) (same : us ≡ ts) (old : List Plain) where
-  picks_same : put_all (pick_moves y e a us) old ≡ put_all (pick_moves y e a (items_of (listed ts))) old
-  picks_same = ap (λ l. put_all (pick_moves y e a l) old) (same ∙ sym (items_of-listed ts))
+-- it is a bag of a list of trees
+abbrev pub IsBag : Plain → Type 0
+IsBag b = b ≡ bag (listed (items_of (first_part b)))
+
+module _ (wanted : Option ℕ) (y : Form) (e : Environment) (a : PlainAction) (ts us : List Plain) (same : us ≡ ts) (old : List Plain) where
+  picks_same : put_all (pick_moves wanted y e a us) old ≡ put_all (pick_moves wanted y e a (items_of (listed ts))) old
+  picks_same = ap (λ l. put_all (pick_moves wanted y e a l) old) (same ∙ sym (items_of-listed ts))
 
   -- the bags with one tree moved are no larger than all that a bag gives
-  pub picks_size : size_all (put_all (pick_moves y e a us) old) ≤ size_all (put_all (bag_moves y e a (bag (listed ts))) old)
-  picks_size = omega (arith, ap size_all picks_same, front_size (pick_moves y e a (items_of (listed ts))) (bag_with (begun y e a) (items_of (listed ts))) old)
+  pub picks_size : size_all (put_all (pick_moves wanted y e a us) old) ≤ size_all (put_all (bag_moves wanted y e a (bag (listed ts))) old)
+  picks_size = omega (arith, ap size_all picks_same, front_size (pick_moves wanted y e a (items_of (listed ts))) (begun_runs wanted (begun y e a) (items_of (listed ts))) old)
+
+  -- a run that begins is looked at only where there is room
+  room_alike : (first : Plain) (runs : List Plain) → (has_room wanted runs ≡ true → first ≡ begun y e a) → begun_runs wanted first runs ≡ begun_runs wanted (begun y e a) runs
+  room_alike first runs is = by_test (has_room wanted runs) is
+    where
+      by_test : (b : Bool) → (b ≡ true → first ≡ begun y e a) → when b (runs_with wanted first runs) ≡ when b (runs_with wanted (begun y e a) runs)
+      by_test true same = ap (λ x. runs_with wanted x runs) (same refl)
+      by_test false same = refl
 
   -- all that a bag gives
-  pub bag_put : (vs mid : List Plain) (first : Plain) → vs ≡ ts → first ≡ begun y e a → mid ≡ put_all (pick_moves y e a us) old → put_all (bag_with first vs) mid ≡ put_all (bag_moves y e a (bag (listed ts))) old
+  pub bag_put : (vs mid : List Plain) (first : Plain) → vs ≡ ts → (has_room wanted (items_of (listed ts)) ≡ true → first ≡ begun y e a) → mid ≡ put_all (pick_moves wanted y e a us) old → put_all (begun_runs wanted first vs) mid ≡ put_all (bag_moves wanted y e a (bag (listed ts))) old
   bag_put vs mid first again is so_far =
-      ap (λ x. put_all (bag_with x vs) mid) is
-      ∙ ap (λ l. put_all (bag_with (begun y e a) l) mid) (again ∙ sym (items_of-listed ts))
-      ∙ ap (put_all (bag_with (begun y e a) (items_of (listed ts)))) (so_far ∙ picks_same)
-      ∙ sym (put_all-append (pick_moves y e a (items_of (listed ts))) (bag_with (begun y e a) (items_of (listed ts))) old)
+      ap (λ l. put_all (begun_runs wanted first l) mid) (again ∙ sym (items_of-listed ts))
+      ∙ ap (λ l. put_all l mid) (room_alike first (items_of (listed ts)) is)
+      ∙ ap (put_all (begun_runs wanted (begun y e a) (items_of (listed ts)))) (so_far ∙ picks_same)
+      ∙ sym (put_all-append (pick_moves wanted y e a (items_of (listed ts))) (begun_runs wanted (begun y e a) (items_of (listed ts))) old)
 
--- a tree above the limit isn't left out of its bag, so this puts the list above the limit
-pub bag_over : (limit : ℕ) (x : Plain) (others old : List Plain) → 1 ≤ limit → limit < size_of x → limit < size_all (put_all (bag_with x others) old)
-bag_over limit x others old le lt =
-    let starts = open_not_done x (above_open limit x le lt) in
-    live_over limit x (bag (listed (put_unless_done x others))) old le
-    (omega (arith, size-put_in x others, ap (λ b. size_of (listed (if b then others else put_in x others))) starts)) lt
+-- a tree above the limit isn't left out of its bag
+more_size : (wanted : Option ℕ) (limit : ℕ) (x : Plain) (others : List Plain) → 1 ≤ limit → limit < size_of x → size_of x ≤ size_of (bag (listed (more_runs wanted x others)))
+more_size (Some n) limit x others le lt = omega (arith, size-put_in x others)
+more_size None limit x others le lt =
+    omega (arith, size-put_in x others, ap (λ b. size_of (listed (if b then others else put_in x others))) (open_not_done x (above_open limit x le lt)))
 
--- where there is a bag, a first run above the limit puts the set above it
-pub first_over : (limit : ℕ) (y : Form) (e : Environment) (a : PlainAction) (bs : List Plain) → 0 < length bs → 1 ≤ limit → limit < size_of (begun y e a) → limit < size_of (set_of (flat_map (bag_moves y e a) bs))
-first_over limit y e a [] some le lt = absurd (omega arith)
-first_over limit y e a (b ∷ bs) some le lt =
-    let k : limit < size_all (put_all (bag_with (begun y e a) (items_of (first_part b))) (put_all (pick_moves y e a (items_of (first_part b))) [])) =
-    bag_over limit (begun y e a) (items_of (first_part b)) (put_all (pick_moves y e a (items_of (first_part b))) []) le lt in
-    let s : size_all (put_all (bag_moves y e a b) []) ≡ size_all (put_all (bag_with (begun y e a) (items_of (first_part b))) (put_all (pick_moves y e a (items_of (first_part b))) [])) =
-    ap size_all (put_all-append (pick_moves y e a (items_of (first_part b))) (bag_with (begun y e a) (items_of (first_part b))) []) in
-    omega (arith, front_of_set (bag_moves y e a b) (flat_map (bag_moves y e a) bs))
+-- so this puts the list above the limit
+pub bag_over : (wanted : Option ℕ) (limit : ℕ) (x : Plain) (others old : List Plain) → 1 ≤ limit → limit < size_of x → limit < size_all (put_all (runs_with wanted x others) old)
+bag_over wanted limit x others old le lt =
+    live_over limit x (bag (listed (more_runs wanted x others))) old le (more_size wanted limit x others le lt) lt
+
+-- where some bag has room for it, a first run above the limit puts the set above it
+pub first_over : (wanted : Option ℕ) (limit : ℕ) (y : Form) (e : Environment) (a : PlainAction) (bs : List Plain) → list_any (λ b. has_room wanted (items_of (first_part b))) bs ≡ true → 1 ≤ limit → limit < size_of (begun y e a) → limit < size_of (set_of (flat_map (bag_moves wanted y e a) bs))
+first_over wanted limit y e a bs room le lt =
+    let k = (any_says (λ b. has_room wanted (items_of (first_part b))) bs).0 room in
+    let runs : List Plain = items_of (first_part k.which) in
+    let made : Plain = bag (listed (more_runs wanted (begun y e a) runs)) in
+    let live : is_live (begun y e a) ≡ true = ap not (above_lives limit (begun y e a) le lt) in
+    let among : Member made (flat_map (bag_moves wanted y e a) bs) = flat_map-Member (bag_moves wanted y e a) k.among
+    (Member-right (pick_moves wanted y e a runs) (when-Member k.passes (when-Member live here))) in
+    omega (arith, more_size wanted limit (begun y e a) runs le lt, put_all_holds made (flat_map (bag_moves wanted y e a) bs) [] among, ap size_all (put_all-nothing (flat_map (bag_moves wanted y e a) bs)))
+
+-- each of the bags is one
+pub bags_are : (wanted : Option ℕ) (y : Form) (e : Environment) (a : PlainAction) (bs : List Plain) → Each IsBag (flat_map (bag_moves wanted y e a) bs)
+bags_are wanted y e a bs = Each-members (flat_map (bag_moves wanted y e a) bs) (λ b m.
+    let k = Member-flat_map (bag_moves wanted y e a) bs m in
+    let runs : List Plain = items_of (first_part k.0) in
+    elim (Member-either (pick_moves wanted y e a runs) (begun_runs wanted (begun y e a) runs) k.2) [
+      | inl l ↦ let j = Member-flat_map (pick_move wanted y e a) (picks runs) l in one_bag (moved y e j.0.0 a) j.0.1 b j.2
+      | inr r ↦ one_bag (begun y e a) runs b (Member-when (has_room wanted runs) (runs_with wanted (begun y e a) runs) r).1
+    ])
+  where
+    one_bag : (x : Plain) (runs : List Plain) (b : Plain) → Member b (runs_with wanted x runs) → IsBag b
+    one_bag x runs b m =
+        let made : List Plain = more_runs wanted x runs in
+        let is : b ≡ bag (listed made) = elim (Member-cases (Member-when (is_live x) (bag (listed made) ∷ []) m).1) [ inl e ↦ e | inr n ↦ elim n [ ] ] in
+        is ∙ sym (ap (λ l. bag (listed l)) (ap (λ z. items_of (first_part z)) is ∙ items_of-listed made))

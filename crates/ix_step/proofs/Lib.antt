@@ -16,6 +16,7 @@ pub mod SeenValues
 pub mod MovedIs
 pub mod Pruning
 pub mod Overs
+pub mod LimitedBags
 pub mod Exits
 pub mod Repeats
 mod Rising

@@ -1,6 +1,6 @@
 -- The measure of the recursion over expressions: the number of nodes.
 use Rattle.std.proofs.Common.{ℕ, ◌+◌}
-use Rattle.ix_expr.specs.Form.{Form, atom, opt, seq, star, par, par_star, or, and, couple, any, every, sync, all}
+use Rattle.ix_expr.specs.Form.{Form, atom, opt, seq, star, par, par_star, or, and, couple, any, every, sync, all, times}
 
 -- how many nodes the expression has
 abbrev pub form_size : Form → ℕ
@@ -17,3 +17,4 @@ form_size (any p y) = 1 + form_size y
 form_size (every p y) = 1 + form_size y
 form_size (sync p y) = 1 + form_size y
 form_size (all p y) = 1 + form_size y
+form_size (times n y) = 1 + form_size y

@@ -1,20 +1,20 @@
 -- The moved tree is the node of what its parts become, dead where none of them is live and done where it is spent.
-use Rattle.std.proofs.Common.{◌≡◌, ℕ, Bool, true, false, not, ◌&&◌, ◌||◌, List, [], ◌∷◌, ◌++◌, flat_map, filter, cond, append_assoc, Some, None, refl, sym, ap, ◌∙◌, true≢false, if◌then◌else◌}
+use Rattle.std.proofs.Common.{Option, ◌≡◌, ℕ, Bool, true, false, not, ◌&&◌, ◌||◌, List, [], ◌∷◌, ◌++◌, flat_map, filter, cond, append_assoc, Some, None, refl, sym, ap, ◌∙◌, true≢false, if◌then◌else◌}
 use Rattle.std.specs.List.{list_any, list_all}
 use Rattle.ix_words.specs.Canon.{canon, when}
 use Rattle.ix_values.specs.PlainAction.{PlainAction}
-use Rattle.ix_expr.specs.Form.{Form, atom, opt, seq, star, par, par_star, or, and, couple, any, every, sync, all}
+use Rattle.ix_expr.specs.Form.{Form, atom, opt, seq, star, par, par_star, or, and, couple, any, every, sync, all, times}
 use Rattle.ix_expr.specs.Environment.{Environment, bind}
 use Rattle.ix_expr.specs.Fitting.{FitsInside}
 use Rattle.ix_expr.specs.FormFaults.{Fits}
 use Rattle.ix_expr.proofs.Parts.{fits-operands}
-use Rattle.ix_tree.specs.Plain.{Plain, dead, start, done, is_dead, listed, items_of, pair, bag, entry, opt as opt_of, seq as seq_of, star as star_of, par as par_of, par_star as par_star_of, or as or_of, and as and_of, couple as couple_of, any as any_of, every as every_of, sync as sync_of, all as all_of}
+use Rattle.ix_tree.specs.Plain.{Plain, dead, start, done, is_dead, listed, items_of, pair, bag, entry, opt as opt_of, seq as seq_of, star as star_of, par as par_of, par_star as par_star_of, or as or_of, and as and_of, couple as couple_of, any as any_of, every as every_of, sync as sync_of, all as all_of, times as times_of, none}
 use Rattle.ix_tree.specs.Order.{tree_cmp, key, first_part, second_part}
-use Rattle.ix_can.specs.Nodes.{is_done, is_live, is_open, unless_done, same_tree, set_of, live, dead_if, settled, seq_parts}
+use Rattle.ix_can.specs.Nodes.{is_done, is_live, is_open, unless_done, same_tree, set_of, live, dead_if, done_if, only_bag_done, settled, settled_times, seq_parts}
 use Rattle.ix_can.specs.TreeOf.{is_final, tree_of}
 use Rattle.ix_can.specs.Ways.{is_empty}
 use Rattle.ix_can.specs.inside.May.{may, may_first, tree_at}
-use Rattle.ix_can.specs.inside.Moved.{moved, picks, put_unless_done, bag_with, entry_with, or_initial}
+use Rattle.ix_can.specs.inside.Moved.{moved, picks, entry_with, or_initial}
 use Rattle.ix_can.proofs.Children.{any_made}
 use Rattle.ix_can.proofs.Lists.{one_test}
 use Rattle.ix_can.proofs.MovesShared.{moved_live, first_may}
@@ -25,7 +25,7 @@ use Rattle.ix_step.specs.inside.Initial.{initial_tree}
 use Rattle.ix_step.specs.inside.MapsAfter.{maps_after, map_after, begun_tree, with_tree}
 use Rattle.ix_step.specs.inside.MovedNode.{moved_node}
 use Rattle.ix_step.specs.inside.Moves.{if_open, open_moves, some_ends, begun, begun_again, second_parts, last_runs, runs_end}
-use Rattle.ix_step.specs.inside.ParallelMoves.{pair_moves, pick_move, pick_moves, bag_moves}
+use Rattle.ix_step.specs.inside.ParallelMoves.{pair_moves, pick_move, pick_moves, bag_moves, more_runs, runs_with, begun_runs, has_room}
 use Rattle.ix_step.specs.inside.Pruned.{passes, is_none, has_died, pruned}
 use Rattle.ix_step.proofs.Beginnings.{initial_open, initial_is}
 use Rattle.ix_step.proofs.Gathered.{any_of_set, or_assoc, or_false}
@@ -322,24 +322,44 @@ module _ (y : Form) (e : Environment) (a : PlainAction) (f : Fits y e) where
       ∙ sym (empty_both (live_moves y e a us) (live first))
       ∙ sym (none_left (is_final y) (final_done y) (runs again us) (all_live (λ s. moved y e s a) (live first) us ∙ live_alone first))
 
-  none_picked : (ts : List Plain) → is_empty (pick_moves y e a ts) ≡ not (list_any (λ s. may y e s a) ts)
-  none_picked ts =
-      none_made (λ (p : Plain × List Plain). may y e p.0 a) (pick_move y e a) (λ p. empty_when (is_live (moved y e p.0 a)) (bag (listed (put_unless_done (moved y e p.0 a) p.1))) ∙ unmoved y e a p.0) (picks ts)
-      ∙ ap not (picked (λ s. may y e s a) ts)
+  module _ (wanted : Option ℕ) where
+    none_picked : (ts : List Plain) → is_empty (pick_moves wanted y e a ts) ≡ not (list_any (λ s. may y e s a) ts)
+    none_picked ts =
+        none_made (λ (p : Plain × List Plain). may y e p.0 a) (pick_move wanted y e a) (λ p. empty_when (is_live (moved y e p.0 a)) (bag (listed (more_runs wanted (moved y e p.0 a) p.1))) ∙ unmoved y e a p.0) (picks ts)
+        ∙ ap not (picked (λ s. may y e s a) ts)
 
-  none_bagged : (b : Plain) → is_empty (bag_moves y e a b) ≡ not (may_first y e a || list_any (λ s. may y e s a) (items_of (first_part b)))
-  none_bagged b =
-      let ts : List Plain = items_of (first_part b) in
-      let some : Bool = list_any (λ s. may y e s a) ts in
-      empty_both (pick_moves y e a ts) (bag_with (begun y e a) ts)
-      ∙ both_are (is_empty (pick_moves y e a ts)) (is_empty (bag_with (begun y e a) ts)) (not some) (not (may_first y e a)) (none_picked ts)
-      (empty_when (is_live (begun y e a)) (bag (listed (put_unless_done (begun y e a) ts))) ∙ ap not (begins y e a f))
-      ∙ neither_back (may_first y e a) some
+    none_begun : (ts : List Plain) → is_empty (begun_runs wanted (begun y e a) ts) ≡ not (has_room wanted ts && may_first y e a)
+    none_begun ts = by_test (has_room wanted ts)
+      where
+        by_test : (b : Bool) → is_empty (when b (runs_with wanted (begun y e a) ts)) ≡ not (b && may_first y e a)
+        by_test true = empty_when (is_live (begun y e a)) (bag (listed (more_runs wanted (begun y e a) ts))) ∙ ap not (begins y e a f)
+        by_test false = refl
 
-  par_star_died : (bs : List Plain) → not (list_any (λ b. may_first y e a || list_any (λ s. may y e s a) (items_of (first_part b))) bs) ≡ is_none (set_of (flat_map (bag_moves y e a) bs))
-  par_star_died bs =
-      sym (none_made (λ b. may_first y e a || list_any (λ s. may y e s a) (items_of (first_part b))) (bag_moves y e a) none_bagged bs)
-      ∙ sym (set_none (flat_map (bag_moves y e a) bs))
+    none_bagged : (b : Plain) → is_empty (bag_moves wanted y e a b) ≡ not ((has_room wanted (items_of (first_part b)) && may_first y e a) || list_any (λ s. may y e s a) (items_of (first_part b)))
+    none_bagged b =
+        let ts : List Plain = items_of (first_part b) in
+        let some : Bool = list_any (λ s. may y e s a) ts in
+        let first : Bool = has_room wanted ts && may_first y e a in
+        empty_both (pick_moves wanted y e a ts) (begun_runs wanted (begun y e a) ts)
+        ∙ both_are (is_empty (pick_moves wanted y e a ts)) (is_empty (begun_runs wanted (begun y e a) ts)) (not some) (not first) (none_picked ts) (none_begun ts)
+        ∙ neither_back first some
+
+    bags_died : (bs : List Plain) → not (list_any (λ b. (has_room wanted (items_of (first_part b)) && may_first y e a) || list_any (λ s. may y e s a) (items_of (first_part b))) bs) ≡ is_none (set_of (flat_map (bag_moves wanted y e a) bs))
+    bags_died bs =
+        sym (none_made (λ b. (has_room wanted (items_of (first_part b)) && may_first y e a) || list_any (λ s. may y e s a) (items_of (first_part b))) (bag_moves wanted y e a) none_bagged bs)
+        ∙ sym (set_none (flat_map (bag_moves wanted y e a) bs))
+
+-- the node of `times` is dead where it has no bag, and done where it is spent
+pruned_times : (n : ℕ) (s : Plain) → pruned (settled_times n s) ≡ dead_if (is_none s) (settled_times n s)
+pruned_times n s = by_test (only_bag_done n (items_of s)) refl
+  where
+    some_bag : (t : Plain) → only_bag_done n (items_of t) ≡ true → is_none t ≡ false
+    some_bag none e = absurd (true≢false (sym e))
+    some_bag _ e = refl
+
+    by_test : (b : Bool) → only_bag_done n (items_of s) ≡ b → pruned (done_if b (times_of s)) ≡ dead_if (is_none s) (done_if b (times_of s))
+    by_test false e = refl
+    by_test true e = sym (ap (λ c. dead_if c done) (some_bag s e))
 
 module _ (p : List ℕ) (y : Form) (e : Environment) (a : PlainAction) where
   -- the entries of the values of a dead common tree
@@ -416,7 +436,7 @@ moved_is (star y) e (star_of again rest) a f h =
     ∙ ap pruned (star_is y e a fits again (items_of rest))
 moved_is (par y z) e (par_of pairs) a f h = ap (λ d. dead_if d (settled (moved_node (par y z) e (par_of pairs) a))) (par_died y z e a (items_of pairs))
 moved_is (par_star y) e (par_star_of bags) a f h =
-    ap (λ d. dead_if d (moved_node (par_star y) e (par_star_of bags) a)) (par_star_died y e a (fits-operands (par_star y) e f) (items_of bags))
+    ap (λ d. dead_if d (moved_node (par_star y) e (par_star_of bags) a)) (bags_died y e a (fits-operands (par_star y) e f) None (items_of bags))
 moved_is (or y z) e (or_of t u) a f h = ap (λ d. dead_if d (settled (moved_node (or y z) e (or_of t u) a))) (or_died y z e a t u)
 moved_is (and y z) e (and_of t u) a f h = lives (may (and y z) e (and_of t u) a) _ h
 moved_is (couple y z) e (couple_of t u) a f h = lives (may (couple y z) e (couple_of t u) a) _ h
@@ -427,6 +447,10 @@ moved_is (sync p y) e (sync_of common entries) a f h = lives (may (sync p y) e (
 moved_is (all p y) e (all_of maps) a f h =
     ap (λ u. dead_if (not (may (all p y) e (all_of maps) a)) (all_of (set_of (flat_map (maps_after p y e a u a.values) (items_of maps))))) (initial_is y [])
     ∙ ap (λ d. dead_if d (moved_node (all p y) e (all_of maps) a)) (all_died p y e a (fits-operands (all p y) e f) (items_of maps))
+moved_is (times n y) e (times_of bags) a f h =
+    let moves : Plain = set_of (flat_map (bag_moves (Some n) y e a) (items_of bags)) in
+    ap (λ d. dead_if d (settled_times n moves)) (bags_died y e a (fits-operands (times n y) e f) (Some n) (items_of bags))
+    ∙ sym (pruned_times n moves)
 moved_is _ e _ a f h = refl
 
 -- The one action

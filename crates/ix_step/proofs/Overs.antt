@@ -1,5 +1,5 @@
 -- Nodes with a part that is above the limit: they are neither dead nor spent, so they are above it too.
-use Rattle.std.proofs.Common.{◌≡◌, ℕ, ◌+◌, ◌*◌, ◌<◌, ◌≤◌, Bool, true, false, not, ◌&&◌, List, [], ◌∷◌, length, map, refl, sym, ap, ◌∙◌, subst, true≢false, arith, length-append}
+use Rattle.std.proofs.Common.{◌==◌, eqb-true, ◌≡◌, ℕ, ◌+◌, ◌*◌, ◌<◌, ◌≤◌, Bool, true, false, not, ◌&&◌, List, [], ◌∷◌, length, map, refl, sym, ap, ◌∙◌, subst, true≢false, arith, length-append}
 use Rattle.std.specs.List.{list_all}
 use Rattle.std.specs.Map.{keys_of}
 use Rattle.ix_words.specs.Each.{Each}
@@ -7,12 +7,13 @@ use Rattle.ix_words.proofs.Each.{Each-head, Each-tail}
 use Rattle.ix_values.specs.PlainAction.{PlainAction}
 use Rattle.ix_expr.specs.Form.{Form, any as any_form, every as every_form, sync as sync_form}
 use Rattle.ix_expr.specs.Environment.{Environment}
-use Rattle.ix_tree.specs.Plain.{Plain, more, listed, items_of, opt, seq, star, par, or, and, couple, any, every, sync}
+use Rattle.ix_tree.specs.Plain.{Plain, more, listed, items_of, opt, seq, star, par, or, and, couple, any, every, sync, times}
 use Rattle.ix_tree.specs.PlainOf.{plain_entry, plain_entries}
 use Rattle.ix_tree.specs.Order.{key, first_part, second_part}
 use Rattle.ix_tree.specs.Size.{size_of}
 use Rattle.ix_tree.proofs.PlainLists.{items_of-listed}
-use Rattle.ix_can.specs.Nodes.{is_dead, is_done, is_ended, dead_if, done_if, unless_done, only_pair_done, is_spent, settled}
+use Rattle.ix_can.specs.Nodes.{is_dead, is_done, is_ended, dead_if, done_if, unless_done, only_pair_done, only_bag_done, is_spent, settled, settled_times}
+use Rattle.ix_can.specs.Ways.{is_empty}
 use Rattle.ix_can.proofs.Spent.{Kind, is_the_dead, is_the_done, stays_open, kind, done_is, open_not_done, open_not_ended}
 use Rattle.ix_step.specs.inside.EnterTrees.{entries_put}
 use Rattle.ix_step.specs.inside.MovedNode.{moved_node}
@@ -22,10 +23,11 @@ use Rattle.ix_step.specs.declared.bodies.Reach.{Reach}
 use Rattle.ix_step.specs.declared.bodies.Reach.TheVariants.{All, Must, OwnAlphabet}
 use Rattle.ix_step.proofs.EntriesPut.{IsOf, put_are, entries_few}
 use Rattle.ix_step.proofs.Gathered.{above_open, above_lives}
+use Rattle.ix_step.proofs.Gathering.{IsBag}
 use Rattle.ix_step.proofs.Pruning.{both_first, both_second}
 use Rattle.ix_step.proofs.Quantifying.{entries_touched}
 
-and_none : (b : Bool) → (b && false) ≡ false
+pub and_none : (b : Bool) → (b && false) ≡ false
 and_none true = refl
 and_none false = refl
 
@@ -130,6 +132,34 @@ par_over limit room (y ∷ ys) few le lt =
     by_test false e = refl
     by_test true e =
         let k = only_pair_size (y ∷ ys) (ap only_pair_done (sym (items_of-listed (y ∷ ys))) ∙ e) in
+        absurd (omega (arith, k))
+
+-- trees that are all done have one node each
+done_sizes : (xs : List Plain) → list_all is_done xs ≡ true → size_of (listed xs) ≡ length xs
+done_sizes [] e = refl
+done_sizes (x ∷ xs) e =
+    let one = done_size x (both_first (is_done x) (list_all is_done xs) e) in
+    let rest = done_sizes xs (both_second (is_done x) (list_all is_done xs) e) in
+    omega (arith, one, rest)
+
+full_size : (n : ℕ) (xs : List Plain) → Each IsBag xs → only_bag_done n xs ≡ true → size_of (listed xs) ≤ n + 1
+full_size n [] h e = absurd (true≢false (sym e))
+full_size n (b ∷ []) h e =
+    let runs : List Plain = items_of (first_part b) in
+    let k = both_second (not (is_empty runs)) ((length runs == n) && list_all is_done runs) e in
+    let many : length runs ≡ n = eqb-true (length runs) n (both_first (length runs == n) (list_all is_done runs) k) in
+    omega (arith, ap size_of (Each-head h), done_sizes runs (both_second (length runs == n) (list_all is_done runs) k), many)
+full_size n (b ∷ c ∷ xs) h e = absurd (true≢false (sym e))
+
+-- bags above a room in which one bag of so many runs that are done has place aren't that bag
+pub times_over : (limit room n : ℕ) (xs : List Plain) → Each IsBag xs → n + 1 ≤ room → limit ≤ room → room < size_of (listed xs) → limit < size_of (pruned (settled_times n (listed xs)))
+times_over limit room n [] h few le lt = absurd (omega arith)
+times_over limit room n (y ∷ ys) h few le lt = by_test (only_bag_done n (items_of (listed (y ∷ ys)))) refl
+  where
+    by_test : (b : Bool) → only_bag_done n (items_of (listed (y ∷ ys))) ≡ b → limit < size_of (pruned (done_if b (times (listed (y ∷ ys)))))
+    by_test false e = pruned_over limit (times (listed (y ∷ ys))) refl refl (omega arith)
+    by_test true e =
+        let k = full_size n (y ∷ ys) h (ap (only_bag_done n) (sym (items_of-listed (y ∷ ys))) ∙ e) in
         absurd (omega (arith, k))
 
 -- entries of trees that are all ended have two nodes each

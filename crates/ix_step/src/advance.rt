@@ -27,7 +27,7 @@ use crate::nodes::{
     bounded, dead_knot, done_knot, settled_within, sized_if_live, unless_done, within_if_live,
 };
 use crate::one_step::Step;
-use crate::parallel::{advance_par, advance_par_star};
+use crate::parallel::{advance_par, advance_par_star, advance_times};
 use crate::quantifiers::{advance_any, advance_every, advance_sync};
 use crate::sets::{put_first, put_open};
 use ix_alts::AltSet;
@@ -78,7 +78,8 @@ pub(crate) fn advance_asked(step: Step, expr: &Expr, tree: &Knot) -> Result<Knot
     advance_node(step, expr, tree)
 }
 
-/// The node of what the parts become, form by form.
+/// The node of what the parts become, form by form. The flag of `?y` is false: after an action the
+/// word isn't empty.
 #[cycle(advance)]
 fn advance_node(step: Step, expr: &Expr, tree: &Knot) -> Result<Knot, Unbuilt>
     requires ready { Ready (form_of expr.now) step.env.now tree.now }
@@ -89,7 +90,6 @@ fn advance_node(step: Step, expr: &Expr, tree: &Knot) -> Result<Knot, Unbuilt>
     match (expr, tree.node()) {
         (Expr::Atom(_), Node::Start) => done_knot(step),
         (Expr::Opt(y), Node::Opt(_, x)) => {
-            // The flag is false: after an action the word isn't empty.
             let x = advance(step, y, x)?;
             within_if_live(step, Node::Opt(false, x))
         }
@@ -124,6 +124,7 @@ fn advance_node(step: Step, expr: &Expr, tree: &Knot) -> Result<Knot, Unbuilt>
         (Expr::All(parameter, expr), Node::All(maps)) => {
             advance_all(step, Body { parameter, expr }, maps)
         }
+        (Expr::Times(number, y), Node::Times(bags)) => advance_times(step, *number, y, bags),
         _ => dead_knot(step),
     }
 }

@@ -1,16 +1,17 @@
 //! Bags put into sets of alternatives.
 
-ghost use Rattle.std.specs.Prelude.{◌≡◌, ◌+◌, ◌<◌, ◌≤◌, [], ◌∷◌, ◌++◌, suc, length, map, take};
+ghost use Rattle.std.specs.Prelude.{◌≡◌, ◌+◌, ◌<◌, ◌≤◌, List, [], ◌∷◌, ◌++◌, suc, length, map};
+ghost use Rattle.std.specs.Prelude.{take};
 ghost use Rattle.std.specs.Prelude.{drop, insert, remove, vec_len, vec_capacity};
 ghost use Rattle.std.specs.Prelude.{IsTrue, IsFalse, IfOk, OnOk};
-ghost use Rattle.ix_tree.specs.Plain.{bag, listed};
+ghost use Rattle.ix_tree.specs.Plain.{Plain, bag, listed};
 ghost use Rattle.ix_tree.specs.PlainOf.{plain_bag};
 ghost use Rattle.ix_tree.specs.Size.{size_of};
 ghost use Rattle.ix_can.specs.Laws.{IsRising};
 ghost use Rattle.ix_can.specs.Nodes.{put_in};
-ghost use Rattle.ix_can.specs.inside.Moved.{bag_with, put_unless_done};
 ghost use Rattle.ix_step.specs.inside.Limits.{most_size, most_limit};
 ghost use Rattle.ix_step.specs.inside.Makes.{Gathers};
+ghost use Rattle.ix_step.specs.inside.ParallelMoves.{more_runs, runs_with, begun_runs, has_room};
 
 use crate::fault::Unbuilt;
 use crate::sets::put;
@@ -102,32 +103,63 @@ fn without(alloc: Global, items: &[Knot], place: usize) -> Result<Vec<Knot>, All
     Ok(all)
 }
 
-/// The trees without the one at the place and, unless it is done, with one more in its own place.
-fn moved_unless_done(
+/// Whether the tree of a run that is done is left out of the bag: it is where any number of runs is
+/// wanted.
+fn is_left_out(wanted: Option<u8>, tree: &Knot) -> bool
+    ensures left_out { IsTrue result
+        → (runs : List Plain) → more_runs wanted tree.now runs ≡ runs }
+    ensures put_in { IsFalse result
+        → (runs : List Plain) → more_runs wanted tree.now runs ≡ put_in tree.now runs }
+{
+    match wanted {
+        Some(_) => false,
+        None => tree.is_done(),
+    }
+}
+
+/// The trees without the one at the place and, unless it is left out, with one more in its own
+/// place.
+fn with_moved_run(
     alloc: Global,
+    wanted: Option<u8>,
     tree: Knot,
     items: &[Knot],
     place: usize,
 ) -> Result<Vec<Knot>, AllocError>
     requires rising { IsRising items.now }
     requires place { place < length items.now }
-    ensures { IfOk result (λ v. v.items ≡ put_unless_done tree (remove items.now place)) }
+    ensures { IfOk result (λ v. v.items ≡ more_runs wanted tree (remove items.now place)) }
 {
-    if tree.is_done() {
+    if is_left_out(wanted, &tree) {
         return without(alloc, items, place);
     }
     with_moved(alloc, tree, items, place)
 }
 
-/// The trees and, unless it is done, one more in its place.
-fn more_unless_done(alloc: Global, tree: Knot, items: &[Knot]) -> Result<Vec<Knot>, AllocError>
+/// The trees and, unless it is left out, one more in its place.
+fn with_more_run(
+    alloc: Global,
+    wanted: Option<u8>,
+    tree: Knot,
+    items: &[Knot],
+) -> Result<Vec<Knot>, AllocError>
     requires { IsRising items.now }
-    ensures { IfOk result (λ v. v.items ≡ put_unless_done tree items.now) }
+    ensures { IfOk result (λ v. v.items ≡ more_runs wanted tree items.now) }
 {
-    if tree.is_done() {
+    if is_left_out(wanted, &tree) {
         return share_knots(alloc, items);
     }
     with_more(alloc, tree, items)
+}
+
+/// Whether one more run may begin beside these.
+pub(crate) fn has_room(wanted: Option<u8>, items: &[Knot]) -> bool
+    ensures { result ≡ has_room wanted items.now }
+{
+    match wanted {
+        Some(number) => items.len() < usize::from(number),
+        None => true,
+    }
 }
 
 fn put_bag(set: &mut AltSet<Bag>, items: Vec<Knot>) -> Result<(), Unbuilt>
@@ -141,11 +173,12 @@ fn put_bag(set: &mut AltSet<Bag>, items: Vec<Knot>) -> Result<(), Unbuilt>
     put(set, Bag { items })
 }
 
-/// The bag with the tree at the place moved. A dead tree gives no bag, and one that is done is left
-/// out of it.
+/// The bag with the tree at the place moved. A dead tree gives no bag, and where any number of runs
+/// is wanted, one that is done is left out of it.
 pub(crate) fn put_moved(
     alloc: Global,
     set: &mut AltSet<Bag>,
+    wanted: Option<u8>,
     tree: Knot,
     items: &[Knot],
     place: usize,
@@ -155,23 +188,24 @@ pub(crate) fn put_moved(
     requires rising { IsRising items.now }
     requires place { place < length items.now }
     requires within { size_of (listed (map plain_bag set.old.items)) ≤ set.old.budget }
-    ensures gathers { Gathers set.old.budget (bag_with tree (remove items.now place)) (map plain_bag
-        set.old.items) (map plain_bag set.new.items) result }
+    ensures gathers { Gathers set.old.budget (runs_with wanted tree (remove items.now place))
+        (map plain_bag set.old.items) (map plain_bag set.new.items) result }
     ensures within { size_of (listed (map plain_bag set.new.items)) ≤ set.old.budget }
     ensures budget { set.new.budget ≡ set.old.budget }
 {
     if tree.is_dead() {
         return Ok(());
     }
-    let all = moved_unless_done(alloc, tree, items, place)?;
+    let all = with_moved_run(alloc, wanted, tree, items, place)?;
     put_bag(set, all)
 }
 
-/// The bag with one run more, whose tree is `more`. A dead tree gives no bag, and one that is done
-/// is left out of it.
+/// The bag with one run more, whose tree is `more`, where there is room for it. A dead tree gives
+/// no bag, and where any number of runs is wanted, one that is done is left out of it.
 pub(crate) fn put_more(
     alloc: Global,
     set: &mut AltSet<Bag>,
+    wanted: Option<u8>,
     more: &Knot,
     items: &[Knot],
 ) -> Result<(), Unbuilt>
@@ -179,15 +213,15 @@ pub(crate) fn put_more(
     requires items { size_of (listed items.now) ≤ most_size }
     requires rising { IsRising items.now }
     requires within { size_of (listed (map plain_bag set.old.items)) ≤ set.old.budget }
-    ensures gathers { Gathers set.old.budget (bag_with more.now items.now) (map plain_bag
+    ensures gathers { Gathers set.old.budget (begun_runs wanted more.now items.now) (map plain_bag
         set.old.items) (map plain_bag set.new.items) result }
     ensures within { size_of (listed (map plain_bag set.new.items)) ≤ set.old.budget }
     ensures budget { set.new.budget ≡ set.old.budget }
 {
-    if more.is_dead() {
+    if more.is_dead() || !has_room(wanted, items) {
         return Ok(());
     }
     let tree = more.share()?;
-    let all = more_unless_done(alloc, tree, items)?;
+    let all = with_more_run(alloc, wanted, tree, items)?;
     put_bag(set, all)
 }

@@ -1,4 +1,5 @@
-//! The body of a quantifier, and how far an action reaches in it.
+//! The body of a quantifier, and how far an action reaches in it; the runs of an operand side by
+//! side.
 
 use ix_expr::Expr;
 use ix_values::Name;
@@ -8,6 +9,13 @@ use ix_values::Name;
 pub(crate) struct Body<'a> {
     pub(crate) parameter: &'a Name,
     pub(crate) expr: &'a Expr,
+}
+
+/// The operand of `#` or of `times`, and how many runs of it are wanted: of `#` any number.
+#[derive(Clone, Copy)]
+pub(crate) struct Runs<'a> {
+    pub(crate) expr: &'a Expr,
+    pub(crate) wanted: Option<u8>,
 }
 
 /// Which values' states an action moves, and whether each of them must move.

@@ -1,8 +1,9 @@
 //! The tree of the empty word.
 
-ghost use Rattle.std.specs.Prelude.{◌≡◌, ◌≤◌, ◌∷◌, [], true, false, IfOk};
+ghost use Rattle.std.specs.Prelude.{◌≡◌, ◌≤◌, ◌∷◌, [], true, false, IfOk, map as each};
 ghost use Rattle.ix_expr.specs.inside.FormOf.{form_of};
-ghost use Rattle.ix_tree.specs.Plain.{seq, par, par_star, all, pair, bag, map, none, listed};
+ghost use Rattle.ix_tree.specs.Plain.{seq, par, all, pair, bag, map, none, listed};
+ghost use Rattle.ix_tree.specs.PlainOf.{plain_bag};
 ghost use Rattle.ix_tree.specs.Size.{size_of};
 ghost use Rattle.ix_words.specs.Canon.{when};
 ghost use Rattle.ix_can.specs.Tests.{accepts_empty as accepts};
@@ -26,7 +27,7 @@ pub(crate) fn first_tree(alloc: Global, expr: &Expr) -> Result<Knot, AllocError>
         Expr::Seq(y, z) => first_seq(alloc, y, z),
         Expr::Star(_) => Knot::new(alloc, Node::Star(true, Vec::new(alloc))),
         Expr::Par(y, z) => one_pair(alloc, first_tree(alloc, y)?, first_tree(alloc, z)?),
-        Expr::ParStar(_) => empty_bag(alloc),
+        Expr::ParStar(_) => Knot::new(alloc, Node::ParStar(no_runs(alloc)?)),
         Expr::Or(y, z) => {
             Knot::new(
                 alloc,
@@ -49,6 +50,7 @@ pub(crate) fn first_tree(alloc: Global, expr: &Expr) -> Result<Knot, AllocError>
         Expr::Every(_, y) => Knot::new(alloc, Node::Every(first_tree(alloc, y)?, Vec::new(alloc))),
         Expr::Sync(_, y) => Knot::new(alloc, Node::Sync(first_tree(alloc, y)?, Vec::new(alloc))),
         Expr::All(_, _) => empty_map(alloc),
+        Expr::Times(_, _) => Knot::new(alloc, Node::Times(no_runs(alloc)?)),
     }
 }
 
@@ -89,14 +91,14 @@ fn one_pair(alloc: Global, first: Knot, second: Knot) -> Result<Knot, AllocError
 }
 
 /// The one alternative of the empty word: no run has begun.
-fn empty_bag(alloc: Global) -> Result<Knot, AllocError>
-    ensures { IfOk result (λ t. t ≡ par_star (listed (bag none ∷ []))) }
+fn no_runs(alloc: Global) -> Result<Vec<Bag>, AllocError>
+    ensures { IfOk result (λ bags. each plain_bag bags.items ≡ bag none ∷ []) }
 {
     let mut bags = Vec::new(alloc);
     bags.push(Bag {
         items: Vec::new(alloc),
     })?;
-    Knot::new(alloc, Node::ParStar(bags))
+    Ok(bags)
 }
 
 /// The one alternative of the empty word: no value has begun.

@@ -123,6 +123,7 @@ fn has_died(node: &Node) -> bool
         Node::Or(left, right) => left.is_dead() && right.is_dead(),
         Node::Any(common, entries) => common.is_dead() && entries.as_slice().is_empty(),
         Node::All(maps) => maps.as_slice().is_empty(),
+        Node::Times(bags) => bags.as_slice().is_empty(),
         _ => false,
     }
 }

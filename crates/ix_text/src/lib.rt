@@ -2,10 +2,11 @@
 #![tactic(auto)]
 
 ghost use Rattle.std.specs.Prelude.{◌≡◌, ◌∷◌, ◌++◌, [], ◌<◌, nat_lt, nat_le, IfOk, OnOk, length};
-ghost use Rattle.std.specs.Prelude.{vec_len};
+ghost use Rattle.std.specs.Prelude.{vec_len, codes, decimal};
 ghost use Rattle.ix_expr.specs.CanonicalText as spec;
 ghost use Rattle.ix_expr.specs.inside.FormOf.{form_of};
 
+use itoa::Buffer;
 use ix_expr::{Arg, Atom, Expr, Expression};
 use ix_values::Name;
 use std::alloc::{AllocError, Global};
@@ -57,6 +58,7 @@ fn write(out: &mut Vec<u8>, expr: &Expr) -> Result<(), AllocError>
         Expr::Every(parameter, y) => write_quantifier(out, b"every", parameter, y),
         Expr::Sync(parameter, y) => write_quantifier(out, b"sync", parameter, y),
         Expr::All(parameter, y) => write_quantifier(out, b"all", parameter, y),
+        Expr::Times(number, y) => write_times(out, *number, y),
     }
 }
 
@@ -103,6 +105,24 @@ fn write_quantifier(
     out.extend_from_slice(parameter.bytes())?;
     out.push(b' ')?;
     write_operand(out, operand, is_binary(operand))
+}
+
+#[cycle(writer)]
+fn write_times(out: &mut Vec<u8>, number: u8, operand: &Expr) -> Result<(), AllocError>
+    ensures { OnOk result
+        (out.new.items
+        ≡ out.old.items
+        ++ (codes "times" ++ (32 ∷ decimal number)
+        ++ (32
+        ∷ spec.operand_text
+        (spec.binding (form_of operand.now), spec.canonical_text (form_of operand.now))))) }
+{
+    let mut buffer = Buffer::new();
+    let is_enclosed = is_binary(operand);
+    out.extend_from_slice(b"times ")?;
+    out.extend_from_slice(buffer.format(number).as_bytes())?;
+    out.push(b' ')?;
+    write_operand(out, operand, is_enclosed)
 }
 
 #[cycle(writer)]

@@ -1,6 +1,7 @@
 //! Texts that the language's documents give.
 
 use super::*;
+use ix_expr::has_numbers;
 use ix_values::Value;
 use std::test::Fail;
 
@@ -32,7 +33,11 @@ fn examinations(alloc: Global, outer: &[u8], inner: &[u8]) -> Result<Box<Expr>, 
 }
 
 fn printed(alloc: Global, expr: Box<Expr>) -> Result<Vec<u8>, Fail> {
-    let expression = Expression::new(Box::into_inner(expr)).map_err(|_| "not well formed")?;
+    let expr = Box::into_inner(expr);
+    if !has_numbers(&expr) {
+        return Err("a number isn't 2 to 64".into());
+    }
+    let expression = Expression::new(expr).map_err(|_| "not well formed")?;
     Ok(text(alloc, &expression)?)
 }
 
@@ -87,6 +92,20 @@ fn other_forms(rt: HostRuntime) -> Result<(), Fail> {
     assert_eq!(rt;
         printed(alloc, boxed(alloc, whole)?)?.as_slice(),
         b"(a | b) & ?(c - d) @ #e + every $p sync $q f($p,$q,v)".as_slice()
+    );
+    Ok(())
+}
+
+/// `times 2 (times 64 a - ?times 10 b)`
+#[test]
+fn so_many_times(rt: HostRuntime) -> Result<(), Fail> {
+    let alloc = rt.alloc();
+    let many = boxed(alloc, Expr::Times(64, atom(alloc, b"a", &[])?))?;
+    let few = boxed(alloc, Expr::Times(10, atom(alloc, b"b", &[])?))?;
+    let steps = sequence(alloc, many, boxed(alloc, Expr::Opt(few))?)?;
+    assert_eq!(rt;
+        printed(alloc, boxed(alloc, Expr::Times(2, steps))?)?.as_slice(),
+        b"times 2 (times 64 a - ?times 10 b)".as_slice()
     );
     Ok(())
 }

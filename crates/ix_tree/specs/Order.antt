@@ -5,7 +5,7 @@ use Rattle.std.specs.declared.cmp.Ordering.TheVariants.{Equal}
 use Rattle.std.specs.Ordering.{nat_cmp, ordering_then}
 use Rattle.ix_values.specs.Order.{text_cmp}
 use Rattle.ix_tree.specs.Plain.{Plain, dead, start, done, opt, seq, star, par, par_star, or, and}
-use Rattle.ix_tree.specs.Plain.{couple, any, every, sync, all, pair, bag, map, entry, none, more}
+use Rattle.ix_tree.specs.Plain.{couple, any, every, sync, all, times, pair, bag, map, entry, none, more}
 
 -- the place of a form; the empty list stands before every other
 abbrev pub place : Plain → ℕ
@@ -24,12 +24,13 @@ place (any common entries) = 11
 place (every common entries) = 12
 place (sync common entries) = 13
 place (all maps) = 14
-place (pair x y) = 15
-place (bag xs) = 16
-place (map entries) = 17
-place (entry v x) = 18
-place none = 19
-place (more x xs) = 20
+place (times bags) = 15
+place (pair x y) = 16
+place (bag xs) = 17
+place (map entries) = 18
+place (entry v x) = 19
+place none = 20
+place (more x xs) = 21
 
 -- what a node has before its trees, as bytes: false before true, and an entry's value
 abbrev pub key : Plain → List ℕ
@@ -51,6 +52,7 @@ key (any common entries) = []
 key (every common entries) = []
 key (sync common entries) = []
 key (all maps) = []
+key (times bags) = []
 key (pair x y) = []
 key (bag xs) = []
 key (map entries) = []
@@ -71,6 +73,7 @@ first_part (any common entries) = common
 first_part (every common entries) = common
 first_part (sync common entries) = common
 first_part (all maps) = maps
+first_part (times bags) = bags
 first_part (pair x y) = x
 first_part (bag xs) = xs
 first_part (map entries) = entries
@@ -99,6 +102,7 @@ between (any common entries) = []
 between (every common entries) = []
 between (sync common entries) = []
 between (all maps) = []
+between (times bags) = []
 between (pair x y) = []
 between (bag xs) = []
 between (map entries) = []
@@ -122,6 +126,7 @@ second_part (star again xs) = none
 second_part (par pairs) = none
 second_part (par_star bags) = none
 second_part (all maps) = none
+second_part (times bags) = none
 second_part (bag xs) = none
 second_part (map entries) = none
 second_part (entry v x) = none
@@ -158,6 +163,7 @@ tree_cmp (every common entries) y = in_turn (every common entries) y
 tree_cmp (sync common entries) y = in_turn (sync common entries) y (tree_cmp common (first_part y))
     (tree_cmp entries (second_part y))
 tree_cmp (all maps) y = in_turn (all maps) y (tree_cmp maps (first_part y)) Equal
+tree_cmp (times bags) y = in_turn (times bags) y (tree_cmp bags (first_part y)) Equal
 tree_cmp (pair x z) y = in_turn (pair x z) y (tree_cmp x (first_part y))
     (tree_cmp z (second_part y))
 tree_cmp (bag xs) y = in_turn (bag xs) y (tree_cmp xs (first_part y)) Equal

@@ -19,6 +19,7 @@ pub data Plain : Type 0 where
   every : Plain → Plain → Plain
   sync : Plain → Plain → Plain
   all : Plain → Plain
+  times : Plain → Plain
   pair : Plain → Plain → Plain
   bag : Plain → Plain
   map : Plain → Plain
@@ -43,6 +44,7 @@ is_dead (any common entries) = false
 is_dead (every common entries) = false
 is_dead (sync common entries) = false
 is_dead (all maps) = false
+is_dead (times bags) = false
 is_dead (pair x y) = false
 is_dead (bag xs) = false
 is_dead (map entries) = false
@@ -67,6 +69,7 @@ is_done (any common entries) = false
 is_done (every common entries) = false
 is_done (sync common entries) = false
 is_done (all maps) = false
+is_done (times bags) = false
 is_done (pair x y) = false
 is_done (bag xs) = false
 is_done (map entries) = false
@@ -97,6 +100,7 @@ items_of (any common entries) = []
 items_of (every common entries) = []
 items_of (sync common entries) = []
 items_of (all maps) = []
+items_of (times bags) = []
 items_of (pair x y) = []
 items_of (bag xs) = []
 items_of (map entries) = []

@@ -1,7 +1,7 @@
 -- Size, the number of nodes that a tree counts as.
 use Rattle.std.specs.Prelude.{ℕ, ◌+◌}
 use Rattle.ix_tree.specs.Plain.{Plain, dead, start, done, opt, seq, star, par, par_star, or, and}
-use Rattle.ix_tree.specs.Plain.{couple, any, every, sync, all, pair, bag, map, entry, none, more}
+use Rattle.ix_tree.specs.Plain.{couple, any, every, sync, all, times, pair, bag, map, entry, none, more}
 
 -- a node counts 1 and its parts; a pair, a bag, a map and an entry count 1 and their trees; a list
 -- counts its items
@@ -21,6 +21,7 @@ size_of (any common entries) = 1 + size_of common + size_of entries
 size_of (every common entries) = 1 + size_of common + size_of entries
 size_of (sync common entries) = 1 + size_of common + size_of entries
 size_of (all maps) = 1 + size_of maps
+size_of (times bags) = 1 + size_of bags
 size_of (pair x y) = 1 + size_of x + size_of y
 size_of (bag xs) = 1 + size_of xs
 size_of (map entries) = 1 + size_of entries

@@ -47,6 +47,8 @@ pub enum Node {
     Sync(Knot, Vec<(Value, Knot)>),
     /// `all $p y`: the alternatives, each a map from values to states of y.
     All(Vec<Map>),
+    /// `times N y`: the alternatives, each a bag of states of y, one for each run that has begun.
+    Times(Vec<Bag>),
 }
 
 /// The states of the two sides of one split.

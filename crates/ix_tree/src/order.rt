@@ -344,6 +344,7 @@ fn place(node: &Node) -> u8
         Node::Every(_, _) => 12,
         Node::Sync(_, _) => 13,
         Node::All(_) => 14,
+        Node::Times(_) => 15,
     }
 }
 
@@ -377,6 +378,10 @@ fn compare(left: &Knot, right: &Knot) -> Ordering
         },
         Node::All(xs) => match right.node() {
             Node::All(ys) => compare_maps(xs, ys),
+            _ => places,
+        },
+        Node::Times(xs) => match right.node() {
+            Node::Times(ys) => compare_bags(xs, ys),
             _ => places,
         },
         Node::Or(x, z) => compare_or(x, z, right.node()),

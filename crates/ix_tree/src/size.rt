@@ -21,7 +21,7 @@ impl Node {
             Node::Seq(x, _, xs) => 1 + x.size() + knots_size(xs),
             Node::Star(_, xs) => 1 + knots_size(xs),
             Node::Par(pairs) => 1 + pairs_size(pairs),
-            Node::ParStar(bags) => 1 + bags_size(bags),
+            Node::ParStar(bags) | Node::Times(bags) => 1 + bags_size(bags),
             Node::Or(x, y) | Node::And(x, y) | Node::Couple(x, y) => 1 + x.size() + y.size(),
             Node::Any(x, entries) | Node::Every(x, entries) | Node::Sync(x, entries) => {
                 1 + x.size() + entries_size(entries)

@@ -1,11 +1,11 @@
 -- Whether a word extended by an action is partial, computed from the tree of the word.
-use Rattle.std.specs.Prelude.{ℕ, Bool, false, not, ◌&&◌, ◌||◌, List, [], ◌∷◌, Some, None, if◌then◌else◌}
+use Rattle.std.specs.Prelude.{ℕ, nat_lt, length, Bool, false, not, ◌&&◌, ◌||◌, List, [], ◌∷◌, Some, None, if◌then◌else◌}
 use Rattle.std.specs.List.{list_any, list_all}
 use Rattle.ix_values.specs.Order.{text_eq}
 use Rattle.ix_values.specs.PlainAction.{PlainAction}
-use Rattle.ix_expr.specs.Form.{Form, atom, opt, seq, star, par, par_star, or, and, couple, any, every, sync, all}
+use Rattle.ix_expr.specs.Form.{Form, atom, opt, seq, star, par, par_star, or, and, couple, any, every, sync, all, times}
 use Rattle.ix_expr.specs.Environment.{Environment, bind}
-use Rattle.ix_tree.specs.Plain.{Plain, dead, start, opt as opt_of, seq as seq_of, star as star_of, par as par_of, par_star as par_star_of, or as or_of, and as and_of, couple as couple_of, any as any_of, every as every_of, sync as sync_of, all as all_of}
+use Rattle.ix_tree.specs.Plain.{Plain, dead, start, opt as opt_of, seq as seq_of, star as star_of, par as par_of, par_star as par_star_of, or as or_of, and as and_of, couple as couple_of, any as any_of, every as every_of, sync as sync_of, all as all_of, times as times_of}
 use Rattle.ix_tree.specs.Order.{key, first_part, second_part}
 use Rattle.ix_can.specs.Tests.{is_match, in_alphabet, values_and_outside, accepts_empty}
 use Rattle.ix_can.specs.Nodes.{is_dead, items_of}
@@ -40,6 +40,7 @@ may_first (sync p y) e a =
     list_any (λ v. in_alphabet y (bind p v e) a) (values_and_outside a)
     && list_all (λ v. moves_within (in_alphabet y (bind p v e) a) (may_first y (bind p v e) a)) (values_and_outside a)
 may_first (all p y) e a = list_any (λ v. may_first y (bind p (Some v) e) a) a.values
+may_first (times n y) e a = nat_lt 0 n && may_first y e a
 
 -- whether the word whose tree this is, extended by the action, is partial; a tree of another form tells of no word
 abbrev pub may : Form → Environment → Plain → PlainAction → Bool
@@ -67,4 +68,6 @@ may (sync p y) e (sync_of common entries) a =
     && list_all (λ v. moves_within (in_alphabet y (bind p (Some v) e) a) (may y (bind p (Some v) e) (tree_at v common (items_of entries)) a)) a.values))
 may (all p y) e (all_of maps) a =
     list_any (λ m. list_any (λ v. if is_dead (tree_at v dead (items_of (first_part m))) then may_first y (bind p (Some v) e) a else may y (bind p (Some v) e) (tree_at v dead (items_of (first_part m))) a) a.values) (items_of maps)
+may (times n y) e (times_of bags) a =
+    list_any (λ b. (nat_lt (length (items_of (first_part b))) n && may_first y e a) || list_any (λ s. may y e s a) (items_of (first_part b))) (items_of bags)
 may x e t a = false

@@ -1,15 +1,15 @@
 -- The tree of a word extended by an action, computed from the tree of the word.
-use Rattle.std.specs.Prelude.{◌≡◌, ℕ, Bool, false, not, List, [], ◌∷◌, ◌++◌, map, flat_map, filter, Some, None, if◌then◌else◌}
+use Rattle.std.specs.Prelude.{◌≡◌, ℕ, nat_lt, length, Bool, false, not, List, [], ◌∷◌, ◌++◌, map, flat_map, filter, Some, None, if◌then◌else◌}
 use Rattle.std.specs.List.{list_any}
 use Rattle.ix_words.specs.Canon.{when}
 use Rattle.ix_values.specs.Order.{text_eq}
 use Rattle.ix_values.specs.PlainAction.{PlainAction}
-use Rattle.ix_expr.specs.Form.{Form, atom, opt, seq, star, par, par_star, or, and, couple, any, every, sync, all}
+use Rattle.ix_expr.specs.Form.{Form, atom, opt, seq, star, par, par_star, or, and, couple, any, every, sync, all, times}
 use Rattle.ix_expr.specs.Environment.{Environment, bind}
-use Rattle.ix_tree.specs.Plain.{Plain, dead, start, done, opt as opt_of, seq as seq_of, star as star_of, par as par_of, par_star as par_star_of, or as or_of, and as and_of, couple as couple_of, any as any_of, every as every_of, sync as sync_of, all as all_of, pair as pair_of, bag as bag_of, map as map_of, entry as entry_of}
+use Rattle.ix_tree.specs.Plain.{Plain, dead, start, done, opt as opt_of, seq as seq_of, star as star_of, par as par_of, par_star as par_star_of, or as or_of, and as and_of, couple as couple_of, any as any_of, every as every_of, sync as sync_of, all as all_of, times as times_of, pair as pair_of, bag as bag_of, map as map_of, entry as entry_of}
 use Rattle.ix_tree.specs.Order.{key, first_part, second_part}
 use Rattle.ix_can.specs.Tests.{is_match, in_alphabet}
-use Rattle.ix_can.specs.Nodes.{is_dead, is_live, same_tree, is_done, is_open, listed, items_of, set_of, put_in, live, dead_if, settled, seq_parts}
+use Rattle.ix_can.specs.Nodes.{is_dead, is_live, same_tree, is_done, is_open, listed, items_of, set_of, put_in, live, dead_if, settled, seq_parts, settled_times}
 use Rattle.ix_can.specs.TreeOf.{is_final, tree_of}
 use Rattle.ix_can.specs.inside.May.{may, tree_at}
 
@@ -91,6 +91,10 @@ moved (sync p y) e (sync_of common entries) a =
 moved (all p y) e (all_of maps) a =
     dead_if (not (may (all p y) e (all_of maps) a)) (all_of (set_of (flat_map (λ m. flat_map (λ v.
     map_with (tree_of y [] []) v (moved y (bind p (Some v) e) (or_initial (tree_of y [] []) (tree_at v dead (items_of (first_part m)))) a) (items_of (first_part m))) a.values) (items_of maps))))
+moved (times n y) e (times_of bags) a =
+    dead_if (not (may (times n y) e (times_of bags) a)) (settled_times n (set_of (flat_map (λ b.
+    flat_map (λ p. keep_with (moved y e p.0 a) p.1) (picks (items_of (first_part b)))
+    ++ when (nat_lt (length (items_of (first_part b))) n) (keep_with (moved y e (tree_of y [] []) a) (items_of (first_part b)))) (items_of bags))))
 moved x e t a = dead
 
 -- the tree of a word moves to the tree of the word with one more action

@@ -1,6 +1,6 @@
 -- The plain data that an expression in memory stands for.
-use Rattle.ix_expr.specs.Form.{Form, atom, opt, seq, star, par, par_star, or, and, couple, any, every, sync, all}
-use Rattle.ix_expr.specs.declared.expr.Expr.{Expr, Atom, Opt', Seq', Star', Par', ParStar', Or', And', Couple', Any', Every', Sync', All'}
+use Rattle.ix_expr.specs.Form.{Form, atom, opt, seq, star, par, par_star, or, and, couple, any, every, sync, all, times}
+use Rattle.ix_expr.specs.declared.expr.Expr.{Expr, Atom, Opt', Seq', Star', Par', ParStar', Or', And', Couple', Any', Every', Sync', All', Times'}
 
 -- the form of an expression
 abbrev pub form_of : Expr → Form
@@ -17,3 +17,4 @@ form_of (Any' p place y) = any p (form_of y)
 form_of (Every' p place y) = every p (form_of y)
 form_of (Sync' p place y) = sync p (form_of y)
 form_of (All' p place y) = all p (form_of y)
+form_of (Times' n place y) = times n (form_of y)

@@ -4,9 +4,9 @@ use Rattle.std.specs.Coded.{Coded, code_by}
 use Rattle.std.proofs.Common.{ap, refl}
 use Rattle.std.specs.Ptr.{null_ptr}
 use Rattle.std.specs.Global.{Box}
-use Rattle.ix_expr.specs.Form.{Form, atom, opt, seq, star, par, par_star, or, and, couple, any, every, sync, all}
+use Rattle.ix_expr.specs.Form.{Form, atom, opt, seq, star, par, par_star, or, and, couple, any, every, sync, all, times}
 use Rattle.ix_expr.specs.inside.FormOf.{form_of}
-use Rattle.ix_expr.specs.declared.expr.Expr.{Expr, Atom, Opt', Seq', Star', Par', ParStar', Or', And', Couple', Any', Every', Sync', All'}
+use Rattle.ix_expr.specs.declared.expr.Expr.{Expr, Atom, Opt', Seq', Star', Par', ParStar', Or', And', Couple', Any', Every', Sync', All', Times'}
 use Rattle.ix_expr.specs.contracts.expr.Expr.{the_row}
 
 -- a place with nothing behind it
@@ -28,6 +28,7 @@ placed (any p y) = Any' p empty (placed y)
 placed (every p y) = Every' p empty (placed y)
 placed (sync p y) = Sync' p empty (placed y)
 placed (all p y) = All' p empty (placed y)
+placed (times n y) = Times' n empty (placed y)
 
 -- the form of it is the form
 pub form_of-placed : (x : Form) → form_of (placed x) ≡ x
@@ -44,6 +45,7 @@ form_of-placed (any p y) = ap (any p) (form_of-placed y)
 form_of-placed (every p y) = ap (every p) (form_of-placed y)
 form_of-placed (sync p y) = ap (sync p) (form_of-placed y)
 form_of-placed (all p y) = ap (all p) (form_of-placed y)
+form_of-placed (times n y) = ap (times n) (form_of-placed y)
 
 -- a form is stored as its expression
 abbrev pub form_code : Coded Form

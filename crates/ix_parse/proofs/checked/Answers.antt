@@ -9,5 +9,5 @@ pub returns : goal.returns
 returns c =
     let nodes = nodes_of (form_of c.args.operand.expr) in
     let found = in_range nodes c.in-Err.fault.node (λ node. fault_at c.in-Err.fault.node node ≡ Some c.in-Err.fault.code) c.in-Err.ensures.fault.here in
-    let same : length c.args.operand.places.items ≡ length nodes = c.requires in
+    let same : length c.args.operand.places.items ≡ length nodes = c.requires.places in
     (c.in-Err.fault.node, c.in-Err.ensures.fault, slice_get_read c.args.operand.places.items (length c.args.operand.places.items) c.in-Err.fault.node c.index.result.now refl (omega arith) c.index.ensures)

@@ -2,12 +2,12 @@
 use Rattle.std.specs.Prelude.{◌≡◌, ◌<◌, ◌≤◌, length}
 use Rattle.ix_values.specs.Texts.{IsName, IsValue}
 use Rattle.ix_parse.specs.declared.reader.Mode.{Mode}
-use Rattle.ix_parse.specs.declared.reader.Mode.TheVariants.{Wanted, NameRead, ArgumentWanted, ArgumentRead, QuantifierRead, OperandRead}
+use Rattle.ix_parse.specs.declared.reader.Mode.TheVariants.{Wanted, NameRead, ArgumentWanted, ArgumentRead, QuantifierRead, TimesRead, OperandRead}
 use Rattle.ix_parse.specs.declared.reader.Reader.{Reader}
 use Rattle.ix_parse.specs.declared.signs.WordClass.TheVariants.{Names}
 use Rattle.ix_parse.specs.Symbols.{Symbol, word, param, class_of}
 use Rattle.ix_parse.specs.inside.StackMachine as machine
-use Rattle.ix_parse.specs.inside.StackMachine.{wanted, name_read, argument_wanted, argument_read, quantifier_read, operand_read}
+use Rattle.ix_parse.specs.inside.StackMachine.{wanted, name_read, argument_wanted, argument_read, quantifier_read, times_read, operand_read}
 use Rattle.ix_parse.specs.inside.Operands.{meaning_of}
 use Rattle.ix_parse.specs.inside.Stack.{stack_of}
 
@@ -17,6 +17,7 @@ mode_of (NameRead at w) = name_read at w
 mode_of (ArgumentWanted at w args) = argument_wanted at w args.items
 mode_of (ArgumentRead at w args) = argument_read at w args.items
 mode_of (QuantifierRead at q) = quantifier_read at q
+mode_of (TimesRead at) = times_read at
 mode_of (OperandRead x) = operand_read (meaning_of x)
 
 abbrev pub config_of : Reader → machine.Config

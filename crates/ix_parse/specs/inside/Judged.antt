@@ -1,27 +1,54 @@
 -- Which fault the next symbol meets, as tests of what the machine holds.
-use Rattle.std.specs.Prelude.{ℕ, Bool, true, false, not, ◌&&◌, List, [], ◌∷◌, length, Option, Some, None, if◌then◌else◌, nat_lt, nat_le, ◌==◌}
+use Rattle.std.specs.Prelude.{ℕ, Bool, true, false, not, ◌&&◌, List, [], ◌∷◌, length, Option, Some, None, is_some, if◌then◌else◌, nat_lt, nat_le, ◌==◌}
 use Rattle.ix_parse.specs.declared.faults.Fault.{Fault}
 use Rattle.ix_parse.specs.declared.faults.Fault.TheVariants as faults
+use Rattle.ix_parse.specs.declared.signs.Follower.{Follower}
+use Rattle.ix_parse.specs.declared.signs.Follower.TheVariants as followers
 use Rattle.ix_parse.specs.declared.signs.WordClass.{WordClass}
-use Rattle.ix_parse.specs.declared.signs.WordClass.TheVariants.{Quantifies, Withheld, Names, Other}
+use Rattle.ix_parse.specs.declared.signs.WordClass.TheVariants.{Quantifies, Counts, Names, Other}
 use Rattle.ix_lex.specs.Lexing.{Piece, token, bad_byte}
 use Rattle.ix_parse.specs.Symbols.{symbol_of, Symbol, word, param, opening, closing, comma, before, between, class_of}
-use Rattle.ix_parse.specs.inside.StackMachine.{Mode, wanted, name_read, argument_wanted, argument_read, quantifier_read, operand_read, Config, levels, groups}
+use Rattle.ix_parse.specs.inside.StackMachine.{Mode, wanted, name_read, argument_wanted, argument_read, quantifier_read, times_read, operand_read, Config, number_of, levels, groups}
 
 abbrev pub is_wanted : Mode → Bool
 is_wanted wanted = true
 is_wanted _ = false
 
--- a word that begins no operand, by whether a parameter is next
-abbrev pub begins_nothing : WordClass → Bool → Bool
-begins_nothing (Quantifies q) param_next = not param_next
-begins_nothing Withheld param_next = true
-begins_nothing Names param_next = false
-begins_nothing Other param_next = false
+-- whether a parameter, and whether a word follows
+abbrev pub is_param_next : Follower → Bool
+is_param_next followers.Word = false
+is_param_next followers.Param = true
+is_param_next followers.Neither = false
 
-abbrev pub is_reserved_word : Symbol → Bool → Bool
-is_reserved_word (word at w) param_next = begins_nothing (class_of w) param_next
-is_reserved_word _ param_next = false
+abbrev pub is_word_next : Follower → Bool
+is_word_next followers.Word = true
+is_word_next followers.Param = false
+is_word_next followers.Neither = false
+
+-- a word that begins no operand, by what follows it
+abbrev pub begins_nothing : WordClass → Follower → Bool
+begins_nothing (Quantifies q) next = not (is_param_next next)
+begins_nothing Counts next = not (is_word_next next)
+begins_nothing Names next = false
+begins_nothing Other next = false
+
+abbrev pub is_reserved_word : Symbol → Follower → Bool
+is_reserved_word (word at w) next = begins_nothing (class_of w) next
+is_reserved_word _ next = false
+
+-- the word `times` was read
+abbrev pub is_times : Mode → Bool
+is_times (times_read at) = true
+is_times _ = false
+
+-- a word that is a number, and one that is none
+abbrev pub is_number : Symbol → Bool
+is_number (word at w) = is_some (number_of w)
+is_number _ = false
+
+abbrev pub is_no_number : Symbol → Bool
+is_no_number (word at w) = not (is_some (number_of w))
+is_no_number _ = false
 
 abbrev pub is_comma : Symbol → Bool
 is_comma comma = true
@@ -34,7 +61,7 @@ has_four _ = false
 
 abbrev pub begins_operand : WordClass → Bool
 begins_operand (Quantifies q) = true
-begins_operand Withheld = false
+begins_operand Counts = true
 begins_operand Names = true
 begins_operand Other = false
 
@@ -78,6 +105,7 @@ may_come_by open_group (name_read at w) t = may_follow_name open_group t
 may_come_by open_group (argument_wanted at w args) t = is_argument t
 may_come_by open_group (argument_read at w args) t = may_follow_argument (length args) t
 may_come_by open_group (quantifier_read at q) t = is_param t
+may_come_by open_group (times_read at) t = is_number t
 may_come_by open_group (operand_read x) t = may_follow open_group t
 
 abbrev pub may_come : Config → Symbol → Bool
@@ -88,12 +116,15 @@ is_long (word at w) = nat_lt 32 (length w)
 is_long (param p) = nat_lt 32 (length p)
 is_long _ = false
 
-abbrev pub is_quantifier : WordClass → Bool
-is_quantifier (Quantifies q) = true
-is_quantifier _ = false
+-- a word that takes an operand
+abbrev pub takes_operand : WordClass → Bool
+takes_operand (Quantifies q) = true
+takes_operand Counts = true
+takes_operand Names = false
+takes_operand Other = false
 
 abbrev pub opens_level : Symbol → Bool
-opens_level (word at w) = is_quantifier (class_of w)
+opens_level (word at w) = takes_operand (class_of w)
 opens_level opening = true
 opens_level (before at p) = true
 opens_level _ = false
@@ -105,34 +136,46 @@ is_node wants (before at p) = true
 is_node wants (between at o) = true
 is_node wants _ = false
 
--- whether a fault is met at a symbol, after n nodes, by whether a parameter is next
-abbrev pub meets : Config → ℕ → Symbol → Bool → Fault → Bool
-meets c n t param_next faults.NoToken = false
-meets c n t param_next faults.Reserved = is_wanted c.mode && is_reserved_word t param_next
-meets c n t param_next faults.FifthArgument = has_four c.mode && is_comma t
-meets c n t param_next faults.Unexpected = not (may_come c t)
-meets c n t param_next faults.LongName = is_long t
-meets c n t param_next faults.TooDeep = (is_wanted c.mode && opens_level t) && (levels c.stack == 64)
-meets c n t param_next faults.TooManyNodes = is_node (is_wanted c.mode) t && (n == 512)
-meets c n t param_next faults.Ended = false
+-- whether a fault is met at a symbol, after n nodes, by what follows
+abbrev pub meets : Config → ℕ → Symbol → Follower → Fault → Bool
+meets c n t next faults.NoToken = false
+meets c n t next faults.Reserved = is_wanted c.mode && is_reserved_word t next
+meets c n t next faults.NoNumber = is_times c.mode && is_no_number t
+meets c n t next faults.FifthArgument = has_four c.mode && is_comma t
+meets c n t next faults.Unexpected = not (may_come c t)
+meets c n t next faults.LongName = is_long t
+meets c n t next faults.TooDeep = (is_wanted c.mode && opens_level t) && (levels c.stack == 64)
+meets c n t next faults.TooManyNodes = is_node (is_wanted c.mode) t && (n == 512)
+meets c n t next faults.Ended = false
 
 -- the first of the faults that is met
 abbrev pub first_met : (Fault → Bool) → Option Fault
 first_met test =
     if test faults.Reserved then Some faults.Reserved
+    else (if test faults.NoNumber then Some faults.NoNumber
     else (if test faults.FifthArgument then Some faults.FifthArgument
     else (if test faults.Unexpected then Some faults.Unexpected
     else (if test faults.LongName then Some faults.LongName
     else (if test faults.TooDeep then Some faults.TooDeep
     else (if test faults.TooManyNodes then Some faults.TooManyNodes
-    else None)))))
+    else None))))))
 
 -- the fault that is met at a symbol
-abbrev pub judged : Config → ℕ → Symbol → Bool → Option Fault
-judged c n t param_next = first_met (meets c n t param_next)
+abbrev pub judged : Config → ℕ → Symbol → Follower → Option Fault
+judged c n t next = first_met (meets c n t next)
 
--- whether the next piece is a parameter
-abbrev pub param_next : List Piece → Bool
-param_next [] = false
-param_next (token t ∷ rest) = is_param (symbol_of t)
-param_next (bad_byte at ∷ rest) = false
+-- what a symbol is to the word before it
+abbrev pub as_follower : Symbol → Follower
+as_follower (word at w) = followers.Word
+as_follower (param p) = followers.Param
+as_follower opening = followers.Neither
+as_follower closing = followers.Neither
+as_follower comma = followers.Neither
+as_follower (before at p) = followers.Neither
+as_follower (between at o) = followers.Neither
+
+-- what follows, by the next pieces
+abbrev pub follower_of : List Piece → Follower
+follower_of [] = followers.Neither
+follower_of (token t ∷ rest) = as_follower (symbol_of t)
+follower_of (bad_byte at ∷ rest) = followers.Neither

@@ -1,5 +1,5 @@
 -- What the calls of the reader's loop answer.
-use Rattle.std.specs.Prelude.{◌≡◌, ℕ, Bool, false, List, [], ◌∷◌, Option, Some, None, Result, Ok, Err, length, slice_get}
+use Rattle.std.specs.Prelude.{◌≡◌, ℕ, List, [], ◌∷◌, Option, Some, None, Result, Ok, Err, length, slice_get}
 use Rattle.ix_expr.specs.Form.{Form}
 use Rattle.ix_expr.specs.FormFaults.{nodes_of, IsWellFormed, IsFirstFormFault}
 use Rattle.ix_lex.specs.Lexing.{PlainToken, Piece}
@@ -8,6 +8,8 @@ use Rattle.ix_lex.specs.declared.Token.{Token}
 use Rattle.ix_lex.specs.declared.LexFault.{LexFault}
 use Rattle.ix_lex.specs.declared.Tokens.{Tokens}
 use Rattle.ix_parse.specs.declared.faults.Fault.{Fault}
+use Rattle.ix_parse.specs.declared.signs.Follower.{Follower}
+use Rattle.ix_parse.specs.declared.signs.Follower.TheVariants as followers
 use Rattle.ix_parse.specs.declared.operand.Operand.{Operand}
 use Rattle.ix_parse.specs.declared.taking.Reading.{Reading}
 use Rattle.ix_parse.specs.declared.TextFault.{TextFault}
@@ -15,16 +17,16 @@ use Rattle.ix_parse.specs.declared.TextFault.TheVariants.{Bad, Memory}
 use Rattle.ix_parse.specs.Symbols.{symbol_of, Meaning}
 use Rattle.ix_parse.specs.Faults.{code_of, HasMeaning, IsFirstFault}
 use Rattle.ix_parse.specs.inside.StackMachine.{Config, step, whole}
-use Rattle.ix_parse.specs.inside.Judged.{judged, is_param}
+use Rattle.ix_parse.specs.inside.Judged.{judged, as_follower}
 use Rattle.ix_parse.specs.inside.Progress.{nodes_after}
 use Rattle.ix_parse.specs.inside.Operands.{meaning_of}
 use Rattle.ix_parse.specs.inside.Configs.{config_of}
 
--- whether the piece that comes next is a parameter
-abbrev pub is_param_piece : Option (Result Token LexFault) → Bool
-is_param_piece None = false
-is_param_piece (Some (Ok t)) = is_param (symbol_of (plain_token t))
-is_param_piece (Some (Err fault)) = false
+-- what the piece that comes next is to a word
+abbrev pub piece_follower : Option (Result Token LexFault) → Follower
+piece_follower None = followers.Neither
+piece_follower (Some (Ok t)) = as_follower (symbol_of (plain_token t))
+piece_follower (Some (Err fault)) = followers.Neither
 
 -- the pieces that are still to come, where one was taken already
 abbrev pub pending : Option (Result Token LexFault) → Tokens → List Piece
@@ -32,10 +34,10 @@ pending None tokens = []
 pending (Some item) tokens = piece_of item ∷ pieces_left tokens
 
 -- a token was taken, or met this fault
-abbrev pub IsTaken : Config → ℕ → PlainToken → Bool → Result Reading TextFault → Type 0
-IsTaken c n t param_next (Ok r) = (judged c n (symbol_of t) param_next ≡ None) × (step c (symbol_of t) ≡ Some (config_of r.reader)) × (r.nodes ≡ nodes_after c n (symbol_of t))
-IsTaken c n t param_next (Err (Bad code at)) = (f : Fault) × (judged c n (symbol_of t) param_next ≡ Some f) × (code ≡ code_of f) × (at ≡ t.start)
-IsTaken c n t param_next (Err Memory) = Unit {0}
+abbrev pub IsTaken : Config → ℕ → PlainToken → Follower → Result Reading TextFault → Type 0
+IsTaken c n t next (Ok r) = (judged c n (symbol_of t) next ≡ None) × (step c (symbol_of t) ≡ Some (config_of r.reader)) × (r.nodes ≡ nodes_after c n (symbol_of t))
+IsTaken c n t next (Err (Bad code at)) = (f : Fault) × (judged c n (symbol_of t) next ≡ Some f) × (code ≡ code_of f) × (at ≡ t.start)
+IsTaken c n t next (Err Memory) = Unit {0}
 
 -- the first fault of the text
 abbrev pub IsFaultOf : List ℕ → TextFault → Type 0

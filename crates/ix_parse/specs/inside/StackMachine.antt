@@ -1,18 +1,30 @@
 -- The stack machine that the reader runs: it reads the grammar without recursion.
-use Rattle.std.specs.Prelude.{ℕ, suc, List, [], ◌∷◌, ◌++◌, length, Option, Some, None, if◌then◌else◌, nat_le, nat_lt}
+use Rattle.std.specs.Prelude.{ℕ, zero, suc, ◌+◌, List, [], ◌∷◌, ◌++◌, length, Option, Some, None, if◌then◌else◌, nat_le, nat_lt, decimal}
+use Rattle.ix_values.specs.Order.{text_eq}
 use Rattle.ix_expr.specs.declared.arg.Arg.{Arg}
 use Rattle.ix_parse.specs.declared.signs.Operator.{Operator}
 use Rattle.ix_parse.specs.declared.signs.Prefix.{Prefix}
 use Rattle.ix_parse.specs.declared.signs.Quantifier.{Quantifier}
 use Rattle.ix_parse.specs.declared.signs.WordClass.{WordClass}
-use Rattle.ix_parse.specs.declared.signs.WordClass.TheVariants.{Quantifies, Withheld, Names, Other}
-use Rattle.ix_parse.specs.Symbols.{Symbol, word, param, opening, closing, comma, before, between, class_of, level, Meaning, joined, prefixed, quantified, named, argument_of}
+use Rattle.ix_parse.specs.declared.signs.WordClass.TheVariants.{Quantifies, Counts, Names, Other}
+use Rattle.ix_parse.specs.Symbols.{Symbol, word, param, opening, closing, comma, before, between, class_of, level, Meaning, joined, prefixed, quantified, counted, named, argument_of}
 
--- what is open: a parenthesis, a prefix, a quantifier, or an operator with its left operand
+-- the number from 2 to k + 1 that the word stands for
+abbrev pub number_below : ℕ → List ℕ → Option ℕ
+number_below zero w = None
+number_below (suc k) w = if text_eq w (decimal (k + 2)) then Some (k + 2) else number_below k w
+
+-- the number from 2 to 64 that the word stands for
+unfoldable pub number_of : List ℕ → Option ℕ
+number_of w = number_below 63 w
+
+-- what is open: a parenthesis, a prefix, a quantifier, `times` with its number, or an operator with
+-- its left operand
 pub data Entry : Type 0 where
   group : Entry
   sign : ℕ → Prefix → Entry
   binder : ℕ → Quantifier → List ℕ → Entry
+  counter : ℕ → ℕ → Entry
   left : ℕ → Operator → Meaning → Entry
 
 -- what was read last
@@ -27,6 +39,8 @@ pub data Mode : Type 0 where
   argument_read : ℕ → List ℕ → List Arg → Mode
   -- the word of a quantifier
   quantifier_read : ℕ → Quantifier → Mode
+  -- the word `times`
+  times_read : ℕ → Mode
   -- an operand
   operand_read : Meaning → Mode
 
@@ -52,6 +66,7 @@ closed [] x = held [] x
 closed (group ∷ s) x = held (group ∷ s) x
 closed (sign at p ∷ s) x = closed s (prefixed p at x)
 closed (binder at q p ∷ s) x = closed s (quantified q at p x)
+closed (counter at n ∷ s) x = closed s (counted n at x)
 closed (left at o y ∷ s) x = held (left at o y ∷ s) x
 
 -- the operand is joined to the left operands of operators that bind at least as tightly as the level
@@ -60,6 +75,7 @@ reduced k [] x = held [] x
 reduced k (group ∷ s) x = held (group ∷ s) x
 reduced k (sign at p ∷ s) x = held (sign at p ∷ s) x
 reduced k (binder at q p ∷ s) x = held (binder at q p ∷ s) x
+reduced k (counter at n ∷ s) x = held (counter at n ∷ s) x
 reduced k (left at o y ∷ s) x = if nat_le k (level o) then reduced k s (joined o at y x) else held (left at o y ∷ s) x
 
 -- an operand was read
@@ -84,7 +100,7 @@ step_operand s x _ = None
 -- a word where an operand is wanted
 abbrev pub step_word : List Entry → ℕ → List ℕ → WordClass → Option Config
 step_word s at w (Quantifies q) = Some (config s (quantifier_read at q))
-step_word s at w Withheld = None
+step_word s at w Counts = Some (config s (times_read at))
 step_word s at w Names = Some (config s (name_read at w))
 step_word s at w Other = None
 
@@ -118,12 +134,23 @@ abbrev pub step_quantifier : List Entry → ℕ → Quantifier → Symbol → Op
 step_quantifier s at q (param p) = Some (config (binder at q p ∷ s) wanted)
 step_quantifier s at q _ = None
 
+-- the number behind `times`
+abbrev pub with_number : List Entry → ℕ → Option ℕ → Option Config
+with_number s at None = None
+with_number s at (Some n) = Some (config (counter at n ∷ s) wanted)
+
+-- a symbol behind the word `times`
+abbrev pub step_times : List Entry → ℕ → Symbol → Option Config
+step_times s at (word at' w) = with_number s at (number_of w)
+step_times s at _ = None
+
 abbrev pub step_by : List Entry → Mode → Symbol → Option Config
 step_by s wanted t = step_wanted s t
 step_by s (name_read at w) t = step_name s at w t
 step_by s (argument_wanted at w args) t = with_argument s at w args (argument_of t)
 step_by s (argument_read at w args) t = step_argument s at w args t
 step_by s (quantifier_read at q) t = step_quantifier s at q t
+step_by s (times_read at) t = step_times s at t
 step_by s (operand_read x) t = step_operand s x t
 
 -- what a symbol makes of a configuration, if it may come
@@ -171,6 +198,7 @@ levels [] = 0
 levels (group ∷ s) = suc (levels s)
 levels (sign at p ∷ s) = suc (levels s)
 levels (binder at q p ∷ s) = suc (levels s)
+levels (counter at n ∷ s) = suc (levels s)
 levels (left at o x ∷ s) = levels s
 
 -- how many groups are open
@@ -179,4 +207,5 @@ groups [] = 0
 groups (group ∷ s) = suc (groups s)
 groups (sign at p ∷ s) = groups s
 groups (binder at q p ∷ s) = groups s
+groups (counter at n ∷ s) = groups s
 groups (left at o x ∷ s) = groups s

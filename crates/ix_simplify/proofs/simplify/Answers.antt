@@ -1,5 +1,5 @@
 use Rattle.std.proofs.Common.{◌≡◌, sym, ap, ◌∙◌, subst, true≢false}
-use Rattle.ix_expr.specs.FormFaults.{IsWellFormed}
+use Rattle.ix_expr.specs.FormFaults.{IsWellFormed, HasNumbers}
 use Rattle.ix_expr.specs.inside.FormOf.{form_of}
 use Rattle.ix_simplify.specs.Rewriting.{Becomes}
 use Rattle.ix_simplify.specs.inside.Simplest.{simplest}
@@ -8,6 +8,13 @@ use Rattle.ix_simplify.proofs.Reached.{simplest-becomes}
 use Rattle.ix_simplify.proofs.Kept.{becomes-same, becomes-nodes}
 use Rattle.ix_simplify.proofs.WellFormed.{becomes-well-formed}
 use Rattle.ix_simplify.proofs.simplify.Goals as goal
+
+pub new-requires : goal.new-requires
+new-requires c =
+    let x = c.args.expression.now in
+    let is : form_of c.in_ok-simple.field-0 ≡ simplest x = c.in_ok-simple.ensures ∙ ap simplest c.expr.ensures.value in
+    let well = becomes-well-formed x (simplest x) (simplest-becomes x) c.expr.ensures.well_formed in
+    record { numbers = subst HasNumbers (sym is) well.numbers }
 
 pub unreachable-requires : goal.unreachable-requires
 unreachable-requires c =

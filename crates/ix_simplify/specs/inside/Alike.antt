@@ -5,7 +5,7 @@ use Rattle.ix_values.specs.Order.{text_eq}
 use Rattle.ix_expr.specs.declared.arg.Arg.{Arg}
 use Rattle.ix_expr.specs.declared.arg.Arg.TheVariants.{Fixed, Param}
 use Rattle.ix_expr.specs.Form.{PlainAtom, Form, atom, opt, seq, star, par, par_star, or, and}
-use Rattle.ix_expr.specs.Form.{couple, any, every, sync, all}
+use Rattle.ix_expr.specs.Form.{couple, any, every, sync, all, times}
 
 -- whether the arguments are the same
 abbrev pub same_argument : Arg → Arg → Bool
@@ -41,4 +41,5 @@ same_form (any p y) (any q z) = text_eq p q && same_form y z
 same_form (every p y) (every q z) = text_eq p q && same_form y z
 same_form (sync p y) (sync q z) = text_eq p q && same_form y z
 same_form (all p y) (all q z) = text_eq p q && same_form y z
+same_form (times m y) (times n z) = (m == n) && same_form y z
 same_form _ _ = false

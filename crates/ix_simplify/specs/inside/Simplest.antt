@@ -1,7 +1,7 @@
 -- The one expression that an expression becomes, computed from its atoms up.
 use Rattle.std.specs.Prelude.{ℕ, List, if◌then◌else◌}
 use Rattle.ix_expr.specs.Form.{Form, atom, opt, seq, star, par, par_star, or, and, couple, any}
-use Rattle.ix_expr.specs.Form.{every, sync, all}
+use Rattle.ix_expr.specs.Form.{every, sync, all, times}
 use Rattle.ix_simplify.specs.Names.{names}
 use Rattle.ix_simplify.specs.inside.Alike.{same_form}
 
@@ -61,3 +61,4 @@ simplest (any p y) = for_any p (simplest y)
 simplest (every p y) = for_every p (simplest y)
 simplest (sync p y) = in_sync p (simplest y)
 simplest (all p y) = all p (simplest y)
+simplest (times n y) = times n (simplest y)

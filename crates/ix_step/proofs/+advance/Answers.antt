@@ -4,7 +4,7 @@ use Rattle.std.specs.List.{list_any, remove}
 use Rattle.std.specs.Map.{keys_of}
 use Rattle.std.proofs.lemmas.List.{length-map}
 use Rattle.ix_words.specs.Each.{Each, here}
-use Rattle.ix_words.proofs.Each.{Member-right, Each-member}
+use Rattle.ix_words.proofs.Each.{Member-right, Each-member, Each-members, Each-anything}
 use Rattle.std.proofs.Math.Seq.{take-length, drop-length}
 use Rattle.ix_words.specs.Canon.{canon, when}
 use Rattle.ix_expr.specs.inside.FormOf.{form_of}
@@ -19,18 +19,19 @@ use Rattle.ix_tree.specs.Size.{size_of}
 use Rattle.ix_tree.specs.contracts.order.KnotPartialEq.TheImpl.{ghosts as tree_ghosts}
 use Rattle.ix_tree.proofs.Alternatives.{weight_of-list}
 use Rattle.ix_tree.proofs.PlainLists.{items_of-listed}
-use Rattle.ix_can.specs.Nodes.{is_done, unless_done, settled, set_of}
+use Rattle.ix_can.specs.Nodes.{is_done, unless_done, settled, settled_times, set_of}
 use Rattle.ix_can.specs.Laws.{IsProper, IsRising}
 use Rattle.ix_can.specs.Tests.{in_alphabet}
 use Rattle.ix_can.specs.inside.May.{may, moves_within, tree_at}
 use Rattle.ix_can.specs.TreeOf.{is_final}
-use Rattle.ix_can.specs.inside.Moved.{moved, moved_inside, picks, bag_with, map_with, or_initial}
+use Rattle.ix_can.proofs.Lists.{any_from}
+use Rattle.ix_can.specs.inside.Moved.{moved, moved_inside, picks, map_with, or_initial}
 use Rattle.ix_step.specs.inside.EnterTrees.{entries_put}
 use Rattle.ix_step.specs.inside.Initial.{initial_tree}
 use Rattle.ix_step.specs.inside.Makes.{Makes, Gathers, put_all}
 use Rattle.ix_step.specs.inside.MapsAfter.{HoldsWell, begun_tree, map_after, maps_after}
 use Rattle.ix_step.specs.inside.Moves.{if_open, open_move, open_moves, ends, some_ends, begun, begun_again, last_runs, runs_end, second_parts}
-use Rattle.ix_step.specs.inside.ParallelMoves.{pairs_of, pair_moves, pick_move, bag_moves, IsReadyPair, IsReadyBag}
+use Rattle.ix_step.specs.inside.ParallelMoves.{pairs_of, pair_moves, pick_move, bag_moves, runs_with, has_room, IsReadyPair, IsReadyBag}
 use Rattle.ix_step.specs.inside.Pruned.{pruned}
 use Rattle.ix_step.specs.inside.Ready.{Ready}
 use Rattle.ix_step.specs.declared.bodies.Reach.TheVariants.{OwnAlphabet}
@@ -42,11 +43,12 @@ use Rattle.ix_step.proofs.EntriesPut.{nothing_proper, nothing_held, after_put, u
 use Rattle.ix_step.proofs.Exits.{exit_over}
 use Rattle.ix_step.proofs.Gathered.{open_over, any_more, size_all, any_of_set, tree_weights}
 use Rattle.ix_step.proofs.Gathering.{each_at, image_at, lot_over, lots_more, lots_end, set_is, front_of_set, open_in_set, bag_over, left_over, right_over, first_over, made_set, picks_size, bag_put}
+use Rattle.ix_step.proofs.LimitedBags.{some_bag, limited_over, limited_first_over}
 use Rattle.ix_step.proofs.Limits.{moved_is_dead, same_alphabet}
 use Rattle.ix_step.proofs.Measure.{form_size}
 use Rattle.ix_step.proofs.MovedIs.{moved_is, begun_dead, begun_or}
 use Rattle.ix_step.proofs.Overs.{unless_over, seq_over, star_over, par_over, entries_count, any_above, every_above, sync_above}
-use Rattle.ix_step.proofs.ParallelArms.{pairs_ready, pairs_small, bags_ready, run_begins}
+use Rattle.ix_step.proofs.ParallelArms.{pairs_ready, pairs_small, bags_ready, run_begins, times_ready, times_begins}
 use Rattle.ix_step.proofs.Pruning.{passed, refused, same_passes, and_first_may, and_second_may, couple_first_may, couple_second_may, no_items, some_items, list_over}
 use Rattle.ix_step.proofs.Repeats.{run_adds_none}
 use Rattle.ix_step.proofs.Quantifying.{any_ready, every_ready, sync_ready, any_each, every_common, every_each, sync_common, sync_each, value_ready, entries_touched, value_moves, at_ready}
@@ -460,7 +462,7 @@ parallel::advance_par-returns t c =
 
 pub parallel::advance_par_star-returns-then-is_empty : goal.parallel::advance_par_star-returns-then-is_empty
 parallel::advance_par_star-returns-then-is_empty t c =
-    subst (λ bags. Makes c.args.step.limit (pruned (par_star_of (set_of (flat_map (bag_moves (form_of c.args.y.now) c.args.step.env.now c.args.step.action.now) (items_of (listed (map plain_bag bags))))))) c.dead_knot.result)
+    subst (λ bags. Makes c.args.step.limit (pruned (par_star_of (set_of (flat_map (bag_moves None (form_of c.args.y.now) c.args.step.env.now c.args.step.action.now) (items_of (listed (map plain_bag bags))))))) c.dead_knot.result)
     (sym (no_items c.args.bags.now (sym c.is_empty.ensures ∙ c.if-is_empty.true))) c.dead_knot.ensures
 
 pub parallel::advance_par_star-advance_again-requires : goal.parallel::advance_par_star-advance_again-requires
@@ -469,20 +471,20 @@ parallel::advance_par_star-advance_again-requires t c =
 
 pub parallel::advance_par_star-advance_bags-requires : goal.parallel::advance_par_star-advance_bags-requires
 parallel::advance_par_star-advance_bags-requires t c =
-    (omega arith, (bags_ready (map plain_bag c.args.bags.now) c.requires, (c.in_ok-first.ensures.0, omega (arith, ap size_of c.in_ok-first.ensures.0, c.in_ok-first.ensures.1, c.args.step.bounded))))
+    (omega arith, (bags_ready (map plain_bag c.args.bags.now) c.requires, (Each-anything (λ b room. c.in_ok-first.ensures.0) (map plain_bag c.args.bags.now), omega (arith, ap size_of c.in_ok-first.ensures.0, c.in_ok-first.ensures.1, c.args.step.bounded))))
 
 pub parallel::advance_par_star-returns-in_err-first : goal.parallel::advance_par_star-returns-in_err-first
 parallel::advance_par_star-returns-in_err-first t c =
     let some : 0 < length (items_of (listed (map plain_bag c.args.bags.now))) = omega (arith, ap length (items_of-listed (map plain_bag c.args.bags.now)), length-map c.args.bags.now plain_bag, some_items c.args.bags.now (sym c.is_empty.ensures ∙ c.if-is_empty.false)) in
     exit_over _ c.from_residual.result _ c.from_residual.ensures.1 c.in_err-first.ensures (λ lt.
-    let k = first_over c.args.step.limit (form_of c.args.y.now) c.args.step.env.now c.args.step.action.now (items_of (listed (map plain_bag c.args.bags.now))) some c.args.step.positive lt in
-    list_over c.args.step.limit (par_star_of (set_of (flat_map (bag_moves (form_of c.args.y.now) c.args.step.env.now c.args.step.action.now) (items_of (listed (map plain_bag c.args.bags.now)))))) (set_of (flat_map (bag_moves (form_of c.args.y.now) c.args.step.env.now c.args.step.action.now) (items_of (listed (map plain_bag c.args.bags.now))))) k (omega arith))
+    let k = first_over None c.args.step.limit (form_of c.args.y.now) c.args.step.env.now c.args.step.action.now (items_of (listed (map plain_bag c.args.bags.now))) (some_bag (items_of (listed (map plain_bag c.args.bags.now))) some) c.args.step.positive lt in
+    list_over c.args.step.limit (par_star_of (set_of (flat_map (bag_moves None (form_of c.args.y.now) c.args.step.env.now c.args.step.action.now) (items_of (listed (map plain_bag c.args.bags.now)))))) (set_of (flat_map (bag_moves None (form_of c.args.y.now) c.args.step.env.now c.args.step.action.now) (items_of (listed (map plain_bag c.args.bags.now))))) k (omega arith))
 
 pub parallel::advance_par_star-returns-in_err-set : goal.parallel::advance_par_star-returns-in_err-set
 parallel::advance_par_star-returns-in_err-set t c =
-    let whole = made_set (bag_moves (form_of c.args.y.now) c.args.step.env.now c.args.step.action.now) (map plain_bag c.args.bags.now) in
+    let whole = made_set (bag_moves None (form_of c.args.y.now) c.args.step.env.now c.args.step.action.now) (map plain_bag c.args.bags.now) in
     exit_over _ c.from_residual-in_err-set.result _ c.from_residual-in_err-set.ensures.1 c.in_err-set.ensures (λ lt.
-    list_over c.args.step.limit (par_star_of (set_of (flat_map (bag_moves (form_of c.args.y.now) c.args.step.env.now c.args.step.action.now) (items_of (listed (map plain_bag c.args.bags.now)))))) (set_of (flat_map (bag_moves (form_of c.args.y.now) c.args.step.env.now c.args.step.action.now) (items_of (listed (map plain_bag c.args.bags.now))))) (omega (arith, ap size_of whole)) (omega arith))
+    list_over c.args.step.limit (par_star_of (set_of (flat_map (bag_moves None (form_of c.args.y.now) c.args.step.env.now c.args.step.action.now) (items_of (listed (map plain_bag c.args.bags.now)))))) (set_of (flat_map (bag_moves None (form_of c.args.y.now) c.args.step.env.now c.args.step.action.now) (items_of (listed (map plain_bag c.args.bags.now))))) (omega (arith, ap size_of whole)) (omega arith))
 
 pub parallel::advance_par_star-sized_if_live-requires-clause-size : goal.parallel::advance_par_star-sized_if_live-requires-clause-size
 parallel::advance_par_star-sized_if_live-requires-clause-size t c =
@@ -491,14 +493,58 @@ parallel::advance_par_star-sized_if_live-requires-clause-size t c =
 pub parallel::advance_par_star-returns : goal.parallel::advance_par_star-returns
 parallel::advance_par_star-returns t c =
     subst (λ l. Makes c.args.step.limit (pruned (par_star_of l)) c.sized_if_live.result)
-    (ap (λ v. listed (map plain_bag v)) c.into_items.ensures.items ∙ ap listed c.in_ok-set.ensures.0 ∙ made_set (bag_moves (form_of c.args.y.now) c.args.step.env.now c.args.step.action.now) (map plain_bag c.args.bags.now)) c.sized_if_live.ensures
+    (ap (λ v. listed (map plain_bag v)) c.into_items.ensures.items ∙ ap listed c.in_ok-set.ensures.0 ∙ made_set (bag_moves None (form_of c.args.y.now) c.args.step.env.now c.args.step.action.now) (map plain_bag c.args.bags.now)) c.sized_if_live.ensures
+
+-- of so many runs side by side
+pub parallel::advance_times-invariant_of-wide : goal.parallel::advance_times-invariant_of-wide
+parallel::advance_times-invariant_of-wide t c = record {
+  ends = c.args.step.ends;
+  positive = omega (arith, c.args.step.positive, c.larger.ensures.first);
+  bounded = c.larger.ensures.bound 2000010 c.args.step.bounded (omega arith);
+}
+
+pub parallel::advance_times-advance_again-requires : goal.parallel::advance_times-advance_again-requires
+parallel::advance_times-advance_again-requires t c =
+    (omega arith, times_begins c.requires)
+
+pub parallel::advance_times-advance_bags-requires : goal.parallel::advance_times-advance_bags-requires
+parallel::advance_times-advance_bags-requires t c = (
+  omega arith,
+  (
+    times_ready (map plain_bag c.args.bags.now) c.requires,
+    (
+      Each-members (map plain_bag c.args.bags.now) (λ b m room.
+          c.in_ok-first.ensures.0
+          ∙ ap (λ r. begun_again r (form_of c.args.y.now) c.args.step.env.now c.args.step.action.now)
+          (c.some_room.ensures ∙ any_from (λ x. has_room (Some c.args.number) (items_of (first_part x))) (map plain_bag c.args.bags.now) m room)),
+      omega (arith, ap size_of c.in_ok-first.ensures.0, c.in_ok-first.ensures.1),
+    ),
+  ),
+)
+
+pub parallel::advance_times-returns-in_err-first : goal.parallel::advance_times-returns-in_err-first
+parallel::advance_times-returns-in_err-first t c =
+    exit_over _ c.from_residual.result _ c.from_residual.ensures.1 c.in_err-first.ensures (λ lt.
+    limited_first_over c.args.number (form_of c.args.y.now) c.args.step.env.now c.args.step.action.now (map plain_bag c.args.bags.now) c.args.step.limit c.larger.result
+    c.larger.ensures.first (omega (arith, c.larger.ensures.second)) c.some_room.result c.some_room.ensures lt)
+
+pub parallel::advance_times-returns-in_err-set : goal.parallel::advance_times-returns-in_err-set
+parallel::advance_times-returns-in_err-set t c =
+    exit_over _ c.from_residual-in_err-set.result _ c.from_residual-in_err-set.ensures.1 c.in_err-set.ensures (λ lt.
+    limited_over c.args.number (form_of c.args.y.now) c.args.step.env.now c.args.step.action.now (map plain_bag c.args.bags.now) c.args.step.limit c.larger.result
+    c.larger.ensures.first (omega (arith, c.larger.ensures.second)) lt)
+
+pub parallel::advance_times-returns : goal.parallel::advance_times-returns
+parallel::advance_times-returns t c =
+    subst (λ l. Makes c.args.step.limit (pruned (settled_times c.args.number l)) c.full_or_within.result)
+    (ap listed c.in_ok-set.ensures.0 ∙ made_set (bag_moves (Some c.args.number) (form_of c.args.y.now) c.args.step.env.now c.args.step.action.now) (map plain_bag c.args.bags.now)) c.full_or_within.ensures
 
 pub parallel::advance_bags-advance_picks-requires : goal.parallel::advance_bags-advance_picks-requires
 parallel::advance_bags-advance_picks-requires t c =
-    let ready = each_at {G = IsReadyBag (form_of c.args.y.now) c.args.step.env.now} (map plain_bag c.args.bags.now) c.loop-bag.bag-index (plain_bag c.bag-item.result) (omega (arith, length-map c.args.bags.now plain_bag, c.loop-bag-test.true)) (image_at plain_bag c.args.bags.now c.loop-bag.bag-index c.bag-item.result c.bag-item.is) c.requires.ready in (
+    let ready = each_at {G = IsReadyBag (form_of c.args.runs.expr.now) c.args.step.env.now} (map plain_bag c.args.bags.now) c.loop-bag.bag-index (plain_bag c.bag-item.result) (omega (arith, length-map c.args.bags.now plain_bag, c.loop-bag-test.true)) (image_at plain_bag c.args.bags.now c.loop-bag.bag-index c.bag-item.result c.bag-item.is) c.requires.ready in (
       omega arith,
       (
-        subst (Each (Ready (form_of c.args.y.now) c.args.step.env.now)) (items_of-listed c.bag-item.result.items.items ∙ sym c.deref.ensures.value) ready.0,
+        subst (Each (Ready (form_of c.args.runs.expr.now) c.args.step.env.now)) (items_of-listed c.bag-item.result.items.items ∙ sym c.deref.ensures.value) ready.0,
         (
           subst IsRising (items_of-listed c.bag-item.result.items.items ∙ sym c.deref.ensures.value) ready.2,
           (omega (arith, ap (λ l. size_of (listed l)) c.deref.ensures.value, ready.1), (c.loop-bag.invariant.budget, c.loop-bag.invariant.within)),
@@ -508,34 +554,34 @@ parallel::advance_bags-advance_picks-requires t c =
 
 pub parallel::advance_bags-returns-in_err-advance_picks : goal.parallel::advance_bags-returns-in_err-advance_picks
 parallel::advance_bags-returns-in_err-advance_picks t c =
-    let k = picks_size (form_of c.args.y.now) c.args.step.env.now c.args.step.action.now c.bag-item.result.items.items c.deref.result.now c.deref.ensures.value (map plain_bag c.loop-bag.set.items) in
+    let k = picks_size c.args.runs.wanted (form_of c.args.runs.expr.now) c.args.step.env.now c.args.step.action.now c.bag-item.result.items.items c.deref.result.now c.deref.ensures.value (map plain_bag c.loop-bag.set.items) in
     exit_over _ c.from_residual.result _ c.from_residual.ensures.1 c.in_err-advance_picks.ensures.gathers (λ lt.
-    lot_over (bag_moves (form_of c.args.y.now) c.args.step.env.now c.args.step.action.now) c.args.step.limit (map plain_bag c.args.bags.now) c.loop-bag.bag-index (plain_bag c.bag-item.result) [] (map plain_bag c.loop-bag.set.items) (omega (arith, length-map c.args.bags.now plain_bag, c.loop-bag-test.true)) (image_at plain_bag c.args.bags.now c.loop-bag.bag-index c.bag-item.result c.bag-item.is) c.loop-bag.invariant.items (omega (arith, k, lt)))
+    lot_over (bag_moves c.args.runs.wanted (form_of c.args.runs.expr.now) c.args.step.env.now c.args.step.action.now) c.args.step.limit (map plain_bag c.args.bags.now) c.loop-bag.bag-index (plain_bag c.bag-item.result) [] (map plain_bag c.loop-bag.set.items) (omega (arith, length-map c.args.bags.now plain_bag, c.loop-bag-test.true)) (image_at plain_bag c.args.bags.now c.loop-bag.bag-index c.bag-item.result c.bag-item.is) c.loop-bag.invariant.items (omega (arith, k, lt)))
 
 pub parallel::advance_bags-put_more-requires-clause-items : goal.parallel::advance_bags-put_more-requires-clause-items
 parallel::advance_bags-put_more-requires-clause-items t c =
-    let ready = each_at {G = IsReadyBag (form_of c.args.y.now) c.args.step.env.now} (map plain_bag c.args.bags.now) c.loop-bag.bag-index (plain_bag c.bag-item.result) (omega (arith, length-map c.args.bags.now plain_bag, c.loop-bag-test.true)) (image_at plain_bag c.args.bags.now c.loop-bag.bag-index c.bag-item.result c.bag-item.is) c.requires.ready in
+    let ready = each_at {G = IsReadyBag (form_of c.args.runs.expr.now) c.args.step.env.now} (map plain_bag c.args.bags.now) c.loop-bag.bag-index (plain_bag c.bag-item.result) (omega (arith, length-map c.args.bags.now plain_bag, c.loop-bag-test.true)) (image_at plain_bag c.args.bags.now c.loop-bag.bag-index c.bag-item.result c.bag-item.is) c.requires.ready in
     omega (arith, ap (λ l. size_of (listed l)) c.deref-in-loop-bag.ensures.value, ready.1)
 
 pub parallel::advance_bags-put_more-requires-clause-rising : goal.parallel::advance_bags-put_more-requires-clause-rising
 parallel::advance_bags-put_more-requires-clause-rising t c =
-    let ready = each_at {G = IsReadyBag (form_of c.args.y.now) c.args.step.env.now} (map plain_bag c.args.bags.now) c.loop-bag.bag-index (plain_bag c.bag-item.result) (omega (arith, length-map c.args.bags.now plain_bag, c.loop-bag-test.true)) (image_at plain_bag c.args.bags.now c.loop-bag.bag-index c.bag-item.result c.bag-item.is) c.requires.ready in
+    let ready = each_at {G = IsReadyBag (form_of c.args.runs.expr.now) c.args.step.env.now} (map plain_bag c.args.bags.now) c.loop-bag.bag-index (plain_bag c.bag-item.result) (omega (arith, length-map c.args.bags.now plain_bag, c.loop-bag-test.true)) (image_at plain_bag c.args.bags.now c.loop-bag.bag-index c.bag-item.result c.bag-item.is) c.requires.ready in
     subst IsRising (items_of-listed c.bag-item.result.items.items ∙ sym c.deref-in-loop-bag.ensures.value) ready.2
 
 pub parallel::advance_bags-returns-in_err-put_more : goal.parallel::advance_bags-returns-in_err-put_more
 parallel::advance_bags-returns-in_err-put_more t c =
-    let put = bag_put (form_of c.args.y.now) c.args.step.env.now c.args.step.action.now c.bag-item.result.items.items c.deref.result.now c.deref.ensures.value (map plain_bag c.loop-bag.set.items) c.deref-in-loop-bag.result.now (map plain_bag c.advance_picks.new.set.items) c.args.first.now
-    c.deref-in-loop-bag.ensures.value c.requires.first c.in_ok-advance_picks.ensures.gathers in
+    let put = bag_put c.args.runs.wanted (form_of c.args.runs.expr.now) c.args.step.env.now c.args.step.action.now c.bag-item.result.items.items c.deref.result.now c.deref.ensures.value (map plain_bag c.loop-bag.set.items) c.deref-in-loop-bag.result.now (map plain_bag c.advance_picks.new.set.items) c.args.first.now
+    c.deref-in-loop-bag.ensures.value (each_at {G = λ x. has_room c.args.runs.wanted (items_of (first_part x)) ≡ true → c.args.first.now ≡ begun (form_of c.args.runs.expr.now) c.args.step.env.now c.args.step.action.now} (map plain_bag c.args.bags.now) c.loop-bag.bag-index (plain_bag c.bag-item.result) (omega (arith, length-map c.args.bags.now plain_bag, c.loop-bag-test.true)) (image_at plain_bag c.args.bags.now c.loop-bag.bag-index c.bag-item.result c.bag-item.is) c.requires.first) c.in_ok-advance_picks.ensures.gathers in
     exit_over _ c.from_residual-in_err-put_more.result _ c.from_residual-in_err-put_more.ensures.1 c.in_err-put_more.ensures.gathers (λ lt.
-    lot_over (bag_moves (form_of c.args.y.now) c.args.step.env.now c.args.step.action.now) c.args.step.limit (map plain_bag c.args.bags.now) c.loop-bag.bag-index (plain_bag c.bag-item.result) [] (map plain_bag c.loop-bag.set.items) (omega (arith, length-map c.args.bags.now plain_bag, c.loop-bag-test.true)) (image_at plain_bag c.args.bags.now c.loop-bag.bag-index c.bag-item.result c.bag-item.is) c.loop-bag.invariant.items
+    lot_over (bag_moves c.args.runs.wanted (form_of c.args.runs.expr.now) c.args.step.env.now c.args.step.action.now) c.args.step.limit (map plain_bag c.args.bags.now) c.loop-bag.bag-index (plain_bag c.bag-item.result) [] (map plain_bag c.loop-bag.set.items) (omega (arith, length-map c.args.bags.now plain_bag, c.loop-bag-test.true)) (image_at plain_bag c.args.bags.now c.loop-bag.bag-index c.bag-item.result c.bag-item.is) c.loop-bag.invariant.items
     (omega (arith, ap size_all put, lt, c.advance_picks.ensures.budget)))
 
 pub parallel::advance_bags-loop-bag-preserved : goal.parallel::advance_bags-loop-bag-preserved
 parallel::advance_bags-loop-bag-preserved t c =
     record {
-      items = lots_more (bag_moves (form_of c.args.y.now) c.args.step.env.now c.args.step.action.now) (map plain_bag c.args.bags.now) c.loop-bag.bag-index (plain_bag c.bag-item.result) [] (map plain_bag c.loop-bag.set.items) (map plain_bag c.put_more.new.set.items) (omega (arith, length-map c.args.bags.now plain_bag, c.loop-bag-test.true)) (image_at plain_bag c.args.bags.now c.loop-bag.bag-index c.bag-item.result c.bag-item.is) c.loop-bag.invariant.items
-          (c.in_ok-put_more.ensures.gathers ∙ bag_put (form_of c.args.y.now) c.args.step.env.now c.args.step.action.now c.bag-item.result.items.items c.deref.result.now c.deref.ensures.value (map plain_bag c.loop-bag.set.items) c.deref-in-loop-bag.result.now (map plain_bag c.advance_picks.new.set.items) c.args.first.now
-          c.deref-in-loop-bag.ensures.value c.requires.first c.in_ok-advance_picks.ensures.gathers);
+      items = lots_more (bag_moves c.args.runs.wanted (form_of c.args.runs.expr.now) c.args.step.env.now c.args.step.action.now) (map plain_bag c.args.bags.now) c.loop-bag.bag-index (plain_bag c.bag-item.result) [] (map plain_bag c.loop-bag.set.items) (map plain_bag c.put_more.new.set.items) (omega (arith, length-map c.args.bags.now plain_bag, c.loop-bag-test.true)) (image_at plain_bag c.args.bags.now c.loop-bag.bag-index c.bag-item.result c.bag-item.is) c.loop-bag.invariant.items
+          (c.in_ok-put_more.ensures.gathers ∙ bag_put c.args.runs.wanted (form_of c.args.runs.expr.now) c.args.step.env.now c.args.step.action.now c.bag-item.result.items.items c.deref.result.now c.deref.ensures.value (map plain_bag c.loop-bag.set.items) c.deref-in-loop-bag.result.now (map plain_bag c.advance_picks.new.set.items) c.args.first.now
+          c.deref-in-loop-bag.ensures.value (each_at {G = λ x. has_room c.args.runs.wanted (items_of (first_part x)) ≡ true → c.args.first.now ≡ begun (form_of c.args.runs.expr.now) c.args.step.env.now c.args.step.action.now} (map plain_bag c.args.bags.now) c.loop-bag.bag-index (plain_bag c.bag-item.result) (omega (arith, length-map c.args.bags.now plain_bag, c.loop-bag-test.true)) (image_at plain_bag c.args.bags.now c.loop-bag.bag-index c.bag-item.result c.bag-item.is) c.requires.first) c.in_ok-advance_picks.ensures.gathers);
       within = omega (arith, c.put_more.ensures.within, c.advance_picks.ensures.budget);
       budget = c.put_more.ensures.budget ∙ c.advance_picks.ensures.budget;
     }
@@ -563,7 +609,7 @@ parallel::advance_picks-returns-in_err-advance_pick-clause-gathers t c =
     let lt : c.loop-place.place < length (picks c.args.items.now) = omega (arith, length-picks c.args.items.now, c.loop-place-test.true) in
     let is : (c.index-items-place.result, remove c.args.items.now c.loop-place.place) ≡ get_or (picks c.args.items.now) c.loop-place.place (c.index-items-place.result, remove c.args.items.now c.loop-place.place) = ap (λ u. (u, remove c.args.items.now c.loop-place.place)) c.index-items-place.is ∙ sym (get-picks c.args.items.now c.loop-place.place c.index-items-place.result (c.index-items-place.result, remove c.args.items.now c.loop-place.place) c.loop-place-test.true) in
     exit_over _ c.from_residual.result _ c.from_residual.ensures.1 c.in_err-advance_pick.ensures.gathers (λ over.
-    lot_over (pick_move (form_of c.args.y.now) c.args.step.env.now c.args.step.action.now) c.args.step.limit (picks c.args.items.now) c.loop-place.place (c.index-items-place.result, remove c.args.items.now c.loop-place.place) (map plain_bag c.args.set.now.items) (map plain_bag c.loop-place.set.items) lt is c.loop-place.invariant.items over)
+    lot_over (pick_move c.args.runs.wanted (form_of c.args.runs.expr.now) c.args.step.env.now c.args.step.action.now) c.args.step.limit (picks c.args.items.now) c.loop-place.place (c.index-items-place.result, remove c.args.items.now c.loop-place.place) (map plain_bag c.args.set.now.items) (map plain_bag c.loop-place.set.items) lt is c.loop-place.invariant.items over)
 
 pub parallel::advance_picks-loop-place-preserved : goal.parallel::advance_picks-loop-place-preserved
 parallel::advance_picks-loop-place-preserved t c =
@@ -572,14 +618,14 @@ parallel::advance_picks-loop-place-preserved t c =
     let items = c.args.items.now in
     let old = map plain_bag c.args.set.now.items in
     let new = map plain_bag c.advance_pick.new.set.items in
-    let move = pick_move (form_of c.args.y.now) c.args.step.env.now c.args.step.action.now in
+    let move = pick_move c.args.runs.wanted (form_of c.args.runs.expr.now) c.args.step.env.now c.args.step.action.now in
     let lt : place < length (picks items) = omega (arith, length-picks items, c.loop-place-test.true) in
     let is : (c.index-items-place.result, remove items place) ≡ get_or (picks items) place (c.index-items-place.result, remove items place) = ap (λ u. (u, remove items place)) c.index-items-place.is ∙ sym (get-picks items place c.index-items-place.result (c.index-items-place.result, remove items place) c.loop-place-test.true) in
     let moved_one = lots_more move (picks items) place (c.index-items-place.result, remove items place) old (map plain_bag c.loop-place.set.items) new lt is c.loop-place.invariant.items c.in_ok-advance_pick.ensures.gathers in
     let more = end - (place + 1) in
     let ends : place + 1 + more ≡ end = omega (arith, c.run_end-place.ensures.behind) in
     record {
-      items = run_adds_none (form_of c.args.y.now) c.args.step.env.now c.args.step.action.now items place more old new (omega (arith, ends, c.run_end-place.ensures.within)) (λ k low high. c.run_end-place.ensures.repeats k low (omega (arith, ends, high))) moved_one
+      items = run_adds_none c.args.runs.wanted (form_of c.args.runs.expr.now) c.args.step.env.now c.args.step.action.now items place more old new (omega (arith, ends, c.run_end-place.ensures.within)) (λ k low high. c.run_end-place.ensures.repeats k low (omega (arith, ends, high))) moved_one
           ∙ ap (λ n. put_all (flat_map move (take n (picks items))) old) ends;
       within = c.advance_pick.ensures.within;
       budget = c.advance_pick.ensures.budget;
@@ -592,8 +638,8 @@ parallel::advance_picks-loop-place-smaller t c = omega (arith, c.run_end-place.e
 pub parallel::advance_picks-returns-clause-gathers : goal.parallel::advance_picks-returns-clause-gathers
 parallel::advance_picks-returns-clause-gathers t c =
     let all : c.loop-place.place ≡ length (picks c.args.items.now) = omega (arith, length-picks c.args.items.now, c.loop-place-test.false, c.loop-place.invariant.place) in
-    lots_end (pick_move (form_of c.args.y.now) c.args.step.env.now c.args.step.action.now) (picks c.args.items.now) (map plain_bag c.args.set.now.items) (map plain_bag c.loop-place.set.items)
-    (subst (λ n. (map plain_bag c.loop-place.set.items) ≡ put_all (flat_map (pick_move (form_of c.args.y.now) c.args.step.env.now c.args.step.action.now) (take n (picks c.args.items.now))) (map plain_bag c.args.set.now.items)) all c.loop-place.invariant.items)
+    lots_end (pick_move c.args.runs.wanted (form_of c.args.runs.expr.now) c.args.step.env.now c.args.step.action.now) (picks c.args.items.now) (map plain_bag c.args.set.now.items) (map plain_bag c.loop-place.set.items)
+    (subst (λ n. (map plain_bag c.loop-place.set.items) ≡ put_all (flat_map (pick_move c.args.runs.wanted (form_of c.args.runs.expr.now) c.args.step.env.now c.args.step.action.now) (take n (picks c.args.items.now))) (map plain_bag c.args.set.now.items)) all c.loop-place.invariant.items)
 
 pub parallel::advance_picks-returns-clause-within : goal.parallel::advance_picks-returns-clause-within
 parallel::advance_picks-returns-clause-within t c = c.loop-place.invariant.within
@@ -608,12 +654,12 @@ parallel::advance_pick-advance-requires t c =
 pub parallel::advance_pick-returns-in_err-tree-clause-gathers : goal.parallel::advance_pick-returns-in_err-tree-clause-gathers
 parallel::advance_pick-returns-in_err-tree-clause-gathers t c =
     exit_over _ c.from_residual.result _ c.from_residual.ensures.1 c.in_err-tree.ensures (λ over.
-    bag_over c.args.step.limit (moved (form_of c.args.y.now) c.args.step.env.now c.args.item.now c.args.step.action.now) (remove c.args.items.now c.args.place) (map plain_bag c.args.set.now.items) c.args.step.positive over)
+    bag_over c.args.runs.wanted c.args.step.limit (moved (form_of c.args.runs.expr.now) c.args.step.env.now c.args.item.now c.args.step.action.now) (remove c.args.items.now c.args.place) (map plain_bag c.args.set.now.items) c.args.step.positive over)
 
 pub parallel::advance_pick-returns-clause-gathers : goal.parallel::advance_pick-returns-clause-gathers
 parallel::advance_pick-returns-clause-gathers t c =
-    subst (λ x. Gathers c.args.step.limit (bag_with x (remove c.args.items.now c.args.place)) (map plain_bag c.args.set.now.items) (map plain_bag c.put_moved.new.set.items) c.put_moved.result) c.in_ok-tree.ensures.0
-    (subst (λ n. Gathers n (bag_with c.in_ok-tree.tree (remove c.args.items.now c.args.place)) (map plain_bag c.args.set.now.items) (map plain_bag c.put_moved.new.set.items) c.put_moved.result) c.requires.budget c.put_moved.ensures.gathers)
+    subst (λ x. Gathers c.args.step.limit (runs_with c.args.runs.wanted x (remove c.args.items.now c.args.place)) (map plain_bag c.args.set.now.items) (map plain_bag c.put_moved.new.set.items) c.put_moved.result) c.in_ok-tree.ensures.0
+    (subst (λ n. Gathers n (runs_with c.args.runs.wanted c.in_ok-tree.tree (remove c.args.items.now c.args.place)) (map plain_bag c.args.set.now.items) (map plain_bag c.put_moved.new.set.items) c.put_moved.result) c.requires.budget c.put_moved.ensures.gathers)
 
 pub quantifiers::advance_entries-loop-value-init : goal.quantifiers::advance_entries-loop-value-init
 quantifiers::advance_entries-loop-value-init t c =

@@ -78,24 +78,27 @@ invariant-parallel::advance_pairs-loop-pair l = record {
 abbrev pub decreases-parallel::advance_par_star : goal.decreases-parallel::advance_par_star
 decreases-parallel::advance_par_star l = 8 * form_size (form_of l.y.now) + 6
 
+abbrev pub decreases-parallel::advance_times : goal.decreases-parallel::advance_times
+decreases-parallel::advance_times l = 8 * form_size (form_of l.y.now) + 6
+
 abbrev pub decreases-parallel::advance_bags : goal.decreases-parallel::advance_bags
-decreases-parallel::advance_bags l = 8 * form_size (form_of l.y.now) + 5
+decreases-parallel::advance_bags l = 8 * form_size (form_of l.runs.expr.now) + 5
 
 -- the set holds what the bags so far give, within the limit
 abbrev pub invariant-parallel::advance_bags-loop-bag : goal.invariant-parallel::advance_bags-loop-bag
 invariant-parallel::advance_bags-loop-bag l = record {
-  items : map plain_bag l.set.items ≡ put_all (flat_map (bag_moves (form_of l.y) l.step.env.now l.step.action.now) (take l.bag-index (map plain_bag l.bags))) [];
+  items : map plain_bag l.set.items ≡ put_all (flat_map (bag_moves l.runs.wanted (form_of l.runs.expr.now) l.step.env.now l.step.action.now) (take l.bag-index (map plain_bag l.bags))) [];
   within : size_of (listed (map plain_bag l.set.items)) ≤ l.step.limit;
   budget : l.set.budget ≡ l.step.limit;
 }
 
 abbrev pub decreases-parallel::advance_picks : goal.decreases-parallel::advance_picks
-decreases-parallel::advance_picks l = 8 * form_size (form_of l.y.now) + 4
+decreases-parallel::advance_picks l = 8 * form_size (form_of l.runs.expr.now) + 4
 
 -- the set holds the bags in which one of the trees so far is moved, within the limit
 abbrev pub invariant-parallel::advance_picks-loop-place : goal.invariant-parallel::advance_picks-loop-place
 invariant-parallel::advance_picks-loop-place l = record {
-  items : map plain_bag l.set.items ≡ put_all (flat_map (pick_move (form_of l.y) l.step.env.now l.step.action.now) (take l.place (picks l.items))) (map plain_bag l.initial.set.items);
+  items : map plain_bag l.set.items ≡ put_all (flat_map (pick_move l.runs.wanted (form_of l.runs.expr.now) l.step.env.now l.step.action.now) (take l.place (picks l.items))) (map plain_bag l.initial.set.items);
   within : size_of (listed (map plain_bag l.set.items)) ≤ l.step.limit;
   budget : l.set.budget ≡ l.step.limit;
   place : l.place ≤ length l.items;
@@ -105,7 +108,7 @@ abbrev pub decreases-parallel::advance_picks-loop-place : goal.decreases-paralle
 decreases-parallel::advance_picks-loop-place l = length l.items - l.place
 
 abbrev pub decreases-parallel::advance_pick : goal.decreases-parallel::advance_pick
-decreases-parallel::advance_pick l = 8 * form_size (form_of l.y.now) + 3
+decreases-parallel::advance_pick l = 8 * form_size (form_of l.runs.expr.now) + 3
 
 abbrev pub decreases-quantifiers::advance_values : goal.decreases-quantifiers::advance_values
 decreases-quantifiers::advance_values l = 8 * form_size (form_of l.body.expr.now) + 5

@@ -1,8 +1,8 @@
 -- The tree of the empty word, form by form.
 use Rattle.std.specs.Prelude.{true, false, [], ◌∷◌}
 use Rattle.ix_words.specs.Canon.{when}
-use Rattle.ix_expr.specs.Form.{Form, atom, opt, seq, star, par, par_star, or, and, couple, any, every, sync, all}
-use Rattle.ix_tree.specs.Plain.{Plain, start, opt as opt_of, seq as seq_of, star as star_of, par as par_of, par_star as par_star_of, or as or_of, and as and_of, couple as couple_of, any as any_of, every as every_of, sync as sync_of, all as all_of, pair as pair_of, bag as bag_of, map as map_of, none, listed}
+use Rattle.ix_expr.specs.Form.{Form, atom, opt, seq, star, par, par_star, or, and, couple, any, every, sync, all, times}
+use Rattle.ix_tree.specs.Plain.{Plain, start, opt as opt_of, seq as seq_of, star as star_of, par as par_of, par_star as par_star_of, or as or_of, and as and_of, couple as couple_of, any as any_of, every as every_of, sync as sync_of, all as all_of, times as times_of, pair as pair_of, bag as bag_of, map as map_of, none, listed}
 use Rattle.ix_can.specs.Tests.{accepts_empty}
 
 -- the tree of the empty word under any environment
@@ -20,3 +20,4 @@ initial_tree (any p y) = any_of (initial_tree y) none
 initial_tree (every p y) = every_of (initial_tree y) none
 initial_tree (sync p y) = sync_of (initial_tree y) none
 initial_tree (all p y) = all_of (listed (map_of none ∷ []))
+initial_tree (times n y) = times_of (listed (bag_of none ∷ []))

@@ -3,7 +3,7 @@ use Rattle.std.specs.Prelude.{Bool, true, false, not, ◌&&◌}
 use Rattle.ix_values.specs.PlainAction.{PlainAction}
 use Rattle.ix_expr.specs.Form.{Form, atom, and, couple, every, sync}
 use Rattle.ix_expr.specs.Environment.{Environment}
-use Rattle.ix_tree.specs.Plain.{Plain, is_dead, none, opt as opt_of, seq as seq_of, star as star_of, par as par_of, par_star as par_star_of, or as or_of, any as any_of, all as all_of}
+use Rattle.ix_tree.specs.Plain.{Plain, is_dead, none, opt as opt_of, seq as seq_of, star as star_of, par as par_of, par_star as par_star_of, or as or_of, any as any_of, all as all_of, times as times_of}
 use Rattle.ix_can.specs.Nodes.{dead_if, settled}
 use Rattle.ix_can.specs.inside.May.{may}
 
@@ -31,6 +31,7 @@ has_died (par_star_of bags) = is_none bags
 has_died (or_of t u) = is_dead t && is_dead u
 has_died (any_of common entries) = is_dead common && is_none entries
 has_died (all_of maps) = is_none maps
+has_died (times_of bags) = is_none bags
 has_died t = false
 
 -- the node, dead where none of its parts is live, and done where it is spent

@@ -1,11 +1,11 @@
 -- The plain tree that a node stands for.
 use Rattle.std.specs.Prelude.{map as each}
 use Rattle.ix_tree.specs.Plain.{Plain, dead, start, done, opt, seq, star, par, par_star}
-use Rattle.ix_tree.specs.Plain.{or, and, couple, any, every, sync, all, listed}
+use Rattle.ix_tree.specs.Plain.{or, and, couple, any, every, sync, all, times, listed}
 use Rattle.ix_tree.specs.PlainOf.{plain_entries, plain_pair, plain_bag, plain_map}
 use Rattle.ix_tree.specs.declared.node.Node.{Node}
 use Rattle.ix_tree.specs.declared.node.Node.TheVariants.{Dead, Start, Done, Opt, Seq, Star, Par}
-use Rattle.ix_tree.specs.declared.node.Node.TheVariants.{ParStar, Or, And, Couple, Any, Every, Sync, All}
+use Rattle.ix_tree.specs.declared.node.Node.TheVariants.{ParStar, Or, And, Couple, Any, Every, Sync, All, Times}
 
 -- the plain tree of a node
 abbrev pub plain_node : Node → Plain
@@ -24,3 +24,4 @@ plain_node (Any x es) = any x (plain_entries es.items)
 plain_node (Every x es) = every x (plain_entries es.items)
 plain_node (Sync x es) = sync x (plain_entries es.items)
 plain_node (All ms) = all (listed (each plain_map ms.items))
+plain_node (Times bs) = times (listed (each plain_bag bs.items))

@@ -7,7 +7,7 @@ use Rattle.ix_tree.specs.Size.{size_of}
 use Rattle.ix_tree.specs.PlainOf.{plain_pair, plain_bag, plain_map, plain_entry, plain_entries}
 use Rattle.ix_tree.specs.inside.PlainNode.{plain_node}
 use Rattle.ix_tree.specs.declared.node.Node.{Node}
-use Rattle.ix_tree.specs.declared.node.Node.TheVariants.{Dead, Start, Done, Opt, Seq, Star, Par, ParStar, Or, And, Couple, Any, Every, Sync, All}
+use Rattle.ix_tree.specs.declared.node.Node.TheVariants.{Dead, Start, Done, Opt, Seq, Star, Par, ParStar, Or, And, Couple, Any, Every, Sync, All, Times}
 use Rattle.ix_tree.specs.declared.node.Pair.{Pair}
 use Rattle.ix_tree.specs.declared.node.Bag.{Bag}
 use Rattle.ix_tree.specs.declared.node.Map.{Map}
@@ -62,3 +62,4 @@ depth_le-size (Any x es) = omega (arith, entries es.items)
 depth_le-size (Every x es) = omega (arith, entries es.items)
 depth_le-size (Sync x es) = omega (arith, entries es.items)
 depth_le-size (All ms) = omega (arith, maps ms.items)
+depth_le-size (Times bs) = omega (arith, bags bs.items)

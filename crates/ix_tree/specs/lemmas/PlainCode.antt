@@ -2,12 +2,12 @@
 use Rattle.std.specs.Prelude.{◌≡◌, ℕ, ◌==◌, true, false, Bool, List, [], ◌∷◌, ◌++◌, if◌then◌else◌}
 use Rattle.std.specs.Coded.{Coded, code_by, coded×, coded_ℕ, coded_list}
 use Rattle.std.proofs.Common.{refl, sym, ap, ◌∙◌, append_assoc, append-nil}
-use Rattle.ix_tree.specs.Plain.{Plain, dead, start, done, opt, seq, star, par, par_star, or, and, couple, any, every, sync, all, pair, bag, map, entry, none, more}
+use Rattle.ix_tree.specs.Plain.{Plain, dead, start, done, opt, seq, star, par, par_star, or, and, couple, any, every, sync, all, times, pair, bag, map, entry, none, more}
 use Rattle.ix_tree.specs.Order.{key, between}
 
 -- the place of each node and what stands in it beside trees, in the order of a reader
 abbrev written : Plain → List (ℕ × List ℕ)
-written none = (19, []) ∷ []
+written none = (20, []) ∷ []
 written dead = (0, []) ∷ []
 written start = (1, []) ∷ []
 written done = (2, []) ∷ []
@@ -23,11 +23,12 @@ written (any x y) = (11, []) ∷ (written x ++ written y)
 written (every x y) = (12, []) ∷ (written x ++ written y)
 written (sync x y) = (13, []) ∷ (written x ++ written y)
 written (all x) = (14, []) ∷ written x
-written (pair x y) = (15, []) ∷ (written x ++ written y)
-written (bag x) = (16, []) ∷ written x
-written (map x) = (17, []) ∷ written x
-written (entry v x) = (18, v) ∷ written x
-written (more x y) = (20, []) ∷ (written x ++ written y)
+written (times x) = (15, []) ∷ written x
+written (pair x y) = (16, []) ∷ (written x ++ written y)
+written (bag x) = (17, []) ∷ written x
+written (map x) = (18, []) ∷ written x
+written (entry v x) = (19, v) ∷ written x
+written (more x y) = (21, []) ∷ (written x ++ written y)
 
 -- the first of some trees
 abbrev top : List Plain → Plain
@@ -48,22 +49,22 @@ flag (n ∷ ns) = n == 1
 abbrev of_one : ℕ → List ℕ → Plain → Plain
 of_one n k x =
     if n == 3 then opt (flag k) x else (if n == 5 then star (flag k) x else (if n == 6 then par x else (if n == 7 then par_star x else
-    (if n == 14 then all x else (if n == 16 then bag x else (if n == 17 then map x else entry k x))))))
+    (if n == 14 then all x else (if n == 15 then times x else (if n == 17 then bag x else (if n == 18 then map x else entry k x)))))))
 
 -- a node of two parts
 abbrev of_two : ℕ → List ℕ → Plain → Plain → Plain
 of_two n k x y =
     if n == 4 then seq x (flag k) y else (if n == 8 then or x y else (if n == 9 then and x y else (if n == 10 then couple x y else
-    (if n == 11 then any x y else (if n == 12 then every x y else (if n == 13 then sync x y else (if n == 15 then pair x y else more x y)))))))
+    (if n == 11 then any x y else (if n == 12 then every x y else (if n == 13 then sync x y else (if n == 16 then pair x y else more x y)))))))
 
 -- how many parts the nodes of a place have
 abbrev leaf : ℕ → Bool
-leaf n = if n == 0 then true else (if n == 1 then true else (if n == 2 then true else n == 19))
+leaf n = if n == 0 then true else (if n == 1 then true else (if n == 2 then true else n == 20))
 
 abbrev single : ℕ → Bool
 single n =
     if n == 3 then true else (if n == 5 then true else (if n == 6 then true else (if n == 7 then true else
-    (if n == 14 then true else (if n == 16 then true else (if n == 17 then true else n == 18))))))
+    (if n == 14 then true else (if n == 15 then true else (if n == 17 then true else (if n == 18 then true else n == 19)))))))
 
 -- a node without parts
 abbrev of_none : ℕ → Plain
@@ -109,11 +110,12 @@ reads (any x y) ts = two_read 11 [] x y ts (reads x) (reads y ts)
 reads (every x y) ts = two_read 12 [] x y ts (reads x) (reads y ts)
 reads (sync x y) ts = two_read 13 [] x y ts (reads x) (reads y ts)
 reads (all x) ts = one_reads 14 [] x ts (reads x ts)
-reads (pair x y) ts = two_read 15 [] x y ts (reads x) (reads y ts)
-reads (bag x) ts = one_reads 16 [] x ts (reads x ts)
-reads (map x) ts = one_reads 17 [] x ts (reads x ts)
-reads (entry v x) ts = one_reads 18 v x ts (reads x ts)
-reads (more x y) ts = two_read 20 [] x y ts (reads x) (reads y ts)
+reads (times x) ts = one_reads 15 [] x ts (reads x ts)
+reads (pair x y) ts = two_read 16 [] x y ts (reads x) (reads y ts)
+reads (bag x) ts = one_reads 17 [] x ts (reads x ts)
+reads (map x) ts = one_reads 18 [] x ts (reads x ts)
+reads (entry v x) ts = one_reads 19 v x ts (reads x ts)
+reads (more x y) ts = two_read 21 [] x y ts (reads x) (reads y ts)
 
 -- one tree alone
 pub alone : (x : Plain) → top (read (written x)) ≡ x

@@ -8,7 +8,7 @@ use Rattle.std.specs.Ordering.{nat_cmp, ordering_reverse, ordering_then}
 use Rattle.ix_words.specs.Canon.{IsStrictOrder}
 use Rattle.ix_values.specs.Order.{text_cmp}
 use Rattle.ix_values.specs.lemmas.Order.{text_cmp-same}
-use Rattle.ix_tree.specs.Plain.{Plain, dead, start, done, opt, seq, star, par, par_star, or, and, couple, any, every, sync, all, pair, bag, map, entry, none, more}
+use Rattle.ix_tree.specs.Plain.{Plain, dead, start, done, opt, seq, star, par, par_star, or, and, couple, any, every, sync, all, times, pair, bag, map, entry, none, more}
 use Rattle.ix_tree.specs.Order.{place, key, first_part, between, second_part, in_turn, tree_cmp}
 
 -- what holds of the empty list, and of a tree where it holds of its parts, holds of every tree
@@ -28,6 +28,7 @@ induct P n s (any x xs) = s (any x xs) (induct P n s x) (induct P n s xs)
 induct P n s (every x xs) = s (every x xs) (induct P n s x) (induct P n s xs)
 induct P n s (sync x xs) = s (sync x xs) (induct P n s x) (induct P n s xs)
 induct P n s (all maps) = s (all maps) (induct P n s maps) n
+induct P n s (times bags) = s (times bags) (induct P n s bags) n
 induct P n s (pair x y) = s (pair x y) (induct P n s x) (induct P n s y)
 induct P n s (bag xs) = s (bag xs) (induct P n s xs) n
 induct P n s (map xs) = s (map xs) (induct P n s xs) n
@@ -37,11 +38,11 @@ induct P n s (more x xs) = s (more x xs) (induct P n s x) (induct P n s xs)
 
 -- whether the trees of a form have a first and a second part
 has_first : ℕ → Bool
-has_first n = not (nat_le n 2 || n == 19)
+has_first n = not (nat_le n 2 || n == 20)
 
 -- whether the trees of a form have a second part
 has_second : ℕ → Bool
-has_second n = (n == 4) || ((nat_le 8 n && nat_le n 13) || ((n == 15) || (n == 20)))
+has_second n = (n == 4) || ((nat_le 8 n && nat_le n 13) || ((n == 16) || (n == 21)))
 
 -- a form without a first part has none there
 no_first : (x : Plain) → has_first (place x) ≡ false → first_part x ≡ none
@@ -118,6 +119,7 @@ turns (any x xs) y = refl
 turns (every x xs) y = refl
 turns (sync x xs) y = refl
 turns (all maps) y = one_part (all maps) y _ refl
+turns (times bags) y = one_part (times bags) y _ refl
 turns (pair x z) y = refl
 turns (bag xs) y = one_part (bag xs) y _ refl
 turns (map xs) y = one_part (map xs) y _ refl
@@ -138,8 +140,8 @@ made n k x b y =
     cond (n == 0) dead (cond (n == 1) start (cond (n == 2) done (cond (n == 3) (opt (is_one k) x) (cond (n == 4) (seq x (is_one b) y)
     (cond (n == 5) (star (is_one k) x) (cond (n == 6) (par x) (cond (n == 7) (par_star x) (cond (n == 8) (or x y)
     (cond (n == 9) (and x y) (cond (n == 10) (couple x y) (cond (n == 11) (any x y) (cond (n == 12) (every x y)
-    (cond (n == 13) (sync x y) (cond (n == 14) (all x) (cond (n == 15) (pair x y) (cond (n == 16) (bag x) (cond (n == 17) (map x)
-    (cond (n == 18) (entry k x) (cond (n == 19) none (more x y))))))))))))))))))))
+    (cond (n == 13) (sync x y) (cond (n == 14) (all x) (cond (n == 15) (times x) (cond (n == 16) (pair x y) (cond (n == 17) (bag x)
+    (cond (n == 18) (map x) (cond (n == 19) (entry k x) (cond (n == 20) none (more x y)))))))))))))))))))))
 
 -- a tree is made of its form, bytes and parts
 made_again : (x : Plain) → made (place x) (key x) (first_part x) (between x) (second_part x) ≡ x

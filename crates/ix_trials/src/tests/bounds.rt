@@ -4,7 +4,7 @@ use super::*;
 // A number, one that is too great, each reason for none, and a text with a fault.
 #[test]
 fn bounds_are_put(rt: HostRuntime) -> Result<(), Fail> {
-    let cases: [(&[u8], &str, u8, &[u8]); 9] = [
+    let cases: [(&[u8], &str, u8, &[u8]); 10] = [
         (BOTH, "0", 0, b"bound 5\n"),
         (BOTH, "2", 0, b"bound 61\n"),
         (BOTH, "50", 0, b"bound 20605\n"),
@@ -18,6 +18,7 @@ fn bounds_are_put(rt: HostRuntime) -> Result<(), Fail> {
             b"unbounded 53 node 0\n",
         ),
         (b"?#a", "3", 0, b"unbounded 54 node 1\n"),
+        (b"a - times 2 b", "3", 0, b"unbounded 54 node 2\n"),
         (b"a | - b", "3", 3, b"refused expression 3 at 4\n"),
     ];
     for (expression, count, status, bytes) in cases {

@@ -5,7 +5,7 @@ ghost use Rattle.ix_manager.specs.inside.OverSite.{FitsSite};
 ghost use Rattle.ix_step.specs.inside.Limits.{most_size};
 
 use super::*;
-use ix_expr::{Atom, Expr, Expression};
+use ix_expr::{Atom, Expr, Expression, has_numbers};
 use ix_manager::{Go, Manager, StartFault, Stop};
 use ix_outside::{Event, EventKind};
 use ix_values::Name;
@@ -25,6 +25,9 @@ fn expression(alloc: Global) -> Result<Expression, Fail> {
 }
 
 fn formed(expr: Expr) -> Result<Expression, Fail> {
+    if !has_numbers(&expr) {
+        return Err("a number isn't 2 to 64".into());
+    }
     Ok(Expression::new(expr).map_err(|_| "not well formed")?)
 }
 

@@ -61,11 +61,52 @@ fn first_faults(rt: HostRuntime) -> Result<(), Fail> {
         (b"b - a(p,q,r,s,t,".as_slice(), 10, 13),
         (b"all(x)".as_slice(), 12, 0),
         (b"b - times - c".as_slice(), 12, 4),
+        (b"times".as_slice(), 12, 0),
+        (b"times (a)".as_slice(), 12, 0),
+        (b"times $p a".as_slice(), 12, 0),
+        (b"times ! 2".as_slice(), 12, 0),
+        (b"times a".as_slice(), 16, 6),
+        (b"times 1 a".as_slice(), 16, 6),
+        (b"times 02 a".as_slice(), 16, 6),
+        (b"times 65 a".as_slice(), 16, 6),
+        (b"times 2".as_slice(), 4, 7),
+        (b"times 2 - a".as_slice(), 3, 8),
         (b"b | any !".as_slice(), 12, 4),
     ];
     for (text, code, at) in rows {
         assert_eq!(rt; outcome(rt.alloc(), text), Some((code, at)));
     }
+    Ok(())
+}
+
+#[test]
+fn so_many_times(rt: HostRuntime) -> Result<(), Fail> {
+    let rows = [
+        (b"times 2 a".as_slice(), 2),
+        (b"times 64 (a - b)".as_slice(), 4),
+        (b"any $times a($times) | b(times)".as_slice(), 4),
+    ];
+    for (text, nodes) in rows {
+        assert_eq!(rt; outcome(rt.alloc(), text), Some((0, nodes)));
+    }
+    assert_eq!(rt;
+        outcome_between(rt.alloc(), b"times 2 ", 64, b"a", b"")?,
+        Some((0, 65))
+    );
+    assert_eq!(rt;
+        outcome_between(rt.alloc(), b"times 2 ", 65, b"a", b"")?,
+        Some((9, 512))
+    );
+    assert_eq!(rt;
+        outcome_between(rt.alloc(), b"", 31, b"times nn", b"n")?,
+        Some((16, 6))
+    );
+    let expression = read(rt.alloc(), b"times 10 (a + b)").map_err(|_| "an expression")?;
+    let counted = match expression.expr() {
+        Expr::Times(number, operand) => *number == 10 && matches!(&**operand, Expr::Par(_, _)),
+        _ => false,
+    };
+    assert!(rt; counted);
     Ok(())
 }
 

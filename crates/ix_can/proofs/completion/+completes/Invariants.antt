@@ -1,10 +1,11 @@
 -- Measures and invariants of the functions behind `is_final`.
-use Rattle.std.proofs.Common.{◌≡◌, ◌&&◌, ◌+◌, ◌*◌, drop, map}
+use Rattle.std.proofs.Common.{◌≡◌, ◌&&◌, ◌||◌, ◌==◌, length, ◌+◌, ◌*◌, drop, map}
 use Rattle.std.specs.List.{list_all, list_any}
 use Rattle.ix_expr.specs.inside.FormOf.{form_of}
 use Rattle.ix_tree.specs.Order.{first_part, second_part}
 use Rattle.ix_tree.specs.Plain.{listed, items_of}
 use Rattle.ix_tree.specs.PlainOf.{plain_pair, plain_bag, plain_map, plain_entries}
+use Rattle.ix_can.specs.Tests.{accepts_empty}
 use Rattle.ix_can.specs.TreeOf.{is_final}
 use Rattle.ix_can.proofs.Measures.{count}
 use Rattle.ix_can.proofs.completion.+completes.Given as goal
@@ -46,6 +47,17 @@ abbrev pub invariant-some_bag_completes-loop-bag : goal.invariant-some_bag_compl
 invariant-some_bag_completes-loop-bag l =
     list_any (λ b. list_all (is_final (form_of l.y)) (items_of (first_part b))) (items_of (listed (map plain_bag l.bags)))
     ≡ list_any (λ b. list_all (is_final (form_of l.y)) (items_of (first_part b))) (items_of (listed (map plain_bag (drop l.bag-index l.bags))))
+
+abbrev pub decreases-limited_bag_completes : goal.decreases-limited_bag_completes
+decreases-limited_bag_completes l = 4 * count (form_of l.y.now) + 2
+
+abbrev pub decreases-some_limited_bag_completes : goal.decreases-some_limited_bag_completes
+decreases-some_limited_bag_completes l = 4 * count (form_of l.y.now) + 3
+
+abbrev pub invariant-some_limited_bag_completes-loop-bag : goal.invariant-some_limited_bag_completes-loop-bag
+invariant-some_limited_bag_completes-loop-bag l =
+    list_any (λ b. list_all (is_final (form_of l.y)) (items_of (first_part b)) && ((length (items_of (first_part b)) == l.number) || accepts_empty (form_of l.y))) (items_of (listed (map plain_bag l.bags)))
+    ≡ list_any (λ b. list_all (is_final (form_of l.y)) (items_of (first_part b)) && ((length (items_of (first_part b)) == l.number) || accepts_empty (form_of l.y))) (items_of (listed (map plain_bag (drop l.bag-index l.bags))))
 
 abbrev pub decreases-some_entry_completes : goal.decreases-some_entry_completes
 decreases-some_entry_completes l = 4 * count (form_of l.y.now) + 1

@@ -41,13 +41,19 @@ begins-begins_either-requires t c =
     let parts : Fits (form_of c.in-Par.y.value) e × Fits (form_of c.in-Par.z.value) e = elim c.in-Par.is [ inl is ↦ subst both is fits | inr is ↦ subst both is fits ] in
     (search (rules, the_lemmas), (subst (λ (x : Expr). Fits (form_of x) e) (sym c.deref-in-Par.ensures) parts.0, subst (λ (x : Expr). Fits (form_of x) e) (sym c.deref-in-Par-2.ensures) parts.1))
 
-pub begins-begins-requires : goal.begins-begins-requires
-begins-begins-requires t c =
+pub begins-begins-requires-in-Opt : goal.begins-begins-requires-in-Opt
+begins-begins-requires-in-Opt t c =
     let e = c.args.env.now in
     let one = λ (x : Expr). OperandsFit (form_of x) e in
     let fits : one c.args.expr.now = fits-operands (form_of c.args.expr.now) e c.requires in
     let part : Fits (form_of c.in-Opt.y.value) e = elim c.in-Opt.is [ inl is ↦ subst one is fits | inr r ↦ elim r [ inl is ↦ subst one is fits | inr is ↦ subst one is fits ] ] in
     (search (rules, the_lemmas), subst (λ (x : Expr). Fits (form_of x) e) (sym c.deref-in-Opt.ensures) part)
+
+pub begins-begins-requires : goal.begins-begins-requires
+begins-begins-requires t c =
+    let e = c.args.env.now in
+    let part : Fits (form_of c.in-Times.y.value) e = subst (λ (x : Expr). OperandsFit (form_of x) e) c.in-Times.is (fits-operands (form_of c.args.expr.now) e c.requires) in
+    (search (rules, the_lemmas), subst (λ (x : Expr). Fits (form_of x) e) (sym c.deref-then-number-gt0.ensures) part)
 
 pub begins-begins_for_some-requires : goal.begins-begins_for_some-requires
 begins-begins_for_some-requires t c =

@@ -1,8 +1,8 @@
 -- What each call behind `can` asks holds.
-use Rattle.std.proofs.Common.{◌≡◌, ℕ, ◌+◌, List, length, get_or, drop, true≢false, Bool, true, false, ◌&&◌, ◌||◌, map, Some, None, arith, rules, sym, ap, ◌∙◌, subst}
+use Rattle.std.proofs.Common.{nat_lt, ◌≡◌, ℕ, ◌+◌, List, length, get_or, drop, true≢false, Bool, true, false, ◌&&◌, ◌||◌, map, Some, None, arith, rules, sym, ap, ◌∙◌, subst}
 use Rattle.ix_expr.specs.declared.expr.Expr.TheViews.{the_lemmas}
 use Rattle.ix_expr.specs.Environment.{Environment}
-use Rattle.ix_expr.specs.Form.{Form, opt, seq, star, par, par_star, or, and, couple, any, every, sync, all}
+use Rattle.ix_expr.specs.Form.{Form, opt, seq, star, par, par_star, or, and, couple, any, every, sync, all, times}
 use Rattle.ix_expr.specs.FormFaults.{Fits}
 use Rattle.ix_expr.proofs.LawsOfNames.{fits-names}
 use Rattle.ix_expr.specs.inside.FormOf.{form_of}
@@ -11,15 +11,16 @@ use Rattle.ix_values.specs.Order.{text_cmp}
 use Rattle.ix_tree.specs.Order.{key}
 use Rattle.std.specs.List.{list_any}
 use Rattle.std.proofs.lemmas.List.{at_drop_more}
-use Rattle.ix_tree.specs.Plain.{Plain, dead, listed, items_of, seq as seq_of, star as star_of, par as par_of, par_star as par_star_of, any as any_of, every as every_of, sync as sync_of, all as all_of}
+use Rattle.ix_tree.specs.Plain.{Plain, dead, listed, items_of, seq as seq_of, star as star_of, par as par_of, par_star as par_star_of, any as any_of, every as every_of, sync as sync_of, all as all_of, times as times_of}
 use Rattle.ix_tree.specs.PlainOf.{plain_pair, plain_bag, plain_map, plain_entry, plain_entries}
 use Rattle.ix_tree.specs.inside.PlainNode.{plain_node}
 use Rattle.ix_tree.proofs.PlainLists.{items_of-listed}
 use Rattle.ix_can.specs.inside.CanAsk.{CanAsk, AreProper, stays, may_own}
 use Rattle.ix_can.specs.Laws.{IsProper}
-use Rattle.ix_can.specs.inside.May.{may}
+use Rattle.ix_can.specs.inside.May.{may, may_first}
 use Rattle.ix_can.specs.Tests.{in_alphabet}
-use Rattle.ix_can.proofs.Asking.{opt_asked, seq_first, seq_rest, star_rest, par_pairs, par_star_bags, or_first, or_second, and_first, and_second, couple_first, couple_second, any_values, every_values, sync_values, all_maps, tree_has, part_has, entries_proper, state_proper, own_proper}
+use Rattle.ix_can.proofs.Asking.{opt_asked, seq_first, seq_rest, star_rest, par_pairs, par_star_bags, times_bags, or_first, or_second, and_first, and_second, couple_first, couple_second, any_values, every_values, sync_values, all_maps, tree_has, part_has, entries_proper, state_proper, own_proper}
+use Rattle.ix_can.proofs.Children.{either_then, either_else}
 use Rattle.ix_can.proofs.Keys.{entries_ascend}
 use Rattle.ix_can.proofs.UnseenValues.{unseen_none, unseen_all, unseen_stay, unseen_own, own_tell}
 use Rattle.ix_can.proofs.next.+goes_on.Goals as goal
@@ -60,6 +61,10 @@ goes_on-some_pair_goes_on-requires t c =
 pub goes_on-some_bag_goes_on-requires : goal.goes_on-some_bag_goes_on-requires
 goes_on-some_bag_goes_on-requires t c =
     (search (rules, the_lemmas), par_star_bags (asked (ap form_of c.in-ParStar-ParStar.is-0 ∙ ap (λ v. par_star (form_of v)) (sym c.deref-in-ParStar-ParStar.ensures)) (sym c.node.ensures ∙ ap plain_node c.in-ParStar-ParStar.is-1 ∙ ap (λ v. par_star_of (listed (map plain_bag v))) (sym c.deref-in-ParStar-ParStar-2.ensures.value)) c.requires))
+
+pub goes_on-some_limited_bag_goes_on-requires : goal.goes_on-some_limited_bag_goes_on-requires
+goes_on-some_limited_bag_goes_on-requires t c =
+    (search (rules, the_lemmas), times_bags (asked (ap form_of c.in-Times-Times.is-0 ∙ ap (λ v. times c.in-Times-Times.number (form_of v)) (sym c.deref-in-Times-Times.ensures)) (sym c.node.ensures ∙ ap plain_node c.in-Times-Times.is-1 ∙ ap (λ v. times_of (listed (map plain_bag v))) (sym c.deref-in-Times-Times-2.ensures.value)) c.requires))
 
 pub goes_on-goes_on-requires-in-Or-Or : goal.goes_on-goes_on-requires-in-Or-Or
 goes_on-goes_on-requires-in-Or-Or t c =
@@ -111,6 +116,38 @@ goes_on-returns-in-ParStar-ParStar t c =
     c.some_bag_goes_on.ensures
     ∙ ap (λ s. may (par_star (form_of c.deref-in-ParStar-ParStar.result.now)) e s a) (sym tree)
     ∙ ap (λ x. may x e c.args.state.now a) (sym shape)
+
+pub goes_on-returns-in-Times-Times : goal.goes_on-returns-in-Times-Times
+goes_on-returns-in-Times-Times t c =
+    let e = c.args.env.now in
+    let a = c.args.action.now in
+    let shape = ap form_of c.in-Times-Times.is-0 ∙ ap (λ v. times c.in-Times-Times.number (form_of v)) (sym c.deref-in-Times-Times.ensures) in
+    let tree = sym c.node.ensures ∙ ap plain_node c.in-Times-Times.is-1 ∙ ap (λ v. times_of (listed (map plain_bag v))) (sym c.deref-in-Times-Times-2.ensures.value) in
+    c.some_limited_bag_goes_on.ensures
+    ∙ ap (λ s. may (times c.in-Times-Times.number (form_of c.deref-in-Times-Times.result.now)) e s a) (sym tree)
+    ∙ ap (λ x. may x e c.args.state.now a) (sym shape)
+
+-- one more run may begin as often as the bag's trees tell
+room_is : (items : List Plain) (len from number : ℕ) → length items ≡ len → from ≡ number → nat_lt len from ≡ nat_lt (length (items_of (listed items))) number
+room_is items len from number l f = (λ i. nat_lt ((sym (ap length (items_of-listed items) ∙ l)) i) (f i))
+
+pub limited_bag_goes_on-returns-then-begins_again : goal.limited_bag_goes_on-returns-then-begins_again
+limited_bag_goes_on-returns-then-begins_again t c =
+    let first = may_first (form_of c.args.y.now) c.args.env.now c.args.action.now in
+    either_then c.begins_again.result _ _ c.if-begins_again.true
+    (c.begins_again.ensures ∙ ap (λ b. b && first) (room_is c.args.bag.now.items.items c.len.result c.from.result c.args.number (omega (arith, c.len.ensures, c.args.bag.now.items.ok.0)) c.from.ensures))
+
+pub limited_bag_goes_on-returns-else-begins_again : goal.limited_bag_goes_on-returns-else-begins_again
+limited_bag_goes_on-returns-else-begins_again t c =
+    let y = form_of c.args.y.now in
+    let first = may_first y c.args.env.now c.args.action.now in
+    either_else c.begins_again.result c.some_goes_on.result _ _ c.if-begins_again.false
+    (c.begins_again.ensures ∙ ap (λ b. b && first) (room_is c.args.bag.now.items.items c.len.result c.from.result c.args.number (omega (arith, c.len.ensures, c.args.bag.now.items.ok.0)) c.from.ensures))
+    (c.some_goes_on.ensures ∙ ap (λ ks. list_any (λ x. may y c.args.env.now x c.args.action.now) (items_of (listed ks))) c.deref.ensures.value)
+
+pub some_limited_bag_goes_on-limited_bag_goes_on-requires : goal.some_limited_bag_goes_on-limited_bag_goes_on-requires
+some_limited_bag_goes_on-limited_bag_goes_on-requires t c =
+    (search (rules, the_lemmas), (c.requires.fits, (part_has plain_bag c.args.bags.now c.loop-bag.bag-index c.bag-item.result c.requires.proper (omega arith) c.bag-item.is).1))
 
 pub goes_on-returns-in-All-All : goal.goes_on-returns-in-All-All
 goes_on-returns-in-All-All t c =

@@ -1,5 +1,5 @@
 -- Measures and invariants of the functions behind `can`.
-use Rattle.std.proofs.Common.{◌≡◌, ◌||◌, ◌+◌, ◌*◌, Some, drop, map}
+use Rattle.std.proofs.Common.{◌≡◌, ◌&&◌, ◌||◌, length, nat_lt, ◌+◌, ◌*◌, Some, drop, map}
 use Rattle.std.specs.List.{list_all, list_any}
 use Rattle.ix_expr.specs.Environment.{bind}
 use Rattle.ix_expr.specs.inside.FormOf.{form_of}
@@ -40,6 +40,16 @@ decreases-some_bag_goes_on l = 8 * count (form_of l.y.now) + 3
 abbrev pub invariant-some_bag_goes_on-loop-bag : goal.invariant-some_bag_goes_on-loop-bag
 invariant-some_bag_goes_on-loop-bag l =
     list_any (λ b. may_first (form_of l.y) l.env l.action || list_any (λ x. may (form_of l.y) l.env x l.action) (items_of (first_part b))) (items_of (listed (map plain_bag l.bags))) ≡ list_any (λ b. may_first (form_of l.y) l.env l.action || list_any (λ x. may (form_of l.y) l.env x l.action) (items_of (first_part b))) (items_of (listed (map plain_bag (drop l.bag-index l.bags))))
+
+abbrev pub decreases-limited_bag_goes_on : goal.decreases-limited_bag_goes_on
+decreases-limited_bag_goes_on l = 8 * count (form_of l.y.now) + 2
+
+abbrev pub decreases-some_limited_bag_goes_on : goal.decreases-some_limited_bag_goes_on
+decreases-some_limited_bag_goes_on l = 8 * count (form_of l.y.now) + 3
+
+abbrev pub invariant-some_limited_bag_goes_on-loop-bag : goal.invariant-some_limited_bag_goes_on-loop-bag
+invariant-some_limited_bag_goes_on-loop-bag l =
+    list_any (λ b. (nat_lt (length (items_of (first_part b))) l.number && may_first (form_of l.y) l.env l.action) || list_any (λ x. may (form_of l.y) l.env x l.action) (items_of (first_part b))) (items_of (listed (map plain_bag l.bags))) ≡ list_any (λ b. (nat_lt (length (items_of (first_part b))) l.number && may_first (form_of l.y) l.env l.action) || list_any (λ x. may (form_of l.y) l.env x l.action) (items_of (first_part b))) (items_of (listed (map plain_bag (drop l.bag-index l.bags))))
 
 abbrev pub decreases-coupled_go_on : goal.decreases-coupled_go_on
 decreases-coupled_go_on l = 8 * (count (form_of l.y.now) + count (form_of l.z.now)) + 1

@@ -21,7 +21,13 @@ contains-contains-requires-in-Opt t c =
     let operands = λ (x : Expr). OperandsFit (form_of x) e in
     let fits : operands c.args.expr.now = fits-operands (form_of c.args.expr.now) e c.requires in
     let part : Fits (form_of c.in-Opt.y.value) e =
-    elim c.in-Opt.is [ inl is ↦ subst operands is fits | inr r ↦ elim r [ inl is ↦ subst operands is fits | inr is ↦ subst operands is fits ] ] in
+    elim c.in-Opt.is [
+      | inl is ↦ subst operands is fits
+      | inr r ↦ elim r [
+        | inl is ↦ subst operands is fits
+        | inr s ↦ elim s [ inl is ↦ subst operands is fits | inr w ↦ subst operands w.1 fits ]
+      ]
+    ] in
     (search (rules, the_lemmas), subst (λ (x : Expr). Fits (form_of x) e) (sym c.deref-in-Opt.ensures) part)
 
 -- both operands fit, of an expression that is one of the five with two operands

@@ -1,7 +1,7 @@
-use Rattle.std.proofs.Common.{◌⊎◌, inl, inr, true, false, sym, subst}
+use Rattle.std.proofs.Common.{◌==◌, ◌⊎◌, inl, inr, true, false, sym, subst}
 use Rattle.ix_expr.specs.declared.expr.Expr.{Expr}
 use Rattle.ix_expr.specs.inside.FormOf.{form_of}
-use Rattle.ix_expr.proofs.Emptiness.{Accepts, NeedsBoth, opt-accepts, star-accepts, par_star-accepts, seq-needs, par-needs, and-needs, couple-needs, accepts-then, accepts-else, any-accepts, every-accepts, sync-accepts, all-accepts}
+use Rattle.ix_expr.proofs.Emptiness.{Accepts, NeedsBoth, opt-accepts, star-accepts, par_star-accepts, seq-needs, par-needs, and-needs, couple-needs, accepts-then, accepts-else, any-accepts, every-accepts, sync-accepts, all-accepts, times-none, times-accepts}
 use Rattle.ix_expr.proofs.empty_word.+accepts_empty.Goals as goal
 
 pub returns-in-Opt-2 : goal.returns-in-Opt-2
@@ -76,3 +76,15 @@ returns-else-accepts_empty-2 t c =
     (λ e. subst P (sym e) (couple-needs (form_of y) (form_of z))) c.in-Seq.is in
     let left : Accepts (form_of y) false = subst (λ b. Accepts (form_of y) b) c.if-accepts_empty-2.false (subst (λ x. Accepts (form_of x) c.accepts_empty-in-Seq.result) c.deref-in-Seq.ensures c.accepts_empty-in-Seq.ensures) in
     subst (λ b. Accepts (form_of c.args.expr.now) b) (sym c.if-accepts_empty-2.false) (accepts-else (form_of y) (form_of z) (form_of c.args.expr.now) both left)
+
+pub returns-then-number-eq0 : goal.returns-then-number-eq0
+returns-then-number-eq0 t c =
+    let P = λ (x : Expr). Accepts (form_of x) (c.in-Times.number == 0) in
+    subst P (sym c.in-Times.is) (times-none c.in-Times.number (form_of c.in-Times.y.value) c.if-number-eq0.true)
+
+pub returns-else-number-eq0 : goal.returns-else-number-eq0
+returns-else-number-eq0 t c =
+    let b = c.accepts_empty-else-number-eq0.result in
+    let P = λ (x : Expr). Accepts (form_of x) b in
+    let body = subst P c.deref-else-number-eq0.ensures c.accepts_empty-else-number-eq0.ensures in
+    subst P (sym c.in-Times.is) (times-accepts c.in-Times.number (form_of c.in-Times.y.value) b c.if-number-eq0.false body)

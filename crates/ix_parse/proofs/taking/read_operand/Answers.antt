@@ -3,7 +3,7 @@ use Rattle.ix_lex.specs.inside.Items.{plain_token, pieces_of}
 use Rattle.ix_parse.specs.inside.Progress.{Progress}
 use Rattle.ix_parse.specs.inside.Configs.{config_of}
 use Rattle.ix_parse.specs.inside.Outcomes.{pending, IsFaultOf}
-use Rattle.ix_parse.proofs.Rounds.{round-start, round-may, round-readable, round-step, round-err, round-bad, round-end, at-token, at-bad, at-end, param_next-pending, Progress-sound}
+use Rattle.ix_parse.proofs.Rounds.{round-start, round-may, round-readable, round-step, round-err, round-bad, round-end, at-token, at-bad, at-end, follower-pending, Progress-sound}
 use Rattle.ix_parse.proofs.taking.read_operand.Goals as goal
 
 pub loop-ahead-init : goal.loop-ahead-init
@@ -23,7 +23,7 @@ take-requires-clause-may c =
     let r = c.next-ahead-in-Some.result in
     let t = c.next-ahead-in-Some.new.self in
     let here = at-token (pieces_of 0 text) c.loop-ahead.ahead r c.loop-ahead.tokens t c.in-Ok.token (config_of c.loop-ahead.reading.reader) c.loop-ahead.reading.nodes c.loop-ahead.invariant (c.in-Some.is ∙ ap Some c.in-Ok.is) c.next-ahead-in-Some.ensures.steps in
-    round-may text (pending r t) (plain_token c.in-Ok.token) (config_of c.loop-ahead.reading.reader) c.loop-ahead.reading.nodes c.is_param.result here (param_next-pending r t ∙ sym c.is_param.ensures)
+    round-may text (pending r t) (plain_token c.in-Ok.token) (config_of c.loop-ahead.reading.reader) c.loop-ahead.reading.nodes c.follower.result here (follower-pending r t ∙ sym c.follower.ensures)
 
 pub take-requires-clause-readable : goal.take-requires-clause-readable
 take-requires-clause-readable c =
@@ -31,7 +31,7 @@ take-requires-clause-readable c =
     let r = c.next-ahead-in-Some.result in
     let t = c.next-ahead-in-Some.new.self in
     let here = at-token (pieces_of 0 text) c.loop-ahead.ahead r c.loop-ahead.tokens t c.in-Ok.token (config_of c.loop-ahead.reading.reader) c.loop-ahead.reading.nodes c.loop-ahead.invariant (c.in-Some.is ∙ ap Some c.in-Ok.is) c.next-ahead-in-Some.ensures.steps in
-    round-readable text (pending r t) (plain_token c.in-Ok.token) (config_of c.loop-ahead.reading.reader) c.loop-ahead.reading.nodes c.is_param.result here (param_next-pending r t ∙ sym c.is_param.ensures)
+    round-readable text (pending r t) (plain_token c.in-Ok.token) (config_of c.loop-ahead.reading.reader) c.loop-ahead.reading.nodes c.follower.result here (follower-pending r t ∙ sym c.follower.ensures)
 
 pub take-requires-clause-sound : goal.take-requires-clause-sound
 take-requires-clause-sound c = Progress-sound _ _ (config_of c.loop-ahead.reading.reader) c.loop-ahead.reading.nodes c.loop-ahead.invariant
@@ -42,7 +42,7 @@ returns-in-Err-take c =
     let r = c.next-ahead-in-Some.result in
     let t = c.next-ahead-in-Some.new.self in
     let here = at-token (pieces_of 0 text) c.loop-ahead.ahead r c.loop-ahead.tokens t c.in-Ok.token (config_of c.loop-ahead.reading.reader) c.loop-ahead.reading.nodes c.loop-ahead.invariant (c.in-Some.is ∙ ap Some c.in-Ok.is) c.next-ahead-in-Some.ensures.steps in
-    round-err text (pending r t) (plain_token c.in-Ok.token) (config_of c.loop-ahead.reading.reader) c.loop-ahead.reading.nodes c.is_param.result c.in-Err-take.fault here (param_next-pending r t ∙ sym c.is_param.ensures) c.requires c.in-Err-take.ensures
+    round-err text (pending r t) (plain_token c.in-Ok.token) (config_of c.loop-ahead.reading.reader) c.loop-ahead.reading.nodes c.follower.result c.in-Err-take.fault here (follower-pending r t ∙ sym c.follower.ensures) c.requires c.in-Err-take.ensures
 
 pub loop-ahead-preserved : goal.loop-ahead-preserved
 loop-ahead-preserved c =
@@ -52,7 +52,7 @@ loop-ahead-preserved c =
     let here = at-token (pieces_of 0 text) c.loop-ahead.ahead r c.loop-ahead.tokens t c.in-Ok.token (config_of c.loop-ahead.reading.reader) c.loop-ahead.reading.nodes c.loop-ahead.invariant (c.in-Some.is ∙ ap Some c.in-Ok.is) c.next-ahead-in-Some.ensures.steps in
     let next = config_of c.in-Ok-take.reading.reader in
     subst (λ n. Progress (pieces_of 0 text) (pending r t) next n) (sym c.in-Ok-take.ensures.2)
-    (round-step text (pending r t) (plain_token c.in-Ok.token) (config_of c.loop-ahead.reading.reader) c.loop-ahead.reading.nodes c.is_param.result here (param_next-pending r t ∙ sym c.is_param.ensures) next c.in-Ok-take.ensures.0 c.in-Ok-take.ensures.1)
+    (round-step text (pending r t) (plain_token c.in-Ok.token) (config_of c.loop-ahead.reading.reader) c.loop-ahead.reading.nodes c.follower.result here (follower-pending r t ∙ sym c.follower.ensures) next c.in-Ok-take.ensures.0 c.in-Ok-take.ensures.1)
 
 pub finish-requires : goal.finish-requires
 finish-requires c = Progress-sound _ _ (config_of c.loop-ahead.reading.reader) c.loop-ahead.reading.nodes c.loop-ahead.invariant

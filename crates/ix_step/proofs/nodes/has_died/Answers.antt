@@ -26,3 +26,8 @@ pub returns-in-All : goal.returns-in-All
 returns-in-All c =
     c.is_empty-in-All.ensures ∙ ap (λ l. length l == 0) c.as_slice-in-All.ensures.value ∙ parts_none plain_map c.in-All.maps.items
     ∙ sym (ap (λ n. has_died (plain_node n)) c.in-All.is)
+
+pub returns-in-Times : goal.returns-in-Times
+returns-in-Times c =
+    c.is_empty-in-Times.ensures ∙ ap (λ l. length l == 0) c.as_slice-in-Times.ensures.value ∙ parts_none plain_bag c.in-Times.bags.items
+    ∙ sym (ap (λ n. has_died (plain_node n)) c.in-Times.is)
