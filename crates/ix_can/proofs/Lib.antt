@@ -33,6 +33,7 @@ pub mod Measures
 pub mod Children
 pub mod Keys
 pub mod NamedOutside
+pub mod OutsideAlphabet
 pub mod UnseenValues
 pub mod Asking
 mod Examples

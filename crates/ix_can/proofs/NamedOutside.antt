@@ -18,14 +18,14 @@ use Rattle.ix_can.specs.Tests.{is_value, has_value, have_values, is_match, in_al
 use Rattle.ix_can.specs.Nodes.{is_dead, items_of}
 use Rattle.ix_can.specs.inside.May.{both_move, moves_within, tree_at, may_first, may}
 
-and_false : (b : Bool) {c : Bool} → c ≡ false → (b && c) ≡ false
+pub and_false : (b : Bool) {c : Bool} → c ≡ false → (b && c) ≡ false
 and_false true e = e
 and_false false e = refl
 
-or_false : {b c : Bool} → b ≡ false → c ≡ false → (b || c) ≡ false
+pub or_false : {b c : Bool} → b ≡ false → c ≡ false → (b || c) ≡ false
 or_false h k = λ i. h i || k i
 
-and_none : (b : Bool) → (b && false) ≡ false
+pub and_none : (b : Bool) → (b && false) ≡ false
 and_none true = refl
 and_none false = refl
 
@@ -33,7 +33,7 @@ pub if_false : (b : Bool) {c d : Bool} → c ≡ false → d ≡ false → (if b
 if_false true h k = h
 if_false false h k = k
 
-none_from : {A : Type 0} (test : A → Bool) → ((a : A) → test a ≡ false) → (w : List A) → list_any test w ≡ false
+pub none_from : {A : Type 0} (test : A → Bool) → ((a : A) → test a ≡ false) → (w : List A) → list_any test w ≡ false
 none_from test h [] = refl
 none_from test h (a ∷ w) = or_false (h a) (none_from test h w)
 

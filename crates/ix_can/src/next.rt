@@ -20,6 +20,7 @@ ghost use Rattle.ix_can.specs.inside.CanAsk.{stays, may_or_stays, each_may_or_st
 ghost use Rattle.ix_can.specs.inside.CanAsk.{CanAsk, AreProper, UnseenAnswer};
 ghost use Rattle.ix_can.specs.Laws.{IsProper, IsRising, ProperEntries};
 ghost use Rattle.ix_can.specs.inside.May.{may, may_first, tree_at};
+ghost use Rattle.ix_can.specs.Tests.{in_alphabet};
 ghost use Rattle.ix_can.specs.TreeOf.{tree_of};
 
 use crate::first::begins;
@@ -225,6 +226,15 @@ fn some_limited_bag_goes_on(number: u8, y: &Expr, env: &Env, bags: &[Bag], actio
     false
 }
 
+/// How an action meets one side of `@`.
+#[derive(Clone, Copy)]
+struct Met {
+    /// Whether it is in the side's alphabet.
+    inside: bool,
+    /// Whether the side goes on with it.
+    goes_on: bool,
+}
+
 /// Each side that has the action in its alphabet must go on, and one of them must have it. Each is
 /// asked once.
 #[cycle(goes_on)]
@@ -234,15 +244,39 @@ fn coupled_go_on(y: &Expr, z: &Expr, env: &Env, left: &Knot, right: &Knot, actio
     ensures { result ≡ may (couple (form_of y.now) (form_of z.now)) env.now
         (couple_of left.now right.now) action.now }
 {
-    let left_moves = in_alphabet(y, env, action);
-    if left_moves && !goes_on(y, env, left, action) {
+    let left = meets(y, env, left, action);
+    if left.inside && !left.goes_on {
         return false;
     }
-    let right_moves = in_alphabet(z, env, action);
-    if right_moves && !goes_on(z, env, right, action) {
+    let right = meets(z, env, right, action);
+    if right.inside && !right.goes_on {
         return false;
     }
-    left_moves || right_moves
+    left.inside || right.inside
+}
+
+/// Of `all` no other value's state is looked at than the action's own, so it is asked first whether
+/// it goes on: where it does, the action is in its alphabet.
+#[cycle(goes_on)]
+fn meets(y: &Expr, env: &Env, state: &Knot, action: &Action) -> Met
+    requires { CanAsk (form_of y.now) env.now state.now }
+    ensures inside { result.inside ≡ in_alphabet (form_of y.now) env.now action.now }
+    ensures goes_on { result.goes_on ≡ may (form_of y.now) env.now state.now action.now }
+{
+    if matches!(y, Expr::All(_, _)) {
+        let moves = goes_on(y, env, state, action);
+        let inside = moves || in_alphabet(y, env, action);
+        return Met {
+            inside,
+            goes_on: moves,
+        };
+    }
+    let inside = in_alphabet(y, env, action);
+    let moves = inside && goes_on(y, env, state, action);
+    Met {
+        inside,
+        goes_on: moves,
+    }
 }
 
 #[cycle(goes_on)]

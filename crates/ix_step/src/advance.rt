@@ -1,11 +1,11 @@
 //! The tree of a word moved by one action.
 
-ghost use Rattle.std.specs.Prelude.{◌≡◌, ◌≤◌, ◌||◌, true, false};
+ghost use Rattle.std.specs.Prelude.{◌≡◌, ◌≤◌, ◌||◌, true, false, IsTrue, if◌then◌else◌};
 ghost use Rattle.std.specs.List.{list_any};
 ghost use Rattle.ix_words.specs.Each.{Each};
 ghost use Rattle.ix_expr.specs.inside.FormOf.{form_of};
 ghost use Rattle.ix_expr.specs.Form.{seq, star};
-ghost use Rattle.ix_tree.specs.Plain.{is_done, listed, seq as seq_of, star as star_of};
+ghost use Rattle.ix_tree.specs.Plain.{is_dead, is_done, listed, seq as seq_of, star as star_of};
 ghost use Rattle.ix_can.specs.Tests.{in_alphabet};
 ghost use Rattle.ix_can.specs.TreeOf.{is_final as is_final_by};
 ghost use Rattle.ix_can.specs.inside.May.{may, moves_within};
@@ -129,7 +129,9 @@ fn advance_node(step: Step, expr: &Expr, tree: &Knot) -> Result<Knot, Unbuilt>
     }
 }
 
-/// The moved tree where the action is in the alphabet, else the tree as it was.
+/// The moved tree where the action is in the alphabet, else the tree as it was. Of `all`, which moves
+/// no other value's state than the action's own, the alphabet isn't asked: where the action isn't in
+/// it, the moved tree is dead.
 #[cycle(advance)]
 pub(crate) fn advance_inside(step: Step, expr: &Expr, tree: &Knot) -> Result<Knot, Unbuilt>
     requires ready { Ready (form_of expr.now) step.env.now tree.now }
@@ -139,10 +141,33 @@ pub(crate) fn advance_inside(step: Step, expr: &Expr, tree: &Knot) -> Result<Kno
         step.entry.env.now step.entry.action.now) (moved (form_of expr.now) step.entry.env.now
         tree.now step.entry.action.now) tree.now) result }
 {
+    if is_all(step, expr, tree) {
+        let moved = advance_asked(step, expr, tree)?;
+        return unless_dead(step, moved, tree);
+    }
     if contains(expr, step.env, step.action) {
         return advance_asked(step, expr, tree);
     }
     bounded(tree.share()?, step.limit)
+}
+
+/// Whether it is `all`, of which it isn't asked whether the action may come next.
+fn is_all(step: Step, expr: &Expr, tree: &Knot) -> bool
+    ensures { IsTrue result → passes (form_of expr.now) step.entry.env.now tree.now
+        step.entry.action.now ≡ true }
+{
+    matches!(expr, Expr::All(_, _))
+}
+
+/// The moved tree, or the tree as it was in place of a dead one.
+fn unless_dead(step: Step, moved: Knot, tree: &Knot) -> Result<Knot, Unbuilt>
+    requires { size_of moved ≤ step.limit }
+    ensures { Makes step.entry.limit (if is_dead moved then tree.now else moved) result }
+{
+    if moved.is_dead() {
+        return bounded(tree.share()?, step.limit);
+    }
+    Ok(moved)
 }
 
 /// Beside the moved alternatives for z stands one more where the first part is final: z may begin.

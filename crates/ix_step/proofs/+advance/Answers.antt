@@ -1,5 +1,5 @@
 -- The parts of a step: what each asks of the next, and what it makes.
-use Rattle.std.proofs.Common.{◌||◌, ◌+◌, ◌-◌, ◌<◌, ◌≡◌, ◌≤◌, true, refl, sym, ap, ◌∙◌, subst, arith, [], ◌∷◌, ◌++◌, map, length, flat_map, take, drop, get_or, Some, None, true≢false}
+use Rattle.std.proofs.Common.{if◌then◌else◌, ◌||◌, ◌+◌, ◌-◌, ◌<◌, ◌≡◌, ◌≤◌, true, refl, sym, ap, ◌∙◌, subst, arith, [], ◌∷◌, ◌++◌, map, length, flat_map, take, drop, get_or, Some, None, true≢false}
 use Rattle.std.specs.List.{list_any, remove}
 use Rattle.std.specs.Map.{keys_of}
 use Rattle.std.proofs.lemmas.List.{length-map}
@@ -19,7 +19,7 @@ use Rattle.ix_tree.specs.Size.{size_of}
 use Rattle.ix_tree.specs.contracts.order.KnotPartialEq.TheImpl.{ghosts as tree_ghosts}
 use Rattle.ix_tree.proofs.Alternatives.{weight_of-list}
 use Rattle.ix_tree.proofs.PlainLists.{items_of-listed}
-use Rattle.ix_can.specs.Nodes.{is_done, unless_done, settled, settled_times, set_of}
+use Rattle.ix_can.specs.Nodes.{is_dead, is_done, unless_done, settled, settled_times, set_of}
 use Rattle.ix_can.specs.Laws.{IsProper, IsRising}
 use Rattle.ix_can.specs.Tests.{in_alphabet}
 use Rattle.ix_can.specs.inside.May.{may, moves_within, tree_at}
@@ -44,7 +44,7 @@ use Rattle.ix_step.proofs.Exits.{exit_over}
 use Rattle.ix_step.proofs.Gathered.{open_over, any_more, size_all, any_of_set, tree_weights}
 use Rattle.ix_step.proofs.Gathering.{each_at, image_at, lot_over, lots_more, lots_end, set_is, front_of_set, open_in_set, bag_over, left_over, right_over, first_over, made_set, picks_size, bag_put}
 use Rattle.ix_step.proofs.LimitedBags.{some_bag, limited_over, limited_first_over}
-use Rattle.ix_step.proofs.Limits.{moved_is_dead, same_alphabet}
+use Rattle.ix_step.proofs.Limits.{moved_is_dead, same_alphabet, moved_unless_dead, inside_over}
 use Rattle.ix_step.proofs.Measure.{form_size}
 use Rattle.ix_step.proofs.MovedIs.{moved_is, begun_dead, begun_or}
 use Rattle.ix_step.proofs.Overs.{unless_over, seq_over, star_over, par_over, entries_count, any_above, every_above, sync_above}
@@ -106,6 +106,26 @@ beginning::advance_whole-returns t c =
 
 pub advance::advance_inside-advance_asked-requires : goal.advance::advance_inside-advance_asked-requires
 advance::advance_inside-advance_asked-requires t c =
+    (omega arith, (c.requires.ready, c.is_all.ensures c.if-is_all.true))
+
+pub advance::advance_inside-unless_dead-requires : goal.advance::advance_inside-unless_dead-requires
+advance::advance_inside-unless_dead-requires t c =
+    subst (λ x. size_of x ≤ c.args.step.limit) (sym c.in_ok-moved.ensures.0) c.in_ok-moved.ensures.1
+
+pub advance::advance_inside-returns-in_err-moved : goal.advance::advance_inside-returns-in_err-moved
+advance::advance_inside-returns-in_err-moved t c =
+    exit_over _ c.from_residual.result _ c.from_residual.ensures.1 c.in_err-moved.ensures
+    (inside_over (form_of c.args.expr.now) c.args.step.env.now c.args.tree.now c.args.step.action.now c.args.step.limit c.args.step.positive)
+
+pub advance::advance_inside-returns-then-is_all : goal.advance::advance_inside-returns-then-is_all
+advance::advance_inside-returns-then-is_all t c =
+    let x = form_of c.args.expr.now in
+    let whole = ap (λ m. if is_dead m then c.args.tree.now else m) c.in_ok-moved.ensures.0
+    ∙ sym (moved_unless_dead x c.args.step.env.now c.args.tree.now c.args.step.action.now c.requires.may) in
+    subst (λ m. Makes c.args.step.limit m c.unless_dead.result) whole c.unless_dead.ensures
+
+pub advance::advance_inside-advance_asked-requires-then-contains : goal.advance::advance_inside-advance_asked-requires-then-contains
+advance::advance_inside-advance_asked-requires-then-contains t c =
     let x = form_of c.args.expr.now in
     let inside = sym (same_alphabet c.contains.result x c.args.step.env.now c.args.step.action.now c.contains.ensures) ∙ c.if-contains.true in
     let may_come = subst (λ i. moves_within i (may x c.args.step.env.now c.args.tree.now c.args.step.action.now) ≡ true) inside c.requires.may in (
@@ -117,7 +137,7 @@ pub advance::advance_inside-returns-then-contains : goal.advance::advance_inside
 advance::advance_inside-returns-then-contains t c =
     let x = form_of c.args.expr.now in
     let inside = sym (same_alphabet c.contains.result x c.args.step.env.now c.args.step.action.now c.contains.ensures) ∙ c.if-contains.true in
-    subst (λ i. Makes c.args.step.limit (moved_inside i (moved x c.args.step.env.now c.args.tree.now c.args.step.action.now) c.args.tree.now) c.advance_asked.result) (sym inside) c.advance_asked.ensures
+    subst (λ i. Makes c.args.step.limit (moved_inside i (moved x c.args.step.env.now c.args.tree.now c.args.step.action.now) c.args.tree.now) c.advance_asked-then-contains.result) (sym inside) c.advance_asked-then-contains.ensures
 
 pub advance::advance_inside-returns : goal.advance::advance_inside-returns
 advance::advance_inside-returns t c =

@@ -22,6 +22,7 @@ use Rattle.ix_can.specs.Tests.{in_alphabet}
 use Rattle.ix_can.proofs.Asking.{opt_asked, seq_first, seq_rest, star_rest, par_pairs, par_star_bags, times_bags, or_first, or_second, and_first, and_second, couple_first, couple_second, any_values, every_values, sync_values, all_maps, tree_has, part_has, entries_proper, state_proper, own_proper}
 use Rattle.ix_can.proofs.Children.{either_then, either_else}
 use Rattle.ix_can.proofs.Keys.{entries_ascend}
+use Rattle.ix_can.proofs.OutsideAlphabet.{outside_next, next_inside}
 use Rattle.ix_can.proofs.UnseenValues.{unseen_none, unseen_all, unseen_stay, unseen_own, own_tell}
 use Rattle.ix_can.proofs.next.+goes_on.Goals as goal
 use Rattle.ix_can.proofs.next.+goes_on.Goals.{some_owner_goes_on-else-sees-via-then-sees+else-owner_goes_on, some_owner_goes_on-else-sees-via-else-sees}
@@ -168,6 +169,16 @@ goes_on-returns-then-in_alphabet t c =
     inside_too (in_alphabet (sync c.in-Sync-Sync.parameter (form_of c.deref-in-Sync-Sync.result.now)) e a) _ c.each_goes_on_or_stays.result (ap (λ x. in_alphabet x e a) (sym shape) ∙ sym c.in_alphabet.ensures ∙ c.if-in_alphabet.true) c.each_goes_on_or_stays.ensures
     ∙ ap (λ s. may (sync c.in-Sync-Sync.parameter (form_of c.deref-in-Sync-Sync.result.now)) e s a) (sym tree)
     ∙ ap (λ x. may x e c.args.state.now a) (sym shape)
+
+pub meets-returns-then-moves-clause-inside : goal.meets-returns-then-moves-clause-inside
+meets-returns-then-moves-clause-inside t c =
+    let comes = sym c.goes_on-moves.ensures ∙ c.if-moves.true in
+    c.if-moves.true ∙ sym (next_inside c.args.action.now (form_of c.args.y.now) c.args.env.now c.args.state.now comes)
+
+pub meets-returns-else-inside-clause-goes_on : goal.meets-returns-else-inside-clause-goes_on
+meets-returns-else-inside-clause-goes_on t c =
+    let outside = sym c.in_alphabet-inside-2.ensures ∙ c.if-inside.false in
+    c.if-inside.false ∙ sym (outside_next c.args.action.now (form_of c.args.y.now) c.args.env.now c.args.state.now outside)
 
 pub goes_on_at-goes_on_or_stays-requires : goal.goes_on_at-goes_on_or_stays-requires
 goes_on_at-goes_on_or_stays-requires t c =

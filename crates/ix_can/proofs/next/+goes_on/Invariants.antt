@@ -52,7 +52,10 @@ invariant-some_limited_bag_goes_on-loop-bag l =
     list_any (λ b. (nat_lt (length (items_of (first_part b))) l.number && may_first (form_of l.y) l.env l.action) || list_any (λ x. may (form_of l.y) l.env x l.action) (items_of (first_part b))) (items_of (listed (map plain_bag l.bags))) ≡ list_any (λ b. (nat_lt (length (items_of (first_part b))) l.number && may_first (form_of l.y) l.env l.action) || list_any (λ x. may (form_of l.y) l.env x l.action) (items_of (first_part b))) (items_of (listed (map plain_bag (drop l.bag-index l.bags))))
 
 abbrev pub decreases-coupled_go_on : goal.decreases-coupled_go_on
-decreases-coupled_go_on l = 8 * (count (form_of l.y.now) + count (form_of l.z.now)) + 1
+decreases-coupled_go_on l = 8 * (count (form_of l.y.now) + count (form_of l.z.now)) + 2
+
+abbrev pub decreases-meets : goal.decreases-meets
+decreases-meets l = 8 * count (form_of l.y.now) + 1
 
 abbrev pub decreases-goes_on_or_stays : goal.decreases-goes_on_or_stays
 decreases-goes_on_or_stays l = 8 * count (form_of l.y.now) + 1
