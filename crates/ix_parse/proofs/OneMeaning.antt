@@ -9,7 +9,7 @@ use Rattle.ix_parse.specs.declared.faults.Fault.{Fault}
 use Rattle.ix_parse.specs.Symbols.{Symbol, Meaning}
 use Rattle.ix_parse.specs.Grammar.{Stands}
 use Rattle.ix_parse.specs.Faults.{order_of, code_of, Met, symbols_of, place_of, IsFirstSyntaxFault, HasMeaning, IsFirstFault}
-use Rattle.ix_parse.specs.Laws.{TextsStandForOneExpression, FaultyTextsStandForNone, TextsHaveOneFirstFault}
+use Rattle.ix_parse.specs.Laws.{TextsStandForOneExpression, FaultyTextsStandForNone, TextsHaveOneFirstFault, ExpressionsHaveOneFormFault}
 use Rattle.ix_parse.proofs.Runs.{run-stands, whole-stands}
 use Rattle.ix_parse.proofs.Steps.{some_is}
 use Rattle.ix_parse.proofs.FirstFaults.{order-one}
@@ -163,8 +163,7 @@ not-before x c n d m first second low =
     cc
 
 -- an expression has one first form fault
-form_fault-one :
-    (x : Form) (c n d m : ℕ) → IsFirstFormFault x c n → IsFirstFormFault x d m → (c ≡ d) × (n ≡ m)
+pub form_fault-one : ExpressionsHaveOneFormFault
 form_fault-one x c n d m first second =
     let after = not-before x c n d m first second in
     let before = not-before x d m c n second first in

@@ -8,7 +8,7 @@ use Rattle.ix_values.specs.Texts.{IsName, begins_with_letter}
 use Rattle.ix_expr.specs.declared.arg.Arg.{Arg}
 use Rattle.ix_expr.specs.declared.arg.Arg.TheVariants.{Fixed, Param}
 use Rattle.ix_expr.specs.Form as forms
-use Rattle.ix_expr.specs.Form.{Form, PlainAtom, atom_of}
+use Rattle.ix_expr.specs.Form.{Form, atom_of}
 use Rattle.ix_expr.specs.FormFaults.{IsNumber, HasNumbers}
 use Rattle.ix_expr.specs.Spelling.{IsArgument, IsAtom, IsSpelled}
 use Rattle.ix_expr.specs.CanonicalText.{binding, enclosed, argument_text, more_arguments_text, arguments_text, operand_text, canonical_text}

@@ -2,6 +2,7 @@
 use Rattle.std.specs.Prelude.{◌≡◌, ℕ, ◌≤◌, List, length}
 use Rattle.ix_expr.specs.Form.{Form}
 use Rattle.ix_expr.specs.CanonicalText.{canonical_text}
+use Rattle.ix_expr.specs.FormFaults.{IsWellFormed, IsFirstFormFault}
 use Rattle.ix_parse.specs.Faults.{StandsFor, IsFirstFault}
 use Rattle.ix_parse.specs.Canonical.{OpensAtMost}
 
@@ -20,6 +21,16 @@ abbrev pub TextsHaveOneFirstFault : Type 0
 TextsHaveOneFirstFault =
     (text : List ℕ) (c a d b : ℕ) → IsFirstFault text c a → IsFirstFault text d b
     → (c ≡ d) × (a ≡ b)
+
+-- an expression has at most one first form fault: one code, and one node
+abbrev pub ExpressionsHaveOneFormFault : Type 0
+ExpressionsHaveOneFormFault =
+    (x : Form) (c n d m : ℕ) → IsFirstFormFault x c n → IsFirstFormFault x d m → (c ≡ d) × (n ≡ m)
+
+-- an expression that has a first form fault isn't well formed
+abbrev pub FaultyExpressionsAreNotWellFormed : Type 0
+FaultyExpressionsAreNotWellFormed =
+    (x : Form) (code number : ℕ) → IsFirstFormFault x code number → ¬ IsWellFormed x
 
 -- the canonical text of an expression that was read opens at most 64 levels
 abbrev pub CanonicalTextsOpenFewLevels : Type 0

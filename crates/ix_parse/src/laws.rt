@@ -2,7 +2,8 @@
 
 ghost use Rattle.ix_parse.specs.Canonical.{CanonicalTextReadsBack};
 ghost use Rattle.ix_parse.specs.Laws.{TextsStandForOneExpression, FaultyTextsStandForNone};
-ghost use Rattle.ix_parse.specs.Laws.{TextsHaveOneFirstFault};
+ghost use Rattle.ix_parse.specs.Laws.{TextsHaveOneFirstFault, ExpressionsHaveOneFormFault};
+ghost use Rattle.ix_parse.specs.Laws.{FaultyExpressionsAreNotWellFormed};
 ghost use Rattle.ix_parse.specs.Laws.{CanonicalTextsOpenFewLevels, WhatWasReadReadsBack};
 
 /// A text stands for at most one expression.
@@ -18,6 +19,16 @@ pub fn faulty_texts_stand_for_none()
 /// A text has at most one first fault: one code, and one place.
 pub fn texts_have_one_first_fault()
     ensures { TextsHaveOneFirstFault }
+{}
+
+/// An expression has at most one first form fault: one code, and one node.
+pub fn expressions_have_one_form_fault()
+    ensures { ExpressionsHaveOneFormFault }
+{}
+
+/// An expression that has a first form fault isn't well formed.
+pub fn faulty_expressions_are_not_well_formed()
+    ensures { FaultyExpressionsAreNotWellFormed }
 {}
 
 /// The canonical text of each well-formed expression stands for it, where the text is of at most
