@@ -6,16 +6,16 @@ use Rattle.std.specs.Prelude.{unwrap_or}
 use Rattle.std.specs.Result.{IsErrAnd}
 use Rattle.clap.specs.Words.{App, Text}
 use Rattle.ix_cli.specs.Commands.{trace_command, replay_command, serve_command, work_command}
-use Rattle.ix_cli.specs.Commands.{simplify_command, bound_command}
+use Rattle.ix_cli.specs.Commands.{simplify_command, bound_command, follow_command}
 use Rattle.ix_cli.specs.Words.{Refuses}
 use Rattle.ix_cli.specs.declared.fault.WordsFault.{WordsFault}
 use Rattle.ix_cli.specs.declared.fault.WordsFault.TheVariants.{Bad, Memory}
 use Rattle.ix_cli.specs.inside.Jobs.{Explains}
 use Rattle.ix_cli.specs.inside.Matches.{Blames}
 use Rattle.ix_cli.proofs.PlainCommands.{trace_name, replay_name, serve_name, work_name}
-use Rattle.ix_cli.proofs.PlainCommands.{simplify_name, bound_name}
+use Rattle.ix_cli.proofs.PlainCommands.{simplify_name, bound_name, follow_name}
 use Rattle.ix_cli.proofs.Named.{first_two, initial, trace_initial, replay_initial, serve_initial}
-use Rattle.ix_cli.proofs.Named.{work_initial, simplify_initial, bound_initial}
+use Rattle.ix_cli.proofs.Named.{work_initial, simplify_initial, bound_initial, follow_initial}
 
 -- `?` hands a fault up as it is
 pub handed_up : {T : Type 0} (r : Result T WordsFault) (fault : WordsFault) (P : T → Type 0)
@@ -45,6 +45,7 @@ module _ (words : List Text) where
     other work_command (codes "trace") first (λ same. omega (arith, work_initial)),
     other simplify_command (codes "trace") first (λ same. omega (arith, simplify_initial)),
     other bound_command (codes "trace") first (λ same. omega (arith, bound_initial)),
+    other follow_command (codes "trace") first (λ same. omega (arith, follow_initial)),
   )
 
   pub replay_blamed : slice_get words 0 ≡ Some (codes "replay") → (fault : WordsFault)
@@ -57,6 +58,7 @@ module _ (words : List Text) where
     other work_command (codes "replay") first (λ same. omega (arith, work_initial)),
     other simplify_command (codes "replay") first (λ same. omega (arith, simplify_initial)),
     other bound_command (codes "replay") first (λ same. omega (arith, bound_initial)),
+    other follow_command (codes "replay") first (λ same. omega (arith, follow_initial)),
   )
 
   pub serve_blamed : slice_get words 0 ≡ Some (codes "serve") → (fault : WordsFault)
@@ -69,6 +71,7 @@ module _ (words : List Text) where
     other work_command (codes "serve") first (λ same. omega (arith, work_initial)),
     other simplify_command (codes "serve") first (λ same. omega (arith, simplify_initial)),
     other bound_command (codes "serve") first (λ same. omega (arith, bound_initial)),
+    other follow_command (codes "serve") first (λ same. omega (arith, follow_initial)),
   )
 
   pub work_blamed : slice_get words 0 ≡ Some (codes "work") → (fault : WordsFault)
@@ -81,6 +84,7 @@ module _ (words : List Text) where
     inr blamed,
     other simplify_command (codes "work") first (λ same. omega (arith, simplify_initial)),
     other bound_command (codes "work") first (λ same. omega (arith, bound_initial)),
+    other follow_command (codes "work") first (λ same. omega (arith, follow_initial)),
   )
 
   pub simplify_blamed : slice_get words 0 ≡ Some (codes "simplify") → (fault : WordsFault)
@@ -93,6 +97,7 @@ module _ (words : List Text) where
     other work_command (codes "simplify") first (λ same. omega (arith, work_initial)),
     inr blamed,
     other bound_command (codes "simplify") first (λ same. omega (arith, bound_initial)),
+    other follow_command (codes "simplify") first (λ same. omega (arith, follow_initial)),
   )
 
   pub bound_blamed : slice_get words 0 ≡ Some (codes "bound") → (fault : WordsFault)
@@ -105,6 +110,20 @@ module _ (words : List Text) where
     other work_command (codes "bound") first (λ same. omega (arith, work_initial)),
     other simplify_command (codes "bound") first (λ same. omega (arith, simplify_initial)),
     inr blamed,
+    other follow_command (codes "bound") first (λ same. omega (arith, follow_initial)),
+  )
+
+  pub follow_blamed : slice_get words 0 ≡ Some (codes "follow") → (fault : WordsFault)
+      → Blames follow_command words fault → Explains words fault
+  follow_blamed first Memory blamed = tt
+  follow_blamed first (Bad text) blamed = (
+    other trace_command (codes "follow") first (λ same. omega (arith, trace_initial)),
+    other replay_command (codes "follow") first (λ same. omega (arith, replay_initial)),
+    other serve_command (codes "follow") first (λ same. omega (arith, serve_initial)),
+    other work_command (codes "follow") first (λ same. omega (arith, work_initial)),
+    other simplify_command (codes "follow") first (λ same. omega (arith, simplify_initial)),
+    other bound_command (codes "follow") first (λ same. omega (arith, bound_initial)),
+    inr blamed,
   )
 
   not_named : (command : App) (name called : Text) → slice_get words 0 ≡ Some name
@@ -115,15 +134,16 @@ module _ (words : List Text) where
   -- words that begin with no command's name
   pub unknown_blamed : (name : Text) → slice_get words 0 ≡ Some name → name ≢ codes "trace"
       → name ≢ codes "replay" → name ≢ codes "serve" → name ≢ codes "work" → name ≢ codes "simplify"
-      → name ≢ codes "bound" → (fault : WordsFault) → Explains words fault
-  unknown_blamed name first no_trace no_replay no_serve no_work no_simplify no_bound Memory = tt
-  unknown_blamed name first no_trace no_replay no_serve no_work no_simplify no_bound (Bad text) = (
+      → name ≢ codes "bound" → name ≢ codes "follow" → (fault : WordsFault) → Explains words fault
+  unknown_blamed name first no_trace no_replay no_serve no_work no_simplify no_bound no_follow Memory = tt
+  unknown_blamed name first no_trace no_replay no_serve no_work no_simplify no_bound no_follow (Bad text) = (
     not_named trace_command name (codes "trace") first trace_name no_trace,
     not_named replay_command name (codes "replay") first replay_name no_replay,
     not_named serve_command name (codes "serve") first serve_name no_serve,
     not_named work_command name (codes "work") first work_name no_work,
     not_named simplify_command name (codes "simplify") first simplify_name no_simplify,
     not_named bound_command name (codes "bound") first bound_name no_bound,
+    not_named follow_command name (codes "follow") first follow_name no_follow,
   )
 
 -- the text of the first word

@@ -5,9 +5,9 @@ use Rattle.std.specs.Prelude.{unwrap_or}
 use Rattle.std.specs.Str.Parse.{digits_value, without_leading_plus}
 use Rattle.clap.specs.Words.{App, Text}
 use Rattle.ix_cli.specs.Commands.{trace_command, replay_command, serve_command, work_command}
-use Rattle.ix_cli.specs.Commands.{simplify_command, bound_command}
+use Rattle.ix_cli.specs.Commands.{simplify_command, bound_command, follow_command}
 use Rattle.ix_cli.specs.Words.{IsTaken, Job, Names, NamesNoJob, Refuses, Says, SaysNumber}
-use Rattle.ix_cli.specs.Words.{trace, replay, serve, work, simplify, bound}
+use Rattle.ix_cli.specs.Words.{trace, replay, serve, work, simplify, bound, follow}
 
 -- the first two bytes of a name, as one number
 abbrev pub first_two : Text → ℕ
@@ -40,6 +40,10 @@ simplify_initial = refl
 pub bound_initial : initial bound_command ≡ 25199
 unfolding bound_command
 bound_initial = refl
+
+pub follow_initial : initial follow_command ≡ 26223
+unfolding follow_command
+follow_initial = refl
 
 module _ (words : List Text) where
   -- two commands that take the words have one name
@@ -142,6 +146,33 @@ module _ (words : List Text) where
       absurd (not_both x.0 y.0 (λ same. omega (arith, simplify_initial, bound_initial)))
   one_job (bound e k) (simplify f) x y =
       absurd (not_both x.0 y.0 (λ same. omega (arith, bound_initial, simplify_initial)))
+  one_job (follow e l n) (follow f m o) x y =
+      λ i. follow (same_text follow_command (codes "EXPR") e f x.1 y.1 i)
+      (same_text follow_command (codes "LINES") l m x.2 y.2 i) (same_number x.3 y.3 i)
+  one_job (trace e a n) (follow g w q) x y =
+      absurd (not_both x.0 y.0 (λ same. omega (arith, trace_initial, follow_initial)))
+  one_job (follow g w q) (trace f b o) x y =
+      absurd (not_both x.0 y.0 (λ same. omega (arith, follow_initial, trace_initial)))
+  one_job (replay e j s n t) (follow g w q) x y =
+      absurd (not_both x.0 y.0 (λ same. omega (arith, replay_initial, follow_initial)))
+  one_job (follow g w q) (replay f k u o v) x y =
+      absurd (not_both x.0 y.0 (λ same. omega (arith, follow_initial, replay_initial)))
+  one_job (serve e j s n t) (follow g w q) x y =
+      absurd (not_both x.0 y.0 (λ same. omega (arith, serve_initial, follow_initial)))
+  one_job (follow g w q) (serve f k u o v) x y =
+      absurd (not_both x.0 y.0 (λ same. omega (arith, follow_initial, serve_initial)))
+  one_job (work c s n) (follow g w q) x y =
+      absurd (not_both x.0 y.0 (λ same. omega (arith, work_initial, follow_initial)))
+  one_job (follow g w q) (work d t o) x y =
+      absurd (not_both x.0 y.0 (λ same. omega (arith, follow_initial, work_initial)))
+  one_job (simplify e) (follow g w q) x y =
+      absurd (not_both x.0 y.0 (λ same. omega (arith, simplify_initial, follow_initial)))
+  one_job (follow g w q) (simplify f) x y =
+      absurd (not_both x.0 y.0 (λ same. omega (arith, follow_initial, simplify_initial)))
+  one_job (bound e k) (follow g w q) x y =
+      absurd (not_both x.0 y.0 (λ same. omega (arith, bound_initial, follow_initial)))
+  one_job (follow g w q) (bound f l) x y =
+      absurd (not_both x.0 y.0 (λ same. omega (arith, follow_initial, bound_initial)))
 
   -- a command that takes the words doesn't refuse them
   taken_refused : {command : App} → IsTaken command words → Refuses command words → ⊥
@@ -155,3 +186,4 @@ module _ (words : List Text) where
   no_job (work c s n) none named = taken_refused named.0 none.3
   no_job (simplify e) none named = taken_refused named.0 none.4
   no_job (bound e k) none named = taken_refused named.0 none.5
+  no_job (follow e l n) none named = taken_refused named.0 none.6

@@ -1,10 +1,10 @@
--- The six commands are plain, and these are their arguments.
+-- The seven commands are plain, and these are their arguments.
 use Rattle.std.proofs.Common.{◌≡◌, refl, lit<, codes}
 use Rattle.std.specs.List.{Contains}
 use Rattle.clap.specs.Words.{App, Rule}
 use Rattle.ix_cli.specs.Commands.{trace_command, replay_command, serve_command, work_command}
 use Rattle.ix_cli.specs.Commands.{simplify_command, word, number_word, nodes_option, turns_option}
-use Rattle.ix_cli.specs.Commands.{bound_command, most_asks, most_seed, most_values}
+use Rattle.ix_cli.specs.Commands.{bound_command, follow_command, most_asks, most_seed, most_values}
 use Rattle.ix_cli.specs.inside.Matches.{IsPlainCommand}
 
 -- the command has this argument
@@ -74,6 +74,18 @@ simplify_plain = record {
 pub bound_plain : IsPlainCommand bound_command
 unfolding bound_command
 bound_plain = record {
+  no_subcommands = refl;
+  simple = refl;
+  ready = refl;
+  free = refl;
+  requires_all = refl;
+  single = refl;
+  distinct = refl;
+}
+
+pub follow_plain : IsPlainCommand follow_command
+unfolding follow_command
+follow_plain = record {
   no_subcommands = refl;
   simple = refl;
   ready = refl;
@@ -159,6 +171,18 @@ pub bound_count : HasArgument bound_command (number_word (codes "K") 0 most_valu
 unfolding bound_command
 bound_count = (1, lit< tt, refl)
 
+pub follow_expr : HasArgument follow_command (word (codes "EXPR"))
+unfolding follow_command
+follow_expr = (0, lit< tt, refl)
+
+pub follow_lines : HasArgument follow_command (word (codes "LINES"))
+unfolding follow_command
+follow_lines = (1, lit< tt, refl)
+
+pub follow_nodes : HasArgument follow_command nodes_option
+unfolding follow_command
+follow_nodes = (2, lit< tt, refl)
+
 pub trace_name : trace_command.top.name ≡ codes "trace"
 unfolding trace_command
 trace_name = refl
@@ -182,3 +206,7 @@ simplify_name = refl
 pub bound_name : bound_command.top.name ≡ codes "bound"
 unfolding bound_command
 bound_name = refl
+
+pub follow_name : follow_command.top.name ≡ codes "follow"
+unfolding follow_command
+follow_name = refl

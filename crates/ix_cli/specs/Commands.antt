@@ -72,6 +72,11 @@ unfoldable pub bound_command : App
 bound_command = with_rule (with_rule (new_app (codes "bound")) (word (codes "EXPR")))
     (number_word (codes "K") 0 most_values)
 
+-- `follow EXPR LINES [--nodes N]`
+unfoldable pub follow_command : App
+follow_command = with_rule (with_rule (with_rule (new_app (codes "follow")) (word (codes "EXPR")))
+    (word (codes "LINES"))) nodes_option
+
 -- `work N SEED [--nodes N]`
 unfoldable pub work_command : App
 work_command = with_rule (with_rule (with_rule (new_app (codes "work"))

@@ -3,7 +3,7 @@ ghost use Rattle.std.specs.Prelude.{◌≡◌, false, IfOk};
 ghost use Rattle.clap.specs.Words.{app_of, rule_of};
 ghost use Rattle.ix_cli.specs.Commands.{word, number_word, nodes_option, turns_option};
 ghost use Rattle.ix_cli.specs.Commands.{trace_command, replay_command, serve_command, work_command};
-ghost use Rattle.ix_cli.specs.Commands.{simplify_command, bound_command};
+ghost use Rattle.ix_cli.specs.Commands.{simplify_command, bound_command, follow_command};
 
 use clap::builder::ValueParser;
 use clap::{Arg, ArgAction, Command};
@@ -155,4 +155,16 @@ pub(crate) fn bound<'a>(alloc: Global) -> Result<Command<'a>, AllocError>
             "The number of different values, from 0 to 1000000",
         ))?
         .bin_name("ixm bound")
+}
+
+/// The command `follow`.
+pub(crate) fn follow<'a>(alloc: Global) -> Result<Command<'a>, AllocError>
+    ensures { IfOk result (λ command. app_of command ≡ follow_command) }
+{
+    Command::new(alloc, "follow")
+        .about("Keeps a copy of a manager's history by lines that answered 'log'")
+        .arg(word(alloc, "EXPR", EXPRESSION_HELP))?
+        .arg(word(alloc, "LINES", "The file of the lines that were read"))?
+        .arg(nodes_option(alloc))?
+        .bin_name("ixm follow")
 }

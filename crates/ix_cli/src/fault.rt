@@ -35,6 +35,7 @@ Commands:
   work N SEED [--nodes N]
   simplify EXPR
   bound EXPR K
+  follow EXPR LINES [--nodes N]
 
 For more information on a command, put '--help' behind its name.
 ";

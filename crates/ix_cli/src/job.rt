@@ -50,6 +50,12 @@ pub enum Job {
         expr: String,
         count: u64,
     },
+    /// Follow a log by the lines of a file.
+    Follow {
+        expr: String,
+        lines: String,
+        nodes: usize,
+    },
 }
 
 /// The job of words that begin with `trace`.
@@ -140,5 +146,20 @@ pub(crate) fn read_bound(alloc: Global, words: &[String]) -> Result<Job, WordsFa
     Ok(Job::Bound {
         expr: text(alloc, &matches, "EXPR")?,
         count: number(&matches, "K"),
+    })
+}
+
+/// The job of words that begin with `follow`.
+pub(crate) fn read_follow(alloc: Global, words: &[String]) -> Result<Job, WordsFault>
+    requires { slice_get (map string_bytes words.now) 0 ≡ Some (codes "follow") }
+    ensures { MatchResult result
+        (λ job. Names (map string_bytes words.now) (job_of job))
+        (Explains (map string_bytes words.now)) }
+{
+    let matches = parse(alloc, commands::follow(alloc)?, words)?;
+    Ok(Job::Follow {
+        expr: text(alloc, &matches, "EXPR")?,
+        lines: text(alloc, &matches, "LINES")?,
+        nodes: number(&matches, "nodes") as usize,
     })
 }

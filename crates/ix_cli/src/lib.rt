@@ -38,6 +38,7 @@ pub fn read_words(alloc: Global, words: &[String]) -> Result<Job, WordsFault>
         "work" => job::read_work(alloc, words),
         "simplify" => job::read_simplify(alloc, words),
         "bound" => job::read_bound(alloc, words),
+        "follow" => job::read_follow(alloc, words),
         _ => Err(no_command(alloc)),
     }
 }

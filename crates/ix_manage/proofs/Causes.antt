@@ -1,6 +1,6 @@
 -- What each status of a run is due to.
 use Rattle.std.proofs.Common.{◌≡◌, ℕ, ◌≤◌, ◌==◌, false, true≢false, List, Option, None, arith, refl, sym, ◌∙◌, ap, subst}
-use Rattle.ix_cli.specs.Words.{Job, trace, replay, serve, work, simplify, bound}
+use Rattle.ix_cli.specs.Words.{Job, trace, replay, serve, work, simplify, bound, follow}
 use Rattle.ix_expr.specs.Form.{Form}
 use Rattle.ix_outside.specs.Counts.{Counts}
 use Rattle.ix_outside.specs.Crashes.{Crashes}
@@ -11,6 +11,8 @@ use Rattle.ix_manage.specs.Around.{Around, DiskFailed, FilesFailed, WireFailed}
 use Rattle.ix_manage.specs.Command.{NamesNoJournal, NamesNoSocket, journal_of, socket_of}
 use Rattle.ix_manage.specs.Ends as how
 use Rattle.ix_manage.specs.Ends.{EndsOver, JobEnds}
+use Rattle.ix_manage.specs.FollowLines as fed
+use Rattle.ix_manage.specs.FollowLines.{FollowEnds, FollowsTo}
 use Rattle.ix_manage.specs.Puts.{LastLine, lost, put}
 use Rattle.ix_manage.specs.Replay as played
 use Rattle.ix_manage.specs.Replay.{ReplayEnds}
@@ -74,6 +76,17 @@ module _ (around : Around) where
   of_traced (short rest front answers last) = of_last (of_none 9 refl refl refl) last
   of_traced (lost_answer rest front answers one) = of_ten
 
+  of_fed : {x : Form} {limit end status : ℕ} {lines : List (List ℕ)} {text last whole part : List ℕ}
+      → FollowsTo x limit lines end text last → LastLine end text last status whole part → AreDue around status
+  of_fed (fed.answered follows verdict) last = of_last (of_none 0 refl refl refl) last
+  of_fed (fed.refused rest fault code number split follows feeds has) last = of_last (of_none 11 refl refl refl) last
+  of_fed (fed.short rest split follows feeds) last = of_last (of_none 9 refl refl refl) last
+
+  of_followed : {x : Form} {limit status : ℕ} {lines : List (List ℕ)} {whole part : List ℕ}
+      → FollowEnds x limit lines status whole part → AreDue around status
+  of_followed (fed.ends to last) = of_fed to last
+  of_followed (fed.lost_answer rest answer split follows feeds) = of_ten
+
   of_worked : {count seed limit status : ℕ} {whole part : List ℕ}
       → Works count seed limit status whole part → AreDue around status
   of_worked (above stands large last) = of_last (of_none 3 refl refl refl) last
@@ -128,6 +141,9 @@ module _ (around : Around) where
   of_job (how.worked works) = of_worked works
   of_job (how.simplified s reads becomes last) = of_last (of_none 0 refl refl refl) last
   of_job (how.bounded answer reads is last) = of_last (of_none 0 refl refl refl) last
+  of_job (how.long_lines starts longer rests last) = of_last (of_none 3 refl refl refl) last
+  of_job (how.lost_lines starts rose rests last) = of_last (of_file rose) last
+  of_job (how.followed starts reads follows) = of_followed follows
 
 -- what a job may touch, by what it has
 touches_calls : (job : Job) (before after : SiteState) → Touches job before after → OnlyCalls before after
@@ -137,6 +153,7 @@ touches_calls (serve expression journal socket limit turns) before after only = 
 touches_calls (work count seed limit) before after same = subst (OnlyCalls before) (sym same) (calls_still before)
 touches_calls (simplify expression) before after same = subst (OnlyCalls before) (sym same) (calls_still before)
 touches_calls (bound expression count) before after same = subst (OnlyCalls before) (sym same) (calls_still before)
+touches_calls (follow expression lines limit) before after same = subst (OnlyCalls before) (sym same) (calls_still before)
 
 touches_disk : (job : Job) (before after : SiteState) → socket_of job ≡ None → Touches job before after → OnlyDisk before after
 touches_disk (trace expression actions limit) before after none same = subst (OnlyDisk before) (sym same) (disk_calls_still before)
@@ -145,6 +162,7 @@ touches_disk (serve expression journal socket limit turns) before after none onl
 touches_disk (work count seed limit) before after none same = subst (OnlyDisk before) (sym same) (disk_calls_still before)
 touches_disk (simplify expression) before after none same = subst (OnlyDisk before) (sym same) (disk_calls_still before)
 touches_disk (bound expression count) before after none same = subst (OnlyDisk before) (sym same) (disk_calls_still before)
+touches_disk (follow expression lines limit) before after none same = subst (OnlyDisk before) (sym same) (disk_calls_still before)
 
 touches_nothing : (job : Job) (before after : SiteState) → journal_of job ≡ None → Touches job before after → after ≡ before
 touches_nothing (trace expression actions limit) before after none same = same
@@ -153,6 +171,7 @@ touches_nothing (serve expression journal socket limit turns) before after none 
 touches_nothing (work count seed limit) before after none same = same
 touches_nothing (simplify expression) before after none same = same
 touches_nothing (bound expression count) before after none same = same
+touches_nothing (follow expression lines limit) before after none same = same
 
 -- the same of a run
 module _ (words : List (List ℕ)) (around : Around) (is : Crashes) where

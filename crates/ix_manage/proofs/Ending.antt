@@ -4,24 +4,27 @@ use Rattle.std.proofs.Common.{length, refl, sym, subst}
 use Rattle.ix_expr.specs.Form.{Form}
 use Rattle.ix_parse.specs.Faults.{StandsFor, IsFirstFault}
 use Rattle.ix_outside.specs.Contents.{GivenEvent}
-use Rattle.ix_outside.specs.Files.{Listing, HasFile}
+use Rattle.ix_lines.specs.TextLines.{lines_of}
+use Rattle.ix_outside.specs.Files.{Listing, HasFile, HasLonger}
 use Rattle.ix_outside.specs.FilesState.{FilesState, OnlyFaults}
 use Rattle.ix_outside.specs.SiteState.{SiteState}
 use Rattle.ix_outside.proofs.Counting.{Rose-earlier}
 use Rattle.ix_script.specs.Events.{HasEvents}
 use Rattle.ix_script.specs.Grammar.{IsFirstScriptFault}
-use Rattle.ix_cli.specs.Words.{Job, trace, replay}
+use Rattle.ix_cli.specs.Words.{Job, trace, replay, follow}
 use Rattle.ix_manage.specs.Around.{around_of}
-use Rattle.ix_manage.specs.Command.{expression_of}
-use Rattle.ix_manage.specs.Ends.{JobEnds, bad_text, bad_actions, large, lost_expression, lost_actions, no_memory, traced, bad_script, lost_script}
-use Rattle.ix_manage.specs.inside.Refusal.{refusal_line, refusal_status, RefusesExpression, RefusesActions, RefusesScript, RefusesStart, RefusesText, IsBadScript}
+use Rattle.ix_manage.specs.Command.{expression_of, limit_of}
+use Rattle.ix_manage.specs.FollowLines.{FollowEnds}
+use Rattle.ix_manage.specs.Ends.{JobEnds, ReadsRest, bad_text, bad_actions, large, lost_expression, lost_actions, no_memory, traced, bad_script, lost_script, long_lines, lost_lines, followed}
+use Rattle.ix_manage.specs.inside.Refusal.{refusal_line, refusal_status, RefusesExpression, RefusesActions, RefusesLines, RefusesScript, RefusesStart, RefusesText, IsBadScript}
 use Rattle.ix_manage.specs.Puts.{LastLine}
 use Rattle.ix_manage.specs.Session.{Session}
 use Rattle.ix_manage.specs.Replay.{HasBadScript, ReadsEvents, bad_line}
 use Rattle.ix_manage.specs.Trace.{HasBadActions, within, large_line, ReadsForm, Starts, Traces}
+use Rattle.ix_manage.specs.inside.Following.{FollowsLines}
 use Rattle.ix_manage.specs.inside.TracesLines.{TracesLines}
 use Rattle.ix_manage.specs.declared.refusal.Refusal.{Refusal}
-use Rattle.ix_manage.specs.declared.refusal.Refusal.TheVariants.{BadText, Large, LostExpression, BadActions, LostActions, BadScript, LostScript, Memory}
+use Rattle.ix_manage.specs.declared.refusal.Refusal.TheVariants.{BadText, Large, LostExpression, BadActions, LostActions, BadScript, LostScript, LongLines, LostLines, Memory}
 
 module _ (files later : FilesState) (name text passed : List ℕ) (same : passed ≡ text) (file : HasFile files.contents name text) where
   -- a text that is read is that of the file
@@ -53,6 +56,13 @@ actions_refused_later files mid later name LostActions only why = Rose-earlier f
 actions_refused_later files mid later name Memory only why = why
 actions_refused_later files mid later name _ only why = absurd why
 
+pub lines_refused_later : (files mid later : FilesState) (name : List ℕ) (refusal : Refusal) → OnlyFaults files mid
+    → RefusesLines mid later name refusal → RefusesLines files later name refusal
+lines_refused_later files mid later name LongLines only why = subst (λ known. HasLonger known name 67108864) only.contents why
+lines_refused_later files mid later name LostLines only why = Rose-earlier files.faults mid.faults later.faults only.faults why
+lines_refused_later files mid later name Memory only why = why
+lines_refused_later files mid later name _ only why = absurd why
+
 pub script_refused_later : (files mid later : FilesState) (name : List ℕ) (refusal : Refusal) → OnlyFaults files mid
     → RefusesScript mid later name refusal → RefusesScript files later name refusal
 script_refused_later files mid later name (BadScript code at) only why =
@@ -77,19 +87,21 @@ expression_refused files later job expression is LostExpression why status whole
 expression_refused files later job expression is Memory why status whole part last site = no_memory last
 expression_refused files later job expression is _ why _ _ _ _ _ = absurd why
 
+-- what refuses the start of an engine or of a follower refuses a job
+pub refused_start : (files later : FilesState) (job : Job) (expression : List ℕ)
+    → expression_of job ≡ Some expression → ReadsRest files.contents job → (refusal : Refusal)
+    → RefusesStart files later expression (limit_of job) refusal → EndsWith files later job refusal
+refused_start files later job expression is rest (BadText code at) why status whole part last site = bad_text is why refl last
+refused_start files later job expression is rest (Large most) why status whole part last site =
+    large is rest why.1 (subst (λ l. LastLine 3 [] (large_line l) status whole part) why.0 last)
+refused_start files later job expression is rest LostExpression why status whole part last site = lost_expression is why refl last
+refused_start files later job expression is rest Memory why status whole part last site = no_memory last
+refused_start files later job expression is rest _ why _ _ _ _ _ = absurd why
+
 -- how a trace ends, by what its parts say
 module _ (files later : FilesState) (expression actions : List ℕ) (limit : ℕ) where
   abbrev traces : Job
   traces = trace expression actions limit
-
-  pub refused_start : (refusal : Refusal) → RefusesStart files later expression limit refusal
-      → EndsWith files later traces refusal
-  refused_start (BadText code at) why status whole part last site = bad_text refl why refl last
-  refused_start (Large most) why status whole part last site =
-      large refl tt why.1 (subst (λ l. LastLine 3 [] (large_line l) status whole part) why.0 last)
-  refused_start LostExpression why status whole part last site = lost_expression refl why refl last
-  refused_start Memory why status whole part last site = no_memory last
-  refused_start _ why _ _ _ _ _ = absurd why
 
   pub refused_actions : (x : Form) → Starts files.contents expression limit x → (refusal : Refusal)
       → RefusesActions files later actions refusal → EndsWith files later traces refusal
@@ -115,6 +127,31 @@ module _ (files later : FilesState) (expression actions : List ℕ) (limit : ℕ
         has = read.has;
       })
       (subst (λ l. Traces x l read.actions status whole part) same_limit read.traces))
+
+-- how a follow ends, by what its parts say
+module _ (files later : FilesState) (expression lines : List ℕ) (limit : ℕ) where
+  abbrev follows : Job
+  follows = follow expression lines limit
+
+  pub refused_lines : (x : Form) → Starts files.contents expression limit x → (refusal : Refusal)
+      → RefusesLines files later lines refusal → EndsWith files later follows refusal
+  refused_lines x starts LongLines why status whole part last site = long_lines starts why refl last
+  refused_lines x starts LostLines why status whole part last site = lost_lines starts why refl last
+  refused_lines x starts Memory why status whole part last site = no_memory last
+  refused_lines x starts _ why _ _ _ _ _ = absurd why
+
+  pub follow_ends_run : (x : Form) (most : ℕ) (then : Option Listing) (bytes passed : List ℕ)
+      → Starts files.contents expression limit x → most ≡ limit → then ≡ files.contents
+      → HasFile then lines bytes → length bytes ≤ 67108864 → passed ≡ bytes
+      → (status : ℕ) (whole part : List ℕ) (session : Option Session)
+      → FollowsLines x most passed status whole part session
+      → (site : SiteState) → JobEnds (around_of files later site site) follows status whole part session
+  follow_ends_run x most then bytes passed starts same_limit same file short is status whole part session may site =
+      let read = subst (λ b. FollowsLines x most b status whole part session) is may in
+      subst (JobEnds (around_of files later site site) follows status whole part) (sym read.no_session)
+      (followed starts
+      (record { file = subst (λ f. HasFile f lines bytes) same file; short = short })
+      (subst (λ l. FollowEnds x l (lines_of bytes) status whole part) same_limit read.ends))
 
 -- how a replay ends, by what its parts say
 module _ (files later : FilesState) (expression journal script : List ℕ) (limit turns : ℕ) where

@@ -19,3 +19,4 @@ pub mod ShortLines
 pub mod WorkEnding
 pub mod Causes
 pub mod Unhindered
+pub mod FeedLemmas

@@ -7,7 +7,7 @@ use Rattle.ix_outside.specs.SinkState.{SinkState}
 use Rattle.ix_outside.proofs.Counting.{Rose-earlier}
 use Rattle.ix_manage.specs.declared.refusal.Refusal.{Refusal}
 use Rattle.ix_manage.specs.declared.refusal.Refusal.TheVariants.{BadText, Large, LostExpression, BadActions, LostActions, BadScript}
-use Rattle.ix_manage.specs.declared.refusal.Refusal.TheVariants.{LostScript, Disk, Wire, Journal, Turns, Memory}
+use Rattle.ix_manage.specs.declared.refusal.Refusal.TheVariants.{LostScript, LongLines, LostLines, Unfollowed, Disk, Wire, Journal, Turns, Memory}
 use Rattle.ix_manage.specs.declared.run.Stop.{Stop}
 use Rattle.ix_manage.specs.declared.run.Stop.TheVariants.{Refused, Words, OtherExpression, Output}
 use Rattle.ix_manage.specs.Ends.{Ended}
@@ -134,6 +134,9 @@ not_ten (BadActions code at) = λ same. omega (arith, same)
 not_ten LostActions = λ same. omega (arith, same)
 not_ten (BadScript code at) = λ same. omega (arith, same)
 not_ten LostScript = λ same. omega (arith, same)
+not_ten LongLines = λ same. omega (arith, same)
+not_ten LostLines = λ same. omega (arith, same)
+not_ten (Unfollowed code number) = λ same. omega (arith, same)
 not_ten Disk = λ same. omega (arith, same)
 not_ten Wire = λ same. omega (arith, same)
 not_ten (Journal why) = λ same. omega (arith, same)

@@ -18,7 +18,7 @@ use Rattle.ix_parse.proofs.OneMeaning.{faulty-none, one-expression}
 use Rattle.ix_can.specs.TreeOf.{tree_size}
 use Rattle.ix_lines.specs.TextLines.{lines_of}
 use Rattle.ix_journal.specs.Kinds as kind
-use Rattle.ix_journal.specs.Kinds.{IsForeign, IsReady, IsUnfinished, IsUnopened, Kind}
+use Rattle.ix_journal.specs.Kinds.{IsForeign}
 use Rattle.ix_journal.specs.Recovery as recovery
 use Rattle.ix_journal.proofs.KindLaws.{one_kind}
 use Rattle.ix_journal.proofs.OutcomeLaws.{one_history, one_outcome}
@@ -33,19 +33,21 @@ use Rattle.ix_script.specs.Grammar.{InGrammar}
 use Rattle.ix_script.proofs.LineParts.{no_fault}
 use Rattle.ix_generate.specs.Workload.{examinations}
 use Rattle.ix_manager.specs.Images as image
-use Rattle.ix_manager.specs.Images.{EachPrefixIsWithin, IsOwn, IsStartable}
+use Rattle.ix_manager.specs.Images.{IsOwn, IsStartable}
 use Rattle.ix_manager.specs.Runs.{going, opening_of, stopped}
 use Rattle.ix_manager.specs.Starts.{HasText}
-use Rattle.ix_cli.specs.Words.{Job, Names, trace, replay, serve, work, simplify, bound}
+use Rattle.ix_cli.specs.Words.{Job, Names, trace, replay, serve, work, simplify, bound, follow}
 use Rattle.ix_cli.proofs.Named.{no_job, one_job}
 use Rattle.ix_manage.specs.Around.{Around}
 use Rattle.ix_manage.specs.Command.{expression_of, limit_of}
 use Rattle.ix_manage.specs.Ends as how
-use Rattle.ix_manage.specs.Ends.{Ended, EndsOver, JobEnds, JobOver, KeepsJournal, ReadsRest}
+use Rattle.ix_manage.specs.Ends.{EndsOver, JobEnds, KeepsJournal, ReadsRest}
+use Rattle.ix_manage.specs.FollowLines as fed
+use Rattle.ix_manage.specs.FollowLines.{FollowEnds, ReadsLines}
 use Rattle.ix_manage.specs.Journal as journal
 use Rattle.ix_manage.specs.Journal.{OfJournal, OfOpened, RefusesFile}
 use Rattle.ix_manage.specs.Laws as well
-use Rattle.ix_manage.specs.Laws.{CanStart, EndsWhole, HasAll, NoneGone, NothingFails, OpensStartable, UnhinderedRunsEndWhole}
+use Rattle.ix_manage.specs.Laws.{CanStart, EndsWhole, HasAll, NothingFails, OpensStartable, UnhinderedRunsEndWhole}
 use Rattle.ix_manage.specs.Puts.{LastLine, lost, put}
 use Rattle.ix_manage.specs.Replay as played
 use Rattle.ix_manage.specs.Replay.{HasBadScript, ReadsEvents, ReplayEnds}
@@ -240,6 +242,8 @@ module _ (around : Around) (old new : SinkState) (told : IsSome around.files) (n
   reads_of (work count seed limit) expression is all = absurd (none-some expression is)
   reads_of (simplify named) expression is all = (all.0, subst (λ name. ReadsForm around.files name all.0) (some_is is) all.1)
   reads_of (bound named count) expression is all = (all.0, subst (λ name. ReadsForm around.files name all.0) (some_is is) all.1)
+  reads_of (follow named lines limit) expression is all =
+      (all.0, subst (λ name. ReadsForm around.files name all.0) (some_is is) all.2.reads)
 
   -- a job that makes a tree starts
   starts_of : (job : Job) (expression : List ℕ) → expression_of job ≡ Some expression → ReadsRest around.files job
@@ -253,6 +257,8 @@ module _ (around : Around) (old new : SinkState) (told : IsSome around.files) (n
   starts_of (work count seed limit) expression is rest all = absurd (none-some expression is)
   starts_of (simplify named) expression is rest all = absurd rest
   starts_of (bound named count) expression is rest all = absurd rest
+  starts_of (follow named lines limit) expression is rest all =
+      (all.0, subst (λ name. Starts around.files name limit all.0) (some_is is) all.2)
 
   no_large : (job : Job) (expression : List ℕ) → expression_of job ≡ Some expression → ReadsRest around.files job
       → HasAll around job → StartsAbove around.files expression (limit_of job) → ⊥
@@ -279,6 +285,7 @@ module _ (around : Around) (old new : SinkState) (told : IsSome around.files) (n
   no_refusal (work count seed limit) expression why x keeps starts refuses all = absurd (none-some keeps.journal keeps.has_journal)
   no_refusal (simplify named) expression why x keeps starts refuses all = absurd (none-some keeps.journal keeps.has_journal)
   no_refusal (bound named count) expression why x keeps starts refuses all = absurd (none-some keeps.journal keeps.has_journal)
+  no_refusal (follow named lines limit) expression why x keeps starts refuses all = absurd (none-some keeps.journal keeps.has_journal)
   no_refusal (replay named kept script limit turns) expression why x keeps starts refuses all =
       refuses_none expression limit why x all.0 starts
       (subst (λ name. Starts around.files name limit all.0) (some_is keeps.of_expression) all.2) all.4 refuses
@@ -293,6 +300,12 @@ module _ (around : Around) (old new : SinkState) (told : IsSome around.files) (n
   of_traced {actions = actions} starts reads below (traced.short rest front answers end) =
       of_line end below (well.short rest starts (subst (ReadsActions around.files actions) (sym front) reads) answers)
   of_traced starts reads below (traced.lost_answer rest front answers one) = absurd (below refl)
+
+  of_followed : {expression lines bytes : List ℕ} {limit status : ℕ} {x : Form} {whole part : List ℕ}
+      → Starts around.files expression limit x → ReadsLines around.files lines bytes → status ≢ 10
+      → FollowEnds x limit (lines_of bytes) status whole part → Whole (follow expression lines limit) status whole part None
+  of_followed starts reads below (fed.ends to end) = of_line end below (well.followed starts reads to)
+  of_followed starts reads below (fed.lost_answer rest answer split follows feeds) = absurd (below refl)
 
   of_replayed : {expression kept script : List ℕ} {limit turns status : ℕ} {session : Session} {whole part : List ℕ}
       → EndsWhole around (replay expression kept script limit turns) 0 (played.session_text session) (Some session)
@@ -352,6 +365,10 @@ module _ (around : Around) (old new : SinkState) (told : IsSome around.files) (n
   of_job is all ended below wire (how.worked works) = of_worked all.0 all.1 all.2 below works
   of_job is all ended below wire (how.simplified s reads becomes end) = of_line end below (well.simplified s reads becomes)
   of_job is all ended below wire (how.bounded answer reads within end) = of_line end below (well.bounded answer reads within)
+  of_job is all ended below wire (how.long_lines {lines = lines} starts longer rests _) =
+      absurd (longer_than around.files told lines all.1 67108864 all.3.file all.3.short longer)
+  of_job is all ended below wire (how.lost_lines starts rose rests _) = absurd (none.files rose)
+  of_job is all ended below wire (how.followed starts reads follows) = of_followed starts reads below follows
 
   of_words : (is : Crashes) (words : List (List ℕ)) (job : Job) {status : ℕ} {whole part : List ℕ} {session : Option Session}
       → Names words job → HasAll around job → ((played : Session) → session ≡ Some played → IsOver played) → status ≢ 10

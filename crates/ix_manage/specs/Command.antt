@@ -1,6 +1,7 @@
 -- What a job names.
 use Rattle.std.specs.Prelude.{◌≡◌, ℕ, List, Option, None, Some}
 use Rattle.ix_cli.specs.Words.{Job, Names, trace, replay, serve, work, simplify, bound}
+use Rattle.ix_cli.specs.Words.{follow}
 
 -- the file of its expression, where it has one
 abbrev pub expression_of : Job → Option (List ℕ)
@@ -10,6 +11,7 @@ expression_of (serve expression journal socket limit turns) = Some expression
 expression_of (work count seed limit) = None
 expression_of (simplify expression) = Some expression
 expression_of (bound expression count) = Some expression
+expression_of (follow expression lines limit) = Some expression
 
 -- its journal
 abbrev pub journal_of : Job → Option (List ℕ)
@@ -19,6 +21,7 @@ journal_of (serve expression journal socket limit turns) = Some journal
 journal_of (work count seed limit) = None
 journal_of (simplify expression) = None
 journal_of (bound expression count) = None
+journal_of (follow expression lines limit) = None
 
 -- the socket on which it takes connections
 abbrev pub socket_of : Job → Option (List ℕ)
@@ -28,6 +31,7 @@ socket_of (serve expression journal socket limit turns) = Some socket
 socket_of (work count seed limit) = None
 socket_of (simplify expression) = None
 socket_of (bound expression count) = None
+socket_of (follow expression lines limit) = None
 
 -- the limit of Size; 0 where it has none, as it makes no tree
 abbrev pub limit_of : Job → ℕ
@@ -37,6 +41,7 @@ limit_of (serve expression journal socket limit turns) = limit
 limit_of (work count seed limit) = limit
 limit_of (simplify expression) = 0
 limit_of (bound expression count) = 0
+limit_of (follow expression lines limit) = limit
 
 -- the words name no job that has a journal
 abbrev pub NamesNoJournal : List (List ℕ) → Type 0

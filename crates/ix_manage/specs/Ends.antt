@@ -7,17 +7,19 @@ use Rattle.ix_simplify.specs.Rewriting.{Becomes}
 use Rattle.ix_bound.specs.declared.answer.Bound.{Bound}
 use Rattle.ix_bound.specs.Bounds.{IsBound}
 use Rattle.ix_outside.specs.Contents.{GivenEvent}
-use Rattle.ix_outside.specs.Files.{Listing}
+use Rattle.ix_lines.specs.TextLines.{lines_of}
+use Rattle.ix_outside.specs.Files.{Listing, HasLonger}
 use Rattle.ix_outside.specs.SinkState.{SinkState}
 use Rattle.ix_outside.specs.Counts.{Rose}
 use Rattle.ix_outside.specs.Crashes.{Crashes}
 use Rattle.ix_manager.specs.Runs.{Opening}
 use Rattle.ix_cli.specs.Words.{Job, Names, NamesNoJob, trace, replay, serve, work, simplify}
-use Rattle.ix_cli.specs.Words.{bound}
+use Rattle.ix_cli.specs.Words.{bound, follow}
 use Rattle.ix_manage.specs.ActionLines.{line}
 use Rattle.ix_manage.specs.Around.{Around, DiskFailed, FilesFailed, SiteRests, WireFailed}
 use Rattle.ix_manage.specs.BoundLines.{bound_line}
 use Rattle.ix_manage.specs.Command.{expression_of, journal_of, limit_of}
+use Rattle.ix_manage.specs.FollowLines.{FollowEnds, ReadsLines}
 use Rattle.ix_manage.specs.Puts.{LastLine, Puts}
 use Rattle.ix_manage.specs.Journal.{OfJournal, OnJournal, RefusesFile, journal_line}
 use Rattle.ix_manage.specs.Site.{Touches}
@@ -42,6 +44,7 @@ ReadsRest files (serve expression journal socket limit turns) = ⊤
 ReadsRest files (work count seed limit) = ⊤
 ReadsRest files (simplify expression) = ⊥
 ReadsRest files (bound expression count) = ⊥
+ReadsRest files (follow expression lines limit) = ⊤
 
 -- a job of an expression keeps a journal, and its files are read
 pub record KeepsJournal (files : Option Listing) (job : Job) (expression : List ℕ) : Type 0 where
@@ -141,6 +144,22 @@ pub data JobEnds (around : Around)
       → ReadsForm around.files expression x → IsBound x count answer
       → LastLine 0 [] (bound_line answer) status whole part
       → JobEnds around (bound expression count) status whole part None
+  long_lines : {expression lines : List ℕ} {limit : ℕ} {x : Form} {status : ℕ}
+      {whole part : List ℕ}
+      → Starts around.files expression limit x → HasLonger around.files lines 67108864
+      → SiteRests around
+      → LastLine 3 [] (fault_line (codes "lines") 7 67108864) status whole part
+      → JobEnds around (follow expression lines limit) status whole part None
+  lost_lines : {expression lines : List ℕ} {limit : ℕ} {x : Form} {status : ℕ}
+      {whole part : List ℕ}
+      → Starts around.files expression limit x → FilesFailed around → SiteRests around
+      → LastLine 4 [] (line (codes "refused file lines")) status whole part
+      → JobEnds around (follow expression lines limit) status whole part None
+  followed : {expression lines bytes : List ℕ} {limit : ℕ} {x : Form} {status : ℕ}
+      {whole part : List ℕ}
+      → Starts around.files expression limit x → ReadsLines around.files lines bytes
+      → FollowEnds x limit (lines_of bytes) status whole part
+      → JobEnds around (follow expression lines limit) status whole part None
 
 -- what a job may make of the files, the output and the site
 pub record JobOver (around : Around) (job : Job) (is : Crashes) (status : ℕ) (whole part : List ℕ)

@@ -18,12 +18,15 @@ use Rattle.ix_generate.specs.Workload.{Ask, examinations}
 use Rattle.ix_manager.specs.Images.{IsStartable}
 use Rattle.ix_manager.specs.Runs.{opening_of}
 use Rattle.ix_cli.specs.Words.{Job, Names, trace, replay, serve, work, simplify, bound}
+use Rattle.ix_cli.specs.Words.{follow}
+use Rattle.ix_lines.specs.TextLines.{lines_of}
 use Rattle.ix_manage.specs.ActionLines.{line}
 use Rattle.ix_bound.specs.declared.answer.Bound.{Bound}
 use Rattle.ix_bound.specs.Bounds.{IsBound}
 use Rattle.ix_manage.specs.Around.{Around, DiskFailed, FilesFailed, WireFailed}
 use Rattle.ix_manage.specs.BoundLines.{bound_line}
 use Rattle.ix_manage.specs.Ends.{Ended, EndsOver, IsFrom}
+use Rattle.ix_manage.specs.FollowLines.{FollowsTo, ReadsLines}
 use Rattle.ix_manage.specs.Replay.{Plays, ReadsEvents, session_text}
 use Rattle.ix_manage.specs.Session.{IsOver, Session, Takes, history_line}
 use Rattle.ix_manage.specs.Trace.{Answers, ReadsActions, ReadsForm, Starts, Verdict}
@@ -41,7 +44,7 @@ pub record OpensStartable (x : Form) (limit : ℕ) (site : SiteState) : Type 0 w
   pub can_start : (opened : Opened) → disk.opened ≡ Some opened → CanStart x limit opened.file
 
 -- what a job reads is there and valid: its expression, whose initial tree is within the limit where
--- it has one, its actions or its script, and its journal
+-- it has one, its actions, its script or its lines, and its journal
 abbrev pub HasAll : Around → Job → Type 0
 HasAll around (trace expression actions limit) = (x : Form) × (word : Word)
     × Starts around.files expression limit x × ReadsActions around.files actions word
@@ -54,6 +57,8 @@ HasAll around (work count seed limit) =
     (x : Form) × StandsFor examinations x × (tree_size x [] ≤ limit)
 HasAll around (simplify expression) = (x : Form) × ReadsForm around.files expression x
 HasAll around (bound expression count) = (x : Form) × ReadsForm around.files expression x
+HasAll around (follow expression lines limit) = (x : Form) × (bytes : List ℕ)
+    × Starts around.files expression limit x × ReadsLines around.files lines bytes
 
 -- no call failed around a run, no put of its output did, and no connection was found gone
 pub record NothingFails (around : Around) (old new : SinkState) : Type 0 where
@@ -69,7 +74,8 @@ NoneGone before after = (old new : Sends) → before.contents.sends ≡ Some old
     → after.contents.sends ≡ Some new → new.gone ≡ old.gone
 
 -- How a run that nothing hinders may end: with status 0 its whole text is put, and each reply of a
--- session, by a serve sent. Or there is no memory, status 9: for a trace behind some answers, and
+-- session, by a serve sent. A follow may end with status 11 behind some answers, where an entry is
+-- refused. Or there is no memory, status 9: for a trace and a follow behind some answers, and
 -- otherwise before any line; where a session runs its replies say so instead.
 pub data EndsWhole (around : Around) : Job → ℕ → List ℕ → Option Session → Type 0 where
   no_memory : {job : Job} → EndsWhole around job 9 (line (codes "refused memory")) None
@@ -105,6 +111,10 @@ pub data EndsWhole (around : Around) : Job → ℕ → List ℕ → Option Sessi
   bounded : {expression : List ℕ} {count : ℕ} {x : Form} (answer : Bound)
       → ReadsForm around.files expression x → IsBound x count answer
       → EndsWhole around (bound expression count) 0 (bound_line answer) None
+  followed : {expression lines bytes text last : List ℕ} {limit status : ℕ} {x : Form}
+      → Starts around.files expression limit x → ReadsLines around.files lines bytes
+      → FollowsTo x limit (lines_of bytes) status text last
+      → EndsWhole around (follow expression lines limit) status (text ++ last) None
 
 -- A run whose words name a job, over files that are told and have all that it reads, and in which
 -- nothing fails, ends whole, if its session had an end or a `stop` within its turns.

@@ -2,6 +2,7 @@ pub mod Command
 pub mod Around
 pub mod ActionLines
 pub mod BoundLines
+pub mod FollowLines
 pub mod Trace
 pub mod Replay
 pub mod Serve

@@ -1,5 +1,6 @@
 -- What contracts between crates and private ones cite, and no claim of the program or law reaches.
 pub mod Bounding
+pub mod Following
 pub mod Jobs
 pub mod Leaves
 pub mod Opening

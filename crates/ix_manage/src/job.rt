@@ -9,6 +9,15 @@ pub(crate) struct TraceWords<'a> {
     pub limit: usize,
 }
 
+/// The words of a follow.
+#[derive(Clone, Copy)]
+pub(crate) struct FollowWords<'a> {
+    pub expression: &'a str,
+    pub lines: &'a str,
+    /// The limit of Size.
+    pub limit: usize,
+}
+
 /// The words of a replay.
 #[derive(Clone, Copy)]
 pub(crate) struct ReplayWords<'a> {

@@ -13,6 +13,7 @@ ghost use Rattle.ix_manage.specs.Site.{OnlyCalls};
 
 mod actions;
 mod bound;
+mod follow;
 mod history;
 mod job;
 mod last_line;
@@ -62,6 +63,12 @@ use std::alloc::Global;
 /// - `bound EXPR K` puts how large the tree of a history with at most K different values can get, K
 ///   from 0 to 1,000,000: `bound B`, `above 1000000`, or `unbounded C node N`, as the `bound` of
 ///   `ix_bound` answers for the expression of the file EXPR, with status 0. It makes no tree.
+/// - `follow EXPR LINES` feeds the lines of the file LINES to a follower of the expression of the
+///   file EXPR, and puts one line for each: `other`, `early N`, `old N` or `taken N`, N being the
+///   number of the entry; and then `complete` or `partial`, with status 0. The first entry that the
+///   follower refuses ends it with `refused follow C at N` and status 11, C being 61 where the
+///   history has another action of this number, 62 where the action may not come next, 63 where the
+///   history has 1,000,000 actions, and 64 where the tree would be above the limit.
 ///
 /// `--nodes N` is the limit of Size, from 1 to 1,000,000, which is 100,000 otherwise, and in a
 /// replay and a serve `--turns N` the most events that are taken, from 1 to 1,000,000,000.
@@ -69,7 +76,8 @@ use std::alloc::Global;
 /// Otherwise a run ends with a refusal as its last line. Words that `clap` refuses end it with
 /// status 2 and a text for people. A text that stands for no expression is refused with its first
 /// fault, one whose initial tree is above the limit with 14, an actions file or a script with the
-/// first line that isn't in its grammar. A journal from which no run starts is refused with status
+/// first line that isn't in its grammar, and a file of lines of more than 67,108,864 bytes with 7.
+/// A journal from which no run starts is refused with status
 /// 8 and left as it is, and one whose disk fails with 5. A put that fails ends the run with status
 /// 10, a replay after the event in which it failed; what went out by then is a front of such a
 /// text. A file that `files` doesn't tell may hold any text.

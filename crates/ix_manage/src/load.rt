@@ -9,7 +9,7 @@ ghost use Rattle.ix_lines.specs.TextLines.{lines_of};
 ghost use Rattle.ix_outside.specs.Contents.{GivenEvent};
 ghost use Rattle.ix_script.specs.Events.{HasEvents};
 ghost use Rattle.ix_manage.specs.inside.Refusal.{IsBadScript, RefusesActions, RefusesExpression};
-ghost use Rattle.ix_manage.specs.inside.Refusal.{RefusesScript, RefusesText};
+ghost use Rattle.ix_manage.specs.inside.Refusal.{RefusesLines, RefusesScript, RefusesText};
 ghost use Rattle.ix_manage.specs.Trace.{ReadsForm};
 
 use crate::actions::{ActionLines, MOST_BYTES as MOST_ACTIONS_BYTES};
@@ -26,6 +26,9 @@ const MOST_BYTES: usize = 16384;
 
 /// The most bytes of a script.
 const MOST_SCRIPT_BYTES: usize = 67_108_864;
+
+/// The most bytes of a file of lines.
+pub(crate) const MOST_LINES_BYTES: usize = 67_108_864;
 
 pub(crate) fn load_expression<F: Files>(
     alloc: Global,
@@ -114,6 +117,28 @@ pub(crate) fn load_script<F: Files>(
             code: 34,
             at: MOST_SCRIPT_BYTES,
         }),
+        Err(LoadFault::Memory) => Err(Refusal::Memory),
+    }
+}
+
+/// The bytes of a file of lines.
+pub(crate) fn load_lines<F: Files>(
+    alloc: Global,
+    files: &mut F,
+    name: &str,
+) -> Result<Vec<u8>, Refusal>
+    ensures file { IfOk result
+        (λ bytes. HasFile (F.state files.old).contents name.now bytes.items) }
+    ensures short { IfOk result (λ bytes. length bytes.items ≤ MOST_LINES_BYTES) }
+    ensures err { IfErr result
+        (RefusesLines (F.state files.old) (F.state files.new) name.now) }
+
+    ensures files { OnlyFaults (F.state files.old) (F.state files.new) }
+{
+    match files.load(alloc, name, MOST_LINES_BYTES) {
+        Ok(bytes) => Ok(bytes),
+        Err(LoadFault::Failed) => Err(Refusal::LostLines),
+        Err(LoadFault::TooLong) => Err(Refusal::LongLines),
         Err(LoadFault::Memory) => Err(Refusal::Memory),
     }
 }

@@ -5,6 +5,7 @@ ghost use Rattle.ix_manage.specs.Journal.{journal_line};
 ghost use Rattle.ix_manage.specs.Trace.{fault_line, large_line};
 ghost use Rattle.ix_manage.specs.inside.Refusal.{journal_words};
 
+use crate::load::MOST_LINES_BYTES;
 use arrayvec::ArrayVec;
 use itoa::Buffer;
 
@@ -25,6 +26,12 @@ pub(crate) enum Refusal {
     BadScript { code: u8, at: usize },
     /// The script couldn't be read.
     LostScript,
+    /// The file of lines is too long.
+    LongLines,
+    /// The file of lines couldn't be read.
+    LostLines,
+    /// The entry of this number was refused with this code.
+    Unfollowed { code: u8, number: u64 },
     /// A call of the disk failed.
     Disk,
     /// The socket couldn't be listened to, or no event came since the wire failed.
@@ -67,6 +74,11 @@ impl Refusal {
             Refusal::LostActions => append(&mut line, b"refused file actions\n"),
             Refusal::BadScript { code, at } => append_fault(&mut line, b"script", code, at),
             Refusal::LostScript => append(&mut line, b"refused file script\n"),
+            Refusal::LongLines => append_fault(&mut line, b"lines", 7, MOST_LINES_BYTES),
+            Refusal::LostLines => append(&mut line, b"refused file lines\n"),
+            Refusal::Unfollowed { code, number } => {
+                append_fault(&mut line, b"follow", code, number as usize);
+            }
             Refusal::Disk => append(&mut line, b"refused disk\n"),
             Refusal::Wire => append(&mut line, b"refused wire\n"),
             Refusal::Journal(why) => append_journal(&mut line, why),
@@ -81,8 +93,10 @@ impl Refusal {
     {
         match self {
             Refusal::BadText { .. } | Refusal::Large { .. } => 3,
-            Refusal::BadActions { .. } | Refusal::BadScript { .. } => 3,
-            Refusal::LostExpression | Refusal::LostActions | Refusal::LostScript => 4,
+            Refusal::BadActions { .. } | Refusal::BadScript { .. } | Refusal::LongLines => 3,
+            Refusal::LostExpression | Refusal::LostActions => 4,
+            Refusal::LostScript | Refusal::LostLines => 4,
+            Refusal::Unfollowed { .. } => 11,
             Refusal::Disk => 5,
             Refusal::Wire => 6,
             Refusal::Journal(_) => 8,

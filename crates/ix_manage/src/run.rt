@@ -11,7 +11,8 @@ ghost use Rattle.ix_manage.specs.inside.Leaves.{Leaves};
 ghost use Rattle.ix_manage.specs.inside.Playing.{TraceEnds};
 
 use crate::bound::bound;
-use crate::job::{ReplayWords, ServeWords, TraceWords, WorkWords};
+use crate::follow::follow;
+use crate::job::{FollowWords, ReplayWords, ServeWords, TraceWords, WorkWords};
 use crate::load::load_actions;
 use crate::refusal::Refusal;
 use crate::replay::replay;
@@ -136,6 +137,14 @@ fn run_job<F: Files, S: Site, K: Sink>(
         }
         Job::Simplify { expr } => simplify(alloc, expr.as_str(), files, out),
         Job::Bound { expr, count } => bound(alloc, expr.as_str(), *count, files, out),
+        Job::Follow { expr, lines, nodes } => {
+            let names = FollowWords {
+                expression: expr.as_str(),
+                lines: lines.as_str(),
+                limit: *nodes,
+            };
+            follow(alloc, names, files, out)
+        }
     }
 }
 

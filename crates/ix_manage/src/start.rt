@@ -1,4 +1,4 @@
-//! The engines that a trace and a work begin with.
+//! The engines that a trace and a work begin with, and the follower that a follow begins with.
 ghost use Rattle.std.specs.Prelude.{◌≡◌, ◌≤◌, [], IfOk, IfErr, OnOk};
 ghost use Rattle.ix_cli.specs.Commands.{most_nodes};
 ghost use Rattle.ix_can.specs.TreeOf.{tree_size};
@@ -12,6 +12,7 @@ use crate::load::{load_expression, read_expression};
 use crate::refusal::Refusal;
 use ix_engine::Engine;
 use ix_expr::Expression;
+use ix_follow::Follower;
 use ix_generate::EXAMINATIONS;
 use ix_outside::Files;
 use ix_step::BuildFault;
@@ -40,6 +41,31 @@ pub(crate) fn start<F: Files>(
         Err(refusal) => return Err(refusal),
     };
     engine_of(alloc, expression, limit)
+}
+
+pub(crate) fn start_follower<F: Files>(
+    alloc: Global,
+    files: &mut F,
+    name: &str,
+    limit: usize,
+) -> Result<Follower, Refusal>
+    requires least { 1 ≤ limit }
+    requires most { limit ≤ most_nodes }
+
+    ensures starts { IfOk result
+        (λ follower. Starts (F.state files.old).contents name.now limit follower.form) }
+    ensures limit { IfOk result (λ follower. follower.limit ≡ limit) }
+    ensures history { IfOk result (λ follower. follower.history ≡ []) }
+    ensures err { IfErr result
+        (RefusesStart (F.state files.old) (F.state files.new) name.now limit) }
+
+    ensures files { OnlyFaults (F.state files.old) (F.state files.new) }
+{
+    let expression = match load_expression(alloc, files, name) {
+        Ok(expression) => expression,
+        Err(refusal) => return Err(refusal),
+    };
+    follower_of(alloc, expression, limit)
 }
 
 /// The engine that a work begins with.
@@ -71,6 +97,23 @@ fn engine_of(alloc: Global, expression: Expression, limit: usize) -> Result<Engi
 {
     match Engine::new(alloc, expression, limit) {
         Ok(engine) => Ok(engine),
+        Err(BuildFault::Over { limit }) => Err(Refusal::Large { limit }),
+        Err(BuildFault::Memory) => Err(Refusal::Memory),
+    }
+}
+
+fn follower_of(alloc: Global, expression: Expression, limit: usize) -> Result<Follower, Refusal>
+    requires least { 1 ≤ limit }
+    requires most { limit ≤ most_nodes }
+
+    ensures form { IfOk result (λ follower. follower.form ≡ expression) }
+    ensures small { OnOk result (tree_size expression [] ≤ limit) }
+    ensures limit { IfOk result (λ follower. follower.limit ≡ limit) }
+    ensures history { IfOk result (λ follower. follower.history ≡ []) }
+    ensures err { IfErr result (RefusesForm expression limit) }
+{
+    match Follower::new(alloc, expression, limit) {
+        Ok(follower) => Ok(follower),
         Err(BuildFault::Over { limit }) => Err(Refusal::Large { limit }),
         Err(BuildFault::Memory) => Err(Refusal::Memory),
     }

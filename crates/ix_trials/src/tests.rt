@@ -180,6 +180,7 @@ const BEFORE_A: &[u8] = b"\xA5IXJ1\x00\x05a - b\x7F\x00\x01a\x00";
 
 mod bounds;
 mod events;
+mod follows;
 mod journals;
 mod refusals;
 mod replays;

@@ -2,9 +2,11 @@
 use Rattle.std.specs.Prelude.{ℕ, List, string_bytes, ⊤}
 use Rattle.ix_cli.specs.declared.job.Job.{Job as ReadJob}
 use Rattle.ix_cli.specs.declared.job.Job.TheVariants.{Trace, Replay, Serve, Work, Simplify, Bound}
+use Rattle.ix_cli.specs.declared.job.Job.TheVariants.{Follow}
 use Rattle.ix_cli.specs.declared.fault.WordsFault.{WordsFault}
 use Rattle.ix_cli.specs.declared.fault.WordsFault.TheVariants.{Bad, Memory}
 use Rattle.ix_cli.specs.Words.{Job, NamesNoJob, trace, replay, serve, work, simplify, bound}
+use Rattle.ix_cli.specs.Words.{follow}
 
 -- the job that was read
 abbrev pub job_of : ReadJob → Job
@@ -16,6 +18,7 @@ job_of (Serve expr journal socket nodes turns) =
 job_of (Work count seed nodes) = work count seed nodes
 job_of (Simplify expr) = simplify (string_bytes expr)
 job_of (Bound expr count) = bound (string_bytes expr) count
+job_of (Follow expr lines nodes) = follow (string_bytes expr) (string_bytes lines) nodes
 
 -- words that are bad name no job, and want of memory says nothing of them
 abbrev pub Explains : List (List ℕ) → WordsFault → Type 0

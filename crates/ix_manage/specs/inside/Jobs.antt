@@ -1,5 +1,6 @@
 -- The job of words that were read.
-use Rattle.ix_cli.specs.Words.{Job, trace, replay, serve, work}
+use Rattle.ix_cli.specs.Words.{Job, trace, replay, serve, work, follow}
+use Rattle.ix_manage.specs.declared.job.FollowWords.{FollowWords}
 use Rattle.ix_manage.specs.declared.job.TraceWords.{TraceWords}
 use Rattle.ix_manage.specs.declared.job.ReplayWords.{ReplayWords}
 use Rattle.ix_manage.specs.declared.job.ServeWords.{ServeWords}
@@ -22,3 +23,7 @@ serve_of names =
 -- the work that words name
 abbrev pub work_of : WorkWords → Job
 work_of names = work names.count names.seed names.limit
+
+-- the follow that words name
+abbrev pub follow_of : FollowWords → Job
+follow_of names = follow names.expression.now names.lines.now names.limit

@@ -1,10 +1,11 @@
 -- Why a run ends before it has its answer, and what it puts then.
 use Rattle.std.specs.Prelude.{◌≡◌, ℕ, ◌<◌, List, [], ◌++◌, codes, decimal, ⊤}
 use Rattle.ix_manage.specs.declared.refusal.Refusal.{Refusal}
-use Rattle.ix_manage.specs.declared.refusal.Refusal.TheVariants.{BadText, Large, LostExpression, BadActions, LostActions, BadScript, LostScript, Disk, Wire, Journal, Turns, Memory}
+use Rattle.ix_manage.specs.declared.refusal.Refusal.TheVariants.{BadText, Large, LostExpression, BadActions, LostActions, BadScript, LostScript, LongLines, LostLines, Unfollowed, Disk, Wire, Journal, Turns, Memory}
 use Rattle.ix_manage.specs.declared.refusal.JournalRefusal.{JournalRefusal}
 use Rattle.ix_manage.specs.declared.refusal.JournalRefusal.TheVariants.{Foreign, Damaged, Many, Word, Heavy}
 use Rattle.ix_outside.specs.Counts.{Rose}
+use Rattle.ix_outside.specs.Files.{HasLonger}
 use Rattle.ix_outside.specs.FilesState.{FilesState}
 use Rattle.ix_parse.specs.Faults.{IsFirstFault, StandsFor}
 use Rattle.ix_script.specs.Grammar.{IsFirstScriptFault}
@@ -38,6 +39,9 @@ refusal_line (BadActions code at) = fault_line (codes "actions") code at
 refusal_line LostActions = line (codes "refused file actions")
 refusal_line (BadScript code at) = fault_line (codes "script") code at
 refusal_line LostScript = line (codes "refused file script")
+refusal_line LongLines = fault_line (codes "lines") 7 67108864
+refusal_line LostLines = line (codes "refused file lines")
+refusal_line (Unfollowed code number) = fault_line (codes "follow") code number
 refusal_line Disk = line (codes "refused disk")
 refusal_line Wire = line (codes "refused wire")
 refusal_line (Journal why) = journal_line (journal_words why)
@@ -53,6 +57,9 @@ refusal_status (BadActions code at) = 3
 refusal_status LostActions = 4
 refusal_status (BadScript code at) = 3
 refusal_status LostScript = 4
+refusal_status LongLines = 3
+refusal_status LostLines = 4
+refusal_status (Unfollowed code number) = 11
 refusal_status Disk = 5
 refusal_status Wire = 6
 refusal_status (Journal why) = 8
@@ -107,6 +114,13 @@ RefusesScript old new name (BadScript code at) = HasBadScript old.contents name 
 RefusesScript old new name LostScript = Rose old.faults new.faults
 RefusesScript old new name Memory = ⊤
 RefusesScript old new name _ = ⊥
+
+-- why a file of lines of this name is refused
+abbrev pub RefusesLines : FilesState → FilesState → List ℕ → Refusal → Type 0
+RefusesLines old new name LongLines = HasLonger old.contents name 67108864
+RefusesLines old new name LostLines = Rose old.faults new.faults
+RefusesLines old new name Memory = ⊤
+RefusesLines old new name _ = ⊥
 
 -- why bytes are refused as a script
 abbrev pub IsBadScript : List ℕ → Refusal → Type 0

@@ -37,6 +37,7 @@ fn shown(alloc: Global, job: &Job) -> Result<String, AllocError> {
         Job::Work { count, seed, nodes } => format!(in alloc; "work {count} {seed} {nodes}"),
         Job::Simplify { expr } => format!(in alloc; "simplify {expr}"),
         Job::Bound { expr, count } => format!(in alloc; "bound {expr} {count}"),
+        Job::Follow { expr, lines, nodes } => format!(in alloc; "follow {expr} {lines} {nodes}"),
     }
 }
 
@@ -74,6 +75,8 @@ fn jobs(rt: HostRuntime) -> Result<(), Fail> {
         ),
         ("simplify x", "simplify x"),
         ("bound x 1000000", "bound x 1000000"),
+        ("follow x l", "follow x l 100000"),
+        ("follow --nodes 8 x l", "follow x l 8"),
     ];
     for (words, job) in rows {
         let words = words_of(rt.alloc(), words)?;
@@ -178,6 +181,7 @@ Commands:
   work N SEED [--nodes N]
   simplify EXPR
   bound EXPR K
+  follow EXPR LINES [--nodes N]
 
 For more information on a command, put '--help' behind its name.
 ";

@@ -1,11 +1,12 @@
 use Rattle.std.proofs.Common.{◌≡◌, ℕ, List, Option, refl, sym, ◌∙◌, ap, subst}
 use Rattle.std.proofs.lemmas.Option.{none-some}
-use Rattle.ix_cli.specs.Words.{Job, trace, simplify, bound}
+use Rattle.ix_cli.specs.Words.{Job, trace, simplify, bound, follow}
 use Rattle.ix_cli.specs.inside.Jobs.{job_of}
 use Rattle.ix_manage.specs.Around.{around_of}
 use Rattle.ix_manage.specs.Ends.{JobOver}
 use Rattle.ix_manage.specs.Session.{Session}
 use Rattle.ix_manage.specs.inside.Bounding.{BoundEnds}
+use Rattle.ix_manage.specs.inside.Following.{FollowRuns}
 use Rattle.ix_manage.specs.inside.Jobs.{work_of}
 use Rattle.ix_manage.specs.inside.Playing.{TraceEnds}
 use Rattle.ix_manage.specs.inside.Simplifying.{SimplifyEnds}
@@ -105,3 +106,28 @@ returns-in-Bound-clause-leaves g c =
     }) in
     leaves_on ends (g.K.Sink.state c.args.out.now) (g.K.Sink.state c.bound.new.out)
     c.bound.result c.bound.ensures.leaves
+
+pub returns-in-Follow-clause-leaves : goal.returns-in-Follow-clause-leaves
+returns-in-Follow-clause-leaves g c =
+    let files = g.F.Files.state c.args.files.now in
+    let later = g.F.Files.state c.follow.new.files in
+    let site = g.S.Site.state c.args.site.now in
+    let crashes = g.S.Site.crashes c.args.site.now in
+    let limit = c.in-Follow.nodes in
+    let expr = c.as_str-in-Follow in
+    let lines = c.as_str-in-Follow-2 in
+    let named : job_of c.args.job.now ≡ follow expr.result.now lines.result.now limit =
+    ap job_of c.in-Follow.is ∙ (λ i. follow (sym expr.ensures.value i) (sym lines.ensures.value i) limit) in
+    let ends : (status : ℕ) (whole part : List ℕ) (session : Option Session)
+    → FollowRuns files later (record { expression = expr.result; lines = lines.result; limit = limit }) status whole part session
+    → JobOver (around_of files later site site) (job_of c.args.job.now) crashes status whole part session =
+    λ status whole part session end.
+    subst (λ (job : Job). JobOver (around_of files later site site) job crashes status whole part session) (sym named)
+    (record {
+      ends = end site;
+      touches = refl;
+      journal = λ expression journal of_expression has_journal. absurd (none-some journal has_journal);
+      wire = λ socket same. absurd (none-some socket same);
+    }) in
+    leaves_on ends (g.K.Sink.state c.args.out.now) (g.K.Sink.state c.follow.new.out)
+    c.follow.result c.follow.ensures.leaves

@@ -1,3 +1,5 @@
+use Rattle.std.proofs.Common.{refl}
+use Rattle.ix_manage.specs.inside.Jobs.{trace_of}
 use Rattle.ix_manage.proofs.Ending.{actions_refused_later, refused_start, refused_actions, trace_ends_run}
 use Rattle.ix_manage.proofs.Stops.{leaves_on, nothing_put}
 use Rattle.ix_manage.proofs.run.run_trace.Goals as goal
@@ -7,7 +9,7 @@ returns-in-Err-clause-leaves g c =
     let files = g.F.Files.state c.args.files.now in
     let names = c.args.names in
     nothing_put c.in-Err.refusal (g.K.Sink.state c.args.out.now)
-    (refused_start files (g.F.Files.state c.start.new.files) names.expression.now names.actions.now names.limit
+    (refused_start files (g.F.Files.state c.start.new.files) (trace_of names) names.expression.now refl tt
     c.in-Err.refusal c.in-Err.ensures.err)
 
 pub returns-in-Err-load_actions-clause-leaves : goal.returns-in-Err-load_actions-clause-leaves

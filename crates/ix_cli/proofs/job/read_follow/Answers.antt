@@ -1,0 +1,42 @@
+use Rattle.std.proofs.Common.{◌∙◌, ap, Some, sym, subst, refl, codes}
+use Rattle.ix_cli.specs.Commands.{word, nodes_option}
+use Rattle.ix_cli.specs.inside.Matches.{IsPlainCommand}
+use Rattle.ix_cli.proofs.Blame.{blamed_as, handed_up, follow_blamed}
+use Rattle.ix_cli.proofs.PlainCommands.{follow_name, follow_plain, follow_expr, follow_lines}
+use Rattle.ix_cli.proofs.PlainCommands.{follow_nodes}
+use Rattle.ix_cli.proofs.Reading.{has_number, matches_as, says_number, says_text}
+use Rattle.ix_cli.proofs.job.read_follow.Goals as goal
+
+pub parse-requires : goal.parse-requires
+parse-requires c = subst IsPlainCommand (sym c.in_ok-follow.ensures) follow_plain
+
+pub returns-in_err-matches : goal.returns-in_err-matches
+returns-in_err-matches c =
+    let fault = c.in_err-matches.field-0.0 in
+    let blamed = blamed_as _ fault c.in_ok-follow.ensures c.in_err-matches.ensures in
+    handed_up _ fault _ _ c.from_residual-in_err-matches.ensures.1
+    (follow_blamed _ c.requires fault blamed)
+
+pub text-requires : goal.text-requires
+text-requires c =
+    let made = matches_as c.in_ok-follow.ensures c.in_ok-matches.ensures in
+    made.texts (word (codes "EXPR")) follow_expr
+
+pub text-requires-2 : goal.text-requires-2
+text-requires-2 c =
+    let made = matches_as c.in_ok-follow.ensures c.in_ok-matches.ensures in
+    made.texts (word (codes "LINES")) follow_lines
+
+pub number-requires : goal.number-requires
+number-requires c =
+    let made = matches_as c.in_ok-follow.ensures c.in_ok-matches.ensures in
+    has_number made nodes_option follow_nodes refl
+
+pub returns : goal.returns
+returns c =
+    let made = matches_as c.in_ok-follow.ensures c.in_ok-matches.ensures in (
+      record { name = c.requires ∙ ap Some (sym follow_name); taken = made.taken },
+      says_text made (codes "EXPR") c.in_ok-text.ensures,
+      says_text made (codes "LINES") c.in_ok-text-2.ensures,
+      says_number made nodes_option follow_nodes refl c.number.ensures,
+    )
