@@ -134,54 +134,56 @@ fn start_and_hand<S: Site>(
     Ok((manager.history().len(), went))
 }
 
+// The calls that fail, what comes, what is sent, how many actions are confirmed, and how it ends.
+const EVENTS: [(&[u64], &[Coming<'static>], &[u8], usize, Go); 4] = [
+    (
+        &[],
+        &[
+            (0, 10, b"ask a 5"),
+            (1, 10, b"status\nmay b\nma"),
+            (0, 11, b"0\n"),
+            (0, 12, b""),
+            (1, 60, b"y b\nconfirm 1\nlog 1\n"),
+        ],
+        b"1 status partial 0 nodes 2\n1 no\n0 granted 1\n1 no\n1 confirmed 1\n1 entry 1 a\n",
+        1,
+        Go::More,
+    ),
+    (
+        &[],
+        &[
+            (0, 10, b"ask a 50\n"),
+            (0, 60, b"confirm 1\n"),
+            (0, 61, b"confirm 2\n"),
+        ],
+        b"0 granted 1\n0 refused 31 expired\n0 refused 30 no such ticket\n",
+        0,
+        Go::More,
+    ),
+    (
+        &[6],
+        &[
+            (0, 1, b"may a\nmay a\nmay a\n"),
+            (1, 1, b"may b\n"),
+            (0, 2, b""),
+            (0, 3, b"may a\n"),
+        ],
+        b"0 yes\n0 ye1 no\n0 yes\n",
+        0,
+        Go::More,
+    ),
+    (
+        &[],
+        &[(2, 1, b"stop\nmay a\n")],
+        b"2 stopping\n",
+        0,
+        Go::Stopped,
+    ),
+];
+
 #[test]
 fn events_of_several_connections(rt: HostRuntime) -> Result<(), Fail> {
-    let cases: [(&[u64], &[Coming<'_>], &[u8], usize, Go); 4] = [
-        (
-            &[],
-            &[
-                (0, 10, b"ask a 5"),
-                (1, 10, b"status\nmay b\nma"),
-                (0, 11, b"0\n"),
-                (0, 12, b""),
-                (1, 60, b"y b\nconfirm 1\nlog 1\n"),
-            ],
-            b"1 status partial 0 nodes 2\n1 no\n0 granted 1\n1 no\n1 confirmed 1\n1 entry 1 a\n",
-            1,
-            Go::More,
-        ),
-        (
-            &[],
-            &[
-                (0, 10, b"ask a 50\n"),
-                (0, 60, b"confirm 1\n"),
-                (0, 61, b"confirm 2\n"),
-            ],
-            b"0 granted 1\n0 refused 31 expired\n0 refused 30 no such ticket\n",
-            0,
-            Go::More,
-        ),
-        (
-            &[6],
-            &[
-                (0, 1, b"may a\nmay a\nmay a\n"),
-                (1, 1, b"may b\n"),
-                (0, 2, b""),
-                (0, 3, b"may a\n"),
-            ],
-            b"0 yes\n0 ye1 no\n0 yes\n",
-            0,
-            Go::More,
-        ),
-        (
-            &[],
-            &[(2, 1, b"stop\nmay a\n")],
-            b"2 stopping\n",
-            0,
-            Go::Stopped,
-        ),
-    ];
-    for (fail, events, text, confirmed, go) in cases {
+    for (fail, events, text, confirmed, go) in EVENTS {
         let played = play(rt.alloc(), EMPTY, fail, events)?;
         assert!(rt; played.text.as_slice() == text, "what {text:?} sends");
         assert_eq!(rt; played.confirmed, confirmed, "{text:?}");

@@ -3,141 +3,147 @@ ghost use Rattle.std.specs.Prelude.{◌<◌};
 
 use super::*;
 
+// Expressions, scripts, and what a replay puts.
+const REQUESTS: [(&[u8], &[u8], &[u8]); 11] = [
+    (
+        PATIENTS,
+        b"10 0 ask call(p1,x1) 1000\n20 0 confirm 1\n25 0 status\n30 1 ask call(p1,x2) 1000\n\
+            40 1 ask call(p2,x1) 1000",
+        b"history 0\n0 granted 1\n0 confirmed 1\n0 status partial 1 nodes 10\n\
+            1 refused 21 not permitted\n1 granted 2\n",
+    ),
+    (
+        BOTH,
+        b"10 0 ask call(p1,x1) 1000\n20 0 confirm 1\n25 0 status\n30 1 ask call(p2,x1) 1000\n\
+            40 1 ask call(p2,x2) 1000",
+        b"history 0\n0 granted 1\n0 confirmed 1\n0 status partial 1 nodes 21\n\
+            1 refused 21 not permitted\n1 granted 2\n",
+    ),
+    (
+        b"a - b",
+        b"100 0 ask a 50\n149 0 confirm 1",
+        b"history 0\n0 granted 1\n0 confirmed 1\n",
+    ),
+    (
+        b"a - b",
+        b"100 0 ask a 50\n150 0 confirm 1\n150 0 confirm 1\n150 0 confirm 2",
+        b"history 0\n0 granted 1\n0 refused 31 expired\n0 refused 31 expired\n\
+            0 refused 30 no such ticket\n",
+    ),
+    (
+        b"a - b",
+        b"200 0 status\n100 0 ask a 10\n50 1 ask a 10\n210 0 confirm 1\n210 1 ask a 10\n\
+            210 0 confirm 1",
+        b"history 0\n0 status partial 0 nodes 2\n0 granted 1\n1 refused 20 busy until 210\n\
+            0 refused 31 expired\n1 granted 2\n0 refused 30 no such ticket\n",
+    ),
+    (
+        b"a - b",
+        b"10 0 ask \\\n11 1 may\\\n12 0 a 1000\n13 1  b",
+        b"history 0\n0 granted 1\n1 no\n",
+    ),
+    (
+        BOTH,
+        b"1 0 watch w call(p1,x1)\n1 0 watch w call(p1,x1)\n2 0 ask call(p1,x1) 9\n\
+            3 0 confirm 1\n4 1 poll w\n5 1 poll w\n6 1 drop w call(p1,x1)\n\
+            7 1 drop w call(p1,x1)\n8 1 poll w",
+        b"history 0\n0 watching yes\n0 watching yes\n0 granted 1\n0 confirmed 1\n1 changes 1\n\
+            1 no call(p1,x1)\n1 changes 0\n1 dropped\n1 refused 41 no such watch\n\
+            1 changes 0\n",
+    ),
+    (
+        b"a",
+        b"1 0 ask a 5\n1 1 cancel 1\n1 0 confirm 1\n1 0 stop\n2 0 status",
+        b"history 0\n0 granted 1\n1 cancelled 1\n0 refused 30 no such ticket\n0 stopping\n",
+    ),
+    (
+        b"a",
+        b"1 0 ask a 0\n1 0 ask  a 5\n1 0 confirm 01\n1 0 ask a( 5\n1 0 poll 9z\n1 0 ",
+        b"history 0\n0 refused 14 lease\n0 refused 15 words\n0 refused 13 number\n\
+            0 refused 12 action\n0 refused 16 name\n0 refused 11 word\n",
+    ),
+    (
+        b"a",
+        b"18446744073709551615 0 ask a 1000\n18446744073709551615 0 confirm 1",
+        b"history 0\n0 granted 1\n0 refused 31 expired\n",
+    ),
+    (b"a", b"", b"history 0\n"),
+];
+
 #[test]
 fn requests_are_answered(rt: HostRuntime) -> Result<(), Fail> {
-    let cases: [(&[u8], &[u8], &[u8]); 11] = [
-        (
-            PATIENTS,
-            b"10 0 ask call(p1,x1) 1000\n20 0 confirm 1\n25 0 status\n30 1 ask call(p1,x2) 1000\n\
-                40 1 ask call(p2,x1) 1000",
-            b"history 0\n0 granted 1\n0 confirmed 1\n0 status partial 1 nodes 10\n\
-                1 refused 21 not permitted\n1 granted 2\n",
-        ),
-        (
-            BOTH,
-            b"10 0 ask call(p1,x1) 1000\n20 0 confirm 1\n25 0 status\n30 1 ask call(p2,x1) 1000\n\
-                40 1 ask call(p2,x2) 1000",
-            b"history 0\n0 granted 1\n0 confirmed 1\n0 status partial 1 nodes 21\n\
-                1 refused 21 not permitted\n1 granted 2\n",
-        ),
-        (
-            b"a - b",
-            b"100 0 ask a 50\n149 0 confirm 1",
-            b"history 0\n0 granted 1\n0 confirmed 1\n",
-        ),
-        (
-            b"a - b",
-            b"100 0 ask a 50\n150 0 confirm 1\n150 0 confirm 1\n150 0 confirm 2",
-            b"history 0\n0 granted 1\n0 refused 31 expired\n0 refused 31 expired\n\
-                0 refused 30 no such ticket\n",
-        ),
-        (
-            b"a - b",
-            b"200 0 status\n100 0 ask a 10\n50 1 ask a 10\n210 0 confirm 1\n210 1 ask a 10\n\
-                210 0 confirm 1",
-            b"history 0\n0 status partial 0 nodes 2\n0 granted 1\n1 refused 20 busy until 210\n\
-                0 refused 31 expired\n1 granted 2\n0 refused 30 no such ticket\n",
-        ),
-        (
-            b"a - b",
-            b"10 0 ask \\\n11 1 may\\\n12 0 a 1000\n13 1  b",
-            b"history 0\n0 granted 1\n1 no\n",
-        ),
-        (
-            BOTH,
-            b"1 0 watch w call(p1,x1)\n1 0 watch w call(p1,x1)\n2 0 ask call(p1,x1) 9\n\
-                3 0 confirm 1\n4 1 poll w\n5 1 poll w\n6 1 drop w call(p1,x1)\n\
-                7 1 drop w call(p1,x1)\n8 1 poll w",
-            b"history 0\n0 watching yes\n0 watching yes\n0 granted 1\n0 confirmed 1\n1 changes 1\n\
-                1 no call(p1,x1)\n1 changes 0\n1 dropped\n1 refused 41 no such watch\n\
-                1 changes 0\n",
-        ),
-        (
-            b"a",
-            b"1 0 ask a 5\n1 1 cancel 1\n1 0 confirm 1\n1 0 stop\n2 0 status",
-            b"history 0\n0 granted 1\n1 cancelled 1\n0 refused 30 no such ticket\n0 stopping\n",
-        ),
-        (
-            b"a",
-            b"1 0 ask a 0\n1 0 ask  a 5\n1 0 confirm 01\n1 0 ask a( 5\n1 0 poll 9z\n1 0 ",
-            b"history 0\n0 refused 14 lease\n0 refused 15 words\n0 refused 13 number\n\
-                0 refused 12 action\n0 refused 16 name\n0 refused 11 word\n",
-        ),
-        (
-            b"a",
-            b"18446744073709551615 0 ask a 1000\n18446744073709551615 0 confirm 1",
-            b"history 0\n0 granted 1\n0 refused 31 expired\n",
-        ),
-        (b"a", b"", b"history 0\n"),
-    ];
-    for (expression, script, bytes) in cases {
+    for (expression, script, bytes) in REQUESTS {
         let same = check_replay(rt.alloc(), &REPLAY, expression, script, 0, bytes)?;
         assert!(rt; same, "what {script:?} puts");
     }
     Ok(())
 }
 
+const NODES: [&str; 6] = ["replay", "--nodes", "8", "expression", "-", "actions"];
+
+const FEW: [&str; 6] = ["replay", "--nodes", "1", "expression", "-", "actions"];
+
+const TURNS: [&str; 6] = ["replay", "--turns", "1", "expression", "-", "actions"];
+
+const ENOUGH: [&str; 8] = [
+    "replay",
+    "--nodes",
+    "8",
+    "--turns",
+    "3",
+    "expression",
+    "-",
+    "actions",
+];
+
+const LOST: [&str; 4] = ["replay", "expression", "-", "x"];
+
 #[test]
 fn replays_end(rt: HostRuntime) -> Result<(), Fail> {
-    let nodes: [&str; 6] = ["replay", "--nodes", "8", "expression", "-", "actions"];
-    let few: [&str; 6] = ["replay", "--nodes", "1", "expression", "-", "actions"];
-    let turns: [&str; 6] = ["replay", "--turns", "1", "expression", "-", "actions"];
-    let enough: [&str; 8] = [
-        "replay",
-        "--nodes",
-        "8",
-        "--turns",
-        "3",
-        "expression",
-        "-",
-        "actions",
-    ];
-    let lost: [&str; 4] = ["replay", "expression", "-", "x"];
-    let cases: [(&[&str], &[u8], &[u8], u8, &[u8]); 9] = [
+    let cases: [(&[&str], &[u8], &[u8], u8, &[u8]); 5] = [
         (
-            &nodes,
+            &NODES,
             b"#(a - b)",
             b"1 0 ask a 5\n1 0 confirm 1\n1 0 ask a 5\n1 0 confirm 2\n1 0 ask a 5\n1 0 status",
             0,
             b"history 0\n0 granted 1\n0 confirmed 1\n0 granted 2\n0 confirmed 2\n\
                 0 refused 22 large 8\n0 status partial 2 nodes 8\n",
         ),
-        (&few, b"a - b", b"", 3, b"refused expression 14 large 1\n"),
+        (&FEW, b"a - b", b"", 3, b"refused expression 14 large 1\n"),
         (
-            &turns,
+            &TURNS,
             b"a",
             b"1 0 status\n2 0 status",
             7,
             b"history 0\n0 status partial 0 nodes 1\nrefused turns\n",
         ),
         (
-            &enough,
+            &ENOUGH,
             b"a",
             b"1 0 status\n2 0 may a",
             0,
             b"history 0\n0 status partial 0 nodes 1\n0 yes\n",
         ),
-        (&lost, b"a", b"", 4, b"refused file script\n"),
-        (&REPLAY, b"a", b"1\t0 bad", 3, b"refused script 31 at 0\n"),
-        (&REPLAY, b"a", b"1 64 may a", 3, b"refused script 32 at 0\n"),
-        (
-            &REPLAY,
-            b"a",
-            b"1 0 may a\n1 0 \\",
-            3,
-            b"refused script 33 at 10\n",
-        ),
-        (
-            &REPLAY,
-            b"a -",
-            b"1 64 may a",
-            3,
-            b"refused expression 4 at 3\n",
-        ),
+        (&LOST, b"a", b"", 4, b"refused file script\n"),
     ];
     for (words, expression, script, status, bytes) in cases {
         let same = check_replay(rt.alloc(), words, expression, script, status, bytes)?;
         assert!(rt; same, "what {words:?} puts");
+    }
+    Ok(())
+}
+
+#[test]
+fn what_has_a_fault_is_not_replayed(rt: HostRuntime) -> Result<(), Fail> {
+    let cases: [(&[u8], &[u8], &[u8]); 4] = [
+        (b"a", b"1\t0 bad", b"refused script 31 at 0\n"),
+        (b"a", b"1 64 may a", b"refused script 32 at 0\n"),
+        (b"a", b"1 0 may a\n1 0 \\", b"refused script 33 at 10\n"),
+        (b"a -", b"1 64 may a", b"refused expression 4 at 3\n"),
+    ];
+    for (expression, script, bytes) in cases {
+        let same = check_replay(rt.alloc(), &REPLAY, expression, script, 3, bytes)?;
+        assert!(rt; same, "what {script:?} puts");
     }
     Ok(())
 }

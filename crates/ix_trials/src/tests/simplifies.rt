@@ -16,8 +16,16 @@ fn texts_are_simplified(rt: HostRuntime) -> Result<(), Fail> {
         (b"all $p (a($p) | a($p))", 0, b"all $p a($p)\n"),
         (b"a - a | a", 0, b"a - a | a\n"),
         (b"(a + a) | (a @ b)", 0, b"a + a | a @ b\n"),
-        (b"times 3 ??a | times 3 *?b", 0, b"times 3 ?a | times 3 *b\n"),
-        (b"times 2 ?a & times 2 ??a | times 3 ?a", 0, b"times 2 ?a | times 3 ?a\n"),
+        (
+            b"times 3 ??a | times 3 *?b",
+            0,
+            b"times 3 ?a | times 3 *b\n",
+        ),
+        (
+            b"times 2 ?a & times 2 ??a | times 3 ?a",
+            0,
+            b"times 2 ?a | times 3 ?a\n",
+        ),
         (b"a | - b", 3, b"refused expression 3 at 4\n"),
     ];
     for (expression, status, bytes) in cases {

@@ -59,6 +59,16 @@ fn first_faults(rt: HostRuntime) -> Result<(), Fail> {
         (b"all $p (a($p) - b)".as_slice(), 7, 16),
         (b"a(p,q,r,s,t)".as_slice(), 10, 9),
         (b"b - a(p,q,r,s,t,".as_slice(), 10, 13),
+    ];
+    for (text, code, at) in rows {
+        assert_eq!(rt; outcome(rt.alloc(), text), Some((code, at)));
+    }
+    Ok(())
+}
+
+#[test]
+fn first_faults_behind_reserved_words(rt: HostRuntime) -> Result<(), Fail> {
+    let rows = [
         (b"all(x)".as_slice(), 12, 0),
         (b"b - times - c".as_slice(), 12, 4),
         (b"times".as_slice(), 12, 0),
