@@ -4,7 +4,7 @@ use Rattle.std.specs.List.{list_any}
 use Rattle.std.proofs.lemmas.Bool.Decides.{nat_tests}
 use Rattle.std.proofs.lemmas.Fmt.{decimal_injective, decimal_by_steps}
 use Rattle.std.proofs.lemmas.List.Folds.{list_any-append}
-use Rattle.ix_lines.proofs.WordLemmas.{is_space}
+use Rattle.ix_lines.proofs.WordLemmas.{is_byte, is_space}
 use Rattle.ix_lines.specs.Numbers.{IsNumber, BeginsWith, Begins}
 use Rattle.ix_lines.specs.inside.WordsBehind.{behind_word, HasNoSpace}
 
@@ -39,20 +39,24 @@ cut_same (c ∷ a) (d ∷ b) x y h g e =
     let rest = cut_same a b x y plain.1 (or_false (is_space d) (list_any is_space b) g).1 later in
     ((λ i. first i ∷ rest.0 i), rest.1)
 
-one_digit : (n : ℕ) → n < 10 → is_space (48 + n) ≡ false
-one_digit n l = grind (arith, nat_tests)
+one_digit : (wanted n : ℕ) → wanted < 48 → is_byte wanted (48 + n) ≡ false
+one_digit wanted n l = grind (arith, nat_tests)
 
 or_both : (p q : Bool) → p ≡ false → q ≡ false → (p || q) ≡ false
 or_both p q e f = rw (e, f) refl
 
+-- a number has no byte below its digits
+pub decimal-avoids : (wanted : ℕ) → wanted < 48 → (n : ℕ) → n < 2 ^ 64 → list_any (is_byte wanted) (decimal n) ≡ false
+decimal-avoids wanted small =
+    decimal_by_steps (λ n ds. list_any (is_byte wanted) ds ≡ false)
+    (λ n l. or_both (is_byte wanted (48 + n)) false (one_digit wanted n small) refl)
+    (λ n ds l h.
+    list_any-append (is_byte wanted) ds ((48 + n % 10) ∷ [])
+    ∙ or_both (list_any (is_byte wanted) ds) _ h (or_both (is_byte wanted (48 + n % 10)) false (one_digit wanted (n % 10) small) refl))
+
 -- a number has no space
 pub decimal-plain : (n : ℕ) → n < 2 ^ 64 → HasNoSpace (decimal n)
-decimal-plain =
-    decimal_by_steps (λ n ds. HasNoSpace ds)
-    (λ n l. or_both (is_space (48 + n)) false (one_digit n l) refl)
-    (λ n ds l h.
-    list_any-append is_space ds ((48 + n % 10) ∷ [])
-    ∙ or_both (list_any is_space ds) _ h (or_both (is_space (48 + n % 10)) false (one_digit (n % 10) (omega arith)) refl))
+decimal-plain = decimal-avoids 32 (omega arith)
 
 pub some_same : {x y : List ℕ} → Some x ≡ Some y → x ≡ y
 some_same e = cc

@@ -11,38 +11,49 @@ use Rattle.std.proofs.lemmas.Bool.Decides.{nat_tests}
 use Rattle.ix_lines.specs.Words.{words_of}
 use Rattle.ix_lines.specs.inside.WordsBehind.{HasNoSpace}
 
+-- whether a byte is this one
+abbrev pub is_byte : ℕ → ℕ → Bool
+is_byte wanted byte = byte == wanted
+
 -- whether a byte is a space
 abbrev pub is_space : ℕ → Bool
-is_space byte = byte == 32
+is_space byte = is_byte 32 byte
 
 plain_from_all : (xs : List ℕ) → All (λ x. is_space x ≡ false) xs → HasNoSpace xs
 plain_from_all xs h = list_any_none is_space xs h
 
-front_all : (xs : List ℕ) (at : ℕ) → position is_space xs ≡ Some at → All (λ x. is_space x ≡ false) (take at xs)
-front_all xs at e =
-    let found = position-Some is_space xs at 0 e in
-    All-from_get_or (λ x. is_space x ≡ false) (take at xs) 0
+front_all : (wanted : ℕ) (xs : List ℕ) (at : ℕ) → position (is_byte wanted) xs ≡ Some at
+    → All (λ x. is_byte wanted x ≡ false) (take at xs)
+front_all wanted xs at e =
+    let found = position-Some (is_byte wanted) xs at 0 e in
+    All-from_get_or (λ x. is_byte wanted x ≡ false) (take at xs) 0
     (λ k l. let here = found.2 k (grind (arith, common_steps)) in grind (arith, common_steps))
 
 pub front-plain : (xs : List ℕ) (at : ℕ) → position is_space xs ≡ Some at → HasNoSpace (take at xs)
-front-plain xs at e = plain_from_all (take at xs) (front_all xs at e)
+front-plain xs at e = plain_from_all (take at xs) (front_all 32 xs at e)
 
-at_place : (xs : List ℕ) (at : ℕ) → at < length xs → get_or xs at 0 ≡ 32 → take at xs ++ 32 ∷ drop (at + 1) xs ≡ xs
-at_place xs at l e =
-    let rest : drop at xs ≡ 32 ∷ drop (at + 1) xs = rw (add-one, drop-cons xs at 0, e) refl in
+at_place : (wanted : ℕ) (xs : List ℕ) (at : ℕ) → at < length xs → get_or xs at 0 ≡ wanted
+    → take at xs ++ wanted ∷ drop (at + 1) xs ≡ xs
+at_place wanted xs at l e =
+    let rest : drop at xs ≡ wanted ∷ drop (at + 1) xs = rw (add-one, drop-cons xs at 0, e) refl in
     ap (λ z. take at xs ++ z) (sym rest) ∙ take-append-drop at xs
 
-space_is : (byte : ℕ) → is_space byte ≡ true → byte ≡ 32
-space_is byte e = grind (arith, nat_tests)
+byte_is : (wanted byte : ℕ) → is_byte wanted byte ≡ true → byte ≡ wanted
+byte_is wanted byte e = grind (arith, nat_tests)
+
+-- a text is cut at the first place of a byte
+pub cut-at_byte : (wanted : ℕ) (xs : List ℕ) (at : ℕ) → position (is_byte wanted) xs ≡ Some at
+    → xs ≡ take at xs ++ wanted ∷ drop (at + 1) xs
+cut-at_byte wanted xs at e =
+    let found = position-Some (is_byte wanted) xs at 0 e in
+    sym (at_place wanted xs at found.0 (byte_is wanted (get_or xs at 0) found.1))
 
 pub cut-at : (xs : List ℕ) (at : ℕ) → position is_space xs ≡ Some at → xs ≡ take at xs ++ 32 ∷ drop (at + 1) xs
-cut-at xs at e =
-    let found = position-Some is_space xs at 0 e in
-    sym (at_place xs at found.0 (space_is (get_or xs at 0) found.1))
+cut-at xs at e = cut-at_byte 32 xs at e
 
 pub words-at : (xs : List ℕ) (at : ℕ) → position is_space xs ≡ Some at → words_of xs ≡ take at xs ∷ words_of (drop (at + 1) xs)
 words-at xs at e =
-    ap words_of (cut-at xs at e) ∙ slice_split_at is_space (take at xs) 32 (drop (at + 1) xs) (front_all xs at e) refl
+    ap words_of (cut-at xs at e) ∙ slice_split_at is_space (take at xs) 32 (drop (at + 1) xs) (front_all 32 xs at e) refl
 
 none_before : (n m k : ℕ) → cond (nat_lt n m) (Some n) None ≡ None → k < m → k < n
 none_before n m k e l = grind (arith, nat_tests)

@@ -5,3 +5,5 @@ pub mod Stuck
 pub mod FirstWord
 pub mod TextsApart
 pub mod ReadingSteps
+mod TicketTexts
+mod OneFault

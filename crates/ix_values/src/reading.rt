@@ -3,6 +3,7 @@
 ghost use Rattle.std.specs.Prelude.{◌≡◌, ◌<◌, ◌≤◌, ◌↔◌, IsTrue, false, length, take, slice_get};
 ghost use Rattle.std.specs.Prelude.{MatchOption, MatchResult};
 ghost use Rattle.ix_values.specs.Faults.{IsActionText, IsFault};
+ghost use Rattle.ix_values.specs.Laws.{ActionTextsHaveOneFault};
 ghost use Rattle.ix_values.specs.PlainAction.{text_of};
 ghost use Rattle.ix_values.specs.inside.Causes.{code_of};
 ghost use Rattle.ix_values.specs.inside.FirstWord as spec;
@@ -160,3 +161,8 @@ fn cause_after_value(next: Option<u8>) -> Cause
         _ => Cause::Argument,
     }
 }
+
+/// A text has at most one fault, at one place.
+pub fn action_texts_have_one_fault()
+    ensures { ActionTextsHaveOneFault }
+{}

@@ -65,6 +65,38 @@ fn printed_as_read(rt: HostRuntime) -> Result<(), Fail> {
 }
 
 #[test]
+fn tickets(rt: HostRuntime) {
+    let texts: [(&[u8], Option<(u64, u64)>); 14] = [
+        (b"1-1", Some((1, 1))),
+        (b"0-0", Some((0, 0))),
+        (b"20-300", Some((20, 300))),
+        (
+            b"18446744073709551615-18446744073709551615",
+            Some((u64::MAX, u64::MAX)),
+        ),
+        (b"18446744073709551616-1", None),
+        (b"1-18446744073709551616", None),
+        (b"01-1", None),
+        (b"1-01", None),
+        (b"1-", None),
+        (b"-1", None),
+        (b"1", None),
+        (b"", None),
+        (b"1-1-1", None),
+        (b"1-+1", None),
+    ];
+    for (text, numbers) in texts {
+        let ticket = Ticket::read(text);
+        assert_eq!(rt; ticket, numbers.map(|(boot, seq)| Ticket { boot, seq }));
+        if let Some(ticket) = ticket {
+            let mut out = ArrayVec::<u8, 48>::new();
+            ticket.write(&mut out);
+            assert_eq!(rt; out.as_slice(), text);
+        }
+    }
+}
+
+#[test]
 fn longest_text(rt: HostRuntime) -> Result<(), Fail> {
     let name = Name::read(NAME_OF_32).ok_or("a name")?;
     let value = Value::read(VALUE_OF_32).ok_or("a value")?;

@@ -1,0 +1,67 @@
+//! Tickets: what a granted ask is known by, in the run that granted it and behind its end.
+
+ghost use Rattle.std.specs.Prelude.{◌≡◌, ◌+◌, ◌<◌, ◌≤◌, ◌^◌, ◌==◌, [], ◌++◌, MatchOption, position, decimal};
+ghost use Rattle.arrayvec.specs.ArrayVec.{array_vec_len};
+ghost use Rattle.ix_values.specs.Laws.{TextsTellTicketsApart};
+ghost use Rattle.ix_values.specs.Tickets.{IsTicket, IsTicketText, ticket_text};
+
+use arrayvec::ArrayVec;
+use itoa::Buffer;
+use ix_lines::read_number;
+
+/// What a granted ask is known by.
+#[derive(Clone, Copy, Debug, PartialEq, Eq)]
+pub struct Ticket {
+    /// The boot that granted it: how many times the journal had been opened then, from 1.
+    pub boot: u64,
+    /// The number of the ticket among those of its boot, from 1.
+    pub seq: u64,
+}
+
+impl Ticket {
+    /// The ticket whose text is `text`: its two numbers in decimal, without leading zeros, joined
+    /// by `-`. There is at most one. None where the text isn't a ticket's. Takes no memory.
+    pub fn read(text: &[u8]) -> Option<Ticket>
+        ensures { MatchOption result
+            (¬ IsTicketText text.now)
+            (λ ticket. IsTicket ticket × (text.now ≡ ticket_text ticket)) }
+    {
+        let at = first_dash(text)?;
+        let boot = read_number(&text[..at], u64::MAX)?;
+        let seq = read_number(&text[at + 1..], u64::MAX)?;
+        Some(Ticket { boot, seq })
+    }
+
+    /// Writes the text of the ticket, at most 41 bytes, into `out`, which is empty.
+    pub fn write(&self, out: &mut ArrayVec<u8, 48>)
+        requires { out.old.items ≡ [] }
+        ensures text { out.new.items ≡ ticket_text self.now }
+        ensures short { array_vec_len out.new ≤ 41 }
+        ensures valid { IsTicket self.now }
+    {
+        append_number(out, self.boot);
+        out.push(b'-');
+        append_number(out, self.seq);
+    }
+}
+
+fn first_dash(text: &[u8]) -> Option<usize>
+    ensures { result ≡ position (λ byte. byte == 45) text.now }
+{
+    text.iter().position(|byte| *byte == b'-')
+}
+
+fn append_number(out: &mut ArrayVec<u8, 48>, number: u64)
+    requires { array_vec_len out.old ≤ 28 }
+    ensures items { out.new.items ≡ out.old.items ++ decimal number }
+    ensures len { array_vec_len out.new ≤ array_vec_len out.old + 20 }
+    ensures fits { number < 2 ^ 64 }
+{
+    let mut buffer = Buffer::new();
+    let _ = out.try_extend_from_slice(buffer.format(number).as_bytes());
+}
+
+/// Two tickets with one text are the same ticket.
+pub fn texts_tell_tickets_apart()
+    ensures { TextsTellTicketsApart }
+{}
