@@ -27,10 +27,11 @@ static double seconds(void)
     return now.tv_sec + now.tv_nsec / 1e9;
 }
 
-/* Sends a line, and reads the line of its reply, which begins with this word. Gives the number behind the word. */
-static long request(int fd, const char *line, const char *word)
+/* Sends a line, and reads the line of its reply, which begins with this word. Gives what stands behind the word, with the
+ * line's end, until the next call. */
+static const char *request(int fd, const char *line, const char *word)
 {
-    char reply[512];
+    static char reply[512];
     size_t have = 0;
     if (write(fd, line, strlen(line)) != (ssize_t)strlen(line))
         fail("write");
@@ -45,7 +46,7 @@ static long request(int fd, const char *line, const char *word)
         fprintf(stderr, "%s%s", line, reply);
         exit(1);
     }
-    return atol(reply + strlen(word));
+    return reply + strlen(word);
 }
 
 /* A patient is called to an examination, which is performed; 40 patients and 10 examinations take turns. */
@@ -60,8 +61,8 @@ static void serve(const char *path, long count)
     for (long i = 0; i < count; i++) {
         char line[128];
         snprintf(line, sizeof line, "ask %s(p%ld,x%ld) 60000\n", i % 2 ? "perform" : "call", i / 2 % 40, i / 2 % 10);
-        long ticket = request(fd, line, "granted ");
-        snprintf(line, sizeof line, "confirm %ld\n", ticket);
+        const char *ticket = request(fd, line, "granted ");
+        snprintf(line, sizeof line, "confirm %s", ticket);
         double begin = seconds();
         request(fd, line, "confirmed ");
         confirms += seconds() - begin;

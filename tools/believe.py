@@ -191,8 +191,8 @@ class Source:
         return found.group(0) if found else ""
 
     def laws(self):
-        """The public functions with an empty body."""
-        return re.findall(r"(?m)^pub fn \w+.*\n(?:(?![{}]).*\n)*?(?=\{\}$)", self.text)
+        """The public functions whose body is empty, or holds only calls without arguments: those of laws below."""
+        return re.findall(r"(?m)^pub fn \w+.*\n(?:(?![{}]).*\n)*?(?=\{\}$|\{\n(?: {4}\w+\(\);\n)+\}$)", self.text)
 
 
 def sources():

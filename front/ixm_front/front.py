@@ -242,7 +242,7 @@ class Front:
         self._asks_status = False
         for client in list(self.clients):
             if client.ticket and not self._spends(client.request):
-                # Its reservation ended with the run, and the next run may give the same ticket to another.
+                # Its reservation ended with the run, so it has to notice, as it would without a front.
                 self.close(client, "reservation lost")
         asks = []
         again: dict[Request, None] = {}

@@ -40,7 +40,7 @@ class Lines(unittest.TestCase):
 
     def test_replies_are_whole_however_they_are_cut(self):
         rng = random.Random(2)
-        replies = [b"yes\n", b"changes 0\n", b"changes 2\nyes do(a)\nno do(b)\n", b"granted 1\n", b"changes 1\nno x\n"]
+        replies = [b"yes\n", b"changes 0\n", b"changes 2\nyes do(a)\nno do(b)\n", b"granted 1-1\n", b"changes 1\nno x\n"]
         for _ in range(200):
             wanted = [rng.choice(replies) for _ in range(rng.randrange(12))]
             reader, told = ReplyReader(), []

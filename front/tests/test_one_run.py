@@ -45,7 +45,7 @@ class Random(threading.Thread):
 
     def visit(self):
         """Connects, sends some lines, and leaves."""
-        rng, ticket = self.rng, 0
+        rng, ticket = self.rng, "0-0"
         with Client(self.path) as client:
             for _ in range(rng.randrange(25)):
                 lines = [self.line(ticket) for _ in range(rng.choice((1, 1, 1, 3)))]

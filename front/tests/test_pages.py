@@ -16,13 +16,13 @@ class Pages(Place):
             client.request("may do(a)")
             ticket = client.request("ask do(a) 1000").split()[1]
             client.request(f"confirm {ticket}")
-            client.request("cancel 99")
+            client.request("cancel 1-99")
             client.request("ask \u00e4 1")
         with open(f"{self.folder}/log") as file:
             lines = [json.loads(line) for line in file]
         told = [(line["pid"], line["uid"], line["request"], line["reply"]) for line in lines if line.get("reply")]
         rows = (("ask do(a) 1000", f"granted {ticket}"), (f"confirm {ticket}", "confirmed 1"),
-                ("cancel 99", "refused 30 no such ticket"), ("ask \\xc3\\xa4 1", "refused 12 action"))
+                ("cancel 1-99", "refused 30 no such ticket"), ("ask \\xc3\\xa4 1", "refused 12 action"))
         self.assertEqual(told, [(os.getpid(), os.getuid(), *row) for row in rows])
         self.assertTrue(all(line["ms"] >= 0 and line["time"].endswith("Z") for line in lines if line.get("reply")))
 
@@ -32,7 +32,7 @@ class Pages(Place):
         with Client(front.path) as client:
             ticket = client.request("ask do(a) 1000").split()[1]
             client.request(f"confirm {ticket}")
-            client.request("confirm 99")
+            client.request("confirm 1-99")
             wait_until(lambda: "\nixm_history_length 1\n" in page(self.folder, "/metrics"), "the status is asked for")
             wait_until(lambda: os.path.exists(f"{self.folder}/file"), "the file is written")
             head, _, text = page(self.folder, "/metrics").partition("\n\n")

@@ -90,7 +90,7 @@ class Broken(Place):
         self.assertEqual((reply, heard), ("confirmed 3", ["status", "outcome 1-1", "confirm 1-1"]))
 
     def test_what_changes_nothing_is_sent_again(self):
-        rows = {"ask do(a) 9000": "granted 1", "may do(a)": "yes", "drop n do(a)": "dropped", "poll n": "changes 0",
+        rows = {"ask do(a) 9000": "granted 1-1", "may do(a)": "yes", "drop n do(a)": "dropped", "poll n": "changes 0",
                 "log 1": "entry 1 do(a)", "outcome 1-1": "outcome never", "watch n do(a)": "watching no"}
         for line, wanted in rows.items():
             with self.subTest(line):
@@ -151,7 +151,7 @@ class Restarted(Place):
             waiting.send("ask c 60000")
             self.assertEqual(silent.request("may c"), "yes")
             self.restart()
-            # Its ticket may be another's now, so its connection is closed, as it would be without a front.
+            # Its reservation has ended, so its connection is closed, as it would be without a front.
             self.assertIsNone(holder.reply())
             ticket = waiting.reply().split()
             self.assertEqual(ticket[0], "granted")

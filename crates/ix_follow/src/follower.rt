@@ -21,6 +21,9 @@ use ix_values::Action;
 use std::alloc::Global;
 use std::marker::Model;
 
+/// The most actions that a history has.
+const MOST_ACTIONS: usize = 1_000_000;
+
 /// The prefix of a manager's history that its entries told so far, in an engine of the same
 /// expression.
 #[derive(Drop)]
@@ -63,7 +66,7 @@ impl Follower {
     /// The actions that were taken, the oldest first, at most 1,000,000.
     pub fn history(&self) -> &[Action]
         ensures value { result.now ≡ self.now.history }
-        ensures most { length self.now.history ≤ 1000000 }
+        ensures most { length self.now.history ≤ MOST_ACTIONS }
     {
         self.engine.history()
     }
@@ -132,7 +135,6 @@ impl Follower {
     }
 
     /// An entry with a number from 1.
-
     fn meet(&mut self, alloc: Global, number: u64, action: &Action) -> Result<Fed, FollowFault>
         requires { 1 ≤ number }
         ensures meets { Meets self.old.form self.old.limit self.old.history number action.now
@@ -184,7 +186,7 @@ impl Follower {
             Err(PrepareFault::Memory) => {
                 // Memory runs out only for what may come next, in a history with room.
                 prove!(self.engine.may(action));
-                prove!(self.engine.history().len() <= 1_000_000);
+                prove!(self.engine.history().len() <= MOST_ACTIONS);
                 return Err(FollowFault::Memory);
             }
         };

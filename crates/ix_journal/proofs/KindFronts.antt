@@ -56,14 +56,16 @@ module _ (bytes : List ℕ) (read : ℕ) where
         → (left : List ℕ) × HasHeader (take read bytes) head text left
     header_read head text behind w =
         let far = covers head text behind w in
-        let left = read - length (head ∷ header text) in
-        let sum : read ≡ length (head ∷ header text) + left = omega arith in
+        let left = read - length (head ∷ header w.version text) in
+        let sum : read ≡ length (head ∷ header w.version text) + left = omega arith in
         let some = w.gate in (
           take left behind,
           record {
+            version = w.version;
+            known = w.known;
             spells = ap (take read) w.spells
-                ∙ ap (λ (n : ℕ). take n ((head ∷ header text) ++ behind)) sum
-                ∙ take-append-add (head ∷ header text) behind left;
+                ∙ ap (λ (n : ℕ). take n ((head ∷ header w.version text) ++ behind)) sum
+                ∙ take-append-add (head ∷ header w.version text) behind left;
             short = w.short;
             gate = omega (arith, length-take left behind);
           },
@@ -71,17 +73,23 @@ module _ (bytes : List ℕ) (read : ℕ) where
 
     unopened_len : (b text : List ℕ) → IsUnopened b text → length b ≡ 8 + length text
     unopened_len b text u =
-        omega (arith, ap length u.header.spells, length-append (header text) (u.gate ∷ []))
+        omega (arith, ap length u.header.spells, length-append (header u.header.version text) (u.gate ∷ []))
 
     -- what was read of an unopened file is all of it
     unopened_whole : (text : List ℕ) → IsUnopened (take read bytes) text → take read bytes ≡ bytes
     unopened_whole text u =
         let rest = drop read bytes in
-        let whole : bytes ≡ u.head ∷ header text ++ (u.gate ∷ rest) =
+        let whole : bytes ≡ u.head ∷ header u.header.version text ++ (u.gate ∷ rest) =
         sym (take-append-drop read bytes) ∙ ap (λ (b : List ℕ). b ++ rest) u.header.spells
-        ∙ append_assoc (u.head ∷ header text) (u.gate ∷ []) rest in
+        ∙ append_assoc (u.head ∷ header u.header.version text) (u.gate ∷ []) rest in
         let far = covers u.head text (u.gate ∷ rest)
-        (record { spells = whole; short = u.header.short; gate = omega arith }) in
+        (record {
+          version = u.header.version;
+          known = u.header.known;
+          spells = whole;
+          short = u.header.short;
+          gate = omega arith;
+        }) in
         all_read
         (omega (arith, unopened_len (take read bytes) text u, length-take read bytes))
 

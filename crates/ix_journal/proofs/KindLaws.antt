@@ -19,7 +19,7 @@ head_of bytes head text behind w = ap (λ (b : List ℕ). slice_get b 0) w.spell
 begun : (bytes : List ℕ) (head : ℕ) (text behind : List ℕ) → HasHeader bytes head text behind
     → (head ≡ 0 → ⊥) → IsUnfinished bytes → ⊥
 begun bytes head text behind w started (inl short) =
-    omega (arith, ap length w.spells, length-append (header text) behind)
+    omega (arith, ap length w.spells, length-append (header w.version text) behind)
 begun bytes head text behind w started (inr is_zero) =
     started (some_same head 0 (sym (head_of bytes head text behind w) ∙ is_zero))
 
@@ -27,8 +27,8 @@ begun bytes head text behind w started (inr is_zero) =
 pub same_header : (bytes : List ℕ) (head other : ℕ) (x y r s : List ℕ) → HasHeader bytes head x r
     → HasHeader bytes other y s → (head ≡ other) × (x ≡ y)
 same_header bytes head other x y r s v w =
-    let e : head ∷ header x ++ r ≡ other ∷ header y ++ s = sym v.spells ∙ w.spells in
-    (cons_head _ _ _ _ e, (header-apart x y r s v.short w.short (cons_tail _ _ _ _ e)).0)
+    let e : head ∷ header v.version x ++ r ≡ other ∷ header w.version y ++ s = sym v.spells ∙ w.spells in
+    (cons_head _ _ _ _ e, (header-apart v.version w.version x y r s v.short w.short (cons_tail _ _ _ _ e)).0)
 
 module _ (bytes : List ℕ) where
   unopened_begun : (text : List ℕ) → IsUnopened bytes text → IsUnfinished bytes → ⊥

@@ -2,6 +2,10 @@ pub mod TextFronts
 pub mod HeaderFronts
 pub mod KindLemmas
 pub mod RecordFronts
+pub mod OrderLemmas
+pub mod EntryTexts
+pub mod RecordTexts
+pub mod EntryReads
 pub mod HoldsLemmas
 pub mod Following
 pub mod KindLaws

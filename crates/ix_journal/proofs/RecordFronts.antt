@@ -1,16 +1,12 @@
 -- Bytes that begin with a record, and gates in front of them.
-use Rattle.std.proofs.Common.{◌≡◌, ℕ, ◌+◌, ◌*◌, ◌<◌, ◌≤◌, List, [], ◌∷◌, length, get_or, drop, Option, Some}
-use Rattle.std.proofs.Common.{None, MatchOption, Bor, sym, ◌∙◌, ap, arith}
+use Rattle.std.proofs.Common.{◌≡◌, ℕ, ◌+◌, ◌*◌, ◌<◌, ◌≤◌, List, [], ◌∷◌, length, get_or, drop, Some}
+use Rattle.std.proofs.Common.{◌∙◌, ap, arith}
 use Rattle.std.proofs.lemmas.List.{drop_more, length-append}
 use Rattle.std.proofs.lemmas.List.Elements.{All-head, All-tail}
 use Rattle.std.proofs.lemmas.Option.{get_or_from_slice_get, slice_get_within, slice_get-get_or}
 use Rattle.std.specs.Prelude.{slice_get, All}
-use Rattle.ix_values.specs.Faults.{IsActionText}
 use Rattle.ix_values.specs.PlainAction.{PlainAction, text_of, text_of_rest, text_of_values}
 use Rattle.ix_values.specs.Texts.{IsAction, IsValue}
-use Rattle.ix_journal.specs.Records.{BeginsWithRecord}
-use Rattle.ix_journal.specs.inside.Fronts.{BeginsWithText}
-use Rattle.ix_journal.proofs.TextFronts.{with_length-apart}
 
 rest_short : (values : List (List ℕ)) → All IsValue values
     → length (text_of_rest values) ≤ 1 + 33 * length values
@@ -37,37 +33,6 @@ text_short action valid =
     let few = valid.few in
     let values = values_short action.values valid.values in
     omega (arith, length-append action.name (text_of_values action.values))
-
--- a record begins with its text
-pub text_of_record : (bytes : List ℕ) (action : PlainAction) → BeginsWithRecord bytes action
-    → BeginsWithText bytes (text_of action)
-text_of_record bytes action w =
-    let short = text_short action w.valid in
-    record { behind = w.behind; spells = w.spells; gate = w.gate; short = omega arith }
-
--- bytes begin with one text at most
-pub text_unique : (bytes x y : List ℕ) → BeginsWithText bytes x → BeginsWithText bytes y → x ≡ y
-text_unique bytes x y v w =
-    (with_length-apart x y v.behind w.behind v.short w.short (sym v.spells ∙ w.spells)).0
-
--- a text that is no action's makes no record
-pub no_record : (bytes text : List ℕ) → BeginsWithText bytes text → (IsActionText text → ⊥)
-    → (action : PlainAction) → BeginsWithRecord bytes action → ⊥
-no_record bytes text v none action w =
-    none (record {
-      action = action;
-      valid = w.valid;
-      same =
-          text_unique bytes text (text_of action) v (text_of_record bytes action w);
-    })
-
--- where no text is found there is no record
-pub no_record_found : (bytes : List ℕ) (found : Option (Bor (List ℕ))) → found ≡ None
-    → ((text : List ℕ) → BeginsWithText bytes text → ⊥)
-    → MatchOption found ((action : PlainAction) → BeginsWithRecord bytes action → ⊥)
-    (λ text. (action : PlainAction) × (text.now ≡ text_of action) × BeginsWithRecord bytes action)
-no_record_found bytes None e none = λ action w. none (text_of action) (text_of_record bytes action w)
-no_record_found bytes (Some text) e none = absurd cc
 
 -- a gate in front of the bytes behind it
 pub drop_gate : (bytes : List ℕ) (gate byte : ℕ) → slice_get bytes gate ≡ Some byte

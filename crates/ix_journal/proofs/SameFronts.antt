@@ -5,12 +5,14 @@ use Rattle.std.proofs.lemmas.List.{append_assoc, drop_at, length-append, length-
 use Rattle.std.proofs.lemmas.List.{take_at, take-take}
 use Rattle.std.proofs.lemmas.List.Elements.{All-head, All-tail}
 use Rattle.std.specs.Prelude.{All}
-use Rattle.ix_journal.specs.History.{PlainHistory}
-use Rattle.ix_values.specs.Texts.{IsAction}
-use Rattle.ix_journal.specs.Format.{header, record_of, open_records}
+use Rattle.ix_journal.specs.declared.entries.Entry.{Entry}
+use Rattle.ix_journal.specs.Entries.{AreFew, InOrder, IsEntry, behind, fresh, marks_behind, marks_of}
+use Rattle.ix_journal.specs.Entries.{pair_of, pairs_of}
+use Rattle.ix_journal.specs.declared.entries.Marks.{Marks}
+use Rattle.ix_journal.specs.Format.{farthest_gate, header, record_of, open_records}
 use Rattle.ix_journal.specs.Kinds.{IsReady}
 use Rattle.ix_journal.specs.Records.{Holds}
-use Rattle.ix_journal.proofs.RecordFronts.{text_short}
+use Rattle.ix_journal.proofs.OrderLemmas.{boots-grow, entry_near}
 
 -- files that are the same in front of a place are the same in front of an earlier one
 take_less : (m n : ℕ) (xs ys : List ℕ) → m ≤ n → take n xs ≡ take n ys → take m xs ≡ take m ys
@@ -26,16 +28,16 @@ moved bytes new gate same front n len le e =
     sym (take-append-drop n new) ∙ ap (λ (f : List ℕ). f ++ drop n new) begins
 
 -- a ready file with these records, and another that is the same up to the gate behind them
-module _ (bytes text : List ℕ) (first : ℕ) (history : PlainHistory) (gate : ℕ) (new : List ℕ)
-    (ready : IsReady bytes text first) (holds : Holds bytes first history gate)
+module _ (bytes text : List ℕ) (first : ℕ) (entries : List Entry) (gate : ℕ) (new : List ℕ)
+    (ready : IsReady bytes text first) (holds : Holds bytes first entries gate)
     (same : take gate new ≡ take gate bytes) (here : gate < length new) where
   place : first ≡ 7 + length text
   place = ready.place
 
-  end : gate ≡ first + length (open_records history)
+  end : gate ≡ first + length (open_records entries)
   end = holds.place
 
-  len_front : length (165 ∷ header text) ≡ first
+  len_front : length (165 ∷ header ready.header.version text) ≡ first
   len_front = omega (arith, place)
 
   -- it has the same header
@@ -43,7 +45,9 @@ module _ (bytes text : List ℕ) (first : ℕ) (history : PlainHistory) (gate : 
   kept_ready =
       record {
         header = record {
-          spells = moved bytes new gate same (165 ∷ header text) first len_front
+          version = ready.header.version;
+          known = ready.header.known;
+          spells = moved bytes new gate same (165 ∷ header ready.header.version text) first len_front
               (omega (arith, end)) ready.header.spells;
           short = ready.header.short;
           gate = omega (arith, length-drop first new, end);
@@ -51,44 +55,54 @@ module _ (bytes text : List ℕ) (first : ℕ) (history : PlainHistory) (gate : 
         place = place;
       }
 
-  whole : bytes ≡ ((165 ∷ header text) ++ open_records history) ++ drop gate bytes
+  whole : bytes ≡ ((165 ∷ header ready.header.version text) ++ open_records entries) ++ drop gate bytes
   whole =
-      ready.header.spells ∙ ap (λ (r : List ℕ). (165 ∷ header text) ++ r) holds.spells
-      ∙ sym (append_assoc (165 ∷ header text) (open_records history) (drop gate bytes))
+      ready.header.spells ∙ ap (λ (r : List ℕ). (165 ∷ header ready.header.version text) ++ r) holds.spells
+      ∙ sym (append_assoc (165 ∷ header ready.header.version text) (open_records entries) (drop gate bytes))
 
-  whole_new : new ≡ ((165 ∷ header text) ++ open_records history) ++ drop gate new
+  whole_new : new ≡ ((165 ∷ header ready.header.version text) ++ open_records entries) ++ drop gate new
   whole_new =
-      moved bytes new gate same ((165 ∷ header text) ++ open_records history) gate
-      (omega (arith, length-append (165 ∷ header text) (open_records history), len_front, end))
+      moved bytes new gate same ((165 ∷ header ready.header.version text) ++ open_records entries) gate
+      (omega (arith, length-append (165 ∷ header ready.header.version text) (open_records entries), len_front, end))
       (omega arith) whole
 
   -- and the same records
-  pub kept_records : Holds new first history gate
+  pub kept_records : Holds new first entries gate
   kept_records =
       record {
         spells = ap (drop first)
-            (whole_new ∙ append_assoc (165 ∷ header text) (open_records history) (drop gate new))
-            ∙ drop_at (165 ∷ header text) (open_records history ++ drop gate new) first len_front;
+            (whole_new ∙ append_assoc (165 ∷ header ready.header.version text) (open_records entries) (drop gate new))
+            ∙ drop_at (165 ∷ header ready.header.version text) (open_records entries ++ drop gate new) first len_front;
         place = end;
         within = here;
         valid = holds.valid;
+        order = holds.order;
       }
 
--- how many bytes records have with their gates
-records_short : (word : PlainHistory) → All IsAction word → length (open_records word) ≤ 168 * length word
-records_short [] valid = omega arith
-records_short (action ∷ word) valid =
-    let first : IsAction action = All-head IsAction action word valid in
-    let short = text_short action first in
-    let rest = records_short word (All-tail IsAction action word valid) in
-    omega (arith, length-append (record_of action) (open_records word))
+-- how many bytes records have with their gates, where the boots aren't too many
+records_short : (marks : Marks) (entries : List Entry) → All IsEntry entries → InOrder marks entries
+    → (marks_behind marks entries).boots ≤ 1000000
+    → length (open_records entries) + 15 * marks.boots
+    ≤ 197 * length (pairs_of entries) + 15 * (marks_behind marks entries).boots
+records_short marks [] valid order few = omega arith
+records_short marks (entry ∷ entries) valid order few =
+    let first : IsEntry entry = All-head IsEntry entry entries valid in
+    let within = boots-grow (behind marks entry) entries in
+    let short = entry_near marks entry first order.0 (omega arith) in
+    let rest = records_short (behind marks entry) entries (All-tail IsEntry entry entries valid) order.1 few in
+    omega (
+      arith,
+      length-append (record_of entry) (open_records entries),
+      length-append (pair_of entry) (pairs_of entries),
+    )
 
--- the gate behind records isn't far
-pub near : (bytes text : List ℕ) (first : ℕ) (history : PlainHistory) (gate : ℕ) → IsReady bytes text first
-    → Holds bytes first history gate → gate ≤ 65542 + 168 * length history
-near bytes text first history gate ready holds =
+-- the gate behind records isn't far, where the boots aren't too many
+pub near : (bytes text : List ℕ) (first : ℕ) (entries : List Entry) (gate : ℕ) → IsReady bytes text first
+    → Holds bytes first entries gate → AreFew entries
+    → gate ≤ farthest_gate (length (pairs_of entries)) (marks_of entries).boots
+near bytes text first entries gate ready holds few =
     let short = ready.header.short in
     let place = ready.place in
     let end = holds.place in
-    let records = records_short history holds.valid in
+    let records = records_short fresh entries holds.valid holds.order few.boots in
     omega arith

@@ -1,24 +1,26 @@
 -- What a Slide lends of a file that it takes in pieces.
-use Rattle.std.proofs.Common.{◌≡◌, ℕ, ◌+◌, List, [], ◌++◌, length, drop, Bool, true, false}
+use Rattle.std.proofs.Common.{◌≡◌, ℕ, ◌+◌, List, [], ◌∷◌, ◌++◌, length, drop, Bool, true, false}
 use Rattle.std.proofs.Common.{refl, sym, ◌∙◌, ap, subst}
 use Rattle.std.proofs.lemmas.List.{append-nil, append_assoc, drop_at}
-use Rattle.ix_values.specs.PlainAction.{PlainAction}
+use Rattle.ix_journal.specs.declared.entries.Entry.{Entry}
 use Rattle.ix_journal.specs.declared.slide.Slid.{Slid}
 use Rattle.ix_journal.specs.declared.slide.Slid.TheVariants as slid
 use Rattle.ix_journal.specs.Format.{IsOpen}
 use Rattle.ix_journal.specs.Records.{BeginsWithRecord}
 use Rattle.ix_journal.specs.Answers.{at_gate, Passes}
+use Rattle.ix_journal.specs.Entries.{fresh}
 use Rattle.ix_journal.specs.Kept.{Kept}
+use Rattle.ix_journal.specs.declared.entries.Marks.{Marks}
 use Rattle.ix_journal.specs.Slide.{ComesTo, Tells, RecordsGive, WantMore}
 use Rattle.ix_journal.specs.Laws.{PiecesDoNotMatter}
-use Rattle.ix_journal.proofs.SlideLemmas.{gives_record, gives_closed, gives_damage, further}
+use Rattle.ix_journal.proofs.SlideLemmas.{gives_record, gives_text, gives_closed, gives_damage, further}
 use Rattle.ix_journal.proofs.SlideLemmas.{record_within, no_record_more}
 
 -- the kept bytes and the rest are the file's from the gate on, and the texts are of the records in
 -- front of it
 record Reached (file : List ℕ) (first : ℕ) (rest : List ℕ) (texts : List (List ℕ))
     (kept : Kept) : Type 0 where
-  passes : Passes (at_gate file first) texts (at_gate file kept.gate)
+  passes : Passes (at_gate file first fresh) texts (at_gate file kept.gate kept.marks)
   here : kept.bytes ++ rest ≡ drop kept.gate file
 
 -- the file of a front, the bytes taken and the rest
@@ -31,7 +33,7 @@ module _ (front : List ℕ) (first : ℕ) (is : length front ≡ first) where
       → ComesTo first taken texts kept → Reached (File front taken rest) first rest texts kept
   reached _ rest _ _ ComesTo.begun =
       record {
-        passes = Passes.at_first (at_gate (File front [] rest) first);
+        passes = Passes.at_first (at_gate (File front [] rest) first fresh);
         here = sym (drop_at front rest first is);
       }
   reached _ rest _ _ (ComesTo.took taken texts kept piece before) =
@@ -39,44 +41,48 @@ module _ (front : List ℕ) (first : ℕ) (is : length front ≡ first) where
       ap (λ (b : List ℕ). front ++ b) (sym (append_assoc taken piece rest)) in
       let r = reached taken (piece ++ rest) texts kept before in
       record {
-        passes = subst (λ (b : List ℕ). Passes (at_gate b first) texts (at_gate b kept.gate))
+        passes = subst (λ (b : List ℕ). Passes (at_gate b first fresh) texts (at_gate b kept.gate kept.marks))
             same r.passes;
         here = append_assoc kept.bytes piece rest ∙ r.here ∙ ap (drop kept.gate) same;
       }
   reached _ rest _ _ (ComesTo.told_the_end taken texts kept before) =
       let r = reached taken rest texts kept before in record { passes = r.passes; here = r.here }
-  reached _ rest _ _ (ComesTo.lent taken texts kept text before tells) =
+  reached _ rest _ _ (ComesTo.lent taken texts kept new text before tells leaves) =
       let r = reached taken rest texts kept before in
       let file : List ℕ = File front taken rest in
-      let more = gives_record file kept.gate kept.bytes rest r.here text tells.1 in
-      record {
-        passes = Passes.one_more (at_gate file first) (at_gate file kept.gate)
-            (at_gate file (kept.gate + (3 + length text.now))) texts text r.passes more;
-        here = further file kept.gate kept.bytes rest r.here (3 + length text.now)
-            (record_within file kept.gate kept.bytes rest r.here text tells.1);
-      }
+      let left : Marks = leaves.0 in
+      let more = gives_text file kept.gate kept.bytes rest r.here kept.marks left text leaves.1 in
+      let length_all : ℕ = 3 + length text.now in
+      subst (λ (k : Kept). Reached file first rest (texts ++ text.now ∷ []) k) (sym leaves.2)
+      (record {
+        passes = Passes.one_more (at_gate file first fresh) (at_gate file kept.gate kept.marks)
+            (at_gate file (kept.gate + length_all) left) texts text r.passes more;
+        here = further file kept.gate kept.bytes rest r.here length_all
+            (record_within file kept.gate kept.bytes rest r.here kept.marks left text leaves.1);
+      })
 
 -- of bytes that aren't short a missing record stays away, whatever the rest that may come
 pub stays_away : (bytes rest : List ℕ) (ended : Bool) → IsOpen bytes 0
     → ((ended ≡ false) × WantMore bytes → ⊥) → (ended ≡ true → rest ≡ [])
-    → (action : PlainAction) → BeginsWithRecord (drop 1 bytes ++ rest) action
-    → BeginsWithRecord (drop 1 bytes) action
-stays_away bytes rest true open_there enough none action w =
-    subst (λ (b : List ℕ). BeginsWithRecord b action)
+    → (entry : Entry) → BeginsWithRecord (drop 1 bytes ++ rest) entry
+    → BeginsWithRecord (drop 1 bytes) entry
+stays_away bytes rest true open_there enough none entry w =
+    subst (λ (b : List ℕ). BeginsWithRecord b entry)
     (ap (λ (r : List ℕ). drop 1 bytes ++ r) (none refl) ∙ append-nil (drop 1 bytes)) w
-stays_away bytes rest false open_there enough none action w =
-    no_record_more bytes rest action (λ m. enough (refl, m)) open_there w
+stays_away bytes rest false open_there enough none entry w =
+    no_record_more bytes rest entry (λ m. enough (refl, m)) open_there w
 
 last : (file rest : List ℕ) (kept : Kept) (answer : Slid)
     → kept.bytes ++ rest ≡ drop kept.gate file
-    → (kept.ended ≡ true → rest ≡ []) → Tells kept answer → RecordsGive 0 file kept.gate answer
+    → (kept.ended ≡ true → rest ≡ []) → Tells kept answer
+    → RecordsGive 0 file kept.gate kept.marks answer
 last file rest kept (slid.Record text) here none tells =
-    gives_record file kept.gate kept.bytes rest here text tells.1
+    gives_record file kept.gate kept.bytes rest here kept.marks text tells.1
 last file rest kept slid.More here none tells = tt
 last file rest kept (slid.Closed place) here none tells =
-    gives_closed file kept.gate kept.bytes rest here place tells.1
+    gives_closed file kept.gate kept.bytes rest here kept.marks place tells.1
 last file rest kept (slid.Damaged at) here none tells =
-    gives_damage file kept.gate kept.bytes rest here at
+    gives_damage file kept.gate kept.bytes rest here kept.marks at
     (stays_away kept.bytes rest kept.ended tells.1.2.1.1.open_there tells.0 none) tells.1
 
 pub pieces_do_not_matter : PiecesDoNotMatter

@@ -2,11 +2,14 @@
 use Rattle.std.specs.Prelude.{◌≡◌, ◌≢◌, ◌⊎◌, ℕ, ◌+◌, ◌<◌, ◌≤◌, Some, List, [], ◌∷◌, ◌++◌, length}
 use Rattle.std.specs.Prelude.{drop, slice_get}
 use Rattle.ix_journal.specs.declared.TheConstants.{FRONT_LENGTH, OPEN}
-use Rattle.ix_journal.specs.Format.{header}
+use Rattle.ix_journal.specs.Format.{IsVersion, header}
 
--- the file is a head gate, the whole header of this text, and these bytes behind it, at least one
+-- the file is a head gate, the whole header of this text, of a version that is read, and these
+-- bytes behind it, at least one
 pub record HasHeader (bytes : List ℕ) (head : ℕ) (text behind : List ℕ) : Type 0 where
-  pub spells : bytes ≡ head ∷ header text ++ behind
+  pub version : ℕ
+  pub known : IsVersion version
+  pub spells : bytes ≡ head ∷ header version text ++ behind
   pub short : length text < 65536
   pub gate : 0 < length behind
 

@@ -1,4 +1,5 @@
 pub mod History
+pub mod Entries
 pub mod Format
 pub mod Kinds
 pub mod Records

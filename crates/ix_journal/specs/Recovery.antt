@@ -1,14 +1,17 @@
 -- What a file recovers, and the faults of a ready one.
-use Rattle.std.specs.Prelude.{ℕ, List, []}
+use Rattle.std.specs.Prelude.{◌≡◌, ℕ, List, []}
+use Rattle.ix_journal.specs.Entries.{marks_of, pairs_of}
 use Rattle.ix_journal.specs.History.{PlainHistory}
 use Rattle.ix_journal.specs.Kinds.{IsUnfinished, IsUnopened, IsReady}
 use Rattle.ix_journal.specs.Records.{ClosesAt, IsDamagedFrom, IsManyFrom}
+use Rattle.ix_journal.specs.declared.entries.Entry.{Entry}
+use Rattle.ix_journal.specs.declared.entries.Marks.{Marks}
 
--- ready, and neither damaged nor of too many: this history is open, up to this closed gate
-pub record IsJournal (bytes text : List ℕ) (history : PlainHistory) (gate : ℕ) : Type 0 where
+-- ready, and neither damaged nor of too many: these records are open, up to this closed gate
+pub record IsJournal (bytes text : List ℕ) (entries : List Entry) (gate : ℕ) : Type 0 where
   pub first : ℕ
   pub ready : IsReady bytes text first
-  pub closes : ClosesAt bytes first history gate
+  pub closes : ClosesAt bytes first entries gate
 
 -- a ready file that is damaged at this place
 pub record IsDamaged (bytes : List ℕ) (at : ℕ) : Type 0 where
@@ -24,9 +27,30 @@ pub record IsMany (bytes : List ℕ) : Type 0 where
   pub ready : IsReady bytes text first
   pub many : IsManyFrom bytes first
 
--- what a file recovers: nothing before it is opened, else its records up to the first closed gate
-pub data Recovers : List ℕ → PlainHistory → Type 0 where
-  unfinished : (bytes : List ℕ) → IsUnfinished bytes → Recovers bytes []
-  unopened : (bytes text : List ℕ) → IsUnopened bytes text → Recovers bytes []
-  ready : (bytes text : List ℕ) (history : PlainHistory) (gate : ℕ)
-      → IsJournal bytes text history gate → Recovers bytes history
+-- the records that a file keeps: none before it is opened, else those up to the first closed gate
+pub data Keeps : List ℕ → List Entry → Type 0 where
+  unfinished : (bytes : List ℕ) → IsUnfinished bytes → Keeps bytes []
+  unopened : (bytes text : List ℕ) → IsUnopened bytes text → Keeps bytes []
+  ready : (bytes text : List ℕ) (entries : List Entry) (gate : ℕ)
+      → IsJournal bytes text entries gate → Keeps bytes entries
+
+-- what a file recovers: the actions of the records that it keeps, with their tickets
+pub record Recovers (bytes : List ℕ) (history : PlainHistory) : Type 0 where
+  pub entries : List Entry
+  pub keeps : Keeps bytes entries
+  pub pairs : pairs_of entries ≡ history
+
+-- how many boot records are among those that a file keeps
+pub record HoldsBoots (bytes : List ℕ) (boots : ℕ) : Type 0 where
+  pub entries : List Entry
+  pub keeps : Keeps bytes entries
+  pub number : (marks_of entries).boots ≡ boots
+
+-- ready, and neither damaged nor of too many: up to this closed gate the open records tell this
+-- history, and leave these marks
+pub record IsJournalWith (bytes text : List ℕ) (history : PlainHistory) (marks : Marks)
+    (gate : ℕ) : Type 0 where
+  pub entries : List Entry
+  pub journal : IsJournal bytes text entries gate
+  pub pairs : pairs_of entries ≡ history
+  pub marked : marks_of entries ≡ marks

@@ -3,5 +3,7 @@ pub mod Answers
 pub mod Counting
 pub mod Fronts
 pub mod KindOf
+pub mod Reading
 pub mod SlideBuffer
 pub mod Sliding
+pub mod Writing

@@ -1,11 +1,12 @@
 //! The header, and the kind of a file.
 
-ghost use Rattle.std.specs.Prelude.{◌≡◌, ◌<◌, ℕ, List, MatchOption, length, take};
-ghost use Rattle.ix_journal.specs.inside.Fronts.{BeginsWithHeader, BeginsWithText};
+ghost use Rattle.std.specs.Prelude.{◌≡◌, ◌↔◌, ◌<◌, ℕ, List, IsTrue, MatchOption, length, take};
+ghost use Rattle.ix_journal.specs.inside.Fronts.{BeginsWithHeader, BeginsWithMagic};
+ghost use Rattle.ix_journal.specs.inside.Fronts.{BeginsWithText};
 ghost use Rattle.ix_journal.specs.Kinds.{HasHeader, HasKind};
 ghost use Rattle.ix_journal.specs.inside.KindOf.{kind_of};
 
-use crate::{FRONT_LENGTH, MAGIC, OPEN};
+use crate::{FIRST_MAGIC, FRONT_LENGTH, MAGIC, OPEN};
 use byteorder::{BigEndian, ByteOrder};
 
 /// The kind of a file, and what its header tells.
@@ -64,10 +65,17 @@ fn header_text<'a>(bytes: &'a [u8]) -> Option<&'a [u8]>
         ((text : List ℕ) → ¬ BeginsWithHeader bytes.now text)
         (λ text. BeginsWithHeader bytes.now text.now) }
 {
-    if !bytes.starts_with(&MAGIC) {
+    if !has_magic(bytes) {
         return None;
     }
     whole_text(&bytes[MAGIC.len()..])
+}
+
+/// Whether the bytes begin with the magic of a version that is read.
+fn has_magic(bytes: &[u8]) -> bool
+    ensures { IsTrue result ↔ BeginsWithMagic bytes.now }
+{
+    bytes.starts_with(&FIRST_MAGIC) || bytes.starts_with(&MAGIC)
 }
 
 /// The text that the bytes begin with behind its length, where all of it is there and a byte

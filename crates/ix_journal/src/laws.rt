@@ -1,6 +1,7 @@
 //! Laws of journals.
 
-ghost use Rattle.ix_journal.specs.Laws.{OneKind, OneJournal, OneHistory, OneOutcome};
+ghost use Rattle.ix_journal.specs.Laws.{OneKind, OneJournal, OneList, OneHistory, OneNumber};
+ghost use Rattle.ix_journal.specs.Laws.{OneOutcome};
 ghost use Rattle.ix_journal.specs.Laws.{HoldsNone, HoldsMore, LendsTheHistory};
 ghost use Rattle.ix_journal.specs.Laws.{Opened, Begun, GateIsNear, IgnoresTheRest, Appended};
 ghost use Rattle.ix_journal.specs.Laws.{EnoughBytes, PassesTheHistory, PiecesDoNotMatter};
@@ -10,14 +11,24 @@ pub fn one_kind()
     ensures { OneKind }
 {}
 
-/// A journal has one text, one history and one first closed gate.
+/// A journal has one text, one list of records and one first closed gate.
 pub fn one_journal()
     ensures { OneJournal }
+{}
+
+/// A file keeps one list of records at most.
+pub fn one_list()
+    ensures { OneList }
 {}
 
 /// A file recovers one history at most.
 pub fn one_history()
     ensures { OneHistory }
+{}
+
+/// A file holds one number of boots at most.
+pub fn one_number()
+    ensures { OneNumber }
 {}
 
 /// A file that recovers a history is neither damaged nor of too many records, and one that is
@@ -31,13 +42,13 @@ pub fn holds_none()
     ensures { HoldsNone }
 {}
 
-/// An open gate and the whole record behind it make one record more.
+/// An open gate and the whole record behind it, where it may stand there, make one record more.
 pub fn holds_more()
     ensures { HoldsMore }
 {}
 
-/// The texts that are lent from the first gate of a ready file on are those of the history that it
-/// recovers.
+/// The texts that are lent from the first gate of a ready file on are those of records, which it
+/// keeps unless they are too many.
 pub fn lends_the_history()
     ensures { LendsTheHistory }
 {}
@@ -53,7 +64,8 @@ pub fn begun()
     ensures { Begun }
 {}
 
-/// The first closed gate stands at most 65,542 bytes and 168 for each record from the begin.
+/// The first closed gate stands at most 65,542 bytes from the begin, and 197 for each action and 15
+/// for each boot.
 pub fn gate_is_near()
     ensures { GateIsNear }
 {}
@@ -63,19 +75,19 @@ pub fn ignores_the_rest()
     ensures { IgnoresTheRest }
 {}
 
-/// A record and one closed gate are the next action of the history once the gate in front of them
-/// is open.
+/// A record that may stand there and one closed gate are the next record once the gate in front of
+/// them is open.
 pub fn appended()
     ensures { Appended }
 {}
 
-/// The first 168,065,543 bytes of a file tell what it is.
+/// The first 225,065,543 bytes of a file tell what it is.
 pub fn enough_bytes()
     ensures { EnoughBytes }
 {}
 
 /// The texts that are given one after another from a gate up to another are those of the records
-/// that stand between them.
+/// that stand between them, and leave the marks told.
 pub fn passes_the_history()
     ensures { PassesTheHistory }
 {}

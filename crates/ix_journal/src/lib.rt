@@ -1,14 +1,19 @@
 //! The journal's grammar: what the bytes of a file say, and the bytes that are written to it.
 //!
-//! A journal begins with one byte, the head gate. Behind it stand the magic `IXJ1`, the length of a
-//! text and the text, then a gate, and then records, each with a gate behind it. A record is the
-//! length of an action's text and that text. A length is two bytes, the higher first. A gate is one
-//! byte, and is open exactly where it is A5. What stands behind the first closed gate means
-//! nothing.
+//! A journal begins with one byte, the head gate. Behind it stand the magic, the length of a text
+//! and the text, then a gate, and then records, each with a gate behind it. The magic is `IXJ2`,
+//! and `IXJ1` in files of earlier programs. A record is the length of a text and that text: `boot`
+//! and the number of a boot; or a ticket, a space and an action; or an action alone. A length is
+//! two bytes, the higher first. A gate is one byte, and is open exactly where it is A5. What stands
+//! behind the first closed gate means nothing.
+//!
+//! Boots are numbered from 1. A ticket is of the last boot in front of its record, and its number is
+//! above those of earlier records of this boot.
 //!
 //! No reader copies or takes memory: texts are lent slices of the bytes.
 #![tactic(auto)]
 
+mod entries;
 mod header;
 pub mod laws;
 mod outcome;
@@ -17,12 +22,13 @@ mod scanning;
 mod slide;
 mod writing;
 
+pub use entries::{Entry, Marks};
 pub use header::{Head, header_of, text_length};
 pub use outcome::{JournalFault, Scan};
 pub use records::{Damaged, Records};
 pub use scanning::scan;
 pub use slide::{SLIDE_ROOM, Slid, Slide};
-pub use writing::{header_bytes, record_bytes};
+pub use writing::{Record, header_bytes, record_bytes};
 
 #[cfg(test)]
 mod tests;
@@ -37,11 +43,17 @@ pub const CLOSED: u8 = 0;
 /// length of the text.
 pub const FRONT_LENGTH: usize = 7;
 
-/// The most records of a journal that are open.
+/// The most open records of a journal that are of actions.
 pub const MOST_RECORDS: usize = 1_000_000;
 
-/// The most bytes of an action's text.
-pub(crate) const MOST_TEXT: usize = 165;
+/// The most open records of a journal that are boots.
+pub const MOST_BOOTS: u64 = 1_000_000;
 
-/// What a header begins with.
-pub(crate) const MAGIC: [u8; 4] = *b"IXJ1";
+/// The most bytes of a record's text: a ticket's 41, a space, and an action's 165.
+pub(crate) const MOST_TEXT: usize = 207;
+
+/// What the header of a journal begins with that is made now.
+pub(crate) const MAGIC: [u8; 4] = *b"IXJ2";
+
+/// What the headers of version 1 begin with.
+pub(crate) const FIRST_MAGIC: [u8; 4] = *b"IXJ1";

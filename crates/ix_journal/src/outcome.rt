@@ -5,10 +5,12 @@
 pub struct Scan<'a> {
     /// The text of the header, or None where the journal is unfinished.
     pub text: Option<&'a [u8]>,
-    /// How many records are open: 0 for an unfinished or unopened journal.
+    /// How many open records are of actions: 0 for an unfinished or unopened journal.
     pub count: usize,
     /// The place of the first closed gate: 0 for an unfinished or unopened journal.
     pub gate: usize,
+    /// How many open records are boots: 0 for an unfinished or unopened journal.
+    pub boots: u64,
 }
 
 /// Why a file can't be read as a journal.
@@ -16,9 +18,9 @@ pub struct Scan<'a> {
 pub enum JournalFault {
     /// The file is no journal.
     NotJournal,
-    /// The open gate in front of this place isn't followed by a whole record of an action and a
-    /// further gate.
+    /// The open gate in front of this place isn't followed by a whole record that may stand there
+    /// and a further gate.
     Damaged { at: usize },
-    /// A million records are open, and so is the gate behind them.
+    /// The 1,000,001st record of an action is open, or the 1,000,001st boot.
     Many,
 }

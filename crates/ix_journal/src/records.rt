@@ -1,43 +1,57 @@
 //! The open records of a journal, one after another.
 
-ghost use Rattle.std.specs.Prelude.{◌≡◌, ℕ, ◌<◌, length, MatchOption};
-ghost use Rattle.ix_values.specs.PlainAction.{PlainAction, text_of};
+ghost use Rattle.std.specs.Prelude.{◌≡◌, ◌<◌, length, MatchOption};
+ghost use Rattle.ix_journal.specs.Entries.{MayFollow, behind, entry_text};
 ghost use Rattle.ix_journal.specs.Records.{BeginsWithRecord};
+ghost use Rattle.ix_journal.specs.declared.entries.Entry.{Entry};
 
 use crate::OPEN;
+use crate::entries::{Marks, read_entry};
 use crate::header::whole_text;
-use ix_values::Action;
 
-/// The place behind an open gate that no whole record of an action with a further gate follows.
+/// The place behind an open gate that no whole record with a further gate follows, or none that may
+/// stand there.
 #[derive(Clone, Copy, Debug, PartialEq, Eq)]
 pub struct Damaged {
     pub at: usize,
 }
 
-/// The texts of the open records from a gate on, up to the first closed gate. Where an open gate
-/// isn't followed by a whole record of an action and a further gate, the last item is `Damaged`.
+/// The texts of the open records from the first gate on, up to the first closed gate. Where an open
+/// gate isn't followed by a whole record that may stand there and a further gate, the last item is
+/// `Damaged`.
 ///
 /// The texts are lent from the bytes. No memory is taken.
 #[derive(Clone, Copy, Debug)]
 pub struct Records<'a> {
     bytes: &'a [u8],
     gate: usize,
+    marks: Marks,
     damaged: bool,
     ghost within: { gate < length bytes.now },
 }
 
 impl<'a> Records<'a> {
     ghost use Rattle.ix_journal.specs.Answers.{at_gate};
+    ghost use Rattle.ix_journal.specs.Entries.{fresh};
     ghost use Rattle.ix_journal.specs.inside.Answers.{standing};
 
-    /// The records from the gate at this place on.
+    /// The records from the gate at this place on, with none in front of it.
     pub fn new(bytes: &'a [u8], gate: usize) -> Records<'a>
         requires { gate < length bytes.now }
-        ensures { standing result ≡ at_gate bytes.now gate }
+        ensures { standing result ≡ at_gate bytes.now gate fresh }
+    {
+        Records::behind(bytes, gate, Marks::fresh())
+    }
+
+    /// The records from the gate at this place on, behind records that leave these marks.
+    pub(crate) fn behind(bytes: &'a [u8], gate: usize, marks: Marks) -> Records<'a>
+        requires { gate < length bytes.now }
+        ensures { standing result ≡ at_gate bytes.now gate marks }
     {
         Records {
             bytes,
             gate,
+            marks,
             damaged: false,
         }
     }
@@ -49,6 +63,13 @@ impl<'a> Records<'a> {
         ensures within { result < length (standing self.now).bytes }
     {
         self.gate
+    }
+
+    /// What the records in front of this gate leave.
+    pub fn marks(&self) -> Marks
+        ensures { result ≡ (standing self.now).marks }
+    {
+        self.marks
     }
 }
 
@@ -67,9 +88,10 @@ impl<'a> Iterator for Records<'a> {
             return None;
         }
         let at = self.gate + 1;
-        match record_text(&self.bytes[at..]) {
-            Some(text) => {
+        match next_record(&self.bytes[at..], &self.marks) {
+            Some((text, marks)) => {
                 self.gate = at + 2 + text.len();
+                self.marks = marks;
                 Some(Ok(text))
             }
             None => {
@@ -80,17 +102,17 @@ impl<'a> Iterator for Records<'a> {
     }
 }
 
-/// The text of the record that the bytes begin with, where it is whole, an action's, and a byte
-/// follows it.
-fn record_text<'a>(bytes: &'a [u8]) -> Option<&'a [u8]>
+/// The text of the record that the bytes begin with, and what the records leave with it, where it
+/// is whole and may stand there, and a byte follows it.
+fn next_record<'a>(bytes: &'a [u8], marks: &Marks) -> Option<(&'a [u8], Marks)>
     ensures { MatchOption result
-        ((action : PlainAction) → ¬ BeginsWithRecord bytes.now action)
-        (λ text. (action : PlainAction)
-        × (text.now ≡ text_of action) × BeginsWithRecord bytes.now action) }
+        ((entry : Entry) → MayFollow marks.now entry → ¬ BeginsWithRecord bytes.now entry)
+        (λ found. (entry : Entry) × (found.0.now ≡ entry_text entry)
+        × BeginsWithRecord bytes.now entry × MayFollow marks.now entry
+        × (found.1 ≡ behind marks.now entry)) }
 {
     let text = whole_text(bytes)?;
-    match Action::read(text) {
-        Ok(_) => Some(text),
-        Err(_) => None,
-    }
+    let entry = read_entry(text)?;
+    let left = marks.followed_by(&entry)?;
+    Some((text, left))
 }

@@ -6,6 +6,7 @@ ghost use Rattle.std.specs.Borrow.{sem};
 ghost use Rattle.ix_journal.specs.Kept.{empty_at, extended, finished};
 ghost use Rattle.ix_journal.specs.Slide.{WantMore};
 
+use crate::entries::Marks;
 use crate::records::Records;
 use crate::{MOST_TEXT, OPEN};
 use arrayvec::ArrayVec;
@@ -27,6 +28,8 @@ pub struct Slide {
     start: usize,
     /// The place of the gate that the kept bytes begin with.
     gate: u64,
+    /// What the records in front of this gate leave.
+    marks: Marks,
     ended: bool,
 }
 
@@ -38,7 +41,8 @@ impl Model for Slide {
 
     ghost use Rattle.ix_journal.specs.inside.SlideBuffer.{IsSlideBuffer};
 
-    ghost view = { λ slide. kept_at slide.gate (drop slide.start slide.buffer.items) slide.ended };
+    ghost view = { λ slide.
+        kept_at slide.gate slide.marks (drop slide.start slide.buffer.items) slide.ended };
 
     ghost invariant = { λ slide. IsSlideBuffer slide.start slide.buffer.items slide.ended };
 }
@@ -52,16 +56,17 @@ pub enum Slid<'a> {
     More,
     /// The gate at this place is closed.
     Closed { gate: u64 },
-    /// The open gate in front of this place isn't followed by a whole record of an action and a
-    /// further gate.
+    /// The open gate in front of this place isn't followed by a whole record that may stand there
+    /// and a further gate.
     Damaged { at: u64 },
 }
 
 impl Slide {
-    ghost use Rattle.ix_journal.specs.Slide.{Tells, after};
-    ghost use Rattle.ix_journal.specs.inside.Sliding.{KeepsThen};
+    ghost use Rattle.ix_journal.specs.Slide.{Tells};
+    ghost use Rattle.ix_journal.specs.inside.Sliding.{LeavesThen};
 
-    /// The records from the gate at this place of the file on, of which no byte was taken yet.
+    /// The records from the first gate of the file on, which is at this place, and of which no byte
+    /// was taken yet.
     pub fn new(gate: u64) -> Slide
         ensures { result ≡ empty_at gate }
     {
@@ -69,6 +74,7 @@ impl Slide {
             buffer: ArrayVec::new(),
             start: 0,
             gate,
+            marks: Marks::fresh(),
             ended: false,
         }
     }
@@ -95,22 +101,30 @@ impl Slide {
         self.ended = true;
     }
 
+    /// What the records leave that stand in front of the next gate.
+    pub fn marks(&self) -> Marks
+        ensures { result ≡ self.now.marks }
+    {
+        self.marks
+    }
+
     /// What stands at the next gate. A record is lent once: the gate behind it is the next. After
     /// any other answer the gate stays the next.
     pub fn next(&mut self) -> Slid<'_>
         requires { self.old.gate < 2 ^ 63 }
         ensures tells { Tells self.old result }
-        ensures* keeps { sem 𝓛 (KeepsThen self.entry (after self.old result)) }
+        ensures* keeps { sem 𝓛 (LeavesThen self.entry self.old result) }
     {
         let kept = &self.buffer.as_slice()[self.start..];
         if !self.ended && want_more(kept) {
             return Slid::More;
         }
-        let mut records = Records::new(kept, 0);
+        let mut records = Records::behind(kept, 0, self.marks);
         match records.next() {
             Some(Ok(text)) => {
                 self.start += records.gate();
                 self.gate += records.gate() as u64;
+                self.marks = records.marks();
                 Slid::Record(text)
             }
             Some(Err(damaged)) => Slid::Damaged {

@@ -1,7 +1,8 @@
-//! Journals at their edges: prefixes, each kind of file, damage, and the most records.
+//! Journals at their edges: prefixes, each kind of file, damage, records out of order, and the most
+//! records.
 use super::*;
 use arrayvec::ArrayVec;
-use ix_values::Action;
+use ix_values::{Action, Ticket};
 use std::alloc::{AllocError, Global};
 use std::process::Abort;
 use std::test::Fail;
@@ -65,7 +66,8 @@ fn kinds_of_file(rt: HostRuntime) {
         b"\x7FIXJ1\x00\x05a - b\xA5".as_slice(),
         b"\x7FIXJ1\x00\x05a - b\x00\x00",
         b"\x7FIXJ1\x00\x05a - b",
-        b"\xA5IXJ2\x00\x05a - b\x00",
+        b"\xA5IXJ3\x00\x05a - b\x00",
+        b"\xA5IXK2\x00\x05a - b\x00",
         b"\xA5IXJ1\x05\x00a - b\x00",
         b"#!/bin/sh",
     ] {
@@ -120,13 +122,120 @@ fn records_one_by_one(rt: HostRuntime) -> Result<(), Fail> {
 #[test]
 fn what_is_written(rt: HostRuntime) -> Result<(), Fail> {
     let mut out = ArrayVec::new();
-    record_bytes(&Action::read(b"b(1)").ok().ok_or("b(1)")?, &mut out);
+    let action = Action::read(b"b(1)").ok().ok_or("b(1)")?;
+    record_bytes(&Record::Plain(&action), &mut out);
     assert_eq!(rt; out.as_slice(), b"\x00\x04b(1)\x00".as_slice());
+    out.clear();
+    let ticket = Ticket { boot: 12, seq: 3 };
+    record_bytes(
+        &Record::Spent {
+            ticket,
+            action: &action,
+        },
+        &mut out,
+    );
+    assert_eq!(rt; out.as_slice(), b"\x00\x0912-3 b(1)\x00".as_slice());
+    out.clear();
+    record_bytes(&Record::Boot(10), &mut out);
+    assert_eq!(rt; out.as_slice(), b"\x00\x07boot 10\x00".as_slice());
     assert_eq!(rt;
         header_bytes(rt.alloc(), b"a - b")?.as_slice(),
-        b"IXJ1\x00\x05a - b\x00".as_slice()
+        b"IXJ2\x00\x05a - b\x00".as_slice()
     );
     Ok(())
+}
+
+/// That a scan finds so many records of actions and so many boots, up to the last byte.
+fn compare_counts(rt: &impl Abort, bytes: &[u8], count: usize, boots: u64) {
+    match scan(bytes) {
+        Ok(found) => assert_eq!(rt;
+            (found.count, found.boots, found.gate + 1),
+            (count, boots, bytes.len()),
+            "in {bytes:?}"
+        ),
+        Err(fault) => assert!(rt; false, "{fault:?} in {bytes:?}"),
+    }
+}
+
+/// A boot and an action with its ticket, 30 bytes; and a journal of version 1 that is gone on with.
+#[test]
+fn boots_and_tickets(rt: HostRuntime) {
+    let bytes = b"\xA5IXJ2\x00\x05a - b\xA5\x00\x06boot 1\xA5\x00\x051-1 a\x00".as_slice();
+    assert_eq!(rt; bytes.len(), 30);
+    compare_counts(&rt, bytes, 1, 1);
+    for (bytes, count, boots) in [
+        (
+            b"\xA5IXJ1\x00\x01a\xA5\x00\x01a\xA5\x00\x06boot 1\xA5\x00\x051-2 a\x00".as_slice(),
+            2,
+            1,
+        ),
+        (
+            b"\xA5IXJ2\x00\x01a\xA5\x00\x06boot 1\xA5\x00\x051-7 a\xA5\x00\x051-9 a\x00",
+            2,
+            1,
+        ),
+        (
+            b"\xA5IXJ2\x00\x01a\xA5\x00\x06boot 1\xA5\x00\x06boot 2\xA5\x00\x052-1 a\x00",
+            1,
+            2,
+        ),
+        (
+            b"\xA5IXJ2\x00\x01a\xA5\x00\x06boot 1\xA5\x00\x051-9 a\xA5\x00\x06boot 2\
+            \xA5\x00\x01b\xA5\x00\x052-1 a\x00",
+            3,
+            2,
+        ),
+    ] {
+        compare_counts(&rt, bytes, count, boots);
+    }
+}
+
+/// Records that may not stand where they stand, and texts that are no record's.
+#[test]
+fn records_out_of_order(rt: HostRuntime) {
+    for (bytes, at) in [
+        // A boot that isn't one more than those in front of it, and boot 0.
+        (b"\xA5IXJ2\x00\x01a\xA5\x00\x06boot 2\x00".as_slice(), 9),
+        (b"\xA5IXJ2\x00\x01a\xA5\x00\x06boot 0\x00", 9),
+        (
+            b"\xA5IXJ2\x00\x01a\xA5\x00\x06boot 1\xA5\x00\x06boot 1\x00",
+            18,
+        ),
+        // A ticket of another boot, of boot 0, and with the number 0.
+        (
+            b"\xA5IXJ2\x00\x01a\xA5\x00\x06boot 1\xA5\x00\x052-1 a\x00",
+            18,
+        ),
+        (b"\xA5IXJ2\x00\x01a\xA5\x00\x050-1 a\x00", 9),
+        (
+            b"\xA5IXJ2\x00\x01a\xA5\x00\x06boot 1\xA5\x00\x051-0 a\x00",
+            18,
+        ),
+        // A number that isn't above the last one of its boot.
+        (
+            b"\xA5IXJ2\x00\x01a\xA5\x00\x06boot 1\xA5\x00\x051-2 a\xA5\x00\x051-2 a\x00",
+            26,
+        ),
+        // Numbers with a leading zero or without a digit, and texts that are cut or go on.
+        (b"\xA5IXJ2\x00\x01a\xA5\x00\x07boot 01\x00", 9),
+        (b"\xA5IXJ2\x00\x01a\xA5\x00\x05boot \x00", 9),
+        (
+            b"\xA5IXJ2\x00\x01a\xA5\x00\x06boot 1\xA5\x00\x041-1 \x00",
+            18,
+        ),
+        (
+            b"\xA5IXJ2\x00\x01a\xA5\x00\x06boot 1\xA5\x00\x061-01 a\x00",
+            18,
+        ),
+        (
+            b"\xA5IXJ2\x00\x01a\xA5\x00\x06boot 1\xA5\x00\x071-1 a b\x00",
+            18,
+        ),
+    ] {
+        compare_fault(&rt, bytes, JournalFault::Damaged { at });
+    }
+    // `boot` without a number is an action.
+    compare_counts(&rt, b"\xA5IXJ2\x00\x01a\xA5\x00\x04boot\x00", 1, 0);
 }
 
 /// A journal of `*a` with so many records `a`, the gates of all of them open, and these bytes
@@ -146,7 +255,12 @@ fn a_million_records(rt: HostRuntime) -> Result<(), Fail> {
     let found = scan(&most).ok().ok_or("a million")?;
     assert_eq!(rt; (found.count, found.gate), (1_000_000, 4_000_009));
     let open = journal_of(rt.alloc(), 1_000_000, b"\xA5")?;
-    assert_eq!(rt; scan(&open).err(), Some(JournalFault::Many));
+    assert_eq!(rt;
+        scan(&open).err(),
+        Some(JournalFault::Damaged { at: 4_000_010 })
+    );
+    let booted = journal_of(rt.alloc(), 1_000_000, b"\xA5\x00\x06boot 1\x00")?;
+    assert_eq!(rt; scan(&booted).ok().ok_or("booted")?.count, 1_000_000);
     let more = journal_of(rt.alloc(), 1_000_001, b"\x00")?;
     assert_eq!(rt; scan(&more).err(), Some(JournalFault::Many));
     let damaged = journal_of(rt.alloc(), 999_999, b"\xA5\x00\x01-\x00")?;
@@ -154,6 +268,29 @@ fn a_million_records(rt: HostRuntime) -> Result<(), Fail> {
         scan(&damaged).err(),
         Some(JournalFault::Damaged { at: 4_000_006 })
     );
+    Ok(())
+}
+
+/// A journal of `*a` with so many boots.
+fn boots_of(alloc: Global, count: u64) -> Result<Vec<u8>, AllocError> {
+    let mut bytes = Vec::from_slice(alloc, b"\xA5IXJ2\x00\x02*a")?;
+    for number in 0..count {
+        let mut record = ArrayVec::new();
+        record_bytes(&Record::Boot(number + 1), &mut record);
+        bytes.push(OPEN)?;
+        bytes.extend_from_slice(&record[..record.len() - 1])?;
+    }
+    bytes.push(CLOSED)?;
+    Ok(bytes)
+}
+
+#[test]
+fn a_million_boots(rt: HostRuntime) -> Result<(), Fail> {
+    let most = boots_of(rt.alloc(), 1_000_000)?;
+    let found = scan(&most).ok().ok_or("a million")?;
+    assert_eq!(rt; (found.count, found.boots), (0, 1_000_000));
+    let more = boots_of(rt.alloc(), 1_000_001)?;
+    assert_eq!(rt; scan(&more).err(), Some(JournalFault::Many));
     Ok(())
 }
 

@@ -3,14 +3,14 @@
 
 ghost use Rattle.std.specs.Prelude.{◌≡◌, ◌+◌, ◌-◌, ◌^◌, ◌↔◌, min, IsTrue};
 
-use ix_values::Action;
+use ix_values::{Action, Ticket};
 
 /// A place for one reservation.
 #[derive(Clone, Copy, Debug)]
 pub enum Slot {
     Free,
     Held {
-        ticket: u64,
+        ticket: Ticket,
         action: Action,
         /// The first moment at which the reservation isn't open any more, in milliseconds.
         deadline: u64,
@@ -50,7 +50,7 @@ impl Slot {
     }
 
     /// Spends the reservation of this ticket where it is open. Else the slot stays as it is.
-    pub fn take(&mut self, ticket: u64, moment: u64) -> Take
+    pub fn take(&mut self, ticket: Ticket, moment: u64) -> Take
         ensures { Takes self.old ticket moment result self.new }
     {
         let Slot::Held {
@@ -79,11 +79,13 @@ mod tests {
     use ix_values::{Name, Value};
     use std::test::Fail;
 
-    /// A reservation by ticket 7, with this deadline.
+    const HELD: Ticket = Ticket { boot: 1, seq: 7 };
+
+    /// A reservation by ticket 1-7, with this deadline.
     fn held(deadline: u64) -> Option<Slot> {
         let action = Action::new(Name::read(b"call")?, &[Value::read(b"p1")?]);
         Some(Slot::Held {
-            ticket: 7,
+            ticket: HELD,
             action,
             deadline,
         })
@@ -100,15 +102,17 @@ mod tests {
         ] {
             let mut slot = held(deadline).ok_or("a slot")?;
             assert_eq!(rt; slot.is_open_at(moment), open, "{deadline} at {moment}");
-            assert!(rt; matches!(slot.take(8, moment), Take::NoSuch));
-            let take = slot.take(7, moment);
+            for ticket in [Ticket { seq: 8, ..HELD }, Ticket { boot: 2, ..HELD }] {
+                assert!(rt; matches!(slot.take(ticket, moment), Take::NoSuch));
+            }
+            let take = slot.take(HELD, moment);
             assert_eq!(rt;
                 matches!(take, Take::Taken(_)),
                 open,
                 "{deadline} at {moment}"
             );
             assert_eq!(rt; matches!(slot, Slot::Free), open, "{deadline} at {moment}");
-            assert!(rt; matches!(slot.take(7, moment), Take::NoSuch) || !open);
+            assert!(rt; matches!(slot.take(HELD, moment), Take::NoSuch) || !open);
         }
         Ok(())
     }

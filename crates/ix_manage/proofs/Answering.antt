@@ -2,7 +2,6 @@
 use Rattle.std.proofs.Common.{◌≡◌, ℕ, List, [], ◌∷◌, ◌++◌, sym, ap, subst, ◌∙◌}
 use Rattle.std.specs.Prelude.{codes}
 use Rattle.ix_values.specs.PlainAction.{PlainAction, Word}
-use Rattle.ix_journal.specs.History.{PlainHistory}
 use Rattle.ix_expr.specs.Form.{Form}
 use Rattle.ix_manage.specs.ActionLines.{line}
 use Rattle.ix_engine.specs.inside.Engine.{EngineState, Allows, extended}
@@ -29,5 +28,5 @@ answers_same {x = x} {most = most} {history = history} {actions = actions} {afte
     subst (λ l. Answers x l history actions text after) bound (subst (λ z. Answers z most history actions text after) form answers)
 
 -- the last line under an equal form
-pub verdict_same : {x y : Form} {history : PlainHistory} {last : List ℕ} → y ≡ x → Verdict y history last → Verdict x history last
+pub verdict_same : {x y : Form} {history : Word} {last : List ℕ} → y ≡ x → Verdict y history last → Verdict x history last
 verdict_same {history = history} {last = last} form verdict = subst (λ z. Verdict z history last) form verdict

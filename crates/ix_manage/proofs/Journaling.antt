@@ -1,6 +1,7 @@
 -- What an event makes of the journal.
 use Rattle.std.proofs.Common.{◌≡◌, ◌⊎◌, inl, inr, ℕ, ◌≤◌, List, length}
 use Rattle.std.proofs.Common.{Option, None, IsSome, true≢false, Result, Ok, Err, OnOk, OnErr, refl, sym, ◌∙◌, subst}
+use Rattle.ix_journal.specs.Recovery.{HoldsBoots}
 use Rattle.ix_outside.specs.Counts.{Rose}
 use Rattle.ix_outside.specs.Crashes.{Crashes, AreLawful, Elapses, Passes}
 use Rattle.ix_outside.specs.Disk.{Disk}
@@ -21,6 +22,7 @@ use Rattle.ix_manager.specs.inside.OverSite.{EndsBy, FitsSite, FitsWith}
 use Rattle.ix_manager.specs.inside.Acknowledging.{SendsMore}
 use Rattle.ix_manager.specs.inside.Saving.{SavesRun, UnlessFailed, WhereFailed}
 use Rattle.ix_manager.proofs.GrowingLemmas.{steps_grow}
+use Rattle.ix_manager.proofs.LaterLemmas.{steps_boot}
 use Rattle.ix_manager.proofs.SavingLemmas.{kept_told}
 use Rattle.ix_manage.specs.inside.ReplayProgress.{disk_alone}
 
@@ -51,12 +53,13 @@ pub event_saves : (old new : ManagerState) (event : Event) (bytes : List ℕ) (r
     → EndsBy result ending → TakesEvent old event bytes answers new ending
     → (IsSome after.disk → (image : List ℕ) → q.left before.tick image
     → Keeps old.form (length old.machine.history) (with_failed ending new.machine.history) image)
+    → (IsSome after.disk → (image : List ℕ) → q.left before.tick image → HoldsBoots image old.machine.boot)
     → (IsSome after.disk → (image : List ℕ) → q.now image → EndsAs ending new.machine.history image)
     → OnErr result (Rose before.counts.disk after.counts.disk) → OnOk result (FitsSite new after q)
     → Passes before after p q → before.counts.disk ≤ after.counts.disk
     → KeepsOpened before.disk after.disk ⊎ (after.disk ≡ None) → SendsMore before after q
     → SavesRun ending old new before after p q
-event_saves old new event bytes result ending answers before after p q is takes keeps ends rose fits passes le opened sends =
+event_saves old new event bytes result ending answers before after p q is takes keeps boots ends rose fits passes le opened sends =
     let grows = steps_grow takes.steps in record {
       passes = passes;
       sends = sends;
@@ -64,11 +67,13 @@ event_saves old new event bytes result ending answers before after p q is takes 
       told = told_before before.disk after.disk opened;
       rest = grows.0;
       grows = grows.1;
+      boot = steps_boot takes.steps;
       keeps = keeps;
+      boots = boots;
       ends = ends;
       fits = unless result ending _ is
-          (ok_along result (FitsSite new after q) (FitsWith old.form new.machine.history new.store after q)
-          (λ fit. subst (λ x. FitsWith x new.machine.history new.store after q) takes.form fit) fits);
+          (ok_along result (FitsSite new after q) (FitsWith old.form new.machine new.store after q)
+          (λ fit. subst (λ x. FitsWith x new.machine new.store after q) takes.form fit) fits);
       faults = where_failing result ending _ is rose;
     }
 
@@ -87,6 +92,7 @@ fits_again m one two p q disk now fits = record {
     count = fits.fits.count;
     images = λ d is image left. fits.fits.images d (sym disk ∙ is) image (cast now image left);
   };
+  tickets = fits.tickets;
 }
   where
     cast : {P Q : List ℕ → Type 0} → Q ≡ P → (image : List ℕ) → Q image → P image

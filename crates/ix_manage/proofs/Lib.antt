@@ -13,6 +13,7 @@ pub mod Playing
 pub mod ServeLemmas
 pub mod ServeEnding
 pub mod Fronts
+mod HistoryLines
 pub mod Examinations
 pub mod Working
 pub mod ShortLines

@@ -1,14 +1,13 @@
 -- What a run makes of the journal that it attached.
-use Rattle.std.proofs.Common.{◌≡◌, ◌⊎◌, inl, inr, ℕ, ◌≤◌, List, [], ◌++◌, length, append-nil}
+use Rattle.std.proofs.Common.{◌≡◌, ◌⊎◌, inl, inr, ℕ, ◌+◌, ◌≤◌, List, [], ◌++◌, length, append-nil}
 use Rattle.std.proofs.Common.{false, Option, None, Some, refl, sym, ◌∙◌, ap, subst, arith}
 use Rattle.std.proofs.lemmas.Option.{none-some}
-use Rattle.ix_values.specs.PlainAction.{Word}
-use Rattle.ix_journal.specs.History.{PlainHistory}
+use Rattle.ix_journal.specs.History.{PlainHistory, actions_of}
 use Rattle.ix_expr.specs.CanonicalText.{canonical_text}
 use Rattle.ix_expr.specs.Form.{Form}
 use Rattle.ix_journal.specs.Kinds.{IsUnfinished}
-use Rattle.ix_journal.specs.Recovery.{Recovers}
-use Rattle.ix_journal.proofs.OutcomeLaws.{one_history}
+use Rattle.ix_journal.specs.Recovery.{HoldsBoots, Recovers}
+use Rattle.ix_journal.proofs.OutcomeLaws.{one_history, one_number}
 use Rattle.ix_outside.specs.Crashes.{Crashes, AreLawful, Elapses, LeavesTheFile}
 use Rattle.ix_outside.specs.Disk.{Disk, HasNothingOpened, Opened, IsOpened, MakesFile, Stays}
 use Rattle.ix_outside.specs.SiteState.{SiteState}
@@ -59,7 +58,17 @@ kept_opened (Some d) (Some f) keeps e told =
 own_text : (x : Form) (file : List ℕ) → IsOwn x file → IsUnfinished file ⊎ HasText file (canonical_text x)
 own_text x file (image.new (inl unfinished)) = inl unfinished
 own_text x file (image.new (inr unopened)) = inr (inl unopened)
-own_text x file (image.ready history gate is) = inr (inr (is.first, is.ready))
+own_text x file (image.ready history marks gate is) = inr (inr (is.journal.first, is.journal.ready))
+
+-- a run can start from the image again, or it holds a million boots
+abbrev Reopens : Form → ℕ → List ℕ → Type 0
+Reopens x limit image =
+    ((kept : PlainHistory) × (boot : ℕ) × IsStartable (opening_of x limit kept boot) image) ⊎ HoldsBoots image 1000000
+
+with_kept : {x : Form} {limit : ℕ} {image : List ℕ} (kept : PlainHistory)
+    → ((boot : ℕ) × IsStartable (opening_of x limit kept boot) image) ⊎ HoldsBoots image 1000000 → Reopens x limit image
+with_kept kept (inl starts) = inl (kept, starts.0, starts.1)
+with_kept kept (inr many) = inr many
 
 -- over a stretch of calls each image keeps the history that a run started from, and no other actions
 -- than those of its last one; and ends as the run does
@@ -82,23 +91,23 @@ module _ (x : Form) (limit : ℕ) (at mid : SiteState) (p q : Crashes) (d : Disk
     opened = record { name = name; tick = at.tick; file = d.file }
 
     -- where the file is startable, all that may be left recovers its history
-    start_recovers : (h : PlainHistory) → IsStartable (opening_of x limit h) d.file
+    start_recovers : (h : PlainHistory) (boot : ℕ) → IsStartable (opening_of x limit h boot) d.file
         → (image : List ℕ) → q.left at.tick image → Recovers image h
-    start_recovers h s image left = elim (leaves.recovers h s.recovers image left) [
+    start_recovers h boot s image left = elim (leaves.recovers h s.recovers image left) [
       | inl first ↦ subst (λ (file : List ℕ). Recovers file h) (sym (now image first)) s.recovers
       | inr recovers ↦ recovers
     ]
 
     -- and is the expression's
-    pub start_keeps : (h : PlainHistory) → IsStartable (opening_of x limit h) d.file
+    pub start_keeps : (h : PlainHistory) (boot : ℕ) → IsStartable (opening_of x limit h boot) d.file
         → (image : List ℕ) → q.left at.tick image → Keeps x (length h) h image
-    start_keeps h s image left = record {
+    start_keeps h boot s image left = record {
       own = elim (leaves.own (own_text x d.file s.own) image left) [
         | inl first ↦ subst (λ (file : List ℕ). IsOwn x file) (sym (now image first)) s.own
         | inr own ↦ own
       ];
       kept = h;
-      recovers = start_recovers h s image left;
+      recovers = start_recovers h boot s image left;
       rest = [];
       prefix = append-nil h;
       long = omega arith;
@@ -120,14 +129,14 @@ module _ (x : Form) (limit : ℕ) (at mid : SiteState) (p q : Crashes) (d : Disk
     pub start_uses : AreLawful mid q → at.tick ≤ mid.tick → (e : Disk) → mid.disk ≡ Some e
         → UsesJournal x limit None e.file opened q
     start_uses lawful le e after = record {
-      startable = λ h s. record {
+      startable = λ h boot s. record {
         from = refl;
         holds = record {
-          ends = λ image left. start_recovers h s image (left_since_start lawful le image left);
-          keeps = λ image left. start_keeps h s image left;
+          ends = λ image left. start_recovers h boot s image (left_since_start lawful le image left);
+          keeps = λ image left. start_keeps h boot s image left;
           reopens = λ image left.
-              let keeps = start_keeps h s image left in
-              (keeps.kept, kept_images_are_startable x limit (length h) h image s.within keeps);
+              with_kept (start_keeps h boot s image left).kept
+              (kept_images_are_startable x limit (length h) h image s.within (start_keeps h boot s image left));
         };
       };
       other = λ no. record {
@@ -138,9 +147,19 @@ module _ (x : Form) (limit : ℕ) (at mid : SiteState) (p q : Crashes) (d : Disk
       };
     }
 
+-- a file is startable from one opening
+one_opening : {x : Form} {limit : ℕ} (file : List ℕ) (g h : PlainHistory) (boot next : ℕ)
+    → IsStartable (opening_of x limit g boot) file → IsStartable (opening_of x limit h next) file
+    → opening_of x limit g boot ≡ opening_of x limit h next
+one_opening {x = x} {limit = limit} file g h boot next s t =
+    let histories = one_history file g h s.recovers t.recovers in
+    let boots : s.boots ≡ t.boots = one_number file s.boots t.boots s.holds t.holds in
+    let same : boot ≡ next = s.next ∙ ap (λ n. n + 1) boots ∙ sym t.next in
+    λ i. opening_of x limit (histories i) (same i)
+
 -- a run started from a file from which it may, and took events, or none
 module _ (x : Form) (limit : ℕ) (tick : ℕ) (d : Disk) (name : List ℕ) (mid : ℕ) (q : Crashes)
-    (h : PlainHistory) (starts : IsStartable (opening_of x limit h) d.file)
+    (h : PlainHistory) (boot : ℕ) (starts : IsStartable (opening_of x limit h boot) d.file)
     (kept : (image : List ℕ) → q.left tick image → Keeps x (length h) h image)
   where
     abbrev attached : Opened
@@ -148,13 +167,13 @@ module _ (x : Form) (limit : ℕ) (tick : ℕ) (d : Disk) (name : List ℕ) (mid
 
     module _ (session : Option Session) (end : ℕ) (r : Crashes) (le : tick ≤ mid) where
       abbrev played : Session
-      played = session_of (opening_of x limit h) session
+      played = session_of (opening_of x limit h boot) session
 
-      module _ (opening_is : played.opening ≡ opening_of x limit h) (along : KeepsAlong x h played mid end q r)
+      module _ (opening_is : played.opening ≡ opening_of x limit h boot) (along : KeepsAlong x h played mid end q r)
           (run : Run played.opening played.taken played.answers played.last played.ending)
         where
-          within : EachPrefixIsWithin x limit (with_failed played.ending played.last.history)
-          within = runs_stay_within (opening_of x limit h) played.taken played.answers played.last played.ending starts.within
+          within : EachPrefixIsWithin x limit (actions_of (with_failed played.ending played.last.history))
+          within = runs_stay_within (opening_of x limit h boot) played.taken played.answers played.last played.ending starts.within
               (subst (λ (o : Opening). Run o played.taken played.answers played.last played.ending) opening_is run)
 
           keeps : (image : List ℕ) → r.left tick image
@@ -165,7 +184,7 @@ module _ (x : Form) (limit : ℕ) (tick : ℕ) (d : Disk) (name : List ℕ) (mid
             | inr since ↦ along.keeps image since
           ]
 
-          goes_on : GoesOnFrom (opening_of x limit h) session attached r
+          goes_on : GoesOnFrom (opening_of x limit h boot) session attached r
           goes_on = record {
             from = opening_is;
             holds = record {
@@ -175,17 +194,18 @@ module _ (x : Form) (limit : ℕ) (tick : ℕ) (d : Disk) (name : List ℕ) (mid
                   (sym opening_is) (keeps image left);
               reopens = λ image left.
                   let kept = keeps image left in
-                  subst (λ (o : Opening). (w : Word) × IsStartable (opening_of o.form o.limit w) image) (sym opening_is)
-                  (kept.kept, kept_images_are_startable x limit (length h) (with_failed played.ending played.last.history) image within kept);
+                  subst (λ (o : Opening). Reopens o.form o.limit image) (sym opening_is)
+                  (with_kept kept.kept
+                  (kept_images_are_startable x limit (length h) (with_failed played.ending played.last.history) image within kept));
             };
           }
 
           pub session_uses : (file : List ℕ) → UsesJournal x limit session file attached r
           session_uses file = record {
-            startable = λ other others.
-                subst (λ (w : Word). GoesOnFrom (opening_of x limit w) session attached r)
-                (one_history d.file h other starts.recovers others.recovers) goes_on;
-            other = λ no. absurd (no h starts);
+            startable = λ other next others.
+                subst (λ (o : Opening). GoesOnFrom o session attached r)
+                (one_opening d.file h other boot next starts others) goes_on;
+            other = λ no. absurd (no h boot starts);
           }
 
 -- what a job makes of the file that it attached

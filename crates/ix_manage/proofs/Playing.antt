@@ -4,7 +4,7 @@ use Rattle.std.proofs.Common.{Result, Ok, Err, refl, sym, ◌∙◌, ap, subst}
 use Rattle.std.specs.Prelude.{codes, decimal}
 use Rattle.std.proofs.lemmas.Bool.{cases_lt}
 use Rattle.std.proofs.lemmas.Option.{none-some}
-use Rattle.ix_values.specs.PlainAction.{Word as Actions}
+use Rattle.ix_journal.specs.History.{PlainHistory}
 use Rattle.ix_expr.specs.Form.{Form}
 use Rattle.ix_can.specs.TreeOf.{tree_size}
 use Rattle.ix_cli.specs.Words.{Job}
@@ -20,7 +20,7 @@ use Rattle.ix_outside.specs.inside.DiskCalls.{KeepsOpened}
 use Rattle.ix_outside.proofs.Passing.{KeepsOpened-join}
 use Rattle.ix_store.specs.Keeping.{Keeping}
 use Rattle.ix_manager.specs.Handled.{ManagerState, started}
-use Rattle.ix_manager.specs.Machine.{MachineState}
+use Rattle.ix_manager.specs.Machine.{MachineState, start_of}
 use Rattle.ix_manager.specs.Runs.{Opening, Run, opening_of}
 use Rattle.ix_manager.specs.inside.Saving.{Saves}
 use Rattle.ix_manager.specs.inside.StartAnswers.{IsFault}
@@ -219,7 +219,7 @@ module _ (x : Form) (limit : ℕ) (name : List ℕ) (before mid end : SiteState)
     opened_along (inr untold) = inr untold
 
     abbrev opening : Opening
-    opening = opening_of x limit m.machine.history
+    opening = opening_of x limit m.machine.history m.machine.boot
 
     pub session_on_journal : (session_of opening session).opening ≡ opening
         → Run (session_of opening session).opening (session_of opening session).taken (session_of opening session).answers
@@ -231,15 +231,15 @@ module _ (x : Form) (limit : ℕ) (name : List ℕ) (before mid end : SiteState)
         start.opened (opened_along later)
         (λ d is e after. subst (λ n. UsesJournal x n session e.file (record { name = name; tick = start.at.tick; file = d.file }) r)
         (sym it.limit_is)
-        (session_uses x limit start.at.tick d name mid.tick q m.machine.history (start.starts d is)
+        (session_uses x limit start.at.tick d name mid.tick q m.machine.history m.machine.boot (start.starts d is)
         (start.keeps (subst (λ (o : Option SiteDisk). IsSome o) (sym is) refl))
         session end.tick r start.later opening_is
         (along (subst (λ (o : Option SiteDisk). IsSome o) (sym after) refl)) run e.file))
 
 -- the opening that a session played from is the expression's, under the limit
-module _ (x : Form) (limit : ℕ) (m : ManagerState) (fresh : m ≡ started (opening_of x limit m.machine.history) m.store)
+module _ (x : Form) (limit : ℕ) (m : ManagerState) (fresh : m ≡ started (opening_of x limit m.machine.history m.machine.boot) m.store)
   where
-    pub opening_fresh : turns.opening_of m ≡ opening_of x limit m.machine.history
+    pub opening_fresh : turns.opening_of m ≡ opening_of x limit m.machine.history m.machine.boot
     opening_fresh = ap (λ (s : ManagerState). turns.opening_of s) fresh
 
     pub opening_from : (session : Session) → session.opening ≡ turns.opening_of m → IsFrom x limit session.opening
@@ -247,10 +247,10 @@ module _ (x : Form) (limit : ℕ) (m : ManagerState) (fresh : m ≡ started (ope
         let same = is ∙ opening_fresh in (ap (λ (o : Opening). o.form) same, ap (λ (o : Opening). o.limit) same)
 
 -- a journal is kept along a stretch over which its history is saved
-pub along_saves : (x : Form) (h : Actions) (played : Session) (store : Keeping) (a b : SiteState) (p q : Crashes)
-    → IsSome b.disk → Saves played.ending x h played.last.history store a b p q
+pub along_saves : (x : Form) (h : PlainHistory) (boot : ℕ) (played : Session) (store : Keeping) (a b : SiteState) (p q : Crashes)
+    → IsSome b.disk → Saves played.ending x (start_of h boot) played.last store a b p q
     → KeepsAlong x h played a.tick b.tick p q
-along_saves x h played store a b p q some saves = record {
+along_saves x h boot played store a b p q some saves = record {
   passes = saves.passes.left;
   rest = saves.rest;
   grows = saves.grows;
@@ -259,11 +259,11 @@ along_saves x h played store a b p q some saves = record {
 }
 
 -- also where its disk is told alone
-pub along_alone : (x : Form) (h : Actions) (played : Session) (store : Keeping) (a b : SiteState) (p q : Crashes)
+pub along_alone : (x : Form) (h : PlainHistory) (boot : ℕ) (played : Session) (store : Keeping) (a b : SiteState) (p q : Crashes)
     → IsSome b.disk
-    → Saves played.ending x h played.last.history store (disk_alone a) (disk_alone b) (without_sends p) (without_sends q)
+    → Saves played.ending x (start_of h boot) played.last store (disk_alone a) (disk_alone b) (without_sends p) (without_sends q)
     → KeepsAlong x h played a.tick b.tick p q
-along_alone x h played store a b p q some saves = record {
+along_alone x h boot played store a b p q some saves = record {
   passes = saves.passes.left;
   rest = saves.rest;
   grows = saves.grows;
@@ -314,12 +314,12 @@ module _ (x : Form) (names : ReplayWords) (script : List ℕ) (before : SiteStat
         let job = job_played files.contents reads has in
         let opening_is = it.opening_is ∙ opening_fresh x names.limit m start.fresh in
         let form : m.form ≡ x = ap (λ (s : ManagerState). s.form) start.fresh in
-        let history = ap (λ (s : MachineState). s.history) it.last_is in
-        let saves : Saves it.played.ending x m.machine.history it.played.last.history it.store
+        let begun : MachineState = start_of m.machine.history m.machine.boot in
+        let saves : Saves it.played.ending x begun it.played.last it.store
         (disk_alone mid) (disk_alone end) (without_sends q) (without_sends r) =
-        subst (λ (w : Actions). Saves it.played.ending x m.machine.history w it.store
-        (disk_alone mid) (disk_alone end) (without_sends q) (without_sends r)) (sym history)
-        (subst (λ (y : Form). Saves it.played.ending y m.machine.history final.history it.store
+        subst (λ (s : MachineState). Saves it.played.ending x begun s it.store
+        (disk_alone mid) (disk_alone end) (without_sends q) (without_sends r)) (sym it.last_is)
+        (subst (λ (y : Form). Saves it.played.ending y begun final it.store
         (disk_alone mid) (disk_alone end) (without_sends q) (without_sends r)) form it.saves) in
         subst (JobOver (around_of files later before end) (replay_of names) r status whole part) (sym it.is)
         (record {
@@ -330,6 +330,6 @@ module _ (x : Form) (names : ReplayWords) (script : List ℕ) (before : SiteStat
           touches = disk_calls_then before mid end start.only uses.rest;
           journal = session_on_journal x names.limit names.journal.now before mid end q r m start files.contents (replay_of names) job uses.opened
               (Some it.played) opening_is (it.plays events.0 events.1).takes.run
-              (λ some. along_alone x m.machine.history it.played it.store mid end q r some saves);
+              (λ some. along_alone x m.machine.history m.machine.boot it.played it.store mid end q r some saves);
           wire = λ socket none. absurd (none-some socket none);
         })

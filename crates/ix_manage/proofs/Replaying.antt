@@ -24,7 +24,8 @@ use Rattle.ix_outside.specs.declared.event.Event.{Event}
 use Rattle.ix_outside.specs.declared.event.EventKind.{EventKind}
 use Rattle.ix_outside.specs.declared.event.EventKind.TheVariants.{Bytes, Closed, End}
 use Rattle.ix_proto.specs.declared.reply.Reply.{Reply}
-use Rattle.ix_manager.specs.Machine.{MachineState}
+use Rattle.ix_store.specs.Keeping.{Keeping}
+use Rattle.ix_manager.specs.Machine.{MachineState, start_of}
 use Rattle.ix_manager.specs.Runs.{Ending, Opening, going, stopped, Run, begin, Steps, none}
 use Rattle.ix_manager.specs.Wire.{SendsInOrder, done, silent, sent, lost, reply_line, all_replies, replies_text, marks_after, run_text, unmarked}
 use Rattle.ix_manager.specs.Handled.{ManagerState, Handles, FitsEvent, KindHas, completed_by, held_at}
@@ -195,7 +196,7 @@ pub event_taken : (room : ℕ) (old new : ManagerState) (was between now : Playe
     → FitsBuffer room event → length buf ≡ room
     → IsNextPiece room was.script was.given (given_event event (piece_of event.kind buf))
     → Handles old event passed ending new (told_of between) (told_of now)
-    → new.machine.ticket ≤ old.machine.ticket + length passed
+    → new.machine.number ≤ old.machine.number + length passed
     → IsBetween old was → IsTurn now.failed ending event.kind turn
     → ((conn : ℕ) → get_or old.marks conn false ≡ false → get_or new.marks conn false ≡ true
     → Rose between.sink.faults now.sink.faults)
@@ -219,7 +220,7 @@ event_taken room old new was between now buf passed event ending turn stretch ro
       next = subst (λ n. IsNextPiece n was.script was.given (given_event event piece)) room_is next;
       fits = fits_event;
       handled = its;
-      tickets = subst (λ p. new.machine.ticket ≤ old.machine.ticket + length p) passed_is rises;
+      tickets = subst (λ p. new.machine.number ≤ old.machine.number + length p) passed_is rises;
       turn_is = turn_is;
       fault = λ one_lost.
           subst (λ (s : SinkState). Rose s.faults now.sink.faults) sink_is
@@ -229,13 +230,27 @@ event_taken room old new was between now buf passed event ending turn stretch ro
       saves = saves;
     }
 
+-- what is kept from a manager on that was just started is kept from its opening on
+pub saves_begun : (m : ManagerState) → IsStarted m → {ending : Ending} {last : MachineState} {store : Keeping}
+    {a b : SiteState} {p q : Crashes} → Saves ending m.form m.machine last store a b p q
+    → Saves ending m.form (start_of m.machine.history m.machine.boot) last store a b p q
+saves_begun m fresh {ending = ending} {last = last} {store = store} {a = a} {b = b} {p = p} {q = q} saves =
+    subst (λ s. Saves ending m.form s last store a b p q) (ap (λ (s : ManagerState). s.machine) fresh) saves
+
+-- the same where nothing was made of it
+pub saves_resting : (m : ManagerState) → IsStarted m → {store : Keeping} {a b : SiteState} {p q : Crashes}
+    → Saves going m.form m.machine m.machine store a b p q
+    → Saves going m.form (start_of m.machine.history m.machine.boot) (start_of m.machine.history m.machine.boot) store a b p q
+saves_resting m fresh {store = store} {a = a} {b = b} {p = p} {q = q} saves =
+    subst (λ s. Saves going m.form s s store a b p q) (ap (λ (s : ManagerState). s.machine) fresh) saves
+
 -- a manager that was just started stands behind what was put before
 pub stands_first : (m : ManagerState) (start : Player) (site : SiteState) (crashes : Crashes) → IsStarted m → IsAtStart start
     → AreLawful site crashes → FitsSite m site crashes
     → Stands (opening_of m) start.sink.written m start (record { before = site; after = site; was = crashes; is = crashes })
 stands_first m start site crashes fresh begins lawful fits =
     let nothing = sym begins.given in
-    let first_ticket : m.machine.ticket ≡ 1 = ap (λ (s : ManagerState). s.machine.ticket) fresh in record {
+    let first_ticket : m.machine.number ≡ 1 = ap (λ (s : ManagerState). s.machine.number) fresh in record {
       answers = [];
       follows = subst (λ given. FollowsRun (opening_of m) given [] m) nothing
           (subst (λ s. FollowsRun (opening_of m) [] [] s) (sym fresh) (started_follows (opening_of m) m.store));
@@ -245,14 +260,14 @@ stands_first m start site crashes fresh begins lawful fits =
       first = λ events has. subst (AreFirst events) nothing refl;
       no_end = subst (Each IsNoEnd) nothing no_item;
       text = append_nothing start.sink.written ∙ ap (λ given. append_known start.sink.written (run_text given [])) nothing;
-      saves = saves_none m.form m.machine.history m.store site crashes lawful fits;
+      saves = saves_begun m fresh (saves_none m.form m.machine m.store site crashes lawful fits);
     }
 
 module _ {opening : Opening} {known : Option (List ℕ)} {m : ManagerState} {now : Player} {stretch : Stretch}
     (stands : Stands opening known m now stretch) where
   -- the store fits what was made of the site
   pub stands_fits : FitsSite m stretch.after stretch.is
-  stands_fits = subst (λ x. FitsWith x m.machine.history m.store stretch.after stretch.is) (sym stands.follows.form_is) stands.saves.fits
+  stands_fits = subst (λ x. FitsWith x m.machine m.store stretch.after stretch.is) (sym stands.follows.form_is) stands.saves.fits
 
   -- a further event may be taken
   pub stands_between : length now.given < 1000000000 → IsBetween m now
@@ -309,10 +324,10 @@ module _ {old new : ManagerState} {was now : Player} {turn : Turn} {a b c : Site
     abbrev stretch : Stretch
     stretch = record { before = a; after = c; was = p; is = r }
 
-    saved : SavesFrom opening took.ending new.machine.history new.store stretch
-    saved = saves_join took.ending opening.form opening.history old.machine.history new.machine.history old.store new.store a b c p q r lawful
+    saved : SavesFrom opening took.ending new.machine new.store stretch
+    saved = saves_join took.ending opening.form (start_of opening.history opening.boot) old.machine new.machine old.store new.store a b c p q r lawful
         stands.saves
-        (subst (λ x. Saves took.ending x old.machine.history new.machine.history new.store b c q r) stands.follows.form_is took.saves)
+        (subst (λ x. Saves took.ending x old.machine new.machine new.store b c q r) stands.follows.form_is took.saves)
 
     abbrev given : GivenEvent
     given = given_event took.event took.piece
@@ -360,7 +375,7 @@ module _ {old new : ManagerState} {was now : Player} {turn : Turn} {a b c : Site
           first = λ events has. first_of events (subst (λ script. HasEvents script events) plays.script has);
           no_end = subst (Each IsNoEnd) behind (Each-append stands.no_end (item is.2 no_item));
           text = told_whole is.0;
-          saves = subst (λ e. SavesFrom opening e new.machine.history new.store stretch) is.1 saved;
+          saves = subst (λ e. SavesFrom opening e new.machine new.store stretch) is.1 saved;
         }
 
     module _ (turns : ℕ) (few : length now.given ≤ turns) (start : SinkState)
@@ -463,7 +478,7 @@ history_lost m fresh turns script line old new site crashes lawful fits same par
         };
         ends = ends (lost_history refl);
         store = m.store;
-        saves = saves_none m.form m.machine.history m.store site crashes lawful fits;
+        saves = saves_begun m fresh (saves_none m.form m.machine m.store site crashes lawful fits);
       },
     )
     (subst (λ known. AppendsPart known (history_line m.machine.history) new.written) (append_nothing old.written)

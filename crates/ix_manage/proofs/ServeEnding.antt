@@ -24,12 +24,13 @@ use Rattle.ix_store.specs.Keeping.{Keeping}
 use Rattle.ix_manager.specs.Acknowledged.{KeepsAcknowledged}
 use Rattle.ix_manager.specs.Handled.{ManagerState}
 use Rattle.ix_manager.specs.Images.{with_failed}
-use Rattle.ix_manager.specs.Machine.{MachineState}
+use Rattle.ix_manager.specs.Machine.{MachineState, start_of}
 use Rattle.ix_manager.specs.Runs.{Opening, Run, begin as run_begins, going, opening_of}
 use Rattle.ix_manager.specs.Wire.{SentReplies, Wire, begin, takes, unmarked}
 use Rattle.ix_manager.specs.inside.Saving.{OnlySends, Saves}
 use Rattle.ix_manager.specs.inside.Serving.{ServesSince}
 use Rattle.ix_manager.proofs.AcknowledgedLemmas.{none_sent}
+use Rattle.ix_manage.proofs.Replaying.{saves_begun}
 use Rattle.ix_manager.proofs.SavingLemmas.{saves_join}
 use Rattle.ix_manage.specs.Around.{around_of}
 use Rattle.ix_manage.specs.Ends.{Ended, JobOver, no_wire, served as job_served}
@@ -93,7 +94,10 @@ module _ (socket : List ℕ) (a b : SiteState) (p q : Crashes) (heard : b.conten
         (λ some. heard_told socket a.contents.sends (subst (λ (o : Option Sends). IsSome o) sends_heard some))
         (λ s s' told told'. ap (λ (sends : Sends). sends.sent) (heard_before socket a.contents.sends s' s (sym sends_heard ∙ told') told))
 
-    module _ (x : Form) (h : PlainHistory) (store : Keeping) (saves : Saves going x h h store a b p q) where
+    module _ (x : Form) (last : MachineState) (store : Keeping) (saves : Saves going x last last store a b p q) where
+      abbrev h : PlainHistory
+      h = last.history
+
       -- what was kept since a tick before it still is
       pub listen_since : (t : ℕ) (start : Sends) → a.contents.sends ≡ Some start
           → ServesSince t x (length h) h start [] [] unmarked a p
@@ -167,7 +171,7 @@ module _ (socket : List ℕ) (a b c : SiteState) (p q r : Crashes) (heard : b.co
 -- a manager that was just started listened, put the line of the history, and took events
 module _ (turns : ℕ) (socket : List ℕ) (old new : ManagerState) (a b c : SiteState) (p q r : Crashes)
     (lawful : AreLawful c r)
-    (listened : Saves going old.form old.machine.history old.machine.history old.store a b p q)
+    (fresh : IsStarted old) (listened : Saves going old.form old.machine old.machine old.store a b p q)
     (heard : b.contents ≡ with_name socket a.contents) (sends : b.counts.send ≡ a.counts.send)
     (since : (t : ℕ) (start : Sends) → a.contents.sends ≡ Some start
     → ServesSince t old.form (length old.machine.history) old.machine.history start [] [] unmarked a p
@@ -190,8 +194,9 @@ module _ (turns : ℕ) (socket : List ℕ) (old new : ManagerState) (a b c : Sit
       last_is = it.last_is;
       takes = it.takes;
       store = it.store;
-      saves = saves_join session.ending old.form old.machine.history old.machine.history new.machine.history old.store it.store
-          a b c p q r lawful listened it.saves;
+      saves = saves_join session.ending old.form (start_of old.machine.history old.machine.boot) old.machine new.machine old.store it.store
+          a b c p q r lawful (saves_begun old fresh listened)
+          (subst (λ s. Saves session.ending old.form s new.machine it.store b c q r) (sym (ap (λ (s : ManagerState). s.machine) fresh)) it.saves);
     }
 
     abbrev Mid : Stretch
@@ -227,7 +232,7 @@ module _ (turns : ℕ) (socket : List ℕ) (old new : ManagerState) (a b c : Sit
 
 -- the put of the history's line fails, before any event is taken
 pub history_lost : (m : ManagerState) → IsStarted m → (turns : ℕ) (socket line : List ℕ) (a b : SiteState) (p q : Crashes)
-    → Saves going m.form m.machine.history m.machine.history m.store a b p q
+    → Saves going m.form m.machine m.machine m.store a b p q
     → b.contents ≡ with_name socket a.contents → b.counts.send ≡ a.counts.send
     → ((t : ℕ) (start : Sends) → a.contents.sends ≡ Some start
     → ServesSince t m.form (length m.machine.history) m.machine.history start [] [] unmarked a p
@@ -247,7 +252,7 @@ history_lost m fresh turns socket line a b p q saves heard sends since old new s
         before_the_end = λ before last is. absurd (let long = ap length is in let push = length_push before last in omega (arith, long, push));
       };
       store = m.store;
-      saves = saves;
+      saves = saves_begun m fresh saves;
     })
     (serves_from socket a b b p q q heard sends (stood.opening_of m) since played refl m.machine refl unmarked (record {
       given = λ new told. (new, told, sym (append-nil new));
@@ -308,7 +313,7 @@ module _ (x : Form) (names : ServeWords) (before : SiteState) where
           ap (λ (o : Opened). o.tick) (some_is (sym is ∙ kept.2 ∙ first))
       along (inr untold) now opened told is = absurd (none-some now (sym untold ∙ told))
 
-      wire_from : (socket : List ℕ) (session : Session) → session.opening ≡ opening_of x names.limit m.machine.history
+      wire_from : (socket : List ℕ) (session : Session) → session.opening ≡ opening_of x names.limit m.machine.history m.machine.boot
           → ServesFrom socket session (record { before = mid; after = end; was = q; is = r })
           → ServesWire socket session before end r
       wire_from socket session opening_is wire = record {
@@ -342,23 +347,23 @@ module _ (x : Form) (names : ServeWords) (before : SiteState) where
         touches = touches;
         journal = session_on_journal x names.limit names.journal.now before mid end q r m start files.contents (serve_of names)
             (job_served_by files.contents reads) serves.opened None refl run_begins
-            (λ some. along_saves x m.machine.history (session_of (opening_of x names.limit m.machine.history) None) store mid end q r some
-            (subst (λ y. Saves going y m.machine.history m.machine.history store mid end q r) form saves));
+            (λ some. along_saves x m.machine.history m.machine.boot (session_of (opening_of x names.limit m.machine.history m.machine.boot) None) store mid end q r some
+            (subst (λ y. Saves going y (start_of m.machine.history m.machine.boot) (start_of m.machine.history m.machine.boot) store mid end q r) form saves));
         wire = λ socket same. contents ∙ start.only.contents;
       }
       session_serves status whole part session (served {session = played} it wire how) = λ files now reads.
           let opening_is = it.opening_is ∙ opening_fresh x names.limit m start.fresh in
-          let history = ap (λ (s : MachineState). s.history) it.last_is in
-          let saves : Saves played.ending x m.machine.history played.last.history it.store mid end q r =
-          subst (λ (w : Word). Saves played.ending x m.machine.history w it.store mid end q r) (sym history)
-          (subst (λ y. Saves played.ending y m.machine.history final.history it.store mid end q r) form it.saves) in record {
+          let begun : MachineState = start_of m.machine.history m.machine.boot in
+          let saves : Saves played.ending x begun played.last it.store mid end q r =
+          subst (λ (s : MachineState). Saves played.ending x begun s it.store mid end q r) (sym it.last_is)
+          (subst (λ y. Saves played.ending y begun final it.store mid end q r) form it.saves) in record {
             ends = job_served (record { reads = reads; small = start.small })
                 (opening_from x names.limit m start.fresh played it.opening_is) it.takes
                 (serve_ends_earlier names.turns before.counts mid.counts end.counts played start.only.disk wire_before how);
             touches = touches;
             journal = session_on_journal x names.limit names.journal.now before mid end q r m start files.contents (serve_of names)
                 (job_served_by files.contents reads) serves.opened (Some played) opening_is it.takes.run
-                (λ some. along_saves x m.machine.history played it.store mid end q r some saves);
+                (λ some. along_saves x m.machine.history m.machine.boot played it.store mid end q r some saves);
             wire = λ socket same.
                 subst (λ name. ServesWire name played before end r) (some_is same) (wire_from names.socket.now played opening_is wire);
           }

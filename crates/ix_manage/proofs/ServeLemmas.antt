@@ -18,6 +18,7 @@ use Rattle.ix_proto.specs.declared.reply.Reply.{Reply}
 use Rattle.ix_store.specs.Keeping.{Keeping}
 use Rattle.ix_manager.specs.Handled.{ManagerState, held_at}
 use Rattle.ix_manager.specs.RunLaws.{FollowsRun, given_event}
+use Rattle.ix_manager.specs.Machine.{MachineState, start_of}
 use Rattle.ix_manager.specs.Runs.{Ending, Opening, going, stopped}
 use Rattle.ix_manager.specs.Wire.{SendsInOrder, all_replies, done, lost, marks_after, reply_line, sent, unmarked}
 use Rattle.ix_manager.specs.inside.OverSite.{FitsSite, FitsWith}
@@ -27,6 +28,7 @@ use Rattle.ix_manager.specs.inside.Serving.{ServesSince}
 use Rattle.ix_manager.proofs.AcknowledgedLemmas.{between_none}
 use Rattle.ix_manager.specs.inside.Saving.{OnlySends, Saves, WhereFailed}
 use Rattle.ix_manager.proofs.RunLemmas.{started_follows, taken_follows, taken_goes_on}
+use Rattle.ix_manage.proofs.Replaying.{saves_begun}
 use Rattle.ix_manager.proofs.SavingLemmas.{saves_join, saves_none, saves_sends}
 use Rattle.ix_manager.proofs.SendLemmas.{untold_sends}
 use Rattle.ix_manage.specs.Serve.{ends, wire_failed}
@@ -78,11 +80,11 @@ next_only old new was is only same call sends = wire_only old new was is only sa
     (λ s s' known known'. ap (λ (t : Sends). t.sent) (some_is (sym known' ∙ sends ∙ known)))
 
 -- so the history is kept over it
-pub wire_saves : (x : Form) (h : PlainHistory) (store : Keeping) (old new : SiteState) (was is : Crashes)
-    → AreLawful old was → AreLawful new is → FitsWith x h store old was → OnlySends old new was is
-    → Saves going x h h store old new was is
-wire_saves x h store old new was is before lawful fits only =
-    saves_sends going x h h store old old new was was is before lawful (saves_none x h store old was before fits) only
+pub wire_saves : (x : Form) (s : MachineState) (store : Keeping) (old new : SiteState) (was is : Crashes)
+    → AreLawful old was → AreLawful new is → FitsWith x s store old was → OnlySends old new was is
+    → Saves going x s s store old new was is
+wire_saves x s store old new was is before lawful fits only =
+    saves_sends going x s s store old old new was was is before lawful (saves_none x s store old was before fits) only
 
 -- where replies leave an open connection unmarked, none of the sends answered Gone
 gone_same : {conn : ℕ} {replies : List Reply} {marked : Bool} {before after : Contents}
@@ -119,7 +121,7 @@ pub serves_first : (m : ManagerState) (site : SiteState) (crashes : Crashes) →
     → Serves (opening_of m) [] m (record { before = site; after = site; was = crashes; is = crashes })
 serves_first m site crashes fresh lawful fits =
     let marks : m.marks ≡ unmarked = ap (λ (s : ManagerState). s.marks) fresh in
-    let ticket : m.machine.ticket ≡ 1 = ap (λ (s : ManagerState). s.machine.ticket) fresh in record {
+    let ticket : m.machine.number ≡ 1 = ap (λ (s : ManagerState). s.machine.number) fresh in record {
       answers = [];
       follows = subst (λ s. FollowsRun (opening_of m) [] [] s) (sym fresh) (started_follows (opening_of m) m.store);
       tickets = omega (arith, ticket);
@@ -131,7 +133,7 @@ serves_first m site crashes fresh lawful fits =
             (sym marks) serves;
         whole = λ none. (marks, λ old new told told'. gone_is old new (sym told ∙ told'));
       };
-      saves = saves_none m.form m.machine.history m.store site crashes lawful fits;
+      saves = saves_begun m fresh (saves_none m.form m.machine m.store site crashes lawful fits);
     }
   where
     gone_is : (old new : Sends) → Some old ≡ Some new → new.gone ≡ old.gone
@@ -142,7 +144,7 @@ module _ {opening : Opening} {taken : List GivenEvent} {m : ManagerState} {a b :
   where
     -- the store fits what was made of the site
     pub serves_fits : FitsSite m b q
-    serves_fits = subst (λ x. FitsWith x m.machine.history m.store b q) (sym serves.follows.form_is) serves.saves.fits
+    serves_fits = subst (λ x. FitsWith x m.machine m.store b q) (sym serves.follows.form_is) serves.saves.fits
 
     -- the session so far
     abbrev pub so_far : Session
@@ -192,10 +194,10 @@ module _ {old new : ManagerState} {turn : Turn} {a b c : SiteState} {p q r : Cra
     abbrev pub played : Session
     played = record { opening = opening; taken = longer; answers = answers; last = new.machine; ending = it.ending }
 
-    saved : SavesFrom opening it.ending new.machine.history new.store stretch
-    saved = saves_join it.ending opening.form opening.history old.machine.history new.machine.history old.store new.store a b c p q r lawful
+    saved : SavesFrom opening it.ending new.machine new.store stretch
+    saved = saves_join it.ending opening.form (start_of opening.history opening.boot) old.machine new.machine old.store new.store a b c p q r lawful
         serves.saves
-        (subst (λ x. Saves it.ending x old.machine.history new.machine.history new.store b c q r) serves.follows.form_is it.saves)
+        (subst (λ x. Saves it.ending x old.machine new.machine new.store b c q r) serves.follows.form_is it.saves)
 
     -- the mark that the event's replies left, where the count of sends didn't rise
     none_marked : old.marks ≡ unmarked → ¬ Rose b.counts.send c.counts.send → it.handled.sends.marked ≡ false
@@ -266,7 +268,7 @@ module _ {old new : ManagerState} {turn : Turn} {a b c : SiteState} {p q r : Cra
               let rises = it.tickets in omega (arith, few, long, least, rises);
           no_end = Each-append serves.no_end (item is.2 no_item);
           sent = subst (λ e. SentFor opening (with_failed e new.machine.history) longer answers new.marks stretch) is.1 sent_now;
-          saves = subst (λ e. SavesFrom opening e new.machine.history new.store stretch) is.1 saved;
+          saves = subst (λ e. SavesFrom opening e new.machine new.store stretch) is.1 saved;
         }
 
     -- the session so far
@@ -316,7 +318,7 @@ module _ {old new : ManagerState} {turn : Turn} {a b c : SiteState} {p q r : Cra
 -- nothing came since the wire failed
 abbrev IsCut : ManagerState → ManagerState → SiteState → SiteState → Crashes → Crashes → Type 0
 IsCut old new b c q r = (new ≡ old) × (c.contents ≡ b.contents) × Rose b.counts.wire c.counts.wire
-    × Saves going old.form old.machine.history new.machine.history new.store b c q r
+    × Saves going old.form old.machine new.machine new.store b c q r
     × ((t : ℕ) (least : ℕ) (start : Sends) (taken : List GivenEvent) (answers : List (List (List Reply)))
     → ServesSince t old.form least old.machine.history start taken answers old.marks b q
     → ServesSince t old.form least old.machine.history start taken answers old.marks c r)
@@ -366,9 +368,9 @@ module _ {old new : ManagerState} {a b c : SiteState} {p q r : Crashes}
         last_is = sym (ap (λ (s : ManagerState). s.machine) cut.0);
         takes = (served_so_far serves turns (omega (arith, few))).takes;
         store = new.store;
-        saves = saves_join going opening.form opening.history old.machine.history new.machine.history old.store new.store a b c p q r lawful
+        saves = saves_join going opening.form (start_of opening.history opening.boot) old.machine new.machine old.store new.store a b c p q r lawful
             serves.saves
-            (subst (λ x. Saves going x old.machine.history new.machine.history new.store b c q r) serves.follows.form_is cut.3);
+            (subst (λ x. Saves going x old.machine new.machine new.store b c q r) serves.follows.form_is cut.3);
       });
       marks = old.marks;
       sent = subst (λ o. SentFor o new.machine.history taken serves.answers old.marks over_all) same_opening

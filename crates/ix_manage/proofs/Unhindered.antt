@@ -17,11 +17,12 @@ use Rattle.ix_parse.specs.Faults.{IsFirstFault, StandsFor}
 use Rattle.ix_parse.proofs.OneMeaning.{faulty-none, one-expression}
 use Rattle.ix_can.specs.TreeOf.{tree_size}
 use Rattle.ix_lines.specs.TextLines.{lines_of}
+use Rattle.ix_journal.specs.History.{PlainHistory, actions_of}
 use Rattle.ix_journal.specs.Kinds as kind
 use Rattle.ix_journal.specs.Kinds.{IsForeign}
 use Rattle.ix_journal.specs.Recovery as recovery
 use Rattle.ix_journal.proofs.KindLaws.{one_kind}
-use Rattle.ix_journal.proofs.OutcomeLaws.{one_history, one_outcome}
+use Rattle.ix_journal.proofs.OutcomeLaws.{one_history, one_number, one_outcome}
 use Rattle.ix_outside.specs.Contents.{GivenEvent}
 use Rattle.ix_outside.specs.Crashes.{Crashes}
 use Rattle.ix_outside.specs.Disk.{Disk, Opened}
@@ -145,24 +146,29 @@ module _ (files : Option Listing) (told : IsSome files) where
       (subst (λ lines. AreEvents 0 lines events) (sym (ap lines_of same) ∙ fault.split) reads.has))
 
 -- a file that has no bytes is startable
-empty_startable : (x : Form) (limit : ℕ) → tree_size x [] ≤ limit → IsStartable (opening_of x limit []) []
+empty_startable : (x : Form) (limit : ℕ) → tree_size x [] ≤ limit → IsStartable (opening_of x limit [] 1) []
 empty_startable x limit small = record {
   own = image.new (inl (inl (omega arith)));
-  recovers = recovery.unfinished [] (inl (omega arith));
+  recovers = record { entries = []; keeps = recovery.unfinished [] (inl (omega arith)); pairs = refl };
   within = λ count. within count;
+  boots = 0;
+  holds = record { entries = []; keeps = recovery.unfinished [] (inl (omega arith)); number = refl };
+  few = omega arith;
+  next = refl;
 }
   where
     within : (count : ℕ) → image.IsWithin x limit (take count [])
     within count = subst (image.IsWithin x limit) (sym (none_taken count)) (record { partial = empty-partial x []; size = small })
 
 -- no startable file is refused
-module _ (x : Form) (limit : ℕ) (file : List ℕ) (history : Word) (starts : IsStartable (opening_of x limit history) file) where
+module _ (x : Form) (limit : ℕ) (file : List ℕ) (history : PlainHistory) (boot : ℕ)
+    (starts : IsStartable (opening_of x limit history boot) file) where
   no_foreign : IsOwn x file → IsForeign file → ⊥
   no_foreign (image.new (inl is)) foreign = let same = one_kind file kind.unfinished kind.foreign is foreign in cc
   no_foreign (image.new (inr is)) foreign =
       let same = one_kind file (kind.unopened (canonical_text x)) kind.foreign is foreign in cc
-  no_foreign (image.ready h gate is) foreign =
-      let same = one_kind file (kind.ready (canonical_text x) is.first) kind.foreign is.ready foreign in cc
+  no_foreign (image.ready h marks gate is) foreign =
+      let same = one_kind file (kind.ready (canonical_text x) is.journal.first) kind.foreign is.journal.ready foreign in cc
 
   same_text : (text : List ℕ) → IsOwn x file → HasText file text → text ≡ canonical_text x
   same_text text (image.new (inl is)) (inl other) = let same = one_kind file kind.unfinished (kind.unopened text) is other in cc
@@ -172,30 +178,33 @@ module _ (x : Form) (limit : ℕ) (file : List ℕ) (history : Word) (starts : I
       let same = one_kind file (kind.unopened (canonical_text x)) (kind.unopened text) is other in cc
   same_text text (image.new (inr is)) (inr other) =
       let same = one_kind file (kind.unopened (canonical_text x)) (kind.ready text other.0) is other.1 in cc
-  same_text text (image.ready h gate is) (inl other) =
-      let same = one_kind file (kind.ready (canonical_text x) is.first) (kind.unopened text) is.ready other in cc
-  same_text text (image.ready h gate is) (inr other) =
-      let same = one_kind file (kind.ready (canonical_text x) is.first) (kind.ready text other.0) is.ready other.1 in cc
+  same_text text (image.ready h marks gate is) (inl other) =
+      let same = one_kind file (kind.ready (canonical_text x) is.journal.first) (kind.unopened text) is.journal.ready other in cc
+  same_text text (image.ready h marks gate is) (inr other) =
+      let same = one_kind file (kind.ready (canonical_text x) is.journal.first) (kind.ready text other.0) is.journal.ready other.1 in cc
 
   not_refused : {why : List ℕ} → RefusesFile x limit file why → ⊥
   not_refused (journal.foreign is) = no_foreign starts.own is
   not_refused (journal.other has apart) = apart (same_text _ starts.own has)
   not_refused (journal.damaged ready is) = (one_outcome file).0 history _ starts.recovers is
-  not_refused (journal.many ready is) = (one_outcome file).1 history starts.recovers is
+  not_refused (journal.many ready (inl is)) = (one_outcome file).1 history starts.recovers is
+  not_refused (journal.many ready (inr holds)) =
+      let same : starts.boots ≡ 1000000 = one_number file starts.boots 1000000 starts.holds holds in
+      let few = starts.few in omega (arith, same, few)
   not_refused (journal.word {history = word} {number = number} opens is) =
       let same = one_history file word history opens.1 starts.recovers in
-      is.not_partial (subst (λ w. IsPartial x [] (take number w)) (sym same) (starts.within number).partial)
+      is.not_partial (subst (λ w. IsPartial x [] (take number (actions_of w))) (sym same) (starts.within number).partial)
   not_refused (journal.large {history = word} {number = number} opens is) =
       let same = one_history file word history opens.1 starts.recovers in
       let above = is.above in
-      let within = subst (λ w. tree_size x (take number w) ≤ limit) (sym same) (starts.within number).size in
+      let within = subst (λ w. tree_size x (take number (actions_of w)) ≤ limit) (sym same) (starts.within number).size in
       absurd (omega (arith, above, within))
 
 -- nor is a file that a run can start from
 can_start : (x : Form) (limit : ℕ) (file why : List ℕ) → tree_size x [] ≤ limit → CanStart x limit file → RefusesFile x limit file why → ⊥
 can_start x limit file why small (inl none) refuses =
-    not_refused x limit [] [] (empty_startable x limit small) (subst (λ f. RefusesFile x limit f why) none refuses)
-can_start x limit file why small (inr starts) refuses = not_refused x limit file starts.0 starts.1 refuses
+    not_refused x limit [] [] 1 (empty_startable x limit small) (subst (λ f. RefusesFile x limit f why) none refuses)
+can_start x limit file why small (inr starts) refuses = not_refused x limit file starts.0 starts.1 starts.2 refuses
 
 none_refused : (x : Form) (limit : ℕ) (why : List ℕ) (disk : Disk) (opened : Option Opened) → disk.opened ≡ opened
     → tree_size x [] ≤ limit → ((o : Opened) → disk.opened ≡ Some o → CanStart x limit o.file)

@@ -1,11 +1,11 @@
 -- What a replay and a serve make of their journal.
-use Rattle.std.specs.Prelude.{◌≡◌, ◌≢◌, ℕ, List, [], ◌++◌, length, codes, decimal, ⊤}
+use Rattle.std.specs.Prelude.{◌≡◌, ◌≢◌, ◌⊎◌, ℕ, List, [], ◌++◌, length, codes, decimal, ⊤}
 use Rattle.std.specs.Prelude.{Option, None, Some}
-use Rattle.ix_journal.specs.History.{PlainHistory}
+use Rattle.ix_journal.specs.History.{PlainHistory, actions_of}
 use Rattle.ix_expr.specs.CanonicalText.{canonical_text}
 use Rattle.ix_expr.specs.Form.{Form}
 use Rattle.ix_journal.specs.Kinds.{IsForeign}
-use Rattle.ix_journal.specs.Recovery.{IsDamaged, IsMany}
+use Rattle.ix_journal.specs.Recovery.{HoldsBoots, IsDamaged, IsMany}
 use Rattle.ix_outside.specs.Crashes.{Crashes}
 use Rattle.ix_outside.specs.Disk.{Disk, Opened}
 use Rattle.ix_outside.specs.Files.{Listing}
@@ -29,13 +29,13 @@ pub data RefusesFile (x : Form) (limit : ℕ) (file : List ℕ) : List ℕ → T
       → RefusesFile x limit file (codes "other " ++ text)
   damaged : {at : ℕ} → IsReadyWith file (canonical_text x) → IsDamaged file at
       → RefusesFile x limit file (codes "damaged " ++ decimal at)
-  many : IsReadyWith file (canonical_text x) → IsMany file
+  many : IsReadyWith file (canonical_text x) → IsMany file ⊎ HoldsBoots file 1000000
       → RefusesFile x limit file (codes "many")
   word : {history : PlainHistory} {number : ℕ} → OpensAs x file history
-      → IsNoWord x limit history number
+      → IsNoWord x limit (actions_of history) number
       → RefusesFile x limit file (codes "word " ++ decimal number)
   large : {history : PlainHistory} {number : ℕ} → OpensAs x file history
-      → IsHeavy x limit history number
+      → IsHeavy x limit (actions_of history) number
       → RefusesFile x limit file
       (codes "large " ++ decimal number ++ codes " " ++ decimal limit)
 
@@ -59,22 +59,24 @@ session_of opening None = record {
   opening = opening;
   taken = [];
   answers = [];
-  last = start_of opening.history;
+  last = start_of opening.history opening.boot;
   ending = going;
 }
 session_of opening (Some session) = session
 
 -- The journal holds a session's history: its file does, and so does each image that a crash now may
 -- leave; and each image that a crash since it was attached may have left keeps all that it held
--- then, and no others than the confirmed actions, in order, and a run can start from it again.
+-- then, and no others than the confirmed actions, in order, and a run can start from it again, or
+-- it holds a million boots.
 pub record HoldsHistory (least : ℕ) (session : Session) (opened : Opened) (is : Crashes)
     : Type 0 where
   pub ends : (image : List ℕ) → is.now image → EndsAs session.ending session.last.history image
   pub keeps : (image : List ℕ) → is.left opened.tick image
       → Keeps session.opening.form least (with_failed session.ending session.last.history) image
   pub reopens : (image : List ℕ) → is.left opened.tick image
-      → (kept : PlainHistory)
-      × IsStartable (opening_of session.opening.form session.opening.limit kept) image
+      → ((kept : PlainHistory) × (boot : ℕ)
+      × IsStartable (opening_of session.opening.form session.opening.limit kept boot) image)
+      ⊎ HoldsBoots image 1000000
 
 -- a run from a file that is startable: the session is from what the file recovers, and is held
 pub record GoesOnFrom (opening : Opening) (session : Option Session) (opened : Opened)
@@ -93,9 +95,11 @@ pub record LeavesAlone (session : Option Session) (file : List ℕ) (opened : Op
 -- what a run of the expression under the limit makes of the file that it opened
 pub record UsesJournal (x : Form) (limit : ℕ) (session : Option Session) (file : List ℕ)
     (opened : Opened) (is : Crashes) : Type 0 where
-  pub startable : (history : PlainHistory) → IsStartable (opening_of x limit history) opened.file
-      → GoesOnFrom (opening_of x limit history) session opened is
-  pub other : ((history : PlainHistory) → ¬ IsStartable (opening_of x limit history) opened.file)
+  pub startable : (history : PlainHistory) (boot : ℕ)
+      → IsStartable (opening_of x limit history boot) opened.file
+      → GoesOnFrom (opening_of x limit history boot) session opened is
+  pub other : ((history : PlainHistory) (boot : ℕ)
+      → ¬ IsStartable (opening_of x limit history boot) opened.file)
       → LeavesAlone session file opened is
 
 -- A run opened nothing and took no event; or it opened the file of its journal's name, and uses

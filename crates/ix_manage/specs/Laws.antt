@@ -3,6 +3,7 @@ use Rattle.std.specs.Prelude.{◌≡◌, ◌⊎◌, ℕ, ◌≤◌, List, [], �
 use Rattle.std.specs.Prelude.{IsSome}
 use Rattle.std.specs.Io.KnownBytes.{append_known}
 use Rattle.ix_values.specs.PlainAction.{Word}
+use Rattle.ix_journal.specs.History.{PlainHistory}
 use Rattle.ix_expr.specs.CanonicalText.{canonical_text}
 use Rattle.ix_expr.specs.Form.{Form}
 use Rattle.ix_parse.specs.Faults.{StandsFor}
@@ -35,7 +36,8 @@ use Rattle.ix_manage.specs.Work.{Asked, history_of, work_line}
 -- a run can start from a file: one that was absent, and has no bytes, or one that is startable
 abbrev pub CanStart : Form → ℕ → List ℕ → Type 0
 CanStart x limit file =
-    (file ≡ []) ⊎ ((history : Word) × IsStartable (opening_of x limit history) file)
+    (file ≡ [])
+    ⊎ ((history : PlainHistory) × (boot : ℕ) × IsStartable (opening_of x limit history boot) file)
 
 -- a site tells its disk, and a run can start from the file that was opened, where one was
 pub record OpensStartable (x : Form) (limit : ℕ) (site : SiteState) : Type 0 where

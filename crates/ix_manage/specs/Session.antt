@@ -1,8 +1,7 @@
 -- What a run made of the protocol machine, its text, and how it ends.
 use Rattle.std.specs.Prelude.{◌≡◌, ◌≢◌, ◌⊎◌, ℕ, ◌≤◌, List, [], ◌∷◌, ◌++◌, length, codes, decimal}
 use Rattle.ix_words.specs.Each.{Each}
-use Rattle.ix_values.specs.PlainAction.{PlainAction}
-use Rattle.ix_journal.specs.History.{PlainHistory}
+use Rattle.ix_journal.specs.History.{PlainHistory, Spent}
 use Rattle.ix_outside.specs.Contents.{GivenEvent}
 use Rattle.ix_outside.specs.Counts.{Counts, Rose}
 use Rattle.ix_outside.specs.declared.event.EventKind.TheVariants.{End}
@@ -22,9 +21,13 @@ pub record Session : Type 0 where
   pub last : MachineState
   pub ending : Ending
 
--- the line that is put before any event is taken: how many actions the history has
+-- the line that tells of how many actions a history is
+abbrev pub length_line : ℕ → List ℕ
+length_line length = line (codes "history " ++ decimal length)
+
+-- the line that is put before any event is taken
 abbrev pub history_line : PlainHistory → List ℕ
-history_line history = line (codes "history " ++ decimal (length history))
+history_line history = length_line (length history)
 
 -- that line of the history, and behind it the replies to events
 abbrev pub replay_text : PlainHistory → List GivenEvent → List (List (List Reply)) → List ℕ
@@ -66,8 +69,8 @@ pub data SessionEnds (turns : ℕ) (before after : Counts) (text : List ℕ) (se
       → length session.taken ≡ turns → MayGoOn session
       → LastLine 7 text (line (codes "refused turns")) status whole part
       → SessionEnds turns before after text session status whole part
-  disk_failed : {a : PlainAction} {status : ℕ} {whole part : List ℕ}
-      → session.ending ≡ failed a → Rose before.disk after.disk
+  disk_failed : {spent : Spent} {status : ℕ} {whole part : List ℕ}
+      → session.ending ≡ failed spent → Rose before.disk after.disk
       → LastLine 5 text (line (codes "refused disk")) status whole part
       → SessionEnds turns before after text session status whole part
   lost_history : session.taken ≡ []

@@ -1,5 +1,5 @@
 //! The line that is put before any event is taken.
-ghost use Rattle.std.specs.Prelude.{◌≡◌};
+ghost use Rattle.std.specs.Prelude.{◌≡◌, length};
 ghost use Rattle.ix_manage.specs.Session as spec;
 
 use crate::refusal::append;
@@ -9,7 +9,7 @@ use ix_values::Action;
 
 /// Says how many actions the history has.
 pub(crate) fn history_line(history: &[Action]) -> ArrayVec<u8, 64>
-    ensures { result.items ≡ spec.history_line history.now }
+    ensures { result.items ≡ spec.length_line (length history.now) }
 {
     let mut line = ArrayVec::new();
     append(&mut line, b"history ");

@@ -48,7 +48,7 @@ fn serve_event<S: Site>(
 ) -> Turn
     requires buffer { length buffer.old ≡ EVENT_ROOM }
     requires going { manager.old.ended ≡ false }
-    requires tickets { manager.old.machine.ticket < 2 ^ 63 }
+    requires tickets { manager.old.machine.number < 2 ^ 63 }
     requires attached { (S.state site.old).attached ≡ true }
     requires fits { FitsSite manager.old (S.state site.old) (S.crashes site.old) }
 

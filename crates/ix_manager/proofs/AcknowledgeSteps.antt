@@ -4,6 +4,7 @@ use Rattle.std.proofs.Common.{append_assoc, append-nil, Option, Some, IsSome, Ok
 use Rattle.std.proofs.Common.{sym, ◌∙◌, ap, subst, arith}
 use Rattle.std.proofs.lemmas.List.{length-append}
 use Rattle.ix_words.specs.Each.{Each}
+use Rattle.ix_values.specs.declared.tickets.Ticket.{Ticket}
 use Rattle.ix_journal.specs.History.{PlainHistory}
 use Rattle.ix_expr.specs.Form.{Form}
 use Rattle.ix_outside.specs.Contents.{Contents, SentBytes, Sends, SendsWhole, SendsPart}
@@ -15,6 +16,7 @@ use Rattle.ix_store.specs.Keeping.{Keeping}
 use Rattle.ix_store.specs.inside.KeptBy.{kept}
 use Rattle.ix_manager.specs.Acknowledged.{IsAcknowledged}
 use Rattle.ix_manager.specs.Images.{with_failed}
+use Rattle.ix_manager.specs.Machine.{MachineState}
 use Rattle.ix_manager.specs.Runs.{Ending, going}
 use Rattle.ix_manager.specs.Wire.{SendsInOrder, reply_line}
 use Rattle.ix_manager.specs.declared.journaled.Journaled.{Journaled}
@@ -29,12 +31,12 @@ use Rattle.ix_manager.proofs.SavingLemmas.{fits_images}
 use Rattle.ix_manager.proofs.SendLemmas.{silent_keeps, carries}
 
 -- replies of which none is a confirm's were sent over calls that saved the journal
-pub saves_acknowledges : (e : Ending) (x : Form) (h new : PlainHistory) (store : Keeping) (conn : ℕ)
+pub saves_acknowledges : (e : Ending) (x : Form) (h new : MachineState) (store : Keeping) (conn : ℕ)
     (replies : List Reply)
     (before after : WireState) (p q : Crashes) → AreLawful after.site q
     → Saves e x h new store before.site after.site p q
     → SendsAll conn replies before after → Each TellsNoConfirm replies
-    → Acknowledges x (length h) (with_failed e new) replies before.site after.site q
+    → Acknowledges x (length h.history) (with_failed e new.history) replies before.site after.site q
 saves_acknowledges e x h new store conn replies before after p q lawful saves sends none told s s'
     is is' left since =
     let by_then = saves.sends.by_then s s' is is' left since in
@@ -53,7 +55,7 @@ saves_acknowledges e x h new store conn replies before after p q lawful saves se
       acknowledged = λ n is. absurd (none_confirms none is);
     }
 
-module _ (conn ticket : ℕ) (one : Reply) (old new : Journaled) (was_gone gone : Bool)
+module _ (conn : ℕ) (ticket : Ticket) (one : Reply) (old new : Journaled) (was_gone gone : Bool)
     (a b c : SiteState) (p q r : Crashes)
     (between : AreLawful b q) (lawful : AreLawful c r) (only : OnlySends b c q r)
     (over : ConfirmsOver ticket (Ok one) old new a b p q)
@@ -86,7 +88,7 @@ module _ (conn ticket : ℕ) (one : Reply) (old new : Journaled) (was_gone gone 
             let at = left.image in
             let now = only.images at (lawful.since_left b.tick left since_then) in
             let store = kept new.store in
-            let there = fits_images x w store b q saves.fits (told_between told) at now in
+            let there = fits_images x new.machine.state store b q saves.fits (told_between told) at now in
             let then_told = ap (λ (t : Contents). t.sends) over.calls.rest.contents ∙ is in
             let by_then = only.sends.by_then s s' then_told is' left since_then in
             let sent = carries conn s s' sends.order then_told is' in
@@ -99,7 +101,7 @@ module _ (conn ticket : ℕ) (one : Reply) (old new : Journaled) (was_gone gone 
             let longer = ap length saves.grows in
             let grown = length-append h saves.rest in
             record {
-              keeps = journal_keeps x (length h) w [] w store.gate at there (append-nil w)
+              keeps = journal_keeps x (length h) w [] w store.marks store.gate at there (append-nil w)
                   (omega (arith, longer, grown));
               sent = by_then.more;
               behind = by_then.behind;

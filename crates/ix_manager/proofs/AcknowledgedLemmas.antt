@@ -7,6 +7,7 @@ use Rattle.std.specs.Option.{option_map}
 use Rattle.std.specs.Prelude.{⊤}
 use Rattle.ix_words.specs.Each.{Each, no_item, item}
 use Rattle.ix_values.specs.PlainAction.{PlainAction}
+use Rattle.ix_values.specs.declared.tickets.Ticket.{Ticket}
 use Rattle.ix_expr.specs.Form.{Form}
 use Rattle.ix_outside.specs.Contents.{Contents, SentBytes, Sends, SendsBytes, with_pair, with_gone}
 use Rattle.ix_outside.specs.Crashes.{Crashes, AreLawful, Elapses, OneCall}
@@ -118,8 +119,8 @@ pub no_confirm_answered : {x : Form} {limit : ℕ} {s after : MachineState} {ask
     {replies : List Reply}
     → Step x limit s asked replies after → length after.history ≡ length s.history
     → Each TellsNoConfirm replies
-no_confirm_answered {s = s} (machine.confirmed a deadline held open_still) same =
-    let longer = length-append s.history (a ∷ []) in absurd (omega arith)
+no_confirm_answered {s = s} (machine.confirmed {ticket = ticket} a deadline held open_still) same =
+    let longer = length-append s.history ((Some ticket, a) ∷ []) in absurd (omega arith)
 no_confirm_answered (machine.polled polls) same = item tt (polls_confirm_none polls)
 no_confirm_answered _ same = item tt no_item
 
@@ -130,12 +131,12 @@ changes_confirm_none [] = no_item
 changes_confirm_none (change ∷ changes) = item tt (changes_confirm_none changes)
 
 -- a confirm that was confirmed tells the length of the history then
-pub confirmed_number : {x : Form} {limit ticket n : ℕ} {s after : MachineState} {one : Reply}
+pub confirmed_number : {x : Form} {limit n : ℕ} {ticket : Ticket} {s after : MachineState} {one : Reply}
     → Step x limit s (request.confirm ticket) (one ∷ []) after → one ≡ Confirmed n
     → n ≤ length after.history
-confirmed_number {n = n} {s = s} (machine.confirmed a deadline held open_still) is =
+confirmed_number {n = n} {ticket = ticket} {s = s} (machine.confirmed a deadline held open_still) is =
     let number : length s.history + 1 ≡ n = cc in
-    let longer = length-append s.history (a ∷ []) in omega arith
+    let longer = length-append s.history ((Some ticket, a) ∷ []) in omega arith
 confirmed_number (machine.confirm_expired has isnt) is =
     absurd (let no : Refused 31 0 ≡ Confirmed _ = is in cc)
 confirmed_number (machine.confirm_no_such isnt) is =

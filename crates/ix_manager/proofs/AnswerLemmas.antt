@@ -1,17 +1,18 @@
 -- What the machine's answers make of lines.
-use Rattle.std.proofs.Common.{◌≡◌, ℕ, ◌+◌, ◌<◌, ◌≤◌, List, [], ◌∷◌, refl, sym, ◌∙◌, ap, subst, arith}
+use Rattle.std.proofs.Common.{◌≡◌, ℕ, ◌+◌, ◌<◌, ◌≤◌, List, [], ◌∷◌, Some, refl, sym, ◌∙◌, ap, subst, arith}
 use Rattle.ix_values.specs.PlainAction.{PlainAction}
+use Rattle.ix_values.specs.declared.tickets.Ticket.{Ticket}
 use Rattle.ix_lease.specs.declared.Slot.TheVariants.{Held}
 use Rattle.ix_lines.specs.Items.{line, too_long}
 use Rattle.ix_watch.specs.inside.Watches.{changes_of}
-use Rattle.ix_proto.specs.Requests.{PlainRequest, IsRequest, request_words, ask, confirm, cancel, may, watch, drop_watch, poll, status, log, stop}
+use Rattle.ix_proto.specs.Requests.{PlainRequest, IsRequest, request_words, ask, confirm, cancel, outcome, may, watch, drop_watch, poll, status, log, stop}
 use Rattle.ix_proto.specs.inside.Lends.{Lends, Reads}
 use Rattle.ix_proto.specs.RequestFaults.{IsRequestFault}
 use Rattle.ix_lines.specs.Words.{words_of}
 use Rattle.ix_proto.specs.declared.reply.Reply.{Reply}
 use Rattle.ix_proto.specs.declared.reply.Reply.TheVariants as reply
 use Rattle.ix_proto.specs.declared.request.Request.{Request}
-use Rattle.ix_proto.specs.declared.request.Request.TheVariants.{Ask, Confirm, Cancel, May, Watch, Drop, Poll, Status, Log, Stop}
+use Rattle.ix_proto.specs.declared.request.Request.TheVariants.{Ask, Confirm, Cancel, Outcome, May, Watch, Drop, Poll, Status, Log, Stop}
 use Rattle.ix_manager.specs.declared.faults.Go.{Go}
 use Rattle.ix_manager.specs.Machine.{MachineState, Step, polled}
 use Rattle.ix_manager.specs.Refusals.{disk}
@@ -20,6 +21,7 @@ use Rattle.ix_manager.specs.declared.machine.Answer.TheVariants as answer
 use Rattle.ix_manager.specs.inside.OverSite.{ending_after}
 use Rattle.ix_manager.specs.inside.Core.{Core, MachineAnswers, TellsPoll}
 use Rattle.ix_manager.specs.inside.Does.{Does}
+use Rattle.ix_manager.proofs.HistoryLemmas.{number_rises, step_reserves}
 use Rattle.ix_manager.specs.inside.WireState.{WireState, SendsAll, AnswersItem, AnswersRequest, request_ending, poll_replies}
 
 -- a request that lends a poll's name lends no other request's texts
@@ -38,6 +40,8 @@ lends_ending (Confirm number) (confirm ticket) h = refl
 lends_ending (Confirm number) _ h = absurd h
 lends_ending (Cancel number) (cancel ticket) h = refl
 lends_ending (Cancel number) _ h = absurd h
+lends_ending (Outcome number) (outcome ticket) h = refl
+lends_ending (Outcome number) _ h = absurd h
 lends_ending (May text) (may action) h = refl
 lends_ending (May text) _ h = absurd h
 lends_ending (Watch bytes text) (watch name action) h = refl
@@ -79,15 +83,15 @@ line_steps old new request go replies steps ends plain valid lends bytes same =
 abbrev pub one_answered : (conn : ℕ) (request : Request) (go : Go) (reply : Reply) (old new : Core)
     (before after : WireState)
     → MachineAnswers old request (answer.One reply) new → ending_after go ≡ request_ending request
-    → SendsAll conn (reply ∷ []) before after → new.form ≡ old.form → new.limit ≡ old.limit → new.state.ticket ≤ old.state.ticket + 1
+    → SendsAll conn (reply ∷ []) before after → new.form ≡ old.form → new.limit ≡ old.limit → new.state.number ≤ old.state.number + 1
     → AnswersRequest conn request (ending_after go) old new before after
-one_answered conn request go reply old new before after answers ends sends form limit ticket = record {
+one_answered conn request go reply old new before after answers ends sends form limit number = record {
   replies = reply ∷ [];
   step = line_steps old new request go (reply ∷ []) answers.0 ends;
   sends = sends;
   form = form;
   limit = limit;
-  ticket = ticket;
+  number = number;
 }
 
 -- a poll is answered
@@ -104,19 +108,19 @@ poll_answered conn request go name old between new before after lends ends state
   sends = sends;
   form = tells.form ∙ form;
   limit = tells.limit ∙ limit;
-  ticket =
-      let same : new.state.ticket ≡ old.state.ticket = ap (λ (s : MachineState). s.ticket) tells.rest ∙ ap (λ (s : MachineState). s.ticket) state in
+  number =
+      let same : new.state.number ≡ old.state.number = ap (λ (s : MachineState). s.number) tells.rest ∙ ap (λ (s : MachineState). s.number) state in
       omega (arith, same);
 }
 
 -- a confirm lends a confirm of its ticket
-pub lends_confirm : (ticket : ℕ) (P : PlainRequest → Type 0) → P (confirm ticket)
+pub lends_confirm : (ticket : Ticket) (P : PlainRequest → Type 0) → P (confirm ticket)
     → (plain : PlainRequest) → Lends (Confirm ticket) plain → P plain
-lends_confirm ticket P p (confirm other) lends = subst (λ (n : ℕ). P (confirm n)) lends p
+lends_confirm ticket P p (confirm other) lends = subst (λ (t : Ticket). P (confirm t)) lends p
 lends_confirm ticket P p _ lends = absurd lends
 
 -- a confirm is answered
-abbrev pub confirm_answered : (conn ticket : ℕ) (reply : Reply) (old new : Core)
+abbrev pub confirm_answered : (conn : ℕ) (ticket : Ticket) (reply : Reply) (old new : Core)
     (before after : WireState)
     → Does old (confirm ticket) reply new → SendsAll conn (reply ∷ []) before after
     → AnswersRequest conn (Confirm ticket) going old new before after
@@ -129,26 +133,26 @@ confirm_answered conn ticket reply old new before after does sends = record {
   sends = sends;
   form = does.form;
   limit = does.limit;
-  ticket = does.ticket;
+  number = number_rises (step_reserves does.step);
 }
 
 -- a confirm failed
-abbrev pub confirm_failed : (conn ticket : ℕ) (a : PlainAction) (deadline : ℕ) (reply : Reply)
+abbrev pub confirm_failed : (conn : ℕ) (ticket : Ticket) (a : PlainAction) (deadline : ℕ) (reply : Reply)
     (old new : Core) (before after : WireState)
     → old.state.slot ≡ Held ticket a deadline → old.state.moment < deadline → new ≡ old → reply ≡ disk
     → SendsAll conn (reply ∷ []) before after
-    → AnswersRequest conn (Confirm ticket) (failed a) old new before after
+    → AnswersRequest conn (Confirm ticket) (failed (Some ticket, a)) old new before after
 confirm_failed conn ticket a deadline reply old new before after held open_still same is sends = record {
   replies = disk ∷ [];
   step = λ plain valid lends.
       lends_confirm ticket (λ plain. IsRequest plain → (bytes : List ℕ) → words_of bytes ≡ request_words plain
-      → ItemStep old.form old.limit old.state (line bytes) (disk ∷ []) new.state (failed a))
-      (λ right bytes reads. subst (λ (core : Core). ItemStep old.form old.limit old.state (line bytes) (disk ∷ []) core.state (failed a)) (sym same)
+      → ItemStep old.form old.limit old.state (line bytes) (disk ∷ []) new.state (failed (Some ticket, a)))
+      (λ right bytes reads. subst (λ (core : Core). ItemStep old.form old.limit old.state (line bytes) (disk ∷ []) core.state (failed (Some ticket, a))) (sym same)
       (disk_failed right reads held open_still)) plain lends valid;
   sends = subst (λ r. SendsAll conn (r ∷ []) before after) is sends;
   form = ap (λ (core : Core). core.form) same;
   limit = ap (λ (core : Core). core.limit) same;
-  ticket = let t : new.state.ticket ≡ old.state.ticket = ap (λ (core : Core). core.state.ticket) same in omega (arith, t);
+  number = let n : new.state.number ≡ old.state.number = ap (λ (core : Core). core.state.number) same in omega (arith, n);
 }
 
 -- a line that is a request is answered
@@ -162,7 +166,7 @@ line_answered conn bytes request ending old new before after reads answers = rec
   sends = answers.sends;
   form = answers.form;
   limit = answers.limit;
-  ticket = answers.ticket;
+  number = answers.number;
 }
 
 -- a line that is no request is refused
@@ -176,7 +180,7 @@ line_refused conn bytes code told core before after fault is sends = record {
   sends = subst (λ r. SendsAll conn (r ∷ []) before after) is sends;
   form = refl;
   limit = refl;
-  ticket = omega arith;
+  number = omega arith;
 }
 
 -- a line that is too long is refused
@@ -188,5 +192,5 @@ long_line_refused conn told core before after is sends = record {
   sends = subst (λ r. SendsAll conn (r ∷ []) before after) is sends;
   form = refl;
   limit = refl;
-  ticket = omega arith;
+  number = omega arith;
 }

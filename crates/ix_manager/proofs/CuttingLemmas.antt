@@ -8,7 +8,8 @@ use Rattle.ix_lines.proofs.FeedLemmas.{completes_the_rest}
 use Rattle.ix_outside.specs.Contents.{GivenEvent}
 use Rattle.ix_proto.specs.Requests.{PlainRequest}
 use Rattle.ix_proto.specs.declared.reply.Reply.{Reply}
-use Rattle.ix_manager.specs.Machine.{MachineState, Step, busy, not_permitted, full, large, granted, ask_memory, confirmed, confirm_expired, confirm_no_such, cancelled, cancel_expired, cancel_no_such, may, watches_full, watches_new, watches_again, watch_memory, dropped, drop_no_such, polled, poll_memory, status, entry, no_such_entry, stopping}
+use Rattle.ix_manager.specs.Machine.{MachineState, Step}
+use Rattle.ix_manager.proofs.Changing.{Changes, step_changes, keeps, empties, grants, stores}
 use Rattle.ix_manager.specs.Runs.{Opening, Ending, going, ItemStep, requested, refused, over_long, disk_failed, Steps, none, last, more, Run, begin, takes, raised, text_behind, Completes}
 use Rattle.ix_manager.specs.RunLaws.{piece, RunsOverBoth, AnyCuttingGivesTheSameRun}
 use Rattle.ix_manager.proofs.RunLemmas.{run_lengths, text_behind-append, text_behind-same}
@@ -16,31 +17,13 @@ use Rattle.ix_manager.proofs.RunLemmas.{run_lengths, text_behind-append, text_be
 -- no step changes the moment
 step_moment : {x : Form} {limit : ℕ} {s after : MachineState} {request : PlainRequest} {replies : List Reply}
     → Step x limit s request replies after → after.moment ≡ s.moment
-step_moment (busy _ _ _ _) = refl
-step_moment (not_permitted _ _) = refl
-step_moment (full _ _ _) = refl
-step_moment (large _ _ _ _) = refl
-step_moment (granted _ _) = refl
-step_moment (ask_memory _ _ _) = refl
-step_moment (confirmed _ _ _ _) = refl
-step_moment (confirm_expired _ _) = refl
-step_moment (confirm_no_such _) = refl
-step_moment (cancelled _ _ _ _) = refl
-step_moment (cancel_expired _ _) = refl
-step_moment (cancel_no_such _) = refl
-step_moment (may _) = refl
-step_moment (watches_full _ _) = refl
-step_moment (watches_new _ _ _) = refl
-step_moment (watches_again _ _ _ _ _ _) = refl
-step_moment (watch_memory _) = refl
-step_moment (dropped _ _ _ _ _) = refl
-step_moment (drop_no_such _) = refl
-step_moment (polled _) = refl
-step_moment (poll_memory _) = refl
-step_moment (status _) = refl
-step_moment (entry _ _ _ _) = refl
-step_moment (no_such_entry _) = refl
-step_moment stopping = refl
+step_moment step = stays (step_changes step)
+  where
+    stays : {s after : MachineState} → Changes s after → after.moment ≡ s.moment
+    stays (keeps history slot boot number moment) = moment
+    stays (empties history slot boot number moment) = moment
+    stays (grants a deadline history slot boot number moment) = moment
+    stays (stores ticket a deadline held within history slot boot number moment) = moment
 
 item_moment : {x : Form} {limit : ℕ} {s after : MachineState} {item : Item} {replies : List Reply} {ending : Ending}
     → ItemStep x limit s item replies after ending → after.moment ≡ s.moment

@@ -1,7 +1,6 @@
 -- How the history grows along a run.
-use Rattle.std.proofs.Common.{◌≡◌, ℕ, List, [], ◌∷◌, ◌++◌, append_assoc, append-nil, refl, sym, ◌∙◌}
+use Rattle.std.proofs.Common.{◌≡◌, ℕ, List, [], ◌∷◌, ◌++◌, append_assoc, append-nil, Some, refl, sym, ◌∙◌}
 use Rattle.std.proofs.Common.{ap}
-use Rattle.ix_values.specs.PlainAction.{Word}
 use Rattle.ix_journal.specs.History.{PlainHistory}
 use Rattle.ix_expr.specs.Form.{Form}
 use Rattle.ix_lines.specs.Items.{Item}
@@ -15,24 +14,24 @@ use Rattle.ix_manager.specs.Runs.{Opening, Ending, ending_of, ItemStep, requeste
 use Rattle.ix_manager.specs.Runs.{over_long, disk_failed, Steps, none, last, more, Run, begin}
 use Rattle.ix_manager.specs.Runs.{takes}
 
--- the second word begins with the first
+-- the second history begins with the first
 abbrev pub Grows : PlainHistory → PlainHistory → Type 0
 Grows old new = (rest : PlainHistory) × (old ++ rest ≡ new)
 
-pub grows_not : (w : Word) → Grows w w
+pub grows_not : (w : PlainHistory) → Grows w w
 grows_not w = ([], append-nil w)
 
-pub grows_twice : (u v w : Word) → Grows u v → Grows v w → Grows u w
+pub grows_twice : (u v w : PlainHistory) → Grows u v → Grows v w → Grows u w
 grows_twice u v w first second = (
   first.0 ++ second.0,
   sym (append_assoc u first.0 second.0)
-      ∙ ap (λ (t : Word). t ++ second.0) first.1 ∙ second.1,
+      ∙ ap (λ (t : PlainHistory). t ++ second.0) first.1 ∙ second.1,
 )
 
 step_grows : {x : Form} {limit : ℕ} {s after : MachineState} {asked : PlainRequest}
     {replies : List Reply}
     → Step x limit s asked replies after → Grows s.history after.history
-step_grows (confirmed a deadline held open_still) = (a ∷ [], refl)
+step_grows (confirmed {ticket = ticket} a deadline held open_still) = ((Some ticket, a) ∷ [], refl)
 step_grows _ = ([], append-nil _)
 
 -- no request fails
@@ -48,7 +47,7 @@ item_grows (requested asked {after = after} valid same step) =
     let grown = step_grows step in (grown.0, grown.1 ∙ sym (none_failed asked after.history))
 item_grows (refused fault) = grows_not _
 item_grows over_long = grows_not _
-item_grows (disk_failed {a = a} valid same held open_still) = (a ∷ [], refl)
+item_grows (disk_failed {ticket = ticket} {a = a} valid same held open_still) = ((Some ticket, a) ∷ [], refl)
 
 -- the steps of an event, with the action of a confirm that failed behind the last history
 pub steps_grow : {x : Form} {limit : ℕ} {s after : MachineState} {items : List Item}

@@ -1,6 +1,6 @@
 -- Events, handled.
 use Rattle.std.proofs.Common.{◌≡◌, ℕ, false, List, [], length, get_or, set, Result, Ok, Err, OnOk}
-use Rattle.std.proofs.Common.{OnErr, refl, sym, ◌∙◌, ap, subst}
+use Rattle.std.proofs.Common.{OnErr, inl, refl, sym, ◌∙◌, ap, subst}
 use Rattle.std.proofs.lemmas.List.{set-get_or}
 use Rattle.ix_words.specs.Each.{no_item}
 use Rattle.ix_lines.specs.Feeding.{unfinished}
@@ -13,7 +13,9 @@ use Rattle.ix_outside.specs.declared.event.EventKind.TheVariants.{Bytes, Closed,
 use Rattle.ix_manager.specs.Runs.{Ending, going, Steps, none, raised}
 use Rattle.ix_manager.specs.Wire.{done, marks_after, all_replies}
 use Rattle.ix_manager.specs.Handled.{ManagerState, Handles, held_at, completed_by, held_after}
+use Rattle.ix_manager.specs.Machine.{MachineState}
 use Rattle.ix_manager.specs.inside.Acknowledging.{Acknowledges}
+use Rattle.ix_manager.specs.inside.Does.{MayReserve}
 use Rattle.ix_manager.specs.inside.WireState.{WireState, wired}
 use Rattle.ix_manager.specs.declared.faults.Go.{Go}
 use Rattle.ix_manager.specs.declared.faults.Go.TheVariants.{More, Stopped}
@@ -23,7 +25,7 @@ use Rattle.ix_manager.specs.inside.OverSite.{FitsWith, FitsSite, EndsBy, Handles
 use Rattle.ix_manager.specs.inside.Saving.{UnlessFailed, WhereFailed}
 use Rattle.ix_manager.specs.inside.TakenItems.{TakesBytes, BytesOver}
 use Rattle.ix_manager.proofs.AcknowledgeSteps.{saves_acknowledges}
-use Rattle.ix_manager.proofs.SavingLemmas.{saves_none, saves_same}
+use Rattle.ix_manager.proofs.SavingLemmas.{saves_none, saves_same, saves_reserved, fits_reserved}
 use Rattle.ix_manager.proofs.SendSteps.{nothing_sent}
 
 -- a manager whose moment was raised
@@ -141,6 +143,7 @@ module _ (old between new : ManagerState) (event : Event) (n : ℕ) (bytes : Lis
     handles = bytes_handled old new event n bytes over.ending before after is
         (gone_between ∙ ap (λ (m : ManagerState). get_or m.marks event.conn false) same) over.takes;
     keeps = over.saves.keeps;
+    boots = over.saves.boots;
     ends = over.saves.ends;
     acknowledges = over.acknowledges;
     sends = over.saves.sends;
@@ -152,30 +155,44 @@ module _ (old between new : ManagerState) (event : Event) (n : ℕ) (bytes : Lis
   pub bytes_fit : OnOk result (FitsSite new after.site q)
   bytes_fit =
       let form : new.form ≡ old.form = over.takes.form in
-      fits_along result (FitsWith old.form new.machine.history new.store after.site q) _ (λ fits. subst (λ x. FitsWith x new.machine.history new.store after.site q) (sym form) fits)
+      fits_along result (FitsWith old.form new.machine new.store after.site q) _ (λ fits. subst (λ x. FitsWith x new.machine new.store after.site q) (sym form) fits)
       (fits_where result over.ending _ over.answered over.saves.fits)
 
   pub bytes_pass : Passes before.site after.site p q
   bytes_pass = over.saves.passes
 
+-- raising the moment reserves nothing
+pub raised_reserves : (moment : ℕ) (s : MachineState) → MayReserve s (raised moment s)
+raised_reserves moment s = record { boot = refl; slot = inl (refl, refl) }
+
+-- a manager's store goes on to fit at a later moment
+pub moment_fits : (old between : ManagerState) (moment : ℕ) (site : SiteState) (crashes : Crashes)
+    → between ≡ at_moment moment old → FitsSite old site crashes → FitsSite between site crashes
+moment_fits old between moment site crashes same fits =
+    subst (λ (m : ManagerState). FitsSite m site crashes) (sym same)
+    (fits_reserved old.form old.machine (raised moment old.machine) old.store site crashes refl
+    (raised_reserves moment old.machine) fits)
+
 -- no call was made, over a site
 pub rest_over : (old new : ManagerState) (event : Event) (bytes : List ℕ) (site : SiteState) (crashes : Crashes) → AreLawful site crashes
     → FitsSite old site crashes → (handles :
     Handles old event bytes going new site.contents site.contents) → handles.answers ≡ []
-    → new.machine.history ≡ old.machine.history
+    → new.machine ≡ raised event.moment old.machine
     → HandlesOver old event bytes (Ok More) new site site crashes
 rest_over old new event bytes site crashes lawful fits handles nothing same =
-    let none = saves_same going old.form old.machine.history old.machine.history new.machine.history old.store site site crashes crashes same
-    (saves_none old.form old.machine.history old.store site crashes lawful fits) in
+    let none = saves_same going old.form old.machine (raised event.moment old.machine) new.machine old.store site site crashes crashes same
+    (saves_reserved old.form old.machine old.machine (raised event.moment old.machine) old.store site site crashes crashes refl
+    (raised_reserves event.moment old.machine) (saves_none old.form old.machine old.store site crashes lawful fits)) in
     record {
       ending = going;
       answered = refl;
       handles = handles;
       keeps = none.keeps;
+      boots = none.boots;
       ends = none.ends;
       acknowledges = subst (λ answers. Acknowledges old.form (length old.machine.history)
           new.machine.history (all_replies answers) site site crashes) (sym nothing)
-          (saves_acknowledges going old.form old.machine.history new.machine.history old.store 0 []
+          (saves_acknowledges going old.form old.machine new.machine old.store 0 []
           (wired false site) (wired false site) crashes crashes
           lawful none (nothing_sent 0 (wired false site)) no_item);
       sends = none.sends;

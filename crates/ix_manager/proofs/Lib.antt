@@ -1,9 +1,12 @@
+pub mod SlotLemmas
+pub mod Changing
 pub mod RunLemmas
 pub mod SendLemmas
 pub mod CuttingLemmas
 pub mod WatchLists
 pub mod Polling
 pub mod Refreshing
+pub mod Keeping
 pub mod Stepping
 pub mod Requesting
 pub mod TakeLemmas
@@ -21,3 +24,6 @@ pub mod HistoryLemmas
 pub mod OverLemmas
 pub mod RecoverLemmas
 pub mod StartLemmas
+pub mod TicketLemmas
+pub mod StartTickets
+pub mod LaterLemmas

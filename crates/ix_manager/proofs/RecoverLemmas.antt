@@ -1,9 +1,12 @@
 -- What it comes to that an engine takes the actions of a journal as its history, or doesn't.
-use Rattle.std.proofs.Common.{◌≡◌, ℕ, ◌+◌, ◌-◌, ◌<◌, [], ◌∷◌, ◌++◌, length, take, sym, ◌∙◌, ap, subst, arith, inl, inr, length-append}
+use Rattle.std.proofs.Common.{◌≡◌, ℕ, ◌+◌, ◌-◌, ◌<◌, List, [], ◌∷◌, ◌++◌, length, take, sym, ◌∙◌, ap, subst, arith, inl, inr, length-append}
 use Rattle.std.proofs.Math.Seq.{take-append_seam, take-append-add}
 use Rattle.std.proofs.lemmas.Bool.{cases_lt}
 use Rattle.std.proofs.lemmas.List.{take_all, take-append-le}
 use Rattle.ix_values.specs.PlainAction.{PlainAction, Word}
+use Rattle.ix_journal.specs.Entries.{AreFew}
+use Rattle.ix_journal.specs.Recovery.{Keeps, unfinished, unopened, ready}
+use Rattle.ix_journal.specs.declared.entries.Entry.{Entry}
 use Rattle.ix_expr.specs.Form.{Form}
 use Rattle.ix_expr.specs.Meaning.{IsPartial}
 use Rattle.ix_can.specs.TreeOf.{tree_size}
@@ -11,6 +14,12 @@ use Rattle.ix_engine.specs.inside.Extending.{AreAllowed, none, more, IsRefused}
 use Rattle.ix_engine.specs.declared.faults.PrepareFault.TheVariants.{NotPartial, Over}
 use Rattle.ix_manager.specs.Images.{IsWithin, EachPrefixIsWithin}
 use Rattle.ix_manager.specs.Starts.{IsReached, IsNoWord, IsHeavy}
+
+-- the records that a file keeps aren't too many
+pub few_kept : (file : List ℕ) (entries : List Entry) → Keeps file entries → AreFew entries
+few_kept file _ (unfinished _ is) = record { actions = omega arith; boots = omega arith }
+few_kept file _ (unopened _ text is) = record { actions = omega arith; boots = omega arith }
+few_kept file entries (ready _ text _ gate journal) = journal.closes.few
 
 -- the empty word's only prefix
 pub none_within : (x : Form) (limit : ℕ) → IsWithin x limit [] → EachPrefixIsWithin x limit []

@@ -1,6 +1,11 @@
 -- What starting a manager answers and leaves.
-use Rattle.std.proofs.Common.{◌≡◌, ◌⊎◌, ℕ, ◌≤◌, List, [], length, Option, None, Some, Result, Err, inl, inr, refl, ap, subst, arith}
-use Rattle.ix_journal.specs.History.{PlainHistory}
+use Rattle.std.proofs.Common.{◌≡◌, ◌⊎◌, ℕ, ◌+◌, ◌<◌, ◌≤◌, List, [], length, Option, None, Some, Result, Err, false, inl, inr, refl, sym, ◌∙◌, ap, subst, arith}
+use Rattle.std.proofs.lemmas.List.{length-map}
+use Rattle.std.specs.Option.{ForSome}
+use Rattle.ix_journal.specs.Entries.{marks_of, pairs_of}
+use Rattle.ix_journal.specs.History.{PlainHistory, Spent, actions_of}
+use Rattle.ix_journal.specs.declared.entries.Entry.{Entry}
+use Rattle.ix_journal.specs.declared.entries.Marks.{Marks}
 use Rattle.ix_expr.specs.CanonicalText.{canonical_text}
 use Rattle.ix_expr.specs.Form.{Form}
 use Rattle.ix_expr.proofs.LawsOfMeaning.{empty-partial}
@@ -12,12 +17,16 @@ use Rattle.ix_engine.specs.declared.faults.ResumeFault.{ResumeFault}
 use Rattle.ix_journal.specs.Kinds as kind
 use Rattle.ix_journal.specs.Kinds.{IsUnfinished, IsReady, Kind}
 use Rattle.ix_journal.specs.Recovery as recovery
-use Rattle.ix_journal.specs.Recovery.{IsJournal, Recovers}
+use Rattle.ix_journal.specs.Recovery.{IsJournal, HoldsBoots, Recovers, Keeps as KeepsEntries}
 use Rattle.ix_journal.proofs.KindLaws.{one_kind}
+use Rattle.ix_journal.proofs.OutcomeLaws.{one_history, one_number}
 use Rattle.ix_outside.specs.Crashes.{Crashes, AreLawful}
 use Rattle.ix_outside.specs.Disk.{Disk, MakesFile, Stays}
 use Rattle.ix_outside.specs.SiteState.{SiteState}
+use Rattle.ix_outside.specs.inside.DiskCalls.{DiskCalls, KeepsOpened, LeavesOnly}
 use Rattle.ix_store.specs.Opening.{IsNew}
+use Rattle.ix_store.specs.Keeping.{Keeping}
+use Rattle.ix_store.specs.inside.Keeping.{Fits, IsBootedOrNot, booted}
 use Rattle.ix_store.specs.inside.Opens.{Opens}
 use Rattle.ix_store.specs.inside.Opens as opening
 use Rattle.ix_store.specs.inside.Refusals.{Refuses}
@@ -33,13 +42,18 @@ use Rattle.ix_manager.specs.Runs.{opening_of}
 use Rattle.ix_manager.specs.declared.faults.StartFault.{StartFault}
 use Rattle.ix_manager.specs.declared.faults.StartFault.TheVariants as start
 use Rattle.ix_manager.specs.inside.StartFaults.{open_fault_of, record_fault_of}
-use Rattle.ix_manager.proofs.RecoverLemmas.{none_within, each_within, no_word, heavy, longer}
+use Rattle.ix_manager.specs.Machine.{start_of}
+use Rattle.ix_manager.specs.inside.OverSite.{FitsWith}
+use Rattle.ix_manager.proofs.SlotLemmas.{free_holds}
+use Rattle.ix_manager.proofs.SavingLemmas.{journal_holds, journal_recovers}
+use Rattle.ix_manager.proofs.RecoverLemmas.{few_kept, none_within, each_within, no_word, heavy, longer}
 
 -- no call
 pub leaves_none : (x : Form) (limit : ℕ) (file : List ℕ) (site : SiteState) (crashes : Crashes) → AreLawful site crashes
     → StartLeaves x limit file site site crashes crashes
 leaves_none x limit file site crashes lawful = record {
   recovers = λ history is at left. inl ((lawful.left_now at).0 left);
+  boots = λ boots holds at left. inl ((lawful.left_now at).0 left);
   own = λ is at left. inl ((lawful.left_now at).0 left);
   refused = λ no. (stays site.disk, λ at left. (lawful.left_now at).0 left);
 }
@@ -61,52 +75,189 @@ not_unfinished : (at text : List ℕ) (gate : ℕ) → IsReady at text gate → 
 not_unfinished at text gate is isnt =
     let same = one_kind at kind.unfinished (kind.ready text gate) isnt is in cc
 
--- a file that is of the expression's text or unfinished, and recovers a history, is one that it may open
-pub own_of : (x : Form) (at : List ℕ) (h : PlainHistory) → opening.IsOwn at (canonical_text x) → Recovers at h → IsOwn x at
-own_of x at h (inl new) recovers = image.new new
-own_of x at h (inr is) (recovery.unfinished _ unfinished) = absurd (not_unfinished at (canonical_text x) is.0 is.1 unfinished)
-own_of x at h (inr is) (recovery.unopened _ text unopened) =
+-- a file that is of the expression's text or unfinished, and keeps records, is one that it may open
+pub own_of : (x : Form) (at : List ℕ) (entries : List Entry) → opening.IsOwn at (canonical_text x) → KeepsEntries at entries → IsOwn x at
+own_of x at entries (inl new) keeps = image.new new
+own_of x at _ (inr is) (recovery.unfinished _ unfinished) = absurd (not_unfinished at (canonical_text x) is.0 is.1 unfinished)
+own_of x at _ (inr is) (recovery.unopened _ text unopened) =
     absurd (let same = one_kind at (kind.unopened text) (kind.ready (canonical_text x) is.0) unopened is.1 in cc)
-own_of x at h (inr is) (recovery.ready _ text history gate journal) =
-    image.ready history gate
-    (subst (λ (t : List ℕ). IsJournal at t history gate) (same_text at (canonical_text x) text is.0 journal.first is.1 journal.ready) journal)
+own_of x at _ (inr is) (recovery.ready _ text entries gate journal) =
+    image.ready (pairs_of entries) (marks_of entries) gate (record {
+      entries = entries;
+      journal = subst (λ (t : List ℕ). IsJournal at t entries gate)
+          (same_text at (canonical_text x) text is.0 journal.first is.1 journal.ready) journal;
+      pairs = refl;
+      marked = refl;
+    })
 
--- a file that is to be made anew recovers nothing
-new_recovers : (at text : List ℕ) → IsNew at text → Recovers at []
-new_recovers at text (inl unfinished) = recovery.unfinished at unfinished
-new_recovers at text (inr unopened) = recovery.unopened at text unopened
+-- a file that is to be made anew keeps no record
+new_keeps : (at text : List ℕ) → IsNew at text → KeepsEntries at []
+new_keeps at text (inl unfinished) = recovery.unfinished at unfinished
+new_keeps at text (inr unopened) = recovery.unopened at text unopened
 
 -- the empty word
 initial_within : (x : Form) (limit : ℕ) → tree_size x [] ≤ limit → IsWithin x limit []
 initial_within x limit within = record { partial = empty-partial x []; size = within }
 
 -- of a start of the store
-pub leaves_store : (x : Form) (limit : ℕ) (file : List ℕ) (old new : SiteState) (was is : Crashes) → tree_size x [] ≤ limit
-    → LeavesOnStart (canonical_text x) file old new was is → StartLeaves x limit file old new was is
-leaves_store x limit file old new was is within leaves = record {
-  recovers = leaves.recovers;
-  own = own;
-  refused = λ no. leaves.stays (λ fresh. no [] (record {
-    own = image.new fresh;
-    recovers = new_recovers file (canonical_text x) fresh;
-    within = none_within x limit (initial_within x limit within);
-  }));
-}
-  where
-    anew : IsNew file (canonical_text x) → (at : List ℕ) → is.left old.tick at → was.now at ⊎ IsOwn x at
-    anew fresh at left =
-        elim (leaves.recovers [] (new_recovers file (canonical_text x) fresh) at left) [
-          | inl now ↦ inl now
-          | inr recovers ↦ elim (leaves.own (inl fresh) at left) [
-            | inl now ↦ inl now
-            | inr own ↦ inr (own_of x at [] own recovers)
-          ]
-        ]
+module _ (x : Form) (limit : ℕ) (file : List ℕ) (old new : SiteState) (was is : Crashes)
+    (leaves : LeavesOnStart (canonical_text x) file old new was is) where
+  recovers_store : (h : PlainHistory) → Recovers file h → (at : List ℕ) → is.left old.tick at → was.now at ⊎ Recovers at h
+  recovers_store h of_file at left = elim (leaves.keeps of_file.entries of_file.keeps at left) [
+    | inl now ↦ inl now
+    | inr keeps ↦ inr (record { entries = of_file.entries; keeps = keeps; pairs = of_file.pairs })
+  ]
 
-    own : IsUnfinished file ⊎ HasText file (canonical_text x) → (at : List ℕ) → is.left old.tick at → was.now at ⊎ IsOwn x at
-    own (inl unfinished) at left = anew (inl unfinished) at left
-    own (inr (inl unopened)) at left = anew (inr unopened) at left
-    own (inr (inr ready)) at left = inl ((leaves.stays (ready_not_new file (canonical_text x) ready)).1 at left)
+  holds_store : (boots : ℕ) → HoldsBoots file boots → (at : List ℕ) → is.left old.tick at → was.now at ⊎ HoldsBoots at boots
+  holds_store boots of_file at left = elim (leaves.keeps of_file.entries of_file.keeps at left) [
+    | inl now ↦ inl now
+    | inr keeps ↦ inr (record { entries = of_file.entries; keeps = keeps; number = of_file.number })
+  ]
+
+  anew : IsNew file (canonical_text x) → (at : List ℕ) → is.left old.tick at → was.now at ⊎ IsOwn x at
+  anew fresh at left =
+      elim (leaves.keeps [] (new_keeps file (canonical_text x) fresh) at left) [
+        | inl now ↦ inl now
+        | inr keeps ↦ elim (leaves.own (inl fresh) at left) [
+          | inl now ↦ inl now
+          | inr own ↦ inr (own_of x at [] own keeps)
+        ]
+      ]
+
+  own_store : IsUnfinished file ⊎ HasText file (canonical_text x) → (at : List ℕ) → is.left old.tick at → was.now at ⊎ IsOwn x at
+  own_store (inl unfinished) at left = anew (inl unfinished) at left
+  own_store (inr (inl unopened)) at left = anew (inr unopened) at left
+  own_store (inr (inr ready)) at left = inl ((leaves.stays (ready_not_new file (canonical_text x) ready)).1 at left)
+
+  -- no boot was written behind it
+  pub leaves_store : tree_size x [] ≤ limit → StartLeaves x limit file old new was is
+  leaves_store within = record {
+    recovers = recovers_store;
+    boots = λ boots holds at left. elim (holds_store boots holds at left) [ inl now ↦ inl now | inr same ↦ inr (inl same) ];
+    own = own_store;
+    refused = λ no. leaves.stays (λ fresh. no [] 1 (new_startable fresh));
+  }
+    where
+      new_startable : IsNew file (canonical_text x) → IsStartable (opening_of x limit [] 1) file
+      new_startable fresh =
+          let keeps = new_keeps file (canonical_text x) fresh in record {
+            own = image.new fresh;
+            recovers = record { entries = []; keeps = keeps; pairs = refl };
+            within = none_within x limit (initial_within x limit within);
+            boots = 0;
+            holds = record { entries = []; keeps = keeps; number = refl };
+            few = omega arith;
+            next = refl;
+          }
+
+-- a disk that is told is told behind calls
+pub stays_told : (old new : Option Disk) (disk : Disk) → KeepsOpened old new → old ≡ Some disk → (now : Disk) × (new ≡ Some now)
+stays_told None new disk keeps is = absurd (let no : None ≡ Some disk = is in cc)
+stays_told (Some was) None disk keeps is = absurd keeps
+stays_told (Some was) (Some now) disk keeps is = (now, refl)
+
+-- it took the history, and the file can be started from
+pub resumed : (x : Form) (limit : ℕ) (file : List ℕ) (h : PlainHistory) (boots : ℕ) → tree_size x [] ≤ limit
+    → AreAllowed x limit (actions_of h) → boots < 1000000
+    → Opens file (canonical_text x) h boots → IsStartable (opening_of x limit h (boots + 1)) file
+resumed x limit file h boots within allowed few opens = record {
+  own = own_of x file opens.recovers.entries opens.own opens.recovers.keeps;
+  recovers = opens.recovers;
+  within = each_within x limit (actions_of h) (initial_within x limit within) allowed;
+  boots = boots;
+  holds = opens.holds;
+  few = few;
+  next = refl;
+}
+
+-- the store fits the machine of the boot that it wrote
+pub begun_fits : (x : Form) (h : PlainHistory) (old new : Keeping) (boot : ℕ) (site : SiteState) (crashes : Crashes)
+    → new.failed ≡ false → Fits site crashes new (canonical_text x) h
+    → boot ≡ old.marks.boots + 1 → new.marks ≡ booted old.marks → FitsWith x (start_of h boot) new site crashes
+begun_fits x h old new boot site crashes works fits number is = record {
+  works = works;
+  fits = fits;
+  tickets = record {
+    boot = number ∙ sym (ap (λ (m : Marks). m.boots) is);
+    begun = omega (arith, number);
+    number = let none = ap (λ (m : Marks). m.seq) is in omega (arith, none);
+    reserved = λ ticket a deadline free. free_holds ticket a deadline free;
+  };
+}
+
+-- of a start of the store, and of the boot that was written behind it
+module _ (x : Form) (limit : ℕ) (file : List ℕ) (old mid new : SiteState) (was then is : Crashes)
+    (leaves : LeavesOnStart (canonical_text x) file old mid was then)
+    (before : DiskCalls old mid was then) (calls : DiskCalls mid new then is)
+    (h : PlainHistory) (marks : Marks) (opens : Opens file (canonical_text x) h marks.boots)
+    (images : LeavesOnly (IsBootedOrNot (canonical_text x) h marks) mid is) where
+  -- an image that a crash may have left is from before the boot was written, or from then on
+  since : (at : List ℕ) → is.left old.tick at → then.left old.tick at ⊎ is.left mid.tick at
+  since at left = calls.passes.left.nothing_else old.tick at before.passes.left.later left
+
+  recovers_booted : (k : PlainHistory) → Recovers file k → (at : List ℕ) → is.left old.tick at → was.now at ⊎ Recovers at k
+  recovers_booted k of_file at left = elim (since at left) [
+    | inl earlier ↦ recovers_store x limit file old mid was then leaves k of_file at earlier
+    | inr later ↦
+        let found = images at later in
+        let recovered : Recovers at h = elim found.1 [
+          | inl without ↦ journal_recovers at (canonical_text x) h marks found.0 without
+          | inr with_it ↦ journal_recovers at (canonical_text x) h (booted marks) found.0 with_it
+        ] in
+        inr (subst (λ (w : PlainHistory). Recovers at w) (one_history file h k opens.recovers of_file) recovered)
+  ]
+
+  boots_booted : (boots : ℕ) → HoldsBoots file boots → (at : List ℕ) → is.left old.tick at
+      → was.now at ⊎ HoldsBoots at boots ⊎ HoldsBoots at (boots + 1)
+  boots_booted boots of_file at left =
+      let same = one_number file marks.boots boots opens.holds of_file in
+      elim (since at left) [
+        | inl earlier ↦ elim (holds_store x limit file old mid was then leaves boots of_file at earlier)
+            [ inl now ↦ inl now | inr holds ↦ inr (inl holds) ]
+        | inr later ↦ let found = images at later in elim found.1 [
+          | inl without ↦ inr (inl (subst (λ n. HoldsBoots at n) same
+              (journal_holds at (canonical_text x) h marks found.0 without)))
+          | inr with_it ↦ inr (inr (subst (λ n. HoldsBoots at (n + 1)) same
+              (journal_holds at (canonical_text x) h (booted marks) found.0 with_it)))
+        ]
+      ]
+
+  own_booted : IsUnfinished file ⊎ HasText file (canonical_text x) → (at : List ℕ) → is.left old.tick at → was.now at ⊎ IsOwn x at
+  own_booted own at left = elim (since at left) [
+    | inl earlier ↦ own_store x limit file old mid was then leaves own at earlier
+    | inr later ↦ let found = images at later in elim found.1 [
+      | inl without ↦ inr (image.ready h marks found.0 without)
+      | inr with_it ↦ inr (image.ready h (booted marks) found.0 with_it)
+    ]
+  ]
+
+  pub leaves_booted : tree_size x [] ≤ limit → AreAllowed x limit (actions_of h) → marks.boots < 1000000
+      → StartLeaves x limit file old new was is
+  leaves_booted within allowed few = record {
+    recovers = recovers_booted;
+    boots = boots_booted;
+    own = own_booted;
+    refused = λ no. absurd (no h (marks.boots + 1) (resumed x limit file h marks.boots within allowed few opens));
+  }
+
+-- the same, of a text, a form and a history that have another spelling
+pub started_leaves : (x : Form) (limit : ℕ) (disk : Disk) (old mid new : SiteState) (was then is : Crashes) (text : List ℕ)
+    (h pairs : PlainHistory) (form : Form) (store : Keeping)
+    → text ≡ canonical_text x → form ≡ x → pairs ≡ h → old.disk ≡ Some disk
+    → LeavesOnStart text disk.file old mid was then → DiskCalls old mid was then → DiskCalls mid new then is
+    → Opens disk.file text h store.marks.boots
+    → ForSome mid.disk (λ _. LeavesOnly (IsBootedOrNot (canonical_text form) pairs store.marks) mid is)
+    → tree_size x [] ≤ limit → AreAllowed x limit (actions_of h) → store.marks.boots < 1000000
+    → StartLeaves x limit disk.file old new was is
+started_leaves x limit disk old mid new was then is text h pairs form store text_is form_is pairs_are told leaves before calls
+    opens images =
+    let told_then = stays_told old.disk mid.disk disk before.opened told in
+    leaves_booted x limit disk.file old mid new was then is
+    (subst (λ (t : List ℕ). LeavesOnStart t disk.file old mid was then) text_is leaves) before calls h store.marks
+    (subst (λ (t : List ℕ). Opens disk.file t h store.marks.boots) text_is opens)
+    (subst (λ (f : Form). LeavesOnly (IsBootedOrNot (canonical_text f) h store.marks) mid is) form_is
+    (subst (λ (k : PlainHistory). LeavesOnly (IsBootedOrNot (canonical_text form) k store.marks) mid is) pairs_are
+    (images told_then.0 told_then.1)))
 
 -- a store that wasn't opened isn't refused as large
 pub never_large : {T : Type 0} (why : OpenFault) (fault : StartFault) (limit : ℕ) → fault ≡ open_fault_of why
@@ -118,6 +269,16 @@ never_large (refused.Damaged at) fault limit is same = cc
 never_large refused.Many fault limit is same = cc
 never_large refused.Memory fault limit is same = cc
 
+-- a store that wasn't opened is refused for the disk only where this failed
+pub disk_fault : {T : Type 0} (why : OpenFault) (fault : StartFault) → fault ≡ open_fault_of why
+    → ◌≡◌ {A = Result T StartFault} (Err fault) (Err start.Disk) → why ≡ refused.Disk
+disk_fault refused.Disk fault is same = refl
+disk_fault refused.NotJournal fault is same = cc
+disk_fault (refused.OtherExpression kept) fault is same = cc
+disk_fault (refused.Damaged at) fault is same = cc
+disk_fault refused.Many fault is same = cc
+disk_fault refused.Memory fault is same = cc
+
 -- why the store wasn't opened
 pub open_fault : (x : Form) (limit : ℕ) (file : List ℕ) (why : OpenFault) → Refuses file (canonical_text x) why
     → IsFault x limit file (open_fault_of why)
@@ -128,39 +289,33 @@ open_fault x limit file (refused.Damaged at) facts = facts
 open_fault x limit file refused.Many facts = facts
 open_fault x limit file refused.Memory facts = tt
 
-few_recovered : (file : List ℕ) (h : PlainHistory) → Recovers file h → length h ≤ 1000000
-few_recovered file h (recovery.unfinished _ _) = omega arith
-few_recovered file h (recovery.unopened _ _ _) = omega arith
-few_recovered file h (recovery.ready _ _ _ _ journal) = journal.closes.few
+few_recovered : (file : List ℕ) (h : PlainHistory) → Recovers file h → length (actions_of h) ≤ 1000000
+few_recovered file h of_file =
+    let few = (few_kept file of_file.entries of_file.keeps).actions in
+    let pairs = ap length of_file.pairs in
+    let actions = length-map h (λ (spent : Spent). spent.1) in
+    omega (arith, few, pairs, actions)
 
 -- why an engine of this expression and limit didn't take the history
-pub resume_fault : (x : Form) (limit : ℕ) (file : List ℕ) (h : PlainHistory) (stopped : ResumeFault) → tree_size x [] ≤ limit
-    → Opens file (canonical_text x) h → StopsAt x limit h stopped → IsFault x limit file (record_fault_of stopped.number stopped.why)
-resume_fault x limit file h stopped within opens at = told stopped.why at.refused
+pub resume_fault : (x : Form) (limit : ℕ) (file : List ℕ) (h : PlainHistory) (boots : ℕ) (stopped : ResumeFault) → tree_size x [] ≤ limit
+    → Opens file (canonical_text x) h boots → StopsAt x limit (actions_of h) stopped
+    → IsFault x limit file (record_fault_of stopped.number stopped.why)
+resume_fault x limit file h boots stopped within opens at = told stopped.why at.refused
   where
     own : IsOwn x file × Recovers file h
-    own = (own_of x file h opens.own opens.recovers, opens.recovers)
+    own = (own_of x file opens.recovers.entries opens.own opens.recovers.keeps, opens.recovers)
 
     each : EachPrefixIsWithin x limit at.before
     each = each_within x limit at.before (initial_within x limit within) at.allowed
 
     told : (why : PrepareFault) → IsRefused x limit at.before at.action why → IsFault x limit file (record_fault_of stopped.number why)
     told prepare.NotPartial refused =
-        (h, own, no_word x limit h at.before at.action at.behind stopped.number at.parts at.number each refused)
+        (h, own, no_word x limit (actions_of h) at.before at.action at.behind stopped.number at.parts at.number each refused)
     told (prepare.Over l) refused =
-        (h, own, heavy x limit h at.before at.action at.behind stopped.number at.parts at.number each l refused, refused.0)
+        (h, own, heavy x limit (actions_of h) at.before at.action at.behind stopped.number at.parts at.number each l refused, refused.0)
     told prepare.Full refused =
         let few = few_recovered file h opens.recovers in
-        let room = longer x limit h at.before at.action at.behind stopped.number at.parts at.number each in
+        let room = longer x limit (actions_of h) at.before at.action at.behind stopped.number at.parts at.number each in
         let full = refused.1 in
         absurd (omega (arith, few, room, full))
     told prepare.Memory refused = tt
-
--- it took the history, and the file can be started from
-pub resumed : (x : Form) (limit : ℕ) (file : List ℕ) (h : PlainHistory) → tree_size x [] ≤ limit → AreAllowed x limit h
-    → Opens file (canonical_text x) h → IsStartable (opening_of x limit h) file
-resumed x limit file h within allowed opens = record {
-  own = own_of x file h opens.own opens.recovers;
-  recovers = opens.recovers;
-  within = each_within x limit h (initial_within x limit within) allowed;
-}

@@ -1,11 +1,17 @@
 -- What each request makes of the machine, by what its parts answer.
-use Rattle.std.proofs.Common.{◌≡◌, ◌↔◌, ℕ, zero, suc, ◌+◌, ◌-◌, ◌^◌, ◌<◌, ◌≤◌, min, Bool, true, false, List, [], ◌∷◌, ◌++◌, length, get_or, map, Option, Some, IsTrue, refl, sym, ◌∙◌, ap, subst, true≢false, arith, inl, inr, length-append, Ok}
+use Rattle.std.proofs.Common.{◌≡◌, ◌↔◌, ℕ, zero, suc, ◌+◌, ◌-◌, ◌^◌, ◌<◌, ◌≤◌, min, Bool, true, false, List, [], ◌∷◌, ◌++◌, length, get_or, map, Option, Some, None, Vec, IsTrue, refl, sym, ◌∙◌, ap, subst, true≢false, arith, inl, inr, length-append, Ok}
+use Rattle.std.proofs.lemmas.List.{length-map}
+use Rattle.std.specs.declared.alloc.Global.{Global}
+use Rattle.std.specs.List.{position, zip}
+use Rattle.std.proofs.lemmas.Slice.Zip.{seconds-zip}
 use Rattle.ix_words.specs.Each.{Each, no_item, item}
 use Rattle.ix_values.specs.PlainAction.{PlainAction, Word}
-use Rattle.ix_journal.specs.History.{PlainHistory}
+use Rattle.ix_values.specs.declared.tickets.Ticket.{Ticket}
+use Rattle.ix_journal.specs.History.{Spent}
 use Rattle.ix_expr.specs.Meaning.{IsPartial, IsComplete}
 use Rattle.ix_can.specs.TreeOf.{tree_size}
-use Rattle.ix_engine.specs.inside.Engine.{EngineState, Allows, extended}
+use Rattle.ix_engine.specs.Allowed.{IsAllowed, IsPermitted}
+use Rattle.ix_engine.specs.inside.Engine.{EngineState, Allows, Permits, extended}
 use Rattle.ix_engine.specs.declared.next.Next.{Next}
 use Rattle.ix_lease.specs.Slots.{IsOpenAt, HasTicket}
 use Rattle.ix_lease.specs.declared.Slot.{Slot}
@@ -17,30 +23,41 @@ use Rattle.ix_watch.specs.declared.Added.TheVariants.{New, Again}
 use Rattle.ix_proto.specs.Requests as request
 use Rattle.ix_proto.specs.Requests.{PlainRequest}
 use Rattle.ix_proto.specs.inside.ReplyTexts.{CanBeTold}
+use Rattle.ix_proto.specs.declared.reply.Outcome.TheVariants as became
 use Rattle.ix_proto.specs.declared.reply.Reply.{Reply}
 use Rattle.ix_proto.specs.declared.reply.Reply.TheVariants as reply
 use Rattle.ix_manager.specs.Machine as machine
 use Rattle.ix_manager.specs.Machine.{Step, MachineWatch, MachineState, Tells, IsUnwatched, HasNoWatch}
+use Rattle.ix_manager.specs.Machine.{IsAbsent, IsOpenWith, IsUngranted, next_ticket, word_of}
 use Rattle.ix_manager.specs.inside.Core.{Core, watch_of, IsRefreshed, TellsPoll}
 use Rattle.ix_manager.specs.inside.Ready.{IsReady, Refuses, not_permitted, full, large, memory, IsOpenUpTo}
+use Rattle.ix_manager.specs.inside.Ready.{has_ticket}
 use Rattle.ix_manager.specs.inside.Does.{Does, Refreshes, IsNoted, AddsTold}
+use Rattle.ix_manager.proofs.Keeping.{kept_at, not_kept, zip-push}
 use Rattle.ix_manager.proofs.WatchLists.{found, unwatched, unwatched-told, without_none, map_between, map_both, length-watches}
 use Rattle.ix_manager.proofs.Polling.{polls_refreshed}
 use Rattle.ix_manager.proofs.Refreshing.{tells_of}
 
 -- the machine of its parts
-abbrev pub core_of : EngineState → Slot → List PlainWatch → ℕ → ℕ → Core
-core_of engine slot watches moment ticket = record {
+abbrev pub core_of : EngineState → List (Option Ticket) → Slot → List PlainWatch → ℕ → ℕ → ℕ → Core
+core_of engine tickets slot watches moment boot number = record {
   form = engine.form;
   limit = engine.limit;
-  state = record { history = engine.history; slot = slot; watches = map watch_of watches; moment = moment; ticket = ticket };
+  state = record {
+    history = zip tickets engine.history;
+    slot = slot;
+    watches = map watch_of watches;
+    moment = moment;
+    boot = boot;
+    number = number;
+  };
   noted = watches;
 }
 
 -- an entry of a word, with what stands before it and behind it
 record EntryParts (w : Word) (index : ℕ) (a : PlainAction) : Type 0 where
-  before : PlainHistory
-  behind : PlainHistory
+  before : Word
+  behind : Word
   same : w ≡ before ++ a ∷ behind
   place : length before ≡ index
 
@@ -54,7 +71,7 @@ entry_parts (b ∷ w) (suc index) a within is =
 -- nothing changes
 pub unchanged : (core : Core) (request : PlainRequest) (one : Reply) → Step core.form core.limit core.state request (one ∷ []) core.state → CanBeTold one
     → Does core request one core
-unchanged core request one step told = record { step = step; told = told; ticket = omega arith; form = refl; limit = refl }
+unchanged core request one step told = record { step = step; told = told; form = refl; limit = refl }
 
 -- the same of a machine and a reply that have another spelling
 pub seen : (core core' : Core) (request : PlainRequest) (one one' : Reply) (new : Core) → core ≡ core' → one' ≡ one
@@ -69,10 +86,21 @@ seen_same core core' request one one' same told does =
     subst (λ (r : Reply). Does core' request r core') (sym told) (subst (λ (k : Core). Does k request one k) same does)
 
 -- the action of a reservation is the one that is prepared
-pub ready_action : (engine : EngineState) (slot : Slot) (pending : Option Next) (number : ℕ) (a : PlainAction) (deadline : ℕ) (next : Next)
-    → IsReady engine slot pending → slot ≡ Held number a deadline → pending ≡ Some next → next.action ≡ a
-ready_action engine slot pending number a deadline next ready held is =
-    (subst (λ (s : Slot). IsReady engine s (Some next)) held (subst (λ (p : Option Next). IsReady engine slot p) is ready)).same
+pub ready_action : (engine : EngineState) (tickets : Vec (Option Ticket) Global) (slot : Slot) (pending : Option Next)
+    (ticket : Ticket) (a : PlainAction) (deadline : ℕ) (next : Next)
+    → IsReady engine tickets slot pending → slot ≡ Held ticket a deadline → pending ≡ Some next → next.action ≡ a
+ready_action engine tickets slot pending ticket a deadline next ready held is =
+    (subst (λ (s : Slot). IsReady engine tickets s (Some next)) held
+    (subst (λ (p : Option Next). IsReady engine tickets slot p) is ready)).0.same
+
+-- and there is room for it
+pub ready_room : (engine : EngineState) (tickets : Vec (Option Ticket) Global) (slot : Slot) (pending : Option Next)
+    (ticket : Ticket) (a : PlainAction) (deadline : ℕ)
+    → IsReady engine tickets slot pending → slot ≡ Held ticket a deadline → length engine.history < 1000000
+ready_room engine tickets slot None ticket a deadline ready held =
+    absurd (subst (λ (s : Slot). IsReady engine tickets s None) held ready)
+ready_room engine tickets slot (Some next) ticket a deadline ready held =
+    (subst (λ (s : Slot). IsReady engine tickets s (Some next)) held ready).0.follows.room
 
 -- there is room where there isn't none
 pub room_left : (count : ℕ) → count ≤ 1000000 → (count ≡ 1000000 → ⊥) → count < 1000000
@@ -91,32 +119,48 @@ busy_does core a lease deadline within =
     by_slot (Held ticket held end) is h =
         machine.busy held ticket (is ∙ ap (λ n. Held ticket held n) h.0) (subst (λ n. core.state.moment < n) h.0 h.1)
 
-module _ (engine : EngineState) (slot : Slot) (watches : List PlainWatch) (moment ticket : ℕ) where
+module _ (engine : EngineState) (tickets : List (Option Ticket)) (slot : Slot) (watches : List PlainWatch)
+    (moment boot number : ℕ) (each : length tickets ≡ length engine.history) where
   -- the machine before
   abbrev old : Core
-  old = core_of engine slot watches moment ticket
+  old = core_of engine tickets slot watches moment boot number
+
+  -- its actions are the engine's
+  pub words : word_of old.state ≡ engine.history
+  words = seconds-zip tickets engine.history (sym each)
+
+  pub counts : length old.state.history ≡ length engine.history
+  counts = sym (length-map old.state.history (λ (spent : Spent). spent.1)) ∙ ap length words
+
+  -- what holds of the engine's actions holds of the machine's
+  of_words : (P : Word → Type 0) → P engine.history → P (word_of old.state)
+  of_words P = subst P (sym words)
+
+  tells_allowed : (a : PlainAction) (answer : Bool) → Tells (Allows engine a) answer
+      → Tells (IsAllowed engine.form engine.limit (word_of old.state) a) answer
+  tells_allowed a answer = of_words (λ (w : Word). Tells (IsAllowed engine.form engine.limit w a) answer)
 
   -- the step, where the new state has another spelling
-  along : (f : EngineState) (slot' : Slot) (watches' : List PlainWatch) (ticket' : ℕ) (state : MachineState) (request : PlainRequest) (one : Reply)
+  along : (f : EngineState) (tickets' : List (Option Ticket)) (slot' : Slot) (watches' : List PlainWatch) (number' : ℕ)
+      (state : MachineState) (request : PlainRequest) (one : Reply)
       → f.form ≡ engine.form → f.limit ≡ engine.limit
-      → (core_of f slot' watches' moment ticket').state ≡ state → CanBeTold one → ticket' ≤ ticket + 1
+      → (core_of f tickets' slot' watches' moment boot number').state ≡ state → CanBeTold one
       → Step engine.form engine.limit old.state request (one ∷ []) state
-      → Does old request one (core_of f slot' watches' moment ticket')
-  along f slot' watches' ticket' state request one form limit same told few step = record {
+      → Does old request one (core_of f tickets' slot' watches' moment boot number')
+  along f tickets' slot' watches' number' state request one form limit same told step = record {
     step = subst (λ (s : MachineState). Step engine.form engine.limit old.state request (one ∷ []) s) (sym same) step;
     told = told;
-    ticket = few;
     form = form;
     limit = limit;
   }
 
-  pub refused_does : (f : EngineState) (a : PlainAction) (lease : ℕ) (one : Reply) → f.form ≡ engine.form → f.history ≡ engine.history → f.limit ≡ engine.limit
+  pub refused_does : (f : EngineState) (tickets' : List (Option Ticket)) (a : PlainAction) (lease : ℕ) (one : Reply)
+      → f.form ≡ engine.form → f.history ≡ engine.history → f.limit ≡ engine.limit → tickets' ≡ tickets
       → ¬ IsOpenAt slot moment → Refuses engine a one
-      → Does old (request.ask a lease) one (core_of f Free watches moment ticket)
-  refused_does f a lease one p q r free refuses =
-      along f Free watches ticket (record old.state { slot = Free }) (request.ask a lease) one p r
-      (λ i. record { history = q i; slot = Free; watches = map watch_of watches; moment = moment; ticket = ticket })
-      (told one refuses) (omega arith) (step one refuses)
+      → Does old (request.ask a lease) one (core_of f tickets' Free watches moment boot number)
+  refused_does f tickets' a lease one p q r t free refuses =
+      along f tickets' Free watches number (record old.state { slot = Free }) (request.ask a lease) one p r
+      (λ i. record old.state { history = zip (t i) (q i); slot = Free }) (told one refuses) (step one refuses)
     where
       told : (one : Reply) → Refuses engine a one → CanBeTold one
       told _ (not_permitted h) = record { listed = refl; zero_else = λ e. refl }
@@ -124,115 +168,125 @@ module _ (engine : EngineState) (slot : Slot) (watches : List PlainWatch) (momen
       told _ (large p l s) = record { listed = refl; zero_else = λ e. absurd (true≢false e) }
       told _ (memory p l) = record { listed = refl; zero_else = λ e. refl }
 
+      permits : Permits engine a → IsPermitted engine.form (word_of old.state) a
+      permits = of_words (λ (w : Word). IsPermitted engine.form w a)
+
+      room : length engine.history < 1000000 → length old.state.history < 1000000
+      room = subst (λ n. n < 1000000) (sym counts)
+
       step : (one : Reply) → Refuses engine a one → Step engine.form engine.limit old.state (request.ask a lease) (one ∷ []) (record old.state { slot = Free })
-      step _ (not_permitted h) = machine.not_permitted free h
-      step _ (full p e) = machine.full free p e
-      step _ (large p l s) = machine.large free p l s
-      step _ (memory p l) = machine.ask_memory free p l
+      step _ (not_permitted h) = machine.not_permitted free (of_words (λ (w : Word). ¬ IsPermitted engine.form w a) h)
+      step _ (full p e) = machine.full free (permits p) (counts ∙ e)
+      step _ (large p l s) = machine.large free (permits p) (room l)
+          (of_words (λ (w : Word). engine.limit < tree_size engine.form (w ++ a ∷ [])) s)
+      step _ (memory p l) = machine.ask_memory free (permits p) (room l)
 
-  pub granted_does : (f : EngineState) (a : PlainAction) (lease deadline : ℕ) → f.form ≡ engine.form → f.history ≡ engine.history → f.limit ≡ engine.limit
+  pub granted_does : (f : EngineState) (tickets' : List (Option Ticket)) (a : PlainAction) (lease deadline : ℕ)
+      → f.form ≡ engine.form → f.history ≡ engine.history → f.limit ≡ engine.limit → tickets' ≡ tickets
       → ¬ IsOpenAt slot moment → Allows engine a → deadline ≡ min (moment + lease) (2 ^ 64 - 1)
-      → Does old (request.ask a lease) (reply.Granted ticket) (core_of f (Held ticket a deadline) watches moment (ticket + 1))
-  granted_does f a lease deadline p q r free allowed until =
-      along f (Held ticket a deadline) watches (ticket + 1)
-      (record old.state { slot = Held ticket a (min (moment + lease) (2 ^ 64 - 1)); ticket = ticket + 1 })
-      (request.ask a lease) (reply.Granted ticket) p r
-      (λ i. record { history = q i; slot = Held ticket a (until i); watches = map watch_of watches; moment = moment; ticket = ticket + 1 })
-      tt (omega arith) (machine.granted free allowed)
+      → Does old (request.ask a lease) (reply.Granted (next_ticket old.state))
+      (core_of f tickets' (Held (next_ticket old.state) a deadline) watches moment boot (number + 1))
+  granted_does f tickets' a lease deadline p q r t free allowed until =
+      along f tickets' (Held (next_ticket old.state) a deadline) watches (number + 1)
+      (record old.state { slot = Held (next_ticket old.state) a (min (moment + lease) (2 ^ 64 - 1)); number = number + 1 })
+      (request.ask a lease) (reply.Granted (next_ticket old.state)) p r
+      (λ i. record old.state { history = zip (t i) (q i); slot = Held (next_ticket old.state) a (until i); number = number + 1 })
+      tt (machine.granted free (of_words (λ (w : Word). IsAllowed engine.form engine.limit w a) allowed))
 
-  pub confirmed_does : (f : EngineState) (slot' : Slot) (number : ℕ) (a b : PlainAction) (deadline count : ℕ) → f.form ≡ engine.form → f.limit ≡ engine.limit
-      → f.history ≡ extended engine b → b ≡ a → count ≡ length f.history
-      → slot ≡ Held number a deadline → moment < deadline → slot' ≡ Free
-      → Does old (request.confirm number) (reply.Confirmed count) (core_of f slot' watches moment ticket)
-  confirmed_does f slot' number a b deadline count p r q same counted held within free =
-      let history : f.history ≡ engine.history ++ a ∷ [] = q ∙ ap (λ c. engine.history ++ c ∷ []) same in
-      let many : count ≡ length engine.history + 1 = counted ∙ ap length history ∙ length-append engine.history (a ∷ []) in
-      subst (λ n. Does old (request.confirm number) (reply.Confirmed n) (core_of f slot' watches moment ticket)) (sym many)
-      (along f slot' watches ticket (record old.state { history = engine.history ++ a ∷ []; slot = Free })
-      (request.confirm number) (reply.Confirmed (length engine.history + 1)) p r
-      (λ i. record { history = history i; slot = free i; watches = map watch_of watches; moment = moment; ticket = ticket })
-      tt (omega arith) (machine.confirmed a deadline held within))
+  pub confirmed_does : (f : EngineState) (tickets' : List (Option Ticket)) (slot' : Slot) (ticket : Ticket) (a b : PlainAction)
+      (deadline count : ℕ) → f.form ≡ engine.form → f.limit ≡ engine.limit
+      → f.history ≡ extended engine b → tickets' ≡ tickets ++ Some ticket ∷ [] → b ≡ a → count ≡ length f.history
+      → slot ≡ Held ticket a deadline → moment < deadline → slot' ≡ Free
+      → Does old (request.confirm ticket) (reply.Confirmed count) (core_of f tickets' slot' watches moment boot number)
+  confirmed_does f tickets' slot' ticket a b deadline count p r q t same counted held within free =
+      let grown : f.history ≡ engine.history ++ a ∷ [] = q ∙ ap (λ c. engine.history ++ c ∷ []) same in
+      let history : zip tickets' f.history ≡ old.state.history ++ (Some ticket, a) ∷ [] =
+      ap (λ ts. zip ts f.history) t ∙ ap (zip (tickets ++ Some ticket ∷ [])) grown
+      ∙ zip-push tickets engine.history (Some ticket) a each in
+      let many : count ≡ length old.state.history + 1 =
+      counted ∙ ap length grown ∙ length-append engine.history (a ∷ []) ∙ ap (λ n. n + 1) (sym counts) in
+      subst (λ n. Does old (request.confirm ticket) (reply.Confirmed n) (core_of f tickets' slot' watches moment boot number)) (sym many)
+      (along f tickets' slot' watches number (record old.state { history = old.state.history ++ (Some ticket, a) ∷ []; slot = Free })
+      (request.confirm ticket) (reply.Confirmed (length old.state.history + 1)) p r
+      (λ i. record old.state { history = history i; slot = free i }) tt (machine.confirmed a deadline held within))
 
-  pub cancelled_does : (slot' : Slot) (number : ℕ) (a : PlainAction) (deadline : ℕ)
-      → slot ≡ Held number a deadline → moment < deadline → slot' ≡ Free
-      → Does old (request.cancel number) (reply.Cancelled number) (core_of engine slot' watches moment ticket)
-  cancelled_does slot' number a deadline held within free =
-      along engine slot' watches ticket (record old.state { slot = Free }) (request.cancel number) (reply.Cancelled number) refl refl
-      (λ i. record { history = engine.history; slot = free i; watches = map watch_of watches; moment = moment; ticket = ticket })
-      tt (omega arith) (machine.cancelled a deadline held within)
+  pub cancelled_does : (slot' : Slot) (ticket : Ticket) (a : PlainAction) (deadline : ℕ)
+      → slot ≡ Held ticket a deadline → moment < deadline → slot' ≡ Free
+      → Does old (request.cancel ticket) (reply.Cancelled ticket) (core_of engine tickets slot' watches moment boot number)
+  cancelled_does slot' ticket a deadline held within free =
+      along engine tickets slot' watches number (record old.state { slot = Free }) (request.cancel ticket) (reply.Cancelled ticket) refl refl
+      (λ i. record old.state { slot = free i }) tt (machine.cancelled a deadline held within)
 
   -- a refusal that leaves the slot, which has another spelling
   kept_slot : (slot' : Slot) (request : PlainRequest) (one : Reply) → slot' ≡ slot → CanBeTold one
       → Step engine.form engine.limit old.state request (one ∷ []) old.state
-      → Does old request one (core_of engine slot' watches moment ticket)
+      → Does old request one (core_of engine tickets slot' watches moment boot number)
   kept_slot slot' request one same told step =
-      along engine slot' watches ticket old.state request one refl refl
-      (λ i. record { history = engine.history; slot = same i; watches = map watch_of watches; moment = moment; ticket = ticket })
-      told (omega arith) step
+      along engine tickets slot' watches number old.state request one refl refl
+      (λ i. record old.state { slot = same i }) told step
 
-  pub confirm_expired_does : (slot' : Slot) (number : ℕ) → HasTicket slot number → ¬ IsOpenAt slot moment → slot' ≡ slot
-      → Does old (request.confirm number) (reply.Refused 31 0) (core_of engine slot' watches moment ticket)
-  confirm_expired_does slot' number has closed same =
-      kept_slot slot' (request.confirm number) (reply.Refused 31 0) same (record { listed = refl; zero_else = λ e. refl }) (machine.confirm_expired has closed)
+  pub confirm_expired_does : (slot' : Slot) (ticket : Ticket) → HasTicket slot ticket → ¬ IsOpenAt slot moment → slot' ≡ slot
+      → Does old (request.confirm ticket) (reply.Refused 31 0) (core_of engine tickets slot' watches moment boot number)
+  confirm_expired_does slot' ticket has closed same =
+      kept_slot slot' (request.confirm ticket) (reply.Refused 31 0) same (record { listed = refl; zero_else = λ e. refl }) (machine.confirm_expired has closed)
 
-  pub confirm_no_such_does : (slot' : Slot) (number : ℕ) → ¬ HasTicket slot number → slot' ≡ slot
-      → Does old (request.confirm number) (reply.Refused 30 0) (core_of engine slot' watches moment ticket)
-  confirm_no_such_does slot' number not same =
-      kept_slot slot' (request.confirm number) (reply.Refused 30 0) same (record { listed = refl; zero_else = λ e. refl }) (machine.confirm_no_such not)
+  pub confirm_no_such_does : (slot' : Slot) (ticket : Ticket) → ¬ HasTicket slot ticket → slot' ≡ slot
+      → Does old (request.confirm ticket) (reply.Refused 30 0) (core_of engine tickets slot' watches moment boot number)
+  confirm_no_such_does slot' ticket not same =
+      kept_slot slot' (request.confirm ticket) (reply.Refused 30 0) same (record { listed = refl; zero_else = λ e. refl }) (machine.confirm_no_such not)
 
-  pub cancel_expired_does : (slot' : Slot) (number : ℕ) → HasTicket slot number → ¬ IsOpenAt slot moment → slot' ≡ slot
-      → Does old (request.cancel number) (reply.Refused 31 0) (core_of engine slot' watches moment ticket)
-  cancel_expired_does slot' number has closed same =
-      kept_slot slot' (request.cancel number) (reply.Refused 31 0) same (record { listed = refl; zero_else = λ e. refl }) (machine.cancel_expired has closed)
+  pub cancel_expired_does : (slot' : Slot) (ticket : Ticket) → HasTicket slot ticket → ¬ IsOpenAt slot moment → slot' ≡ slot
+      → Does old (request.cancel ticket) (reply.Refused 31 0) (core_of engine tickets slot' watches moment boot number)
+  cancel_expired_does slot' ticket has closed same =
+      kept_slot slot' (request.cancel ticket) (reply.Refused 31 0) same (record { listed = refl; zero_else = λ e. refl }) (machine.cancel_expired has closed)
 
-  pub cancel_no_such_does : (slot' : Slot) (number : ℕ) → ¬ HasTicket slot number → slot' ≡ slot
-      → Does old (request.cancel number) (reply.Refused 30 0) (core_of engine slot' watches moment ticket)
-  cancel_no_such_does slot' number not same =
-      kept_slot slot' (request.cancel number) (reply.Refused 30 0) same (record { listed = refl; zero_else = λ e. refl }) (machine.cancel_no_such not)
+  pub cancel_no_such_does : (slot' : Slot) (ticket : Ticket) → ¬ HasTicket slot ticket → slot' ≡ slot
+      → Does old (request.cancel ticket) (reply.Refused 30 0) (core_of engine tickets slot' watches moment boot number)
+  cancel_no_such_does slot' ticket not same =
+      kept_slot slot' (request.cancel ticket) (reply.Refused 30 0) same (record { listed = refl; zero_else = λ e. refl }) (machine.cancel_no_such not)
 
   -- a step that changes the watches alone
   with_watches : (watches' : List PlainWatch) (new : List MachineWatch) (request : PlainRequest) (one : Reply)
       → map watch_of watches' ≡ new → CanBeTold one
       → Step engine.form engine.limit old.state request (one ∷ []) (record old.state { watches = new })
-      → Does old request one (core_of engine slot watches' moment ticket)
+      → Does old request one (core_of engine tickets slot watches' moment boot number)
   with_watches watches' new request one same told step =
-      along engine slot watches' ticket (record old.state { watches = new }) request one refl refl
-      (λ i. record { history = engine.history; slot = slot; watches = same i; moment = moment; ticket = ticket })
-      told (omega arith) step
+      along engine tickets slot watches' number (record old.state { watches = new }) request one refl refl
+      (λ i. record old.state { watches = same i }) told step
 
   pub watching_does : (watches' : List PlainWatch) (name : List ℕ) (a : PlainAction) (told : Bool) → AddsTold engine name a watches told watches'
-      → Does old (request.watch name a) (reply.Watching told) (core_of engine slot watches' moment ticket)
+      → Does old (request.watch name a) (reply.Watching told) (core_of engine tickets slot watches' moment boot number)
   watching_does watches' name a told adds = by_place adds.added adds.adds
     where
       by_place : (added : Added) → Adds watches name a told (Ok added) watches'
-          → Does old (request.watch name a) (reply.Watching told) (core_of engine slot watches' moment ticket)
+          → Does old (request.watch name a) (reply.Watching told) (core_of engine tickets slot watches' moment boot number)
       by_place New h =
           with_watches watches' (map watch_of watches ++ record { name = name; action = a; told = told } ∷ [])
           (request.watch name a) (reply.Watching told)
           (ap (map watch_of) h.2 ∙ map_between watches (new_watch name a told) []) tt
-          (machine.watches_new (unwatched name a watches h.0) (omega (arith, length-watches watches, h.1)) adds.tells)
+          (machine.watches_new (unwatched name a watches h.0) (omega (arith, length-watches watches, h.1)) (tells_allowed a told adds.tells))
       by_place Again h =
           let there = found name a told watches adds.distinct h.0 in
           with_watches watches' (map watch_of there.before ++ record (watch_of there.watch) { told = told } ∷ map watch_of there.behind)
           (request.watch name a) (reply.Watching told)
           (ap (map watch_of) (h.1 ∙ there.again) ∙ map_between there.before (record there.watch { told = told; now = told }) there.behind) tt
           (machine.watches_again (map watch_of there.before) (map watch_of there.behind) (watch_of there.watch)
-          (ap (map watch_of) there.same ∙ map_between there.before there.watch there.behind) there.is adds.tells)
+          (ap (map watch_of) there.same ∙ map_between there.before there.watch there.behind) there.is (tells_allowed a told adds.tells))
 
   pub watches_full_does : (watches' : List PlainWatch) (name : List ℕ) (a : PlainAction) → is_watched name a watches ≡ false → length watches ≡ 4096 → watches' ≡ watches
-      → Does old (request.watch name a) (reply.Refused 40 0) (core_of engine slot watches' moment ticket)
+      → Does old (request.watch name a) (reply.Refused 40 0) (core_of engine tickets slot watches' moment boot number)
   watches_full_does watches' name a none many same =
       with_watches watches' (map watch_of watches) (request.watch name a) (reply.Refused 40 0) (ap (map watch_of) same) (record { listed = refl; zero_else = λ e. refl })
       (machine.watches_full (unwatched name a watches none) (length-watches watches ∙ many))
 
   pub watch_memory_does : (watches' : List PlainWatch) (name : List ℕ) (a : PlainAction) → (is_watched name a watches ≡ false → length watches < 4096) → watches' ≡ watches
-      → Does old (request.watch name a) (reply.Refused 90 0) (core_of engine slot watches' moment ticket)
+      → Does old (request.watch name a) (reply.Refused 90 0) (core_of engine tickets slot watches' moment boot number)
   watch_memory_does watches' name a room same =
       with_watches watches' (map watch_of watches) (request.watch name a) (reply.Refused 90 0) (ap (map watch_of) same) (record { listed = refl; zero_else = λ e. refl })
       (machine.watch_memory (λ none. let few = room (unwatched-told name a watches none) in omega (arith, length-watches watches, few)))
 
   pub dropped_does : (watches' : List PlainWatch) (name : List ℕ) (a : PlainAction) → AreDistinct watches → is_watched name a watches ≡ true → watches' ≡ without name a watches
-      → Does old (request.drop_watch name a) reply.Dropped (core_of engine slot watches' moment ticket)
+      → Does old (request.drop_watch name a) reply.Dropped (core_of engine tickets slot watches' moment boot number)
   dropped_does watches' name a distinct is same =
       let there = found name a true watches distinct is in
       with_watches watches' (map watch_of there.before ++ map watch_of there.behind) (request.drop_watch name a) reply.Dropped
@@ -241,36 +295,36 @@ module _ (engine : EngineState) (slot : Slot) (watches : List PlainWatch) (momen
       (ap (map watch_of) there.same ∙ map_between there.before there.watch there.behind) there.is)
 
   pub no_such_watch_does : (watches' : List PlainWatch) (name : List ℕ) (a : PlainAction) → is_watched name a watches ≡ false → watches' ≡ without name a watches
-      → Does old (request.drop_watch name a) (reply.Refused 41 0) (core_of engine slot watches' moment ticket)
+      → Does old (request.drop_watch name a) (reply.Refused 41 0) (core_of engine tickets slot watches' moment boot number)
   no_such_watch_does watches' name a none same =
       with_watches watches' (map watch_of watches) (request.drop_watch name a) (reply.Refused 41 0) (ap (map watch_of) (same ∙ without_none name a watches none))
       (record { listed = refl; zero_else = λ e. refl }) (machine.drop_no_such (unwatched name a watches none))
 
   pub poll_memory_does : (watches' : List PlainWatch) (name : List ℕ) → map watch_of watches' ≡ map watch_of watches → ¬ HasNoWatch name (map watch_of watches)
-      → Does old (request.poll name) (reply.Refused 90 0) (core_of engine slot watches' moment ticket)
+      → Does old (request.poll name) (reply.Refused 90 0) (core_of engine tickets slot watches' moment boot number)
   poll_memory_does watches' name same has =
       with_watches watches' (map watch_of watches) (request.poll name) (reply.Refused 90 0) same (record { listed = refl; zero_else = λ e. refl }) (machine.poll_memory has)
 
   pub refreshes : (watches' : List PlainWatch) (name : List ℕ) → map watch_of watches' ≡ map watch_of watches → IsNoted engine name watches'
-      → Refreshes old name (core_of engine slot watches' moment ticket)
+      → Refreshes old name (core_of engine tickets slot watches' moment boot number)
   refreshes watches' name same noted = record {
-    state = λ i. record { history = engine.history; slot = slot; watches = same i; moment = moment; ticket = ticket };
-    refreshed = each watches' noted;
+    state = λ i. record old.state { watches = same i };
+    refreshed = all watches' noted;
     form = refl;
     limit = refl;
   }
     where
-      each : (rest : List PlainWatch) → IsNoted engine name rest
-          → Each (λ (watch : PlainWatch). watch.name ≡ name → Tells (Allows engine watch.action) watch.now) rest
-      each [] none = no_item
-      each (watch ∷ rest) (item tells others) =
-          item tells (each rest others)
+      all : (rest : List PlainWatch) → IsNoted engine name rest
+          → Each (λ (watch : PlainWatch). watch.name ≡ name → Tells (IsAllowed engine.form engine.limit (word_of old.state) watch.action) watch.now) rest
+      all [] none = no_item
+      all (watch ∷ rest) (item tells others) =
+          item (λ named. tells_allowed watch.action watch.now (tells named)) (all rest others)
 
   pub tells_poll : (watches' : List PlainWatch) (name : List ℕ) → watches' ≡ told_to name watches → IsRefreshed old name
-      → TellsPoll old name (core_of engine slot watches' moment ticket)
+      → TellsPoll old name (core_of engine tickets slot watches' moment boot number)
   tells_poll watches' name same refreshed =
-      subst (λ (ws : List PlainWatch). TellsPoll old name (core_of engine slot ws moment ticket)) (sym same) (record {
-        polls = polls_refreshed (Allows engine) name watches refreshed;
+      subst (λ (ws : List PlainWatch). TellsPoll old name (core_of engine tickets slot ws moment boot number)) (sym same) (record {
+        polls = polls_refreshed (IsAllowed engine.form engine.limit (word_of old.state)) name watches refreshed;
         rest = refl;
         form = refl;
         limit = refl;
@@ -278,28 +332,58 @@ module _ (engine : EngineState) (slot : Slot) (watches : List PlainWatch) (momen
 
   pub may_does : (a : PlainAction) (answer : Bool) → IsTrue answer ↔ IsPartial engine.form [] (extended engine a)
       → Does old (request.may a) (reply.May answer) old
-  may_does a answer both = unchanged old (request.may a) (reply.May answer) (machine.may (tells_of answer both)) tt
+  may_does a answer both = unchanged old (request.may a) (reply.May answer)
+      (machine.may (of_words (λ (w : Word). Tells (IsPermitted engine.form w a) answer) (tells_of answer both))) tt
 
   pub status_does : (complete : Bool) (count nodes : ℕ) → IsTrue complete ↔ IsComplete engine.form [] engine.history
       → count ≡ length engine.history → nodes ≡ tree_size engine.form engine.history
       → Does old request.status (reply.Status complete count nodes) old
   status_does complete count nodes both counted sized =
+      let length_is : count ≡ length old.state.history = counted ∙ sym counts in
+      let size_is : nodes ≡ tree_size engine.form (word_of old.state) = sized ∙ ap (tree_size engine.form) (sym words) in
       unchanged old request.status (reply.Status complete count nodes)
-      (subst (λ n. Step engine.form engine.limit old.state request.status (reply.Status complete n nodes ∷ []) old.state) (sym counted)
-      (subst (λ n. Step engine.form engine.limit old.state request.status (reply.Status complete (length engine.history) n ∷ []) old.state) (sym sized)
-      (machine.status (tells_of complete both)))) tt
+      (subst (λ n. Step engine.form engine.limit old.state request.status (reply.Status complete n nodes ∷ []) old.state) (sym length_is)
+      (subst (λ n. Step engine.form engine.limit old.state request.status (reply.Status complete (length old.state.history) n ∷ []) old.state) (sym size_is)
+      (machine.status (of_words (λ (w : Word). Tells (IsComplete engine.form [] w) complete) (tells_of complete both))))) tt
 
-  pub entry_does : (number index : ℕ) (a : PlainAction) → number ≡ index + 1 → index < length engine.history → a ≡ get_or engine.history index a
-      → Does old (request.log number) (reply.Entry number a) old
-  entry_does number index a next within there =
+  pub entry_does : (place index : ℕ) (a : PlainAction) → place ≡ index + 1 → index < length engine.history → a ≡ get_or engine.history index a
+      → Does old (request.log place) (reply.Entry place a) old
+  entry_does place index a next within there =
       let parts = entry_parts engine.history index a within there in
-      unchanged old (request.log number) (reply.Entry number a)
-      (machine.entry parts.before parts.behind parts.same (next ∙ ap (λ n. n + 1) (sym parts.place))) tt
+      unchanged old (request.log place) (reply.Entry place a)
+      (machine.entry parts.before parts.behind (words ∙ parts.same) (next ∙ ap (λ n. n + 1) (sym parts.place))) tt
 
-  pub no_entry_does : (number index : ℕ) → number ≡ index + 1 → length engine.history ≤ index
-      → Does old (request.log number) (reply.Refused 42 0) old
-  no_entry_does number index next behind =
-      unchanged old (request.log number) (reply.Refused 42 0) (machine.no_such_entry (inr (omega arith))) (record { listed = refl; zero_else = λ e. refl })
+  pub no_entry_does : (place index : ℕ) → place ≡ index + 1 → length engine.history ≤ index
+      → Does old (request.log place) (reply.Refused 42 0) old
+  no_entry_does place index next behind =
+      unchanged old (request.log place) (reply.Refused 42 0) (machine.no_such_entry (inr (let n = counts in omega (arith, n, next, behind)))) (record { listed = refl; zero_else = λ e. refl })
+
+  -- a ticket that is kept at this index
+  pub outcome_confirmed_does : (ticket : Ticket) (index place : ℕ) → position (has_ticket ticket) tickets ≡ Some index → place ≡ index + 1
+      → Does old (request.outcome ticket) (reply.Outcome (became.Confirmed place)) old
+  outcome_confirmed_does ticket index place found next =
+      let parts = kept_at ticket tickets engine.history index each found in
+      unchanged old (request.outcome ticket) (reply.Outcome (became.Confirmed place))
+      (machine.outcome_confirmed parts.before parts.behind parts.action parts.same (next ∙ ap (λ n. n + 1) (sym parts.place))) tt
+
+  module _ (ticket : Ticket) (none : position (has_ticket ticket) tickets ≡ None) where
+    absent : IsAbsent ticket old.state.history
+    absent = not_kept ticket tickets engine.history none
+
+    pub outcome_open_does : IsOpenWith slot moment ticket → Does old (request.outcome ticket) (reply.Outcome became.Waiting) old
+    outcome_open_does open_with =
+        unchanged old (request.outcome ticket) (reply.Outcome became.Waiting) (machine.outcome_open absent open_with) tt
+
+    pub outcome_no_such_does : ¬ IsOpenWith slot moment ticket → IsUngranted boot number ticket
+        → Does old (request.outcome ticket) (reply.Refused 30 0) old
+    outcome_no_such_does closed ungranted =
+        unchanged old (request.outcome ticket) (reply.Refused 30 0) (machine.outcome_no_such absent closed ungranted)
+        (record { listed = refl; zero_else = λ e. refl })
+
+    pub outcome_never_does : ¬ IsOpenWith slot moment ticket → ¬ IsUngranted boot number ticket
+        → Does old (request.outcome ticket) (reply.Outcome became.Never) old
+    outcome_never_does closed granted =
+        unchanged old (request.outcome ticket) (reply.Outcome became.Never) (machine.outcome_never absent closed granted) tt
 
 -- no entry has the number 0
 pub zeroth_does : (core : Core) (number : ℕ) → number ≡ 0 → Does core (request.log number) (reply.Refused 42 0) core

@@ -1,8 +1,9 @@
 -- What the machine's table says of a confirm, of want of memory and of a poll.
-use Rattle.std.proofs.Common.{◌≡◌, ◌≢◌, ℕ, suc, ◌+◌, ◌<◌, List, [], ◌∷◌, ◌++◌, length, map, refl, sym, ◌∙◌, ap, subst, not, Bool, true, false, arith}
+use Rattle.std.proofs.Common.{◌≡◌, ◌≢◌, ℕ, ◌+◌, ◌<◌, List, [], ◌∷◌, ◌++◌, length, map, refl, sym, ◌∙◌, ap, subst, not, Bool, true, false, Option, Some, None, arith}
 use Rattle.std.proofs.lemmas.List.{length-map}
 use Rattle.ix_words.specs.Parts.{Projection, ended, kept, left_out}
 use Rattle.ix_values.specs.PlainAction.{PlainAction}
+use Rattle.ix_values.specs.declared.tickets.Ticket.{Ticket}
 use Rattle.ix_expr.specs.Form.{Form}
 use Rattle.ix_engine.specs.Allowed.{IsAllowed}
 use Rattle.ix_lease.specs.Slots.{IsOpenAt, HasTicket}
@@ -13,19 +14,17 @@ use Rattle.ix_proto.specs.Requests.{PlainRequest}
 use Rattle.ix_proto.specs.declared.reply.Reply.{Reply}
 use Rattle.ix_proto.specs.declared.reply.Reply.TheVariants as reply
 use Rattle.ix_manager.specs.Refusals as refused
-use Rattle.ix_manager.specs.Machine.{MachineState, MachineWatch, Step, Tells, Polls, done, other, same, changed, busy, not_permitted, full, large, granted, ask_memory, confirmed, confirm_expired, confirm_no_such, cancelled, cancel_expired, cancel_no_such, may, watches_full, watches_new, watches_again, watch_memory, dropped, drop_no_such, polled, poll_memory, status, entry, no_such_entry, stopping}
+use Rattle.ix_manager.specs.Machine.{MachineState, MachineWatch, Step, Tells, Polls, done, other, same, changed, busy, not_permitted, full, large, granted, ask_memory, confirmed, confirm_expired, confirm_no_such, cancelled, cancel_expired, cancel_no_such, outcome_confirmed, outcome_open, outcome_no_such, outcome_never, may, watches_full, watches_new, watches_again, watch_memory, dropped, drop_no_such, polled, poll_memory, status, entry, no_such_entry, stopping, word_of}
 use Rattle.ix_manager.specs.MachineLaws.{OpenTicketsAreConfirmed, MayWantMemory, OnlySomeWantMemory, HasChanged, change_of, PollsTellWhatChanged}
+use Rattle.ix_manager.proofs.SlotLemmas.{some_ticket}
 
--- a request's ticket and one, where it is a confirm, and else nothing
-abbrev confirm_number : PlainRequest → ℕ
-confirm_number (request.confirm ticket) = suc ticket
-confirm_number _ = 0
+-- a request's ticket, where it is a confirm
+abbrev confirm_ticket : PlainRequest → Option Ticket
+confirm_ticket (request.confirm ticket) = Some ticket
+confirm_ticket _ = None
 
-no_confirm : (ticket : ℕ) → 0 ≡ suc ticket → ⊥
-no_confirm ticket e = omega arith
-
-one_ticket : (t u : ℕ) → suc t ≡ suc u → t ≡ u
-one_ticket t u e = omega arith
+no_confirm : (ticket : Ticket) → None ≡ Some ticket → ⊥
+no_confirm ticket e = let no : None ≡ Some ticket = e in cc
 
 -- the action of a held slot, or this one
 abbrev action_in : PlainAction → Slot → PlainAction
@@ -34,17 +33,22 @@ action_in b (Held ticket a deadline) = a
 
 -- the confirm of an open reservation
 confirmed_alone : {x : Form} {limit : ℕ} {s after : MachineState} {asked : PlainRequest} {replies : List Reply}
-    → Step x limit s asked replies after → (ticket deadline : ℕ) (a : PlainAction) → asked ≡ request.confirm ticket
+    → Step x limit s asked replies after → (ticket : Ticket) (deadline : ℕ) (a : PlainAction) → asked ≡ request.confirm ticket
     → s.slot ≡ Held ticket a deadline → s.moment < deadline
     → (replies ≡ reply.Confirmed (length s.history + 1) ∷ [])
-    × (after ≡ record s { history = s.history ++ a ∷ []; slot = Free })
-confirmed_alone {s = s} (confirmed b end held within) ticket deadline a asked is before =
-    (refl, λ i. record s { history = s.history ++ ap (action_in a) (sym held ∙ is) i ∷ []; slot = Free })
+    × (after ≡ record s { history = s.history ++ (Some ticket, a) ∷ []; slot = Free })
+confirmed_alone {s = s} (confirmed {ticket = t} b end held within) ticket deadline a asked is before = (
+  refl,
+  λ i. record s {
+    history = s.history ++ (Some (some_ticket (ap confirm_ticket asked) i), ap (action_in a) (sym held ∙ is) i) ∷ [];
+    slot = Free;
+  },
+)
 confirmed_alone {s = s} (confirm_expired has over) ticket deadline a asked is before =
     absurd (over (subst (λ (k : Slot). IsOpenAt k s.moment) (sym is) before))
 confirmed_alone {s = s} (confirm_no_such {ticket = t} none) ticket deadline a asked is before =
-    absurd (none (subst (λ (k : Slot). HasTicket k t) (sym is) (sym (one_ticket t ticket (ap confirm_number asked)))))
-confirmed_alone _ ticket deadline a asked is before = absurd (no_confirm ticket (ap confirm_number asked))
+    absurd (none (subst (λ (k : Slot). HasTicket k t) (sym is) (sym (some_ticket (ap confirm_ticket asked)))))
+confirmed_alone _ ticket deadline a asked is before = absurd (no_confirm ticket (ap confirm_ticket asked))
 
 pub open_tickets_are_confirmed : OpenTicketsAreConfirmed
 open_tickets_are_confirmed x limit s ticket deadline a replies after is before step =
@@ -76,6 +80,10 @@ wants_memory (confirm_no_such _) e = absurd (omega arith)
 wants_memory (cancelled _ _ _ _) e = absurd (omega arith)
 wants_memory (cancel_expired _ _) e = absurd (omega arith)
 wants_memory (cancel_no_such _) e = absurd (omega arith)
+wants_memory (outcome_confirmed _ _ _ _ _) e = absurd (omega arith)
+wants_memory (outcome_open _ _) e = absurd (omega arith)
+wants_memory (outcome_no_such _ _ _) e = absurd (omega arith)
+wants_memory (outcome_never _ _ _) e = absurd (omega arith)
 wants_memory (may _) e = absurd (omega arith)
 wants_memory (dropped _ _ _ _ _) e = absurd (omega arith)
 wants_memory (drop_no_such _) e = absurd (omega arith)
@@ -120,13 +128,13 @@ no_poll e = omega arith
 told_by : {x : Form} {limit : ℕ} {s after : MachineState} {asked : PlainRequest} {replies : List Reply}
     → Step x limit s asked replies after → (name : List ℕ) → asked ≡ request.poll name → replies ≢ refused.no_memory ∷ []
     → (told : List MachineWatch)
-    × Projection (HasChanged (IsAllowed x limit s.history) name) s.watches told
+    × Projection (HasChanged (IsAllowed x limit (word_of s)) name) s.watches told
     × (replies ≡ reply.Changes (length told) ∷ map change_of told)
 told_by {x = x} {limit = limit} {s = s} (polled {name = own} {changes = changes} polls) name asked memory =
     let r = told_watches polls in
     let same_name = ap (poll_name name) asked in (
       r.0,
-      subst (λ n. Projection (HasChanged (IsAllowed x limit s.history) n) s.watches r.0) same_name r.1,
+      subst (λ n. Projection (HasChanged (IsAllowed x limit (word_of s)) n) s.watches r.0) same_name r.1,
       ap (λ c. reply.Changes (length c) ∷ c) r.2 ∙ ap (λ n. reply.Changes n ∷ map change_of r.0) (length-map r.0 change_of),
     )
 told_by (poll_memory _) name asked memory = absurd (memory refl)

@@ -187,7 +187,7 @@ pub reach_begins : (conn : ℕ) (items : List Item) (j : Journaled) (w : WireSta
     → FitsJournal j w.site p → Reaches conn items j w p items j w p
 reach_begins conn items j w p lawful fits =
     let x = j.machine.form in
-    let h = j.machine.state.history in
+    let h = j.machine.state in
     let saves = saves_none x h (kept j.store) w.site p lawful fits in
     record {
       progress = progress_begins conn items j.machine w;
@@ -207,9 +207,9 @@ saves_of_first : (ending : Ending) (conn : ℕ) (all items : List Item) (first n
     → AreLawful there.site r → Reaches conn all first before p items now here q
     → SavesJournal ending now next here.site there.site q r → SavesJournal ending first next before.site there.site p r
 saves_of_first ending conn all items first now next before here there p q r lawful reach saves =
-    saves_join ending first.machine.form first.machine.state.history now.machine.state.history next.machine.state.history
+    saves_join ending first.machine.form first.machine.state now.machine.state next.machine.state
     (kept now.store) (kept next.store) before.site here.site there.site p q r lawful reach.saves
-    (subst (λ x. Saves ending x now.machine.state.history next.machine.state.history (kept next.store) here.site there.site q r) reach.progress.form saves)
+    (subst (λ x. Saves ending x now.machine.state next.machine.state (kept next.store) here.site there.site q r) reach.progress.form saves)
 
 -- what was acknowledged so far, and with an item
 reach_acknowledges : (ending : Ending) (conn : ℕ) (all items : List Item)
@@ -288,7 +288,7 @@ reach_goes_on conn all first before p item others now here next there q r lawful
 pub reach_fits : (conn : ℕ) (all items : List Item) (first now : Journaled) (before here : WireState) (p q : Crashes)
     → Reaches conn all first before p items now here q → FitsJournal now here.site q
 reach_fits conn all items first now before here p q reach =
-    subst (λ x. FitsWith x now.machine.state.history (kept now.store) here.site q) (sym reach.progress.form) reach.saves.fits
+    subst (λ x. FitsWith x now.machine.state (kept now.store) here.site q) (sym reach.progress.form) reach.saves.fits
 
 -- and the file is attached still
 pub reach_attached : (conn : ℕ) (all items : List Item) (first now : Journaled) (before here : WireState) (p q : Crashes)
@@ -361,9 +361,9 @@ module _ (conn : ℕ) (all : List Item) (first : Journaled) (before : WireState)
       let nothing : SendsAll conn [] here there =
       subst (λ w. SendsAll conn [] here w) (sym rests.wire) (nothing_sent conn here) in
       let x = now.machine.form in
-      let h = now.machine.state.history in
+      let h = now.machine.state in
       let so_far = all_replies left.progress.answers in
-      let w = next.machine.state.history in
+      let w = next.machine.state in
       record {
         ending = going;
         answered = refl;
@@ -372,7 +372,7 @@ module _ (conn : ℕ) (all : List Item) (first : Journaled) (before : WireState)
         saves = saves_of_first going conn all [] first now next before here there p q r lawful left
             rests.saves;
         acknowledges = subst (λ replies. Acknowledges first.machine.form
-            (length first.machine.state.history) w replies before.site there.site r)
+            (length first.machine.state.history) w.history replies before.site there.site r)
             (append-nil so_far)
             (reach_acknowledges going conn all [] first now next before here there p q r lawful_here
             left [] rests.saves nothing
@@ -393,12 +393,12 @@ module _ (conn : ℕ) (all : List Item) (first : Journaled) (before : WireState)
 
   -- an item takes at least as many bytes as tickets
   pub taken_tickets : (used : ℕ) (result : Result Go Stop) → TakesOne conn held piece used result after_it now next here there q r → IsClean held
-      → next.machine.state.ticket + length (take (length piece - used) (drop used piece)) ≤ now.machine.state.ticket + length piece
+      → next.machine.state.number + length (take (length piece - used) (drop used piece)) ≤ now.machine.state.number + length piece
   taken_tickets used result one clean =
       let some = takes_a_byte held piece one.item used one.feeds clean in
       let rest : length (take (length piece - used) (drop used piece)) ≡ length piece - used =
       ap length (take_rest piece used) ∙ length-drop used piece in
-      rw rest (omega (arith, some, one.feeds.within, one.answers.answers.ticket))
+      rw rest (omega (arith, some, one.feeds.within, one.answers.answers.number))
 
   -- the rest of a piece is shorter
   pub taken_shorter : (used : ℕ) (result : Result Go Stop) → TakesOne conn held piece used result after_it now next here there q r → IsClean held

@@ -89,7 +89,7 @@ abbrev pub started : Opening → Keeping → ManagerState
 started opening store = record {
   form = opening.form;
   limit = opening.limit;
-  machine = start_of opening.history;
+  machine = start_of opening.history opening.boot;
   store = store;
   lines = replicate 64 (unfinished []);
   marks = unmarked;

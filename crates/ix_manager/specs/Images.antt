@@ -1,12 +1,13 @@
 -- What an image of a journal is to a run of the machine: one that a crash left, or the file itself.
-use Rattle.std.specs.Prelude.{◌≡◌, ◌⊎◌, ℕ, ◌≤◌, List, [], ◌∷◌, ◌++◌, length, take}
+use Rattle.std.specs.Prelude.{◌≡◌, ◌⊎◌, ℕ, ◌+◌, ◌<◌, ◌≤◌, List, [], ◌∷◌, ◌++◌, length, take}
 use Rattle.ix_values.specs.PlainAction.{Word}
-use Rattle.ix_journal.specs.History.{PlainHistory}
+use Rattle.ix_journal.specs.History.{PlainHistory, actions_of}
 use Rattle.ix_expr.specs.CanonicalText.{canonical_text}
 use Rattle.ix_expr.specs.Form.{Form}
 use Rattle.ix_expr.specs.Meaning.{IsPartial}
 use Rattle.ix_can.specs.TreeOf.{tree_size}
-use Rattle.ix_journal.specs.Recovery.{IsJournal, Recovers}
+use Rattle.ix_journal.specs.Recovery.{HoldsBoots, IsJournalWith, Recovers}
+use Rattle.ix_journal.specs.declared.entries.Marks.{Marks}
 use Rattle.ix_store.specs.Opening.{IsNew}
 use Rattle.ix_manager.specs.Runs.{Opening, Ending, going, stopped, failed}
 
@@ -14,8 +15,8 @@ use Rattle.ix_manager.specs.Runs.{Opening, Ending, going, stopped, failed}
 -- opened, or a journal of that text, which is neither damaged nor of too many records.
 pub data IsOwn (x : Form) (image : List ℕ) : Type 0 where
   new : IsNew image (canonical_text x) → IsOwn x image
-  ready : (history : PlainHistory) (gate : ℕ) → IsJournal image (canonical_text x) history gate
-      → IsOwn x image
+  ready : (history : PlainHistory) (marks : Marks) (gate : ℕ)
+      → IsJournalWith image (canonical_text x) history marks gate → IsOwn x image
 
 -- the word is partial, and the Size of its tree is within the limit
 pub record IsWithin (x : Form) (limit : ℕ) (word : Word) : Type 0 where
@@ -26,25 +27,31 @@ pub record IsWithin (x : Form) (limit : ℕ) (word : Word) : Type 0 where
 abbrev pub EachPrefixIsWithin : Form → ℕ → Word → Type 0
 EachPrefixIsWithin x limit word = (count : ℕ) → IsWithin x limit (take count word)
 
--- an image that the opening can start from: it is the expression's, and recovers the opening's
--- history, each prefix of which is within the limit
+-- An image that the opening can start from: it is the expression's, and recovers the opening's
+-- history, each prefix of whose actions is within the limit. It holds fewer than a million boots,
+-- and the opening's boot is the next one.
 pub record IsStartable (opening : Opening) (image : List ℕ) : Type 0 where
   pub own : IsOwn opening.form image
   pub recovers : Recovers image opening.history
-  pub within : EachPrefixIsWithin opening.form opening.limit opening.history
+  pub within : EachPrefixIsWithin opening.form opening.limit (actions_of opening.history)
+  pub boots : ℕ
+  pub holds : HoldsBoots image boots
+  pub few : boots < 1000000
+  pub next : opening.boot ≡ boots + 1
 
--- the history, with the action of a confirm that failed behind it
+-- the history, with the ticket and the action of a confirm that failed behind it
 abbrev pub with_failed : Ending → PlainHistory → PlainHistory
 with_failed going history = history
 with_failed stopped history = history
-with_failed (failed a) history = history ++ a ∷ []
+with_failed (failed spent) history = history ++ spent ∷ []
 
 -- an image of the file after a run that ended so with this history: it recovers the history, or,
--- after a confirm that failed, maybe the history with the confirm's action behind it
+-- after a confirm that failed, maybe the history with the confirm's ticket and action behind it
 abbrev pub EndsAs : Ending → PlainHistory → List ℕ → Type 0
 EndsAs going history image = Recovers image history
 EndsAs stopped history image = Recovers image history
-EndsAs (failed a) history image = Recovers image history ⊎ Recovers image (history ++ a ∷ [])
+EndsAs (failed spent) history image =
+    Recovers image history ⊎ Recovers image (history ++ spent ∷ [])
 
 -- an image that keeps at least so many actions of this history, the first ones, and no others
 pub record Keeps (x : Form) (least : ℕ) (history : PlainHistory) (image : List ℕ) : Type 0 where

@@ -8,5 +8,7 @@ pub mod Images
 pub mod Acknowledged
 pub mod ImageLaws
 pub mod Handled
+pub mod Later
+pub mod LaterLaws
 pub mod Starts
 pub mod inside

@@ -1,9 +1,10 @@
 -- The protocol machine: its state, and what each request answers and makes of it.
-use Rattle.std.specs.Prelude.{◌≡◌, ◌≢◌, ◌⊎◌, ℕ, ◌+◌, ◌-◌, ◌^◌, ◌<◌, min, Bool, true, false, not}
-use Rattle.std.specs.Prelude.{List, [], ◌∷◌, ◌++◌, length}
+use Rattle.std.specs.Prelude.{◌≡◌, ◌≢◌, ◌⊎◌, ℕ, ◌+◌, ◌-◌, ◌^◌, ◌<◌, ◌≤◌, min, Bool, true, false, not}
+use Rattle.std.specs.Prelude.{List, [], ◌∷◌, ◌++◌, length, Some}
 use Rattle.ix_words.specs.Each.{Each}
 use Rattle.ix_values.specs.PlainAction.{PlainAction, Word}
-use Rattle.ix_journal.specs.History.{PlainHistory}
+use Rattle.ix_values.specs.declared.tickets.Ticket.{Ticket}
+use Rattle.ix_journal.specs.History.{PlainHistory, Spent, actions_of}
 use Rattle.ix_expr.specs.Form.{Form}
 use Rattle.ix_expr.specs.Meaning.{IsComplete}
 use Rattle.ix_can.specs.TreeOf.{tree_size}
@@ -13,6 +14,7 @@ use Rattle.ix_lease.specs.declared.Slot.{Slot}
 use Rattle.ix_lease.specs.declared.Slot.TheVariants as slot
 use Rattle.ix_proto.specs.Requests as request
 use Rattle.ix_proto.specs.Requests.{PlainRequest}
+use Rattle.ix_proto.specs.declared.reply.Outcome.TheVariants as became
 use Rattle.ix_proto.specs.declared.reply.Reply.{Reply}
 use Rattle.ix_proto.specs.declared.reply.Reply.TheVariants as reply
 use Rattle.ix_manager.specs.Refusals as refused
@@ -23,23 +25,48 @@ pub record MachineWatch : Type 0 where
   pub action : PlainAction
   pub told : Bool
 
--- the confirmed actions, the reservation, the watches, the greatest moment so far, and the next
--- ticket
+-- the confirmed actions with their tickets, the reservation, the watches, the greatest moment so
+-- far, the boot, and the next number
 pub record MachineState : Type 0 where
   pub history : PlainHistory
   pub slot : Slot
   pub watches : List MachineWatch
   pub moment : ℕ
-  pub ticket : ℕ
+  pub boot : ℕ
+  pub number : ℕ
 
--- the state at the start, with what was recovered
-abbrev pub start_of : PlainHistory → MachineState
-start_of history =
-    record { history = history; slot = slot.Free; watches = []; moment = 0; ticket = 1 }
+-- the state at the start of this boot, with what was recovered
+abbrev pub start_of : PlainHistory → ℕ → MachineState
+start_of history boot = record {
+  history = history;
+  slot = slot.Free;
+  watches = [];
+  moment = 0;
+  boot = boot;
+  number = 1;
+}
 
 -- the confirmed actions as a word
 abbrev pub word_of : MachineState → Word
-word_of s = s.history
+word_of s = actions_of s.history
+
+-- the ticket of the next ask that is granted
+abbrev pub next_ticket : MachineState → Ticket
+next_ticket s = record { boot = s.boot; seq = s.number }
+
+-- no pair of the history has the ticket
+abbrev pub IsAbsent : Ticket → PlainHistory → Type 0
+IsAbsent ticket history = Each (λ (spent : Spent). spent.0 ≢ Some ticket) history
+
+-- the slot is open at the moment, and holds the ticket
+abbrev pub IsOpenWith : Slot → ℕ → Ticket → Type 0
+IsOpenWith slot moment ticket = IsOpenAt slot moment × HasTicket slot ticket
+
+-- by this boot, with this next number in it, no ask was granted the ticket
+abbrev pub IsUngranted : ℕ → ℕ → Ticket → Type 0
+IsUngranted boot number ticket =
+    (ticket.boot ≡ 0) ⊎ (ticket.seq ≡ 0) ⊎ (boot < ticket.boot)
+    ⊎ ((ticket.boot ≡ boot) × (number ≤ ticket.seq))
 
 -- the truth value tells whether it holds
 abbrev pub Tells : Type 0 → Bool → Type 0
@@ -81,7 +108,7 @@ pub data Polls (allowed : PlainAction → Type 0) (name : List ℕ) : List Machi
 -- refusals.
 pub data Step (x : Form) (limit : ℕ) (s : MachineState) : PlainRequest → List Reply → MachineState
     → Type 0 where
-  busy : {a : PlainAction} {lease deadline : ℕ} (held : PlainAction) (ticket : ℕ)
+  busy : {a : PlainAction} {lease deadline : ℕ} (held : PlainAction) (ticket : Ticket)
       → s.slot ≡ slot.Held ticket held deadline → s.moment < deadline
       → Step x limit s (request.ask a lease) (refused.busy_until deadline ∷ []) s
   not_permitted : {a : PlainAction} {lease : ℕ}
@@ -98,33 +125,49 @@ pub data Step (x : Form) (limit : ℕ) (s : MachineState) : PlainRequest → Lis
       (record s { slot = slot.Free })
   granted : {a : PlainAction} {lease : ℕ}
       → (IsOpenAt s.slot s.moment → ⊥) → IsAllowed x limit (word_of s) a
-      → Step x limit s (request.ask a lease) (reply.Granted s.ticket ∷ [])
-      (record s
-      { slot = slot.Held s.ticket a (min (s.moment + lease) (2 ^ 64 - 1)); ticket = s.ticket + 1 })
+      → Step x limit s (request.ask a lease) (reply.Granted (next_ticket s) ∷ [])
+      (record s {
+        slot = slot.Held (next_ticket s) a (min (s.moment + lease) (2 ^ 64 - 1));
+        number = s.number + 1;
+      })
   ask_memory : {a : PlainAction} {lease : ℕ}
       → (IsOpenAt s.slot s.moment → ⊥) → IsPermitted x (word_of s) a → length s.history < 1000000
       → Step x limit s (request.ask a lease) (refused.no_memory ∷ [])
       (record s { slot = slot.Free })
-  confirmed : {ticket : ℕ} (a : PlainAction) (deadline : ℕ)
+  confirmed : {ticket : Ticket} (a : PlainAction) (deadline : ℕ)
       → s.slot ≡ slot.Held ticket a deadline → s.moment < deadline
       → Step x limit s (request.confirm ticket) (reply.Confirmed (length s.history + 1) ∷ [])
-      (record s { history = s.history ++ a ∷ []; slot = slot.Free })
-  confirm_expired : {ticket : ℕ}
+      (record s { history = s.history ++ (Some ticket, a) ∷ []; slot = slot.Free })
+  confirm_expired : {ticket : Ticket}
       → HasTicket s.slot ticket → (IsOpenAt s.slot s.moment → ⊥)
       → Step x limit s (request.confirm ticket) (refused.expired ∷ []) s
-  confirm_no_such : {ticket : ℕ}
+  confirm_no_such : {ticket : Ticket}
       → (HasTicket s.slot ticket → ⊥)
       → Step x limit s (request.confirm ticket) (refused.no_such_ticket ∷ []) s
-  cancelled : {ticket : ℕ} (a : PlainAction) (deadline : ℕ)
+  cancelled : {ticket : Ticket} (a : PlainAction) (deadline : ℕ)
       → s.slot ≡ slot.Held ticket a deadline → s.moment < deadline
       → Step x limit s (request.cancel ticket) (reply.Cancelled ticket ∷ [])
       (record s { slot = slot.Free })
-  cancel_expired : {ticket : ℕ}
+  cancel_expired : {ticket : Ticket}
       → HasTicket s.slot ticket → (IsOpenAt s.slot s.moment → ⊥)
       → Step x limit s (request.cancel ticket) (refused.expired ∷ []) s
-  cancel_no_such : {ticket : ℕ}
+  cancel_no_such : {ticket : Ticket}
       → (HasTicket s.slot ticket → ⊥)
       → Step x limit s (request.cancel ticket) (refused.no_such_ticket ∷ []) s
+  outcome_confirmed : {ticket : Ticket} {place : ℕ} (before behind : PlainHistory) (a : PlainAction)
+      → s.history ≡ before ++ (Some ticket, a) ∷ behind → place ≡ length before + 1
+      → Step x limit s (request.outcome ticket) (reply.Outcome (became.Confirmed place) ∷ []) s
+  outcome_open : {ticket : Ticket}
+      → IsAbsent ticket s.history → IsOpenWith s.slot s.moment ticket
+      → Step x limit s (request.outcome ticket) (reply.Outcome became.Waiting ∷ []) s
+  outcome_no_such : {ticket : Ticket}
+      → IsAbsent ticket s.history → (IsOpenWith s.slot s.moment ticket → ⊥)
+      → IsUngranted s.boot s.number ticket
+      → Step x limit s (request.outcome ticket) (refused.no_such_ticket ∷ []) s
+  outcome_never : {ticket : Ticket}
+      → IsAbsent ticket s.history → (IsOpenWith s.slot s.moment ticket → ⊥)
+      → (IsUngranted s.boot s.number ticket → ⊥)
+      → Step x limit s (request.outcome ticket) (reply.Outcome became.Never ∷ []) s
   may : {a : PlainAction} {answer : Bool}
       → Tells (IsPermitted x (word_of s) a) answer
       → Step x limit s (request.may a) (reply.May answer ∷ []) s
@@ -164,8 +207,8 @@ pub data Step (x : Form) (limit : ℕ) (s : MachineState) : PlainRequest → Lis
       → Tells (IsComplete x [] (word_of s)) complete
       → Step x limit s request.status
       (reply.Status complete (length s.history) (tree_size x (word_of s)) ∷ []) s
-  entry : {number : ℕ} {a : PlainAction} (before behind : PlainHistory)
-      → s.history ≡ before ++ a ∷ behind → number ≡ length before + 1
+  entry : {number : ℕ} {a : PlainAction} (before behind : Word)
+      → word_of s ≡ before ++ a ∷ behind → number ≡ length before + 1
       → Step x limit s (request.log number) (reply.Entry number a ∷ []) s
   no_such_entry : {number : ℕ}
       → (number ≡ 0) ⊎ (length s.history < number)

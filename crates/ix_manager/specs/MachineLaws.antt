@@ -1,7 +1,9 @@
 -- Laws of the machine's table, as statements over the table alone.
 use Rattle.std.specs.Prelude.{◌≡◌, ◌≢◌, ℕ, ◌+◌, ◌<◌, not, List, [], ◌∷◌, ◌++◌, length, map}
+use Rattle.std.specs.Prelude.{Some}
 use Rattle.ix_words.specs.Parts.{Projection}
 use Rattle.ix_values.specs.PlainAction.{PlainAction}
+use Rattle.ix_values.specs.declared.tickets.Ticket.{Ticket}
 use Rattle.ix_expr.specs.Form.{Form}
 use Rattle.ix_engine.specs.Allowed.{IsAllowed}
 use Rattle.ix_lease.specs.declared.Slot.TheVariants as slot
@@ -10,18 +12,18 @@ use Rattle.ix_proto.specs.Requests.{PlainRequest}
 use Rattle.ix_proto.specs.declared.reply.Reply.{Reply}
 use Rattle.ix_proto.specs.declared.reply.Reply.TheVariants as reply
 use Rattle.ix_manager.specs.Refusals as refused
-use Rattle.ix_manager.specs.Machine.{MachineState, MachineWatch, Step, Tells}
+use Rattle.ix_manager.specs.Machine.{MachineState, MachineWatch, Step, Tells, word_of}
 
--- a confirm with the ticket of the open reservation is confirmed: its action joins the history, and
--- the slot is free
+-- a confirm with the ticket of the open reservation is confirmed: ticket and action join the
+-- history, and the slot is free
 abbrev pub OpenTicketsAreConfirmed : Type 0
 OpenTicketsAreConfirmed =
-    (x : Form) (limit : ℕ) (s : MachineState) (ticket deadline : ℕ) (a : PlainAction)
+    (x : Form) (limit : ℕ) (s : MachineState) (ticket : Ticket) (deadline : ℕ) (a : PlainAction)
     (replies : List Reply) (after : MachineState)
     → s.slot ≡ slot.Held ticket a deadline → s.moment < deadline
     → Step x limit s (request.confirm ticket) replies after
     → (replies ≡ reply.Confirmed (length s.history + 1) ∷ [])
-    × (after ≡ record s { history = s.history ++ a ∷ []; slot = slot.Free })
+    × (after ≡ record s { history = s.history ++ (Some ticket, a) ∷ []; slot = slot.Free })
 
 -- an ask, a watch or a poll
 abbrev pub MayWantMemory : PlainRequest → Type 0
@@ -52,5 +54,5 @@ PollsTellWhatChanged =
     (after : MachineState)
     → Step x limit s (request.poll name) replies after → replies ≢ refused.no_memory ∷ []
     → (changed : List MachineWatch)
-    × Projection (HasChanged (IsAllowed x limit s.history) name) s.watches changed
+    × Projection (HasChanged (IsAllowed x limit (word_of s)) name) s.watches changed
     × (replies ≡ reply.Changes (length changed) ∷ map change_of changed)

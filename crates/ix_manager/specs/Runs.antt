@@ -1,7 +1,9 @@
 -- Runs of the protocol machine over the events of all connections.
 use Rattle.std.specs.Prelude.{◌≡◌, ◌≢◌, ℕ, ◌==◌, ◌<◌, max, List, [], ◌∷◌, ◌++◌, if◌then◌else◌}
+use Rattle.std.specs.Prelude.{Some}
 use Rattle.ix_values.specs.PlainAction.{PlainAction}
-use Rattle.ix_journal.specs.History.{PlainHistory}
+use Rattle.ix_values.specs.declared.tickets.Ticket.{Ticket}
+use Rattle.ix_journal.specs.History.{PlainHistory, Spent}
 use Rattle.ix_expr.specs.Form.{Form}
 use Rattle.ix_lines.specs.Items.{Item, line, too_long, items}
 use Rattle.ix_outside.specs.Contents.{GivenEvent}
@@ -17,21 +19,24 @@ use Rattle.ix_proto.specs.declared.reply.Reply.TheVariants as reply
 use Rattle.ix_manager.specs.Refusals.{disk}
 use Rattle.ix_manager.specs.Machine.{MachineState, Step, start_of}
 
--- what a run starts from: the expression, the limit of Size and the history
+-- what a run starts from: the expression, the limit of Size, the history and the boot
 pub record Opening : Type 0 where
   pub form : Form
   pub limit : ℕ
   pub history : PlainHistory
+  pub boot : ℕ
 
--- the opening of an expression, a limit and a history
-abbrev pub opening_of : Form → ℕ → PlainHistory → Opening
-opening_of x limit history = record { form = x; limit = limit; history = history }
+-- the opening of an expression, a limit, a history and a boot
+abbrev pub opening_of : Form → ℕ → PlainHistory → ℕ → Opening
+opening_of x limit history boot =
+    record { form = x; limit = limit; history = history; boot = boot }
 
--- whether the run goes on, or ended: by `stop`, or by a confirm that failed with its action
+-- whether the run goes on, or ended: by `stop`, or by a confirm that failed, with its ticket and
+-- its action
 pub data Ending : Type 0 where
   going : Ending
   stopped : Ending
-  failed : PlainAction → Ending
+  failed : Spent → Ending
 
 -- `stop` ends the run
 abbrev pub ending_of : PlainRequest → Ending
@@ -53,10 +58,10 @@ pub data ItemStep (x : Form) (limit : ℕ) (s : MachineState)
       → IsRequestFault (words_of bytes) code
       → ItemStep x limit s (line bytes) (reply.Refused code 0 ∷ []) s going
   over_long : ItemStep x limit s too_long (reply.Refused 10 0 ∷ []) s going
-  disk_failed : {bytes : List ℕ} {ticket deadline : ℕ} {a : PlainAction}
+  disk_failed : {bytes : List ℕ} {ticket : Ticket} {deadline : ℕ} {a : PlainAction}
       → IsRequest (request.confirm ticket) → words_of bytes ≡ request_words (request.confirm ticket)
       → s.slot ≡ slot.Held ticket a deadline → s.moment < deadline
-      → ItemStep x limit s (line bytes) (disk ∷ []) s (failed a)
+      → ItemStep x limit s (line bytes) (disk ∷ []) s (failed (Some ticket, a))
 
 -- items in order, each one step, with the replies to each; no item follows one that ends the run
 pub data Steps (x : Form) (limit : ℕ)
@@ -99,7 +104,7 @@ pub record Completes (text : List ℕ) (given : GivenEvent) (completed : List It
 -- each event completes, the last state, and whether it goes on. No event is taken after its end.
 pub data Run (opening : Opening)
     : List GivenEvent → List (List (List Reply)) → MachineState → Ending → Type 0 where
-  begin : Run opening [] [] (start_of opening.history) going
+  begin : Run opening [] [] (start_of opening.history opening.boot) going
   takes : {events : List GivenEvent} {answers : List (List (List Reply))} {s after : MachineState}
       {ending : Ending}
       (given : GivenEvent) (completed : List Item) (last : List (List Reply))

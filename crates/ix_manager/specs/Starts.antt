@@ -1,5 +1,6 @@
 -- Which files a run can't start from, and why.
 use Rattle.std.specs.Prelude.{◌⊎◌, ℕ, ◌-◌, ◌<◌, ◌≤◌, List, [], length, take}
+use Rattle.ix_values.specs.PlainAction.{Word}
 use Rattle.ix_journal.specs.History.{PlainHistory}
 use Rattle.ix_expr.specs.Form.{Form}
 use Rattle.ix_expr.specs.Meaning.{IsPartial}
@@ -15,21 +16,21 @@ HasText file text = IsUnopened file text ⊎ IsReadyWith file text
 
 -- the action of this number, counted from 1, is there, and each prefix in front of it is within the
 -- limit
-pub record IsReached (x : Form) (limit : ℕ) (history : PlainHistory) (number : ℕ) : Type 0 where
+pub record IsReached (x : Form) (limit : ℕ) (word : Word) (number : ℕ) : Type 0 where
   pub first : 0 < number
-  pub last : number ≤ length history
-  pub before : EachPrefixIsWithin x limit (take (number - 1) history)
+  pub last : number ≤ length word
+  pub before : EachPrefixIsWithin x limit (take (number - 1) word)
 
--- the action of this number is the first with which the history isn't partial
-pub record IsNoWord (x : Form) (limit : ℕ) (history : PlainHistory) (number : ℕ) : Type 0 where
-  pub reached : IsReached x limit history number
-  pub not_partial : ¬ IsPartial x [] (take number history)
+-- the action of this number is the first with which the word isn't partial
+pub record IsNoWord (x : Form) (limit : ℕ) (word : Word) (number : ℕ) : Type 0 where
+  pub reached : IsReached x limit word number
+  pub not_partial : ¬ IsPartial x [] (take number word)
 
 -- the action of this number is the first with which the Size is above the limit
-pub record IsHeavy (x : Form) (limit : ℕ) (history : PlainHistory) (number : ℕ) : Type 0 where
-  pub reached : IsReached x limit history number
-  pub partial : IsPartial x [] (take number history)
-  pub above : limit < tree_size x (take number history)
+pub record IsHeavy (x : Form) (limit : ℕ) (word : Word) (number : ℕ) : Type 0 where
+  pub reached : IsReached x limit word number
+  pub partial : IsPartial x [] (take number word)
+  pub above : limit < tree_size x (take number word)
 
 -- the file is the expression's, and recovers this history
 abbrev pub OpensAs : Form → List ℕ → PlainHistory → Type 0

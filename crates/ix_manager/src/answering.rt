@@ -20,6 +20,7 @@ use crate::{Go, Stop};
 use ix_lines::{FedKind, Lines};
 use ix_outside::Site;
 use ix_proto::Request;
+use ix_values::Ticket;
 use std::alloc::Global;
 
 /// Bytes of a connection.
@@ -48,7 +49,7 @@ pub(crate) fn take_piece<S: Site>(
     site: &mut S,
 ) -> Result<Go, Stop>
     requires clean { IsClean lines.old }
-    requires tickets { journaled.old.machine.state.ticket + length piece.bytes.now < 2 ^ 64 - 1 }
+    requires tickets { journaled.old.machine.state.number + length piece.bytes.now < 2 ^ 64 - 1 }
     requires attached { (S.state site.old).attached ≡ true }
     requires fits { FitsJournal journaled.old (S.state site.old) (S.crashes site.old) }
 
@@ -58,8 +59,8 @@ pub(crate) fn take_piece<S: Site>(
         (S.crashes site.old) (S.crashes site.new) }
     ensures lines { result ≡ Ok Go.More → lines.new ≡ holds_after lines.old piece.entry.bytes.now }
     ensures clean { IsClean lines.new }
-    ensures tickets { journaled.new.machine.state.ticket
-        ≤ journaled.old.machine.state.ticket + length piece.entry.bytes.now }
+    ensures tickets { journaled.new.machine.state.number
+        ≤ journaled.old.machine.state.number + length piece.entry.bytes.now }
 {
     let conn = piece.conn;
     let mut rest = piece.bytes;
@@ -87,7 +88,7 @@ fn take_item<S: Site>(
     piece: Piece<'_>,
     site: &mut S,
 ) -> Result<Option<Taken>, Stop>
-    requires tickets { journaled.old.machine.state.ticket < 2 ^ 64 - 1 }
+    requires tickets { journaled.old.machine.state.number < 2 ^ 64 - 1 }
     requires attached { (S.state site.old).attached ≡ true }
     requires fits { FitsJournal journaled.old (S.state site.old) (S.crashes site.old) }
     ensures { TakesItem piece.entry.conn lines.old piece.entry.bytes.now result lines.new
@@ -112,7 +113,7 @@ fn answer_fed<S: Site>(
     kind: FedKind<'_>,
     site: &mut S,
 ) -> Result<Option<Go>, Stop>
-    requires tickets { journaled.old.machine.state.ticket < 2 ^ 64 - 1 }
+    requires tickets { journaled.old.machine.state.number < 2 ^ 64 - 1 }
     requires attached { (S.state site.old).attached ≡ true }
     requires fits { FitsJournal journaled.old (S.state site.old) (S.crashes site.old) }
     ensures { AnswersFed conn (told_item kind.entry) result journaled.old journaled.new
@@ -140,7 +141,7 @@ fn answer_line<S: Site>(
     line: &[u8],
     site: &mut S,
 ) -> Result<Go, Stop>
-    requires tickets { journaled.old.machine.state.ticket < 2 ^ 64 - 1 }
+    requires tickets { journaled.old.machine.state.number < 2 ^ 64 - 1 }
     requires attached { (S.state site.old).attached ≡ true }
     requires fits { FitsJournal journaled.old (S.state site.old) (S.crashes site.old) }
     ensures { ItemOver conn (line_item line.now) result journaled.old journaled.new
@@ -169,7 +170,7 @@ fn answer_request<S: Site>(
     request: &Request<'_>,
     site: &mut S,
 ) -> Result<Go, Stop>
-    requires tickets { journaled.old.machine.state.ticket < 2 ^ 64 - 1 }
+    requires tickets { journaled.old.machine.state.number < 2 ^ 64 - 1 }
     requires plain { IsPlain request.now }
     requires attached { (S.state site.old).attached ≡ true }
     requires fits { FitsJournal journaled.old (S.state site.old) (S.crashes site.old) }
@@ -206,7 +207,7 @@ fn answer_confirm<S: Site>(
     journaled: &mut Journaled,
     conn: u8,
     gone: &mut bool,
-    ticket: u64,
+    ticket: Ticket,
     site: &mut S,
 ) -> Result<Go, Stop>
     requires attached { (S.state site.old).attached ≡ true }

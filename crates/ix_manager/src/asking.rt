@@ -1,12 +1,16 @@
 //! Answers that change nothing.
 
+ghost use Rattle.std.specs.Prelude.{◌≡◌, ◌↔◌, IsTrue, position};
 ghost use Rattle.ix_proto.specs.Requests as request;
+ghost use Rattle.ix_manager.specs.Machine.{IsOpenWith, IsUngranted};
 ghost use Rattle.ix_manager.specs.inside.Does.{Does};
+ghost use Rattle.ix_manager.specs.inside.Ready.{has_ticket};
 
 use crate::machine::Machine;
 use crate::refusals::{Refusal, refused};
-use ix_proto::Reply;
-use ix_values::Action;
+use ix_lease::Slot;
+use ix_proto::{Outcome, Reply};
+use ix_values::{Action, Ticket};
 
 impl Machine {
     /// Whether the history extended by the action is partial.
@@ -37,5 +41,59 @@ impl Machine {
             Some(action) => Reply::Entry(number, *action),
             None => refused(Refusal::NoSuchEntry),
         }
+    }
+
+    /// What became of a ticket. Takes no memory.
+    pub(crate) fn outcome(&self, ticket: &Ticket) -> Reply
+        ensures { Does self.now (request.outcome ticket.now) result self.now }
+    {
+        if let Some(index) = place_of(&self.tickets, ticket) {
+            return Reply::Outcome(Outcome::Confirmed(index as u64 + 1));
+        }
+        if is_open_with(&self.slot, self.moment, ticket) {
+            return Reply::Outcome(Outcome::Waiting);
+        }
+        if is_ungranted(self.boot, self.number, ticket) {
+            return refused(Refusal::NoSuchTicket);
+        }
+        Reply::Outcome(Outcome::Never)
+    }
+}
+
+fn place_of(tickets: &[Option<Ticket>], ticket: &Ticket) -> Option<usize>
+    ensures { result ≡ position (has_ticket ticket.now) tickets.now }
+{
+    tickets.iter().position(|kept| is_kept(kept, ticket))
+}
+
+fn is_kept(kept: &Option<Ticket>, ticket: &Ticket) -> bool
+    ensures { result ≡ has_ticket ticket.now kept.now }
+{
+    match kept {
+        Some(kept) => kept.boot == ticket.boot && kept.seq == ticket.seq,
+        None => false,
+    }
+}
+
+/// Whether no ask was granted the ticket by this boot, with this next number in it.
+fn is_ungranted(boot: u64, number: u64, ticket: &Ticket) -> bool
+    ensures { IsTrue result ↔ IsUngranted boot number ticket.now }
+{
+    ticket.boot == 0
+        || ticket.seq == 0
+        || boot < ticket.boot
+        || ticket.boot == boot && number <= ticket.seq
+}
+
+fn is_open_with(slot: &Slot, moment: u64, ticket: &Ticket) -> bool
+    ensures { IsTrue result ↔ IsOpenWith slot.now moment ticket.now }
+{
+    match slot {
+        Slot::Free => false,
+        Slot::Held {
+            ticket: held,
+            deadline,
+            ..
+        } => held == ticket && moment < *deadline,
     }
 }

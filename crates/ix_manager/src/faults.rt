@@ -17,7 +17,8 @@ pub enum Stop {
     Disk,
 }
 
-/// Why a manager wasn't started. The first that applies is told. Records are counted from 1.
+/// Why a manager wasn't started. The first that applies is told. The records of actions are counted
+/// from 1, without the boots.
 #[derive(Drop, Debug)]
 pub enum StartFault {
     /// The Size of the expression's initial tree is above this limit.
@@ -28,10 +29,10 @@ pub enum StartFault {
     Foreign,
     /// The file is the journal of another expression, whose text it keeps.
     Other { kept: Vec<u8> },
-    /// The open gate in front of this place isn't followed by a whole record of an action and a
-    /// further gate.
+    /// The open gate in front of this place isn't followed by a whole record that may stand there
+    /// and a further gate.
     Damaged { at: usize },
-    /// A million records are open, and so is the gate behind them.
+    /// There are a million boots, or a record is open behind a million actions or a million boots.
     Many,
     /// With the record of this number the history isn't partial.
     Word { number: u64 },

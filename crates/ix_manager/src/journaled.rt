@@ -10,6 +10,7 @@ use ix_lease::Take;
 use ix_outside::Site;
 use ix_proto::Reply;
 use ix_store::Store;
+use ix_values::Ticket;
 
 /// The machine, and the journal of its history.
 #[derive(Drop)]
@@ -19,10 +20,10 @@ pub(crate) struct Journaled {
 }
 
 impl Journaled {
-    /// Answers that the action of the ticket was done: where its reservation is open, the action is
-    /// appended to the journal, and then to the history. Where the disk fails, the history and the
-    /// reservation stay. Takes no memory.
-    pub(crate) fn confirm<S: Site>(&mut self, ticket: u64, site: &mut S) -> Result<Reply, Stop>
+    /// Answers that the action of the ticket was done: where its reservation is open, the ticket and
+    /// the action are appended to the journal, and then to the history. Where the disk fails, the
+    /// history and the reservation stay. Takes no memory.
+    pub(crate) fn confirm<S: Site>(&mut self, ticket: Ticket, site: &mut S) -> Result<Reply, Stop>
         requires attached { (S.state site.old).attached ≡ true }
         requires fits { FitsJournal self.old (S.state site.old) (S.crashes site.old) }
         ensures { ConfirmsOver ticket result self.old self.new (S.state site.old) (S.state site.new)
@@ -33,8 +34,8 @@ impl Journaled {
             Take::Expired => return Ok(refused(Refusal::Expired)),
             Take::NoSuch => return Ok(refused(Refusal::NoSuchTicket)),
         };
-        match self.store.append(site, &action) {
-            Ok(()) => Ok(self.machine.commit()),
+        match self.store.append(site, ticket, &action) {
+            Ok(()) => Ok(self.machine.commit(ticket)),
             Err(_) => Err(Stop::Disk),
         }
     }

@@ -1,12 +1,14 @@
 //! Laws of the protocol machine's table and of its runs.
 ghost use Rattle.ix_manager.specs.ImageLaws.{KeptImagesAreStartable, RunsStayWithin};
+ghost use Rattle.ix_manager.specs.LaterLaws.{LaterStatesAreThese, OverTicketsStayOver};
+ghost use Rattle.ix_manager.specs.LaterLaws.{ToldEntriesStay};
 ghost use Rattle.ix_manager.specs.MachineLaws.{OnlySomeWantMemory, OpenTicketsAreConfirmed};
 ghost use Rattle.ix_manager.specs.MachineLaws.{PollsTellWhatChanged};
 ghost use Rattle.ix_manager.specs.RunLaws.{AnyCuttingGivesTheSameRun, CallsMakeARun};
 ghost use Rattle.ix_manager.specs.RunLaws.{SentRepliesAreTheWire, UnmarkedRepliesAreTheText};
 
-/// A confirm with the ticket of the open reservation is confirmed: its action joins the history,
-/// and the slot is free.
+/// A confirm with the ticket of the open reservation is confirmed: ticket and action join the
+/// history, and the slot is free.
 pub fn open_tickets_are_confirmed()
     ensures { OpenTicketsAreConfirmed }
 {}
@@ -59,7 +61,27 @@ pub fn runs_stay_within_the_limit()
 {}
 
 /// Every image that keeps the first actions of such a history, and no others, as each does that a
-/// crash may leave, can be started from, and gives the actions that it keeps.
+/// crash may leave, can be started from, and gives the actions that it keeps with their tickets,
+/// unless it holds a million boots.
 pub fn kept_images_can_be_started_from()
     ensures { KeptImagesAreStartable }
+{}
+
+/// Once a reply told that a ticket is over, no later state has it in its history: none of this run,
+/// and none of a run from a journal that this one or a crash of it left. The replies that tell so
+/// are that its outcome is never, that it was cancelled, and 31, that it came behind its deadline.
+pub fn over_tickets_stay_over()
+    ensures { OverTicketsStayOver }
+{}
+
+/// An entry that was told of the history is the same in each later state.
+pub fn told_entries_stay()
+    ensures { ToldEntriesStay }
+{}
+
+/// What comes later: the last state of a run; of each event, a state of which a crash may leave what
+/// the images meanwhile keep; and the start from an image that holds the boots of a state and keeps
+/// what a crash in it may leave.
+pub fn later_states_are_these()
+    ensures { LaterStatesAreThese }
 {}

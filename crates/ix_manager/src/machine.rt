@@ -1,17 +1,20 @@
-//! The protocol machine: the engine, the reservation, the watches, the moment and the next ticket.
+//! The protocol machine: the engine with the tickets of its history, the reservation, the watches,
+//! the moment, the boot and the next number.
 
 ghost use Rattle.std.specs.Prelude.{◌≡◌, ◌+◌, ◌-◌, ◌^◌, ◌<◌, ◌≤◌, [], length};
 ghost use Rattle.ix_watch.specs.inside.Watches.{changes_of};
-ghost use Rattle.ix_manager.specs.Machine.{start_of};
+ghost use Rattle.std.specs.List.{zip};
+ghost use Rattle.ix_manager.specs.Machine.{start_of, word_of};
 ghost use Rattle.ix_manager.specs.Runs.{raised};
 ghost use Rattle.ix_manager.specs.inside.Core.{MachineAnswers, IsRefreshed, TellsPoll};
+ghost use Rattle.ix_manager.specs.inside.Does.{MayReserve};
 ghost use Rattle.ix_proto.specs.Requests.{PlainRequest, IsRequest};
 ghost use Rattle.ix_proto.specs.inside.Lends.{Lends};
 
 use ix_engine::{Engine, Next};
 use ix_lease::Slot;
 use ix_proto::{Reply, Request};
-use ix_values::{Action, Name};
+use ix_values::{Action, Name, Ticket};
 use ix_watch::{Changes, WATCH_LIMIT, Watches};
 use std::alloc::Global;
 use std::marker::Model;
@@ -24,20 +27,24 @@ pub(crate) enum Answer {
     /// The changes of this name are to be told, and then noted as told.
     Poll(Name),
     /// The confirm of this ticket is to be answered.
-    Confirm(u64),
+    Confirm(Ticket),
 }
 
 #[derive(Drop)]
 pub(crate) struct Machine {
     pub(crate) engine: Engine,
+    /// The tickets of the confirmed actions, as far as they are known, the oldest first.
+    pub(crate) tickets: Vec<Option<Ticket>>,
     /// The action that is reserved, prepared, where the slot is held.
     pub(crate) pending: Option<Next>,
     pub(crate) slot: Slot,
     pub(crate) watches: Watches,
     /// The greatest moment of all events so far, in milliseconds.
     pub(crate) moment: u64,
-    /// The next ticket.
-    pub(crate) ticket: u64,
+    /// How many times the journal was started from, this run included.
+    pub(crate) boot: u64,
+    /// The number of the next ticket.
+    pub(crate) number: u64,
 }
 
 impl Model for Machine {
@@ -45,6 +52,7 @@ impl Model for Machine {
     ghost use Rattle.ix_expr.specs.lemmas.FormCode.{form_code};
     ghost use Rattle.std.specs.Coded.{codes};
     ghost use Rattle.std.specs.Prelude.{map};
+    ghost use Rattle.std.specs.List.{zip};
 
     ghost Value = { Core };
 
@@ -54,38 +62,48 @@ impl Model for Machine {
       form = m.engine.form;
       limit = m.engine.limit;
       state = record {
-        history = m.engine.history;
+        history = zip m.tickets.items m.engine.history;
         slot = m.slot;
         watches = map watch_of m.watches;
         moment = m.moment;
-        ticket = m.ticket;
+        boot = m.boot;
+        number = m.number;
       };
       noted = m.watches;
     } };
 
-    ghost use Rattle.ix_manager.specs.inside.Ready.{IsReady};
+    ghost use Rattle.ix_manager.specs.inside.Ready.{IsMachine};
 
-    // The action of a reservation is prepared, and its memory is there.
-    ghost invariant = { λ m. IsReady m.engine m.slot m.pending };
+    // Each action has its ticket, or none. That of a reservation is prepared, and there is memory
+    // for both.
+    ghost invariant = { λ m. IsMachine m.engine m.tickets m.slot m.pending };
 }
 
 impl Machine {
-    /// The machine of an engine, at the start of a run.
-    pub(crate) fn new(alloc: Global, engine: Engine) -> Machine
+    /// The machine of an engine and the tickets of its actions, at the start of this boot.
+    pub(crate) fn new(
+        alloc: Global,
+        engine: Engine,
+        tickets: Vec<Option<Ticket>>,
+        boot: u64,
+    ) -> Machine
+        requires { length tickets.items ≡ length engine.history }
         ensures { result ≡ record {
           form = engine.form;
           limit = engine.limit;
-          state = start_of engine.history;
+          state = start_of (zip tickets.items engine.history) boot;
           noted = [];
         } }
     {
         Machine {
             engine,
+            tickets,
             pending: None,
             slot: Slot::Free,
             watches: Watches::new(alloc),
             moment: 0,
-            ticket: 1,
+            boot,
+            number: 1,
         }
     }
 
@@ -98,9 +116,9 @@ impl Machine {
 
     pub(crate) fn answer(&mut self, alloc: Global, request: &Request<'_>) -> Answer
         requires read { (plain : PlainRequest) × IsRequest plain × Lends request.now plain }
-        requires tickets { self.old.state.ticket < 2 ^ 64 - 1 }
+        requires tickets { self.old.state.number < 2 ^ 64 - 1 }
         ensures answers { MachineAnswers self.old request.now result self.new }
-        ensures tickets { self.new.state.ticket ≤ self.old.state.ticket + 1 }
+        ensures tickets { MayReserve self.old.state self.new.state }
         ensures history { self.new.state.history ≡ self.old.state.history }
         ensures form { self.new.form ≡ self.old.form }
         ensures limit { self.new.limit ≡ self.old.limit }
@@ -111,6 +129,7 @@ impl Machine {
             }
             Request::Confirm(ticket) => Answer::Confirm(ticket),
             Request::Cancel(ticket) => Answer::One(self.cancel(ticket)),
+            Request::Outcome(ticket) => Answer::One(self.outcome(&ticket)),
             Request::May(action) => Answer::One(self.may(&Action::of_text(action))),
             Request::Watch { name, action } => {
                 Answer::One(self.watch(alloc, Name::of_text(name), Action::of_text(action)))
@@ -144,15 +163,15 @@ impl Machine {
 
     /// The confirmed actions, the oldest first.
     pub(crate) fn history(&self) -> &[Action]
-        ensures { result.now ≡ self.now.state.history }
+        ensures { result.now ≡ word_of self.now.state }
     {
         self.engine.history()
     }
 
-    /// The next ticket.
-    pub(crate) fn ticket(&self) -> u64
-        ensures { result ≡ self.now.state.ticket }
+    /// The number of the next ticket.
+    pub(crate) fn number(&self) -> u64
+        ensures { result ≡ self.now.state.number }
     {
-        self.ticket
+        self.number
     }
 }

@@ -1,17 +1,24 @@
 //! The manager of a site's connections.
 
 ghost use Rattle.std.specs.Prelude.{◌≡◌, ◌⊎◌, ℕ, ◌+◌, ◌-◌, ◌^◌, ◌<◌, ◌≤◌, Bool, false, true, []};
-ghost use Rattle.std.specs.Prelude.{length};
+ghost use Rattle.std.specs.Prelude.{length, map};
 ghost use Rattle.std.specs.Prelude.{get_or, set, replicate, Err, IfOk, OnOk, OnErr};
+ghost use Rattle.std.specs.List.{zip};
 ghost use Rattle.std.specs.Option.{ForSome};
-ghost use Rattle.ix_outside.specs.Counts.{Rose};
+ghost use Rattle.ix_expr.specs.CanonicalText.{canonical_text};
+ghost use Rattle.ix_outside.specs.Counts.{CountsFault, Rose};
 ghost use Rattle.ix_outside.specs.Crashes.{Passes};
-ghost use Rattle.ix_outside.specs.inside.DiskCalls.{DiskCalls};
+ghost use Rattle.ix_outside.specs.inside.DiskCalls.{DiskCalls, LeavesOnly};
+ghost use Rattle.ix_store.specs.inside.Keeping.{Fits, IsBootedOrNot};
+ghost use Rattle.ix_store.specs.inside.KeptBy.{kept};
+ghost use Rattle.ix_manager.specs.inside.Saving.{FitsJournal};
+ghost use Rattle.ix_journal.specs.History.{Spent, actions_of};
 ghost use Rattle.ix_can.specs.TreeOf.{tree_size};
 ghost use Rattle.ix_step.specs.inside.Limits.{most_size};
 ghost use Rattle.ix_lines.specs.Feeding.{unfinished};
 ghost use Rattle.ix_manager.specs.Handled.{FitsEvent, started};
 ghost use Rattle.ix_manager.specs.inside.StartAnswers.{StartsFrom, StartLeaves};
+ghost use Rattle.ix_manager.specs.Machine.{start_of, word_of};
 ghost use Rattle.ix_manager.specs.Runs.{opening_of};
 ghost use Rattle.ix_manager.specs.inside.OverSite.{FitsSite, HandlesOver, OnlyServes};
 ghost use Rattle.ix_manager.specs.inside.StartFaults.{start_fault_of, open_fault_of};
@@ -26,11 +33,11 @@ use crate::{Go, StartFault, Stop};
 use ix_engine::{Engine, PrepareFault, ResumeFault};
 use ix_expr::Expression;
 use ix_lines::Lines;
-use ix_outside::{Event, EventKind, Site};
+use ix_outside::{DiskFailed, Event, EventKind, Site};
 use ix_step::BuildFault;
 use ix_store::{OpenFault, Store};
 use ix_text::text;
-use ix_values::Action;
+use ix_values::{Action, Ticket};
 use std::alloc::{AllocError, Global};
 use std::marker::Model;
 
@@ -74,12 +81,14 @@ impl Model for Manager {
 
 impl Manager {
     /// Starts the manager of an expression from the attached file, which is its journal: the
-    /// history is the one that the file recovers. A journal that is unfinished or was never opened
-    /// is made anew; no other file is changed. The limit, 1 to 1,000,000, is the most that the Size
-    /// of the history's tree may be.
+    /// history is the one that the file recovers, and the boot is one more than the boots that it
+    /// holds. A journal that is unfinished or was never opened is made anew. Last of all, once
+    /// nothing else can refuse, the boot is recorded; no other file is changed. The limit, 1 to
+    /// 1,000,000, is the most that the Size of the history's tree may be.
     ///
-    /// The faults are met in their order; where the initial tree is above the limit, no call of the
-    /// site is made. After `Disk` or `Memory` a journal that was to be made anew may be so in part.
+    /// The faults are met in their order, but `Disk` and `Memory` at any step; where the initial tree
+    /// is above the limit, no call of the site is made. After these two a journal that was to be made
+    /// anew may be so in part, and after `Disk` the boot may be recorded.
     pub fn start<S: Site>(
         alloc: Global,
         site: &mut S,
@@ -98,8 +107,8 @@ impl Manager {
             → (l ≡ limit) × (limit < tree_size expression []) }
         ensures not_large { tree_size expression [] ≤ limit → ForSome (S.state site.old).disk
             (λ disk. StartsFrom expression limit disk.file result) }
-        ensures starts { IfOk result (λ m.
-            m ≡ started (opening_of expression limit m.machine.history) m.store) }
+        ensures starts { IfOk result (λ m. m
+            ≡ started (opening_of expression limit m.machine.history m.machine.boot) m.store) }
         ensures fits { IfOk result (λ m. FitsSite m (S.state site.new) (S.crashes site.new)) }
         ensures failed { result ≡ Err StartFault.Disk
             → Rose (S.state site.old).counts.disk (S.state site.new).counts.disk }
@@ -121,21 +130,25 @@ impl Manager {
         let Ok(lines) = all_lines(alloc) else {
             return Err(StartFault::Memory);
         };
-        let (store, actions) = match Store::start(alloc, site, &text) {
+        let (store, history) = match Store::start(alloc, site, &text) {
             Ok(opened) => opened,
             Err(fault) => return Err(open_fault(fault)),
         };
-        match engine.resume(alloc, actions) {
-            Ok(engine) => {
-                let machine = Machine::new(alloc, engine);
-                Ok(Manager {
-                    journaled: Journaled { machine, store },
-                    lines,
-                    marks: [false; CONNECTIONS],
-                    ended: false,
-                })
-            }
-            Err(fault) => Err(record_fault(fault)),
+        let Ok((tickets, actions)) = take_apart(alloc, &history) else {
+            return Err(StartFault::Memory);
+        };
+        let engine = match engine.resume(alloc, actions) {
+            Ok(engine) => engine,
+            Err(fault) => return Err(record_fault(fault)),
+        };
+        match start_machine(alloc, site, store, engine, tickets) {
+            Ok(journaled) => Ok(Manager {
+                journaled,
+                lines,
+                marks: [false; CONNECTIONS],
+                ended: false,
+            }),
+            Err(_) => Err(StartFault::Disk),
         }
     }
 
@@ -157,7 +170,7 @@ impl Manager {
         site: &mut S,
     ) -> Result<Go, Stop>
         requires going { self.old.ended ≡ false }
-        requires tickets { self.old.machine.ticket < 2 ^ 63 }
+        requires tickets { self.old.machine.number < 2 ^ 63 }
         requires event { FitsEvent event bytes.now }
         requires attached { (S.state site.old).attached ≡ true }
         requires fits { FitsSite self.old (S.state site.old) (S.crashes site.old) }
@@ -174,7 +187,7 @@ impl Manager {
         ensures marks { (conn : ℕ)
             → get_or self.old.marks conn false ≡ false → get_or self.new.marks conn false ≡ true
             → Rose (S.state site.old).counts.send (S.state site.new).counts.send }
-        ensures tickets { self.new.machine.ticket ≤ self.old.machine.ticket + length bytes.now }
+        ensures tickets { self.new.machine.number ≤ self.old.machine.number + length bytes.now }
         ensures passes { Passes (S.state site.old) (S.state site.new)
             (S.crashes site.old) (S.crashes site.new) }
         ensures site { OnlyServes (S.state site.old) (S.state site.new) }
@@ -200,13 +213,13 @@ impl Manager {
         site: &mut S,
     ) -> Result<Go, Stop>
         requires connection { conn < 64 }
-        requires tickets { self.old.machine.ticket + length bytes.now < 2 ^ 64 - 1 }
+        requires tickets { self.old.machine.number + length bytes.now < 2 ^ 64 - 1 }
         requires attached { (S.state site.old).attached ≡ true }
         requires fits { FitsSite self.old (S.state site.old) (S.crashes site.old) }
         ensures takes { BytesOver conn bytes.now result self.old self.new
             (wired (get_or self.old.marks conn false) (S.state site.old))
             (wired false (S.state site.new)) (S.crashes site.old) (S.crashes site.new) }
-        ensures tickets { self.new.machine.ticket ≤ self.old.machine.ticket + length bytes.now }
+        ensures tickets { self.new.machine.number ≤ self.old.machine.number + length bytes.now }
     {
         let index = usize::from(conn);
         let mut gone = self.marks[index];
@@ -242,17 +255,69 @@ impl Manager {
 
     /// The confirmed actions, the oldest first.
     pub fn history(&self) -> &[Action]
-        ensures { result.now ≡ self.now.machine.history }
+        ensures { result.now ≡ word_of self.now.machine }
     {
         self.journaled.machine.history()
     }
 
-    /// The next ticket, which is 1 at the start.
+    /// The number of the next ticket, which is 1 at the start.
     pub fn tickets(&self) -> u64
-        ensures { result ≡ self.now.machine.ticket }
+        ensures { result ≡ self.now.machine.number }
     {
-        self.journaled.machine.ticket()
+        self.journaled.machine.number()
     }
+}
+
+/// The tickets and the actions of a history.
+fn take_apart(
+    alloc: Global,
+    history: &[(Option<Ticket>, Action)],
+) -> Result<(Vec<Option<Ticket>>, Vec<Action>), AllocError>
+    ensures tickets { IfOk result
+        (λ parts. parts.0.items ≡ map (λ (spent : Spent). spent.0) history.now) }
+    ensures actions { IfOk result (λ parts. parts.1.items ≡ actions_of history.now) }
+{
+    let mut tickets = Vec::with_capacity(alloc, history.len())?;
+    let mut actions = Vec::with_capacity(alloc, history.len())?;
+    for spent in history {
+        tickets.push(spent.0)?;
+        actions.push(spent.1)?;
+    }
+    Ok((tickets, actions))
+}
+
+/// Records the boot, and starts the machine of an engine with the tickets of its actions in it.
+fn start_machine<S: Site>(
+    alloc: Global,
+    site: &mut S,
+    mut store: Store,
+    engine: Engine,
+    tickets: Vec<Option<Ticket>>,
+) -> Result<Journaled, DiskFailed>
+    requires each { length tickets.items ≡ length engine.history }
+    requires attached { (S.state site.old).attached ≡ true }
+    requires works { (kept store).failed ≡ false }
+    requires room { (kept store).marks.boots < 1000000 }
+    requires fits { Fits (S.state site.old) (S.crashes site.old) (kept store)
+        (canonical_text engine.form) (zip tickets.items engine.history) }
+    ensures starts { IfOk result (λ j. j.machine ≡ record {
+      form = engine.form;
+      limit = engine.limit;
+      state = start_of (zip tickets.items engine.history) ((kept store).marks.boots + 1);
+      noted = [];
+    }) }
+    ensures fits { IfOk result (λ j. FitsJournal j (S.state site.new) (S.crashes site.new)) }
+    ensures images { ForSome (S.state site.old).disk (λ _. LeavesOnly
+        (IsBootedOrNot (canonical_text engine.form) (zip tickets.items engine.history)
+        (kept store).marks) (S.state site.old) (S.crashes site.new)) }
+    ensures failed { CountsFault result
+        (S.state site.old).counts.disk (S.state site.new).counts.disk }
+    ensures calls { DiskCalls (S.state site.old) (S.state site.new)
+        (S.crashes site.old) (S.crashes site.new) }
+{
+    let boot = store.boot(site)?;
+    let machine = Machine::new(alloc, engine, tickets, boot);
+    Ok(Journaled { machine, store })
 }
 
 fn all_lines(alloc: Global) -> Result<Vec<Lines>, AllocError>

@@ -1,7 +1,7 @@
 //! Asks, and what becomes of a reservation.
 
 ghost use Rattle.std.specs.Prelude.{◌≡◌, ◌≢◌, ◌-◌, ◌^◌, ◌<◌, length};
-ghost use Rattle.std.specs.Prelude.{IfOk, IfErr, OnOk, IfSome, IfNone};
+ghost use Rattle.std.specs.Prelude.{IfOk, IfErr, OnOk, IfSome, IfNone, vec_capacity};
 ghost use Rattle.ix_values.specs.PlainAction.{PlainAction};
 ghost use Rattle.ix_engine.specs.inside.Engine.{Allows};
 ghost use Rattle.ix_lease.specs.Slots.{IsOpenAt};
@@ -16,13 +16,13 @@ use crate::refusals::{Refusal, refused};
 use ix_engine::{Engine, Next, PrepareFault};
 use ix_lease::{Slot, Take, deadline_of};
 use ix_proto::Reply;
-use ix_values::Action;
+use ix_values::{Action, Ticket};
 use std::alloc::Global;
 
 impl Machine {
     /// Answers whether the action may be done. If so it is reserved for `lease` milliseconds.
     pub(crate) fn ask(&mut self, alloc: Global, action: Action, lease: u32) -> Reply
-        requires { self.old.state.ticket < 2 ^ 64 - 1 }
+        requires { self.old.state.number < 2 ^ 64 - 1 }
         ensures { Does self.old (request.ask action lease) result self.new }
     {
         if let Some(deadline) = open_deadline(&self.slot, self.moment) {
@@ -30,9 +30,12 @@ impl Machine {
         }
         self.slot = Slot::Free;
         self.pending = None;
-        match prepare(alloc, &mut self.engine, &action) {
+        match prepare(alloc, &mut self.engine, &mut self.tickets, &action) {
             Ok(next) => {
-                let ticket = self.ticket;
+                let ticket = Ticket {
+                    boot: self.boot,
+                    seq: self.number,
+                };
                 let deadline = deadline_of(self.moment, lease);
                 self.slot = Slot::Held {
                     ticket,
@@ -40,7 +43,7 @@ impl Machine {
                     deadline,
                 };
                 self.pending = Some(next);
-                self.ticket = ticket + 1;
+                self.number += 1;
                 Reply::Granted(ticket)
             }
             Err(refusal) => refusal,
@@ -48,7 +51,7 @@ impl Machine {
     }
 
     /// The action of the ticket's reservation, where it is open.
-    pub(crate) fn reserved(&self, ticket: u64) -> Take
+    pub(crate) fn reserved(&self, ticket: Ticket) -> Take
         ensures takes { Finds self.now ticket result }
         ensures room { (a : PlainAction) → result ≡ Take.Taken a
             → length self.now.state.history < 1000000 }
@@ -57,15 +60,18 @@ impl Machine {
         slot.take(ticket, self.moment)
     }
 
-    /// Appends the reserved action to the history, which ends the reservation. Takes no memory.
-    pub(crate) fn commit(&mut self) -> Reply
+    /// Appends the reserved action and its ticket to the history, which ends the reservation. Takes
+    /// no memory.
+    pub(crate) fn commit(&mut self, ticket: Ticket) -> Reply
         requires { self.old.state.slot ≢ Slot.Free }
-        ensures commits { Commits self.old result self.new }
+        ensures commits { Commits self.old ticket result self.new }
         ensures told { CanBeTold result }
     {
         match self.pending.take() {
             Some(next) => {
                 self.engine.commit(next);
+                let pushed = self.tickets.push(Some(ticket));
+                prove!(pushed.is_ok());
                 self.slot = Slot::Free;
                 Reply::Confirmed(self.engine.history().len() as u64)
             }
@@ -74,7 +80,7 @@ impl Machine {
     }
 
     /// Answers that the action of the ticket won't be done: its reservation ends where it is open.
-    pub(crate) fn cancel(&mut self, ticket: u64) -> Reply
+    pub(crate) fn cancel(&mut self, ticket: Ticket) -> Reply
         ensures { Does self.old (request.cancel ticket) result self.new }
     {
         match self.slot.take(ticket, self.moment) {
@@ -104,9 +110,16 @@ fn open_deadline(slot: &Slot, moment: u64) -> Option<u64>
     }
 }
 
-/// Takes the memory to commit the action too, so that a confirm needs none.
-fn prepare(alloc: Global, engine: &mut Engine, action: &Action) -> Result<Next, Reply>
+/// Takes the memory to commit the action with its ticket too, so that a confirm needs none.
+fn prepare(
+    alloc: Global,
+    engine: &mut Engine,
+    tickets: &mut Vec<Option<Ticket>>,
+    action: &Action,
+) -> Result<Next, Reply>
     ensures prepared { IfOk result (λ next. IsPrepared engine.new action.now next) }
+    ensures place { OnOk result (length tickets.new.items < vec_capacity tickets.new) }
+    ensures tickets { tickets.new.items ≡ tickets.old.items }
     ensures permitted { OnOk result (Allows engine.old action.now) }
     ensures refused { IfErr result (λ reply. Refuses engine.old action.now reply) }
     ensures form { engine.new.form ≡ engine.old.form }
@@ -129,7 +142,10 @@ fn prepare(alloc: Global, engine: &mut Engine, action: &Action) -> Result<Next, 
             return Err(refused(Refusal::Memory));
         }
     };
-    match engine.reserve_one() {
+    let Ok(()) = engine.reserve_one() else {
+        return Err(refused(Refusal::Memory));
+    };
+    match tickets.reserve(1) {
         Ok(()) => Ok(next),
         Err(_) => Err(refused(Refusal::Memory)),
     }

@@ -4,8 +4,10 @@ use Rattle.std.specs.Fmt.{decimal}
 use Rattle.ix_values.specs.Faults.{IsActionText}
 use Rattle.ix_values.specs.PlainAction.{PlainAction, text_of}
 use Rattle.ix_values.specs.Texts.{IsAction}
-use Rattle.ix_proto.specs.Requests.{ask, confirm, cancel, may, watch, drop_watch, poll, status, log, stop, IsLease}
-use Rattle.ix_proto.specs.RequestFaults.{Part, an_action, a_name, a_number, a_lease, IsPart, IsPartFault, IsFirstFault, IsFaultBehind, verb_word, parts_of, IsNumberText, IsLeaseText, IsRequestFault}
+use Rattle.ix_values.specs.Tickets.{IsTicket, IsTicketText, ticket_text}
+use Rattle.ix_values.specs.declared.tickets.Ticket.{Ticket}
+use Rattle.ix_proto.specs.Requests.{ask, confirm, cancel, outcome, may, watch, drop_watch, poll, status, log, stop, IsLease}
+use Rattle.ix_proto.specs.RequestFaults.{Part, an_action, a_name, a_ticket, a_number, a_lease, IsPart, IsPartFault, IsFirstFault, IsFaultBehind, verb_word, parts_of, IsNumberText, IsLeaseText, IsRequestFault}
 use Rattle.ix_proto.specs.RequestLaws.{FaultsTellNoRequest, RequestLinesHaveOneFault}
 use Rattle.ix_proto.specs.declared.request.Verb.{Verb}
 use Rattle.ix_proto.specs.declared.request.Verb.TheVariants as verb
@@ -26,6 +28,7 @@ same_length (part ∷ parts) [] h = absurd h
 no_part_fault : (part : Part) (word : List ℕ) (code : ℕ) → IsPart part word → ¬ IsPartFault part word code
 no_part_fault an_action word code h f = f.0 h
 no_part_fault a_name word code h f = f.0 h
+no_part_fault a_ticket word code h f = f.0 h
 no_part_fault a_number word code h f = f.0 h
 no_part_fault a_lease word code h (inl f) = f.0 (h.0, h.1)
 no_part_fault a_lease word code h (inr f) = f.1 h
@@ -46,6 +49,7 @@ verb_from sum =
     if sum == 319 then verb.Ask else
     if sum == 320 then verb.Confirm else
     if sum == 306 then verb.Cancel else
+    if sum == 344 then verb.Outcome else
     if sum == 327 then verb.May else
     if sum == 332 then verb.Watch else
     if sum == 325 then verb.Drop else
@@ -61,6 +65,7 @@ unfolding from_word
 verb_again verb.Ask = refl
 verb_again verb.Confirm = refl
 verb_again verb.Cancel = refl
+verb_again verb.Outcome = refl
 verb_again verb.May = refl
 verb_again verb.Watch = refl
 verb_again verb.Drop = refl
@@ -80,6 +85,9 @@ no_fault v words code h (inr (w, e, f)) =
 action_text : (action : PlainAction) → IsAction action → IsActionText (text_of action)
 action_text action h = record { action = action; valid = h; same = refl }
 
+a_ticket_text : (ticket : Ticket) → IsTicket ticket → IsTicketText (ticket_text ticket)
+a_ticket_text ticket h = (ticket, h, refl)
+
 number_text : (n : ℕ) → n < 2 ^ 64 → IsNumberText (decimal n)
 number_text n h = (n, record { same = refl; fits = h })
 
@@ -88,8 +96,9 @@ lease_text n h = (n, record { same = refl; fits = omega (arith, h.high) }, h)
 
 pub faults_tell_no_request : FaultsTellNoRequest
 faults_tell_no_request (ask action lease) code h f = no_fault verb.Ask _ code (action_text action h.0, (lease_text lease h.1, tt)) f
-faults_tell_no_request (confirm ticket) code h f = no_fault verb.Confirm _ code (number_text ticket h, tt) f
-faults_tell_no_request (cancel ticket) code h f = no_fault verb.Cancel _ code (number_text ticket h, tt) f
+faults_tell_no_request (confirm ticket) code h f = no_fault verb.Confirm _ code (a_ticket_text ticket h, tt) f
+faults_tell_no_request (cancel ticket) code h f = no_fault verb.Cancel _ code (a_ticket_text ticket h, tt) f
+faults_tell_no_request (outcome ticket) code h f = no_fault verb.Outcome _ code (a_ticket_text ticket h, tt) f
 faults_tell_no_request (may action) code h f = no_fault verb.May _ code (action_text action h, tt) f
 faults_tell_no_request (watch name action) code h f = no_fault verb.Watch _ code (h.0, (action_text action h.1, tt)) f
 faults_tell_no_request (drop_watch name action) code h f = no_fault verb.Drop _ code (h.0, (action_text action h.1, tt)) f
@@ -101,6 +110,7 @@ faults_tell_no_request stop code h f = no_fault verb.Stop _ code tt f
 one_part_fault : (part : Part) (word : List ℕ) (c d : ℕ) → IsPartFault part word c → IsPartFault part word d → c ≡ d
 one_part_fault an_action word c d f g = f.1 ∙ sym g.1
 one_part_fault a_name word c d f g = f.1 ∙ sym g.1
+one_part_fault a_ticket word c d f g = f.1 ∙ sym g.1
 one_part_fault a_number word c d f g = f.1 ∙ sym g.1
 one_part_fault a_lease word c d (inl f) (inl g) = f.1 ∙ sym g.1
 one_part_fault a_lease word c d (inl f) (inr g) = absurd (f.0 g.0)

@@ -1,12 +1,14 @@
 -- Which replies begin with a word.
 use Rattle.std.proofs.Common.{◌≡◌, ℕ, Bool, subst}
 use Rattle.ix_values.specs.PlainAction.{PlainAction}
+use Rattle.ix_values.specs.declared.tickets.Ticket.{Ticket}
+use Rattle.ix_proto.specs.declared.reply.Outcome.{Outcome as Became}
 use Rattle.ix_proto.specs.inside.ReplyParts.{kind_of}
 use Rattle.ix_proto.specs.declared.reply.Reply.{Reply}
-use Rattle.ix_proto.specs.declared.reply.Reply.TheVariants.{Granted, Confirmed, Cancelled, May, Watching, Dropped, Changes, Change, Status, Entry, Stopping, Refused}
+use Rattle.ix_proto.specs.declared.reply.Reply.TheVariants.{Granted, Confirmed, Cancelled, Outcome, May, Watching, Dropped, Changes, Change, Status, Entry, Stopping, Refused}
 use Rattle.ix_proto.specs.declared.reply_read.Kind.TheVariants as kind
 
-pub only_granted : (P : Reply → Type 0) → ((ticket : ℕ) → P (Granted ticket)) → (reply : Reply) → kind_of reply ≡ kind.Granted → P reply
+pub only_granted : (P : Reply → Type 0) → ((ticket : Ticket) → P (Granted ticket)) → (reply : Reply) → kind_of reply ≡ kind.Granted → P reply
 only_granted P here (Granted ticket) e = here ticket
 only_granted P here _ e = cc
 
@@ -14,9 +16,13 @@ pub only_confirmed : (P : Reply → Type 0) → ((count : ℕ) → P (Confirmed 
 only_confirmed P here (Confirmed count) e = here count
 only_confirmed P here _ e = cc
 
-pub only_cancelled : (P : Reply → Type 0) → ((ticket : ℕ) → P (Cancelled ticket)) → (reply : Reply) → kind_of reply ≡ kind.Cancelled → P reply
+pub only_cancelled : (P : Reply → Type 0) → ((ticket : Ticket) → P (Cancelled ticket)) → (reply : Reply) → kind_of reply ≡ kind.Cancelled → P reply
 only_cancelled P here (Cancelled ticket) e = here ticket
 only_cancelled P here _ e = cc
+
+pub only_outcome : (P : Reply → Type 0) → ((outcome : Became) → P (Outcome outcome)) → (reply : Reply) → kind_of reply ≡ kind.Outcome → P reply
+only_outcome P here (Outcome outcome) e = here outcome
+only_outcome P here _ e = cc
 
 pub only_watching : (P : Reply → Type 0) → ((answer : Bool) → P (Watching answer)) → (reply : Reply) → kind_of reply ≡ kind.Watching → P reply
 only_watching P here (Watching answer) e = here answer

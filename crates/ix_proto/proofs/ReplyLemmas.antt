@@ -12,7 +12,7 @@ use Rattle.ix_lines.specs.Numbers.{BeginsWith}
 use Rattle.ix_lines.proofs.NumberCuts.{cut_same, number_same, some_same}
 use Rattle.ix_proto.proofs.ReplyKinds.{only_changes, only_refused, only_status, only_entry}
 use Rattle.ix_proto.specs.declared.reply.Reply.{Reply}
-use Rattle.ix_proto.specs.declared.reply.Reply.TheVariants.{Granted, Confirmed, Cancelled, May, Watching, Dropped, Changes, Change, Status, Entry, Stopping, Refused}
+use Rattle.ix_proto.specs.declared.reply.Reply.TheVariants.{Granted, Confirmed, Cancelled, Outcome, May, Watching, Dropped, Changes, Change, Status, Entry, Stopping, Refused}
 use Rattle.ix_proto.specs.declared.reply_read.Kind.{Kind}
 use Rattle.ix_proto.specs.declared.reply_read.Kind.TheVariants as kind
 
@@ -20,6 +20,7 @@ pub parts_of_text : (r : Reply) → reply_text r ≡ kind_word (kind_of r) ++ be
 parts_of_text (Granted ticket) = refl
 parts_of_text (Confirmed count) = refl
 parts_of_text (Cancelled ticket) = refl
+parts_of_text (Outcome outcome) = refl
 parts_of_text (May true) = refl
 parts_of_text (May false) = refl
 parts_of_text (Watching answer) = refl
@@ -36,6 +37,7 @@ pub kind-plain : (k : Kind) → HasNoSpace (kind_word k)
 kind-plain kind.Granted = refl
 kind-plain kind.Confirmed = refl
 kind-plain kind.Cancelled = refl
+kind-plain kind.Outcome = refl
 kind-plain (kind.Answer true) = refl
 kind-plain (kind.Answer false) = refl
 kind-plain kind.Watching = refl
@@ -50,6 +52,7 @@ kind-plain kind.Refused = refl
 abbrev pub kind_from : ℕ → ℕ → Kind
 kind_from first next =
     if first == 103 then kind.Granted else
+    if first == 111 then kind.Outcome else
     if first == 121 then kind.Answer true else
     if first == 110 then kind.Answer false else
     if first == 119 then kind.Watching else
@@ -69,6 +72,7 @@ unfolding from_word
 kind_again kind.Granted = refl
 kind_again kind.Confirmed = refl
 kind_again kind.Cancelled = refl
+kind_again kind.Outcome = refl
 kind_again (kind.Answer true) = refl
 kind_again (kind.Answer false) = refl
 kind_again kind.Watching = refl

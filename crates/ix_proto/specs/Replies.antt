@@ -4,9 +4,12 @@ use Rattle.std.specs.Prelude.{Option, Some, None, IsSome, List, [], ◌∷◌, �
 use Rattle.std.specs.Fmt.{decimal}
 use Rattle.ix_values.specs.PlainAction.{text_of}
 use Rattle.ix_values.specs.Texts.{IsAction}
+use Rattle.ix_values.specs.Tickets.{IsTicket, ticket_text}
+use Rattle.ix_proto.specs.declared.reply.Outcome.{Outcome as Became}
+use Rattle.ix_proto.specs.declared.reply.Outcome.TheVariants as became
 use Rattle.ix_proto.specs.declared.reply.Reply.{Reply}
-use Rattle.ix_proto.specs.declared.reply.Reply.TheVariants.{Granted, Confirmed, Cancelled, May}
-use Rattle.ix_proto.specs.declared.reply.Reply.TheVariants.{Watching, Dropped, Changes, Change}
+use Rattle.ix_proto.specs.declared.reply.Reply.TheVariants.{Granted, Confirmed, Cancelled, Outcome}
+use Rattle.ix_proto.specs.declared.reply.Reply.TheVariants.{May, Watching, Dropped, Changes, Change}
 use Rattle.ix_proto.specs.declared.reply.Reply.TheVariants.{Status, Entry, Stopping, Refused}
 
 -- the text of a code of a refusal, which ends in a number where `has_number`; there is none for any
@@ -50,11 +53,18 @@ abbrev pub complete_or_partial : Bool → List ℕ
 complete_or_partial true = codes "complete"
 complete_or_partial false = codes "partial"
 
+-- what became of a ticket
+abbrev pub outcome_text : Became → List ℕ
+outcome_text (became.Confirmed place) = codes "confirmed " ++ decimal place
+outcome_text became.Waiting = codes "open"
+outcome_text became.Never = codes "never"
+
 -- the text of a reply
 abbrev pub reply_text : Reply → List ℕ
-reply_text (Granted ticket) = codes "granted " ++ decimal ticket
+reply_text (Granted ticket) = codes "granted " ++ ticket_text ticket
 reply_text (Confirmed count) = codes "confirmed " ++ decimal count
-reply_text (Cancelled ticket) = codes "cancelled " ++ decimal ticket
+reply_text (Cancelled ticket) = codes "cancelled " ++ ticket_text ticket
+reply_text (Outcome outcome) = codes "outcome " ++ outcome_text outcome
 reply_text (May answer) = yes_or_no answer
 reply_text (Watching answer) = codes "watching " ++ yes_or_no answer
 reply_text Dropped = codes "dropped"
@@ -74,12 +84,19 @@ pub record IsRefusal (code number : ℕ) : Type 0 where
   pub listed : IsSome (refusal_text code)
   pub zero_else : has_number code ≡ false → number ≡ 0
 
+-- the place of a confirmed action is at most 18446744073709551615
+abbrev pub IsOutcome : Became → Type 0
+IsOutcome (became.Confirmed place) = place < 2 ^ 64
+IsOutcome became.Waiting = Unit {0}
+IsOutcome became.Never = Unit {0}
+
 -- the numbers are at most 18446744073709551615, or 4294967295 for the count of changes, the actions
 -- are some, and a refusal can be told
 abbrev pub IsReply : Reply → Type 0
-IsReply (Granted ticket) = ticket < 2 ^ 64
+IsReply (Granted ticket) = IsTicket ticket
 IsReply (Confirmed count) = count < 2 ^ 64
-IsReply (Cancelled ticket) = ticket < 2 ^ 64
+IsReply (Cancelled ticket) = IsTicket ticket
+IsReply (Outcome outcome) = IsOutcome outcome
 IsReply (May answer) = Unit {0}
 IsReply (Watching answer) = Unit {0}
 IsReply Dropped = Unit {0}

@@ -8,7 +8,7 @@ mod reply_read;
 mod request;
 mod request_fault;
 
-pub use reply::Reply;
+pub use reply::{Outcome, Reply};
 pub use request::Request;
 pub use request_fault::RequestFault;
 

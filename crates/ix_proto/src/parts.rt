@@ -4,15 +4,17 @@ ghost use Rattle.std.specs.Prelude.{◌≡◌, ◌≢◌, ◌^◌, [], ◌∷◌
 ghost use Rattle.std.specs.Option.{option_copied};
 ghost use Rattle.ix_values.specs.Faults.{IsActionText};
 ghost use Rattle.ix_values.specs.Texts.{IsName};
+ghost use Rattle.ix_values.specs.Tickets.{IsTicket, ticket_text};
 ghost use Rattle.ix_lines.specs.Numbers.{IsNumber};
 ghost use Rattle.ix_proto.specs.inside.Causes.{code_of};
 ghost use Rattle.ix_proto.specs.Requests.{IsLease};
-ghost use Rattle.ix_proto.specs.RequestFaults.{an_action, a_name, a_number, a_lease, IsPartFault};
+ghost use Rattle.ix_proto.specs.RequestFaults.{an_action, a_name, a_ticket, a_number, a_lease};
+ghost use Rattle.ix_proto.specs.RequestFaults.{IsPartFault};
 ghost use Rattle.ix_lines.specs.inside.WordsBehind.{words_behind};
 
 use crate::request_fault::Cause;
 use ix_lines::{read_number, split_word};
-use ix_values::{Action, Name};
+use ix_values::{Action, Name, Ticket};
 
 /// The longest lease, in milliseconds.
 const LONGEST_LEASE: u64 = 86_400_000;
@@ -77,6 +79,14 @@ pub(crate) fn name_word(word: &[u8]) -> Result<&[u8], Cause>
         Some(_name) => Ok(word),
         None => Err(Cause::NoName),
     }
+}
+
+pub(crate) fn ticket_word(word: &[u8]) -> Result<Ticket, Cause>
+    ensures { MatchResult result
+        (λ ticket. IsTicket ticket × (word.now ≡ ticket_text ticket))
+        (λ cause. IsPartFault a_ticket word.now (code_of cause)) }
+{
+    Ticket::read(word).ok_or(Cause::NoTicket)
 }
 
 pub(crate) fn number_word(word: &[u8]) -> Result<u64, Cause>

@@ -7,23 +7,37 @@ ghost use Rattle.std.specs.Option.{option_copied};
 ghost use Rattle.arrayvec.specs.ArrayVec.{array_vec_len};
 ghost use Rattle.ix_values.specs.PlainAction.{text_of};
 ghost use Rattle.ix_values.specs.Texts.{IsAction};
+ghost use Rattle.ix_values.specs.Tickets.{IsTicket, ticket_text};
 ghost use Rattle.ix_proto.specs.Replies as spec;
 ghost use Rattle.ix_proto.specs.inside.ReplyTexts.{CanBeTold};
 
 use arrayvec::ArrayVec;
 use itoa::Buffer;
-use ix_values::Action;
+use ix_values::{Action, Ticket};
+
+/// What became of a ticket.
+#[derive(Clone, Copy, Debug, PartialEq, Eq)]
+pub enum Outcome {
+    /// It was confirmed: its action is the one of this place of the history, counted from 1.
+    Confirmed(u64),
+    /// Its reservation is open, and may be confirmed or cancelled.
+    Waiting,
+    /// It wasn't confirmed, and no confirm of it can succeed any more.
+    Never,
+}
 
 /// What a manager answers on a connection, each as one line. A `Changes` is followed by as
 /// many lines of `Change`.
 #[derive(Clone, Copy, Debug, PartialEq, Eq)]
 pub enum Reply {
     /// The action is reserved under this ticket.
-    Granted(u64),
+    Granted(Ticket),
     /// The action of the ticket was appended to the history, which has this length now.
     Confirmed(u64),
     /// The reservation of this ticket is cancelled.
-    Cancelled(u64),
+    Cancelled(Ticket),
+    /// What became of the ticket that was asked for.
+    Outcome(Outcome),
     /// Whether the action is permitted.
     May(bool),
     /// The action is watched, and whether it is allowed now.
@@ -75,9 +89,10 @@ impl Reply {
         ensures valid { spec.IsReply self.now }
     {
         match self {
-            Reply::Granted(ticket) => write_number(out, b"granted ", *ticket),
+            Reply::Granted(ticket) => write_ticket(out, b"granted ", ticket),
             Reply::Confirmed(length) => write_number(out, b"confirmed ", *length),
-            Reply::Cancelled(ticket) => write_number(out, b"cancelled ", *ticket),
+            Reply::Cancelled(ticket) => write_ticket(out, b"cancelled ", ticket),
+            Reply::Outcome(outcome) => write_outcome(out, *outcome),
             Reply::May(answer) => append(out, yes_or_no(*answer)),
             Reply::Watching(answer) => write_watching(out, *answer),
             Reply::Dropped => append(out, b"dropped"),
@@ -104,6 +119,36 @@ fn write_number(out: &mut ArrayVec<u8, 256>, word: &[u8], number: u64)
 {
     append(out, word);
     append_number(out, number);
+}
+
+fn write_ticket(out: &mut ArrayVec<u8, 256>, word: &[u8], ticket: &Ticket)
+    requires empty { out.old.items ≡ [] }
+    requires room { length word.now ≤ 16 }
+    ensures text { out.new.items ≡ word.now ++ ticket_text ticket.now }
+    ensures short { array_vec_len out.new ≤ 57 }
+    ensures valid { IsTicket ticket.now }
+{
+    let mut text = ArrayVec::<u8, 48>::new();
+    ticket.write(&mut text);
+    append(out, word);
+    append(out, text.as_slice());
+}
+
+fn write_outcome(out: &mut ArrayVec<u8, 256>, outcome: Outcome)
+    requires { out.old.items ≡ [] }
+    ensures text { out.new.items ≡ codes "outcome " ++ spec.outcome_text outcome }
+    ensures short { array_vec_len out.new ≤ 38 }
+    ensures valid { spec.IsOutcome outcome }
+{
+    append(out, b"outcome ");
+    match outcome {
+        Outcome::Confirmed(place) => {
+            append(out, b"confirmed ");
+            append_number(out, place);
+        }
+        Outcome::Waiting => append(out, b"open"),
+        Outcome::Never => append(out, b"never"),
+    }
 }
 
 fn write_watching(out: &mut ArrayVec<u8, 256>, answer: bool)

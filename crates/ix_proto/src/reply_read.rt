@@ -4,14 +4,15 @@ ghost use Rattle.std.specs.Prelude.{◌≡◌, ◌≢◌, ℕ, ◌<◌, ◌^◌,
 ghost use Rattle.std.specs.Prelude.{Bool};
 ghost use Rattle.std.specs.Fmt.{decimal};
 ghost use Rattle.std.specs.Option.{option_copied};
-ghost use Rattle.ix_proto.specs.Replies.{IsReply, reply_text, yes_or_no, complete_or_partial};
+ghost use Rattle.ix_proto.specs.Replies.{IsOutcome, outcome_text, yes_or_no, complete_or_partial};
+ghost use Rattle.ix_proto.specs.Replies.{IsReply, reply_text};
 ghost use Rattle.ix_proto.specs.inside.ReplyTexts.{IsReplyText};
 ghost use Rattle.ix_proto.specs.inside.ReplyParts.{kind_word, StandsBehind, IsRefusalBehind};
 ghost use Rattle.ix_proto.specs.inside.ReplyParts.{nodes_text};
 
-use crate::reply::{Reply, has_number, refusal_text};
+use crate::reply::{Outcome, Reply, has_number, refusal_text};
 use ix_lines::{number_and, read_number, split_word};
-use ix_values::Action;
+use ix_values::{Action, Ticket};
 
 /// The greatest number that a code has.
 const GREATEST_CODE: u64 = 255;
@@ -22,6 +23,7 @@ pub(crate) enum Kind {
     Granted,
     Confirmed,
     Cancelled,
+    Outcome,
     Answer(bool),
     Watching,
     Dropped,
@@ -57,6 +59,7 @@ fn read_kind(word: &[u8]) -> Option<Kind>
         b"granted" => Some(Kind::Granted),
         b"confirmed" => Some(Kind::Confirmed),
         b"cancelled" => Some(Kind::Cancelled),
+        b"outcome" => Some(Kind::Outcome),
         b"yes" => Some(Kind::Answer(true)),
         b"no" => Some(Kind::Answer(false)),
         b"watching" => Some(Kind::Watching),
@@ -80,6 +83,7 @@ fn read_behind(kind: Kind, rest: Option<&[u8]>) -> Option<Reply>
         Kind::Granted => read_granted(rest),
         Kind::Confirmed => read_confirmed(rest),
         Kind::Cancelled => read_cancelled(rest),
+        Kind::Outcome => read_outcome(rest),
         Kind::Watching => read_watching(rest),
         Kind::Dropped => read_dropped(rest),
         Kind::Changes => read_changes(rest),
@@ -95,8 +99,8 @@ fn read_granted(rest: Option<&[u8]>) -> Option<Reply>
         ((reply : Reply) → ¬ StandsBehind Kind.Granted (option_copied rest.entry) reply)
         (StandsBehind Kind.Granted (option_copied rest.entry)) }
 {
-    let number = number_alone(rest)?;
-    Some(Reply::Granted(number))
+    let ticket = Ticket::read(rest?)?;
+    Some(Reply::Granted(ticket))
 }
 
 fn read_confirmed(rest: Option<&[u8]>) -> Option<Reply>
@@ -113,8 +117,17 @@ fn read_cancelled(rest: Option<&[u8]>) -> Option<Reply>
         ((reply : Reply) → ¬ StandsBehind Kind.Cancelled (option_copied rest.entry) reply)
         (StandsBehind Kind.Cancelled (option_copied rest.entry)) }
 {
-    let number = number_alone(rest)?;
-    Some(Reply::Cancelled(number))
+    let ticket = Ticket::read(rest?)?;
+    Some(Reply::Cancelled(ticket))
+}
+
+fn read_outcome(rest: Option<&[u8]>) -> Option<Reply>
+    ensures { MatchOption result
+        ((reply : Reply) → ¬ StandsBehind Kind.Outcome (option_copied rest.entry) reply)
+        (StandsBehind Kind.Outcome (option_copied rest.entry)) }
+{
+    let outcome = outcome_of(rest?)?;
+    Some(Reply::Outcome(outcome))
 }
 
 fn read_answer(answer: bool, rest: Option<&[u8]>) -> Option<Reply>
@@ -218,6 +231,27 @@ fn number_alone(rest: Option<&[u8]>) -> Option<u64>
         (λ number. (number < 2 ^ 64) × (option_copied rest.entry ≡ Some (decimal number))) }
 {
     read_number(rest?, u64::MAX)
+}
+
+fn outcome_of(text: &[u8]) -> Option<Outcome>
+    ensures { MatchOption result
+        ((outcome : Outcome) → IsOutcome outcome → text.now ≢ outcome_text outcome)
+        (λ outcome. IsOutcome outcome × (text.now ≡ outcome_text outcome)) }
+{
+    match text {
+        b"open" => Some(Outcome::Waiting),
+        b"never" => Some(Outcome::Never),
+        _ => confirmed_of(text),
+    }
+}
+
+fn confirmed_of(text: &[u8]) -> Option<Outcome>
+    ensures { MatchOption result
+        ((place : ℕ) → place < 2 ^ 64 → text.now ≢ outcome_text (Outcome.Confirmed place))
+        (λ outcome. IsOutcome outcome × (text.now ≡ outcome_text outcome)) }
+{
+    let place = read_number(strip(text, b"confirmed ")?, u64::MAX)?;
+    Some(Outcome::Confirmed(place))
 }
 
 fn yes_or_no_text(text: &[u8]) -> Option<bool>

@@ -6,21 +6,23 @@ ghost use Rattle.std.specs.Fmt.{decimal};
 ghost use Rattle.std.specs.Option.{option_copied};
 ghost use Rattle.ix_values.specs.Faults.{IsActionText};
 ghost use Rattle.ix_values.specs.Texts.{IsName};
+ghost use Rattle.ix_values.specs.Tickets.{IsTicket, ticket_text};
 ghost use Rattle.ix_lines.specs.Numbers.{IsNumber};
 ghost use Rattle.ix_proto.specs.inside.Causes.{code_of};
 ghost use Rattle.ix_proto.specs.inside.Lends.{Reads};
 ghost use Rattle.ix_proto.specs.Requests.{IsLease};
-ghost use Rattle.ix_proto.specs.RequestFaults.{an_action, a_name, a_number, a_lease, verb_word};
-ghost use Rattle.ix_proto.specs.RequestFaults.{parts_of, IsPartFault, IsFaultBehind};
-ghost use Rattle.ix_proto.specs.RequestFaults.{IsRequestFault};
+ghost use Rattle.ix_proto.specs.RequestFaults.{an_action, a_name, a_ticket, a_number, a_lease};
+ghost use Rattle.ix_proto.specs.RequestFaults.{verb_word, parts_of, IsPartFault};
+ghost use Rattle.ix_proto.specs.RequestFaults.{IsFaultBehind, IsRequestFault};
 ghost use Rattle.ix_lines.specs.Words.{words_of};
 ghost use Rattle.ix_lines.specs.inside.WordsBehind.{words_behind};
 
 use crate::parts::{
-    action_word, lease_word, name_word, no_words, number_word, one_word, two_words,
+    action_word, lease_word, name_word, no_words, number_word, one_word, ticket_word, two_words,
 };
 use crate::request_fault::{Cause, RequestFault};
 use ix_lines::split_word;
+use ix_values::Ticket;
 
 /// A request. Its texts are words of the line that it was read from: each `action` is an action's
 /// text, and each `name` a name.
@@ -29,9 +31,11 @@ pub enum Request<'a> {
     /// May this action be done? If so it is reserved for `lease` milliseconds, 1 to 86400000.
     Ask { action: &'a [u8], lease: u32 },
     /// The action of this ticket was done.
-    Confirm(u64),
+    Confirm(Ticket),
     /// The action of this ticket won't be done.
-    Cancel(u64),
+    Cancel(Ticket),
+    /// What became of this ticket?
+    Outcome(Ticket),
     /// Is this action permitted now?
     May(&'a [u8]),
     /// Watch this action under this name.
@@ -52,6 +56,7 @@ pub(crate) enum Verb {
     Ask,
     Confirm,
     Cancel,
+    Outcome,
     May,
     Watch,
     Drop,
@@ -99,6 +104,7 @@ fn read_behind(verb: Verb, rest: Option<&[u8]>) -> Result<Request<'_>, Cause>
         Verb::Ask => read_ask(rest),
         Verb::Confirm => read_confirm(rest),
         Verb::Cancel => read_cancel(rest),
+        Verb::Outcome => read_outcome(rest),
         Verb::May => read_may(rest),
         Verb::Watch => read_watch(rest),
         Verb::Drop => read_drop(rest),
@@ -118,6 +124,7 @@ fn read_verb(word: &[u8]) -> Option<Verb>
         b"ask" => Some(Verb::Ask),
         b"confirm" => Some(Verb::Confirm),
         b"cancel" => Some(Verb::Cancel),
+        b"outcome" => Some(Verb::Outcome),
         b"may" => Some(Verb::May),
         b"watch" => Some(Verb::Watch),
         b"drop" => Some(Verb::Drop),
@@ -148,8 +155,8 @@ fn read_confirm(rest: Option<&[u8]>) -> Result<Request<'_>, Cause>
         (words_behind (option_copied rest.entry)) (code_of cause)) }
 {
     let word = one_word(rest)?;
-    let number = number_word(word)?;
-    Ok(Request::Confirm(number))
+    let ticket = ticket_word(word)?;
+    Ok(Request::Confirm(ticket))
 }
 
 fn read_cancel(rest: Option<&[u8]>) -> Result<Request<'_>, Cause>
@@ -159,8 +166,19 @@ fn read_cancel(rest: Option<&[u8]>) -> Result<Request<'_>, Cause>
         (words_behind (option_copied rest.entry)) (code_of cause)) }
 {
     let word = one_word(rest)?;
-    let number = number_word(word)?;
-    Ok(Request::Cancel(number))
+    let ticket = ticket_word(word)?;
+    Ok(Request::Cancel(ticket))
+}
+
+fn read_outcome(rest: Option<&[u8]>) -> Result<Request<'_>, Cause>
+    ensures { MatchResult result
+        (λ request. Reads (codes "outcome" ∷ words_behind (option_copied rest.entry)) request)
+        (λ cause. IsFaultBehind (parts_of Verb.Outcome)
+        (words_behind (option_copied rest.entry)) (code_of cause)) }
+{
+    let word = one_word(rest)?;
+    let ticket = ticket_word(word)?;
+    Ok(Request::Outcome(ticket))
 }
 
 fn read_log(rest: Option<&[u8]>) -> Result<Request<'_>, Cause>

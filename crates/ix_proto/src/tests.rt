@@ -4,13 +4,20 @@ ghost use Rattle.ix_proto.specs.inside.ReplyTexts.{CanBeTold};
 
 use super::*;
 use arrayvec::ArrayVec;
-use ix_values::Action;
+use ix_values::{Action, Ticket};
 use std::process::Abort;
 use std::test::Fail;
 
+const TICKET: Ticket = Ticket { boot: 1, seq: 7 };
+
+const GREATEST: Ticket = Ticket {
+    boot: u64::MAX,
+    seq: u64::MAX,
+};
+
 #[test]
 fn requests(rt: HostRuntime) {
-    let requests: [(&[u8], Request); 11] = [
+    let requests: [(&[u8], Request); 13] = [
         (
             b"ask call(p1,x1) 1",
             Request::Ask {
@@ -25,8 +32,13 @@ fn requests(rt: HostRuntime) {
                 lease: 86_400_000,
             },
         ),
-        (b"confirm 0", Request::Confirm(0)),
-        (b"cancel 18446744073709551615", Request::Cancel(u64::MAX)),
+        (b"confirm 0-0", Request::Confirm(Ticket { boot: 0, seq: 0 })),
+        (
+            b"cancel 18446744073709551615-18446744073709551615",
+            Request::Cancel(GREATEST),
+        ),
+        (b"outcome 1-7", Request::Outcome(TICKET)),
+        (b"outcome 7-1", Request::Outcome(Ticket { boot: 7, seq: 1 })),
         (b"may a", Request::May(b"a")),
         (
             b"watch W a(x)",
@@ -54,19 +66,24 @@ fn requests(rt: HostRuntime) {
 
 #[test]
 fn request_faults(rt: HostRuntime) {
-    let faults: [(&[u8], u8); 16] = [
+    let faults: [(&[u8], u8); 21] = [
         (b"", 11),
         (b" status", 11),
         (b"asks a( 0 1", 11),
+        (b"outcomes 1-7", 11),
         (b"status ", 15),
-        (b"confirm  1", 15),
+        (b"confirm  1-7", 15),
+        (b"outcome", 15),
         (b"ask a( 0 1", 15),
         (b"ask a() 1", 12),
         (b"ask a( 0", 12),
         (b"poll ", 16),
         (b"watch 1 a(", 16),
-        (b"confirm 01", 13),
-        (b"cancel +1", 13),
+        (b"confirm 1", 13),
+        (b"confirm 01-7", 13),
+        (b"cancel 1-+7", 13),
+        (b"outcome 1-7-7", 13),
+        (b"outcome 1-18446744073709551616", 13),
         (b"log 18446744073709551616", 13),
         (b"ask a x", 13),
         (b"ask a 0", 14),
@@ -80,13 +97,14 @@ fn request_faults(rt: HostRuntime) {
 #[test]
 fn replies(rt: HostRuntime) -> Result<(), Fail> {
     let action = Action::read(b"call(p1,x1)")?;
+    compare(&rt, Reply::Granted(TICKET), b"granted 1-7");
     compare(
         &rt,
-        Reply::Granted(u64::MAX),
-        b"granted 18446744073709551615",
+        Reply::Granted(GREATEST),
+        b"granted 18446744073709551615-18446744073709551615",
     );
     compare(&rt, Reply::Confirmed(10), b"confirmed 10");
-    compare(&rt, Reply::Cancelled(0), b"cancelled 0");
+    compare(&rt, Reply::Cancelled(TICKET), b"cancelled 1-7");
     compare(&rt, Reply::May(true), b"yes");
     compare(&rt, Reply::Watching(false), b"watching no");
     compare(&rt, Reply::Dropped, b"dropped");
@@ -101,6 +119,14 @@ fn replies(rt: HostRuntime) -> Result<(), Fail> {
     compare(&rt, Reply::Entry(1, action), b"entry 1 call(p1,x1)");
     compare(&rt, Reply::Stopping, b"stopping");
     Ok(())
+}
+
+#[test]
+fn outcomes(rt: HostRuntime) {
+    let outcome = |outcome: Outcome| Reply::Outcome(outcome);
+    compare(&rt, outcome(Outcome::Confirmed(3)), b"outcome confirmed 3");
+    compare(&rt, outcome(Outcome::Waiting), b"outcome open");
+    compare(&rt, outcome(Outcome::Never), b"outcome never");
 }
 
 #[test]
@@ -144,13 +170,18 @@ fn compare(rt: &impl Abort, reply: Reply, text: &[u8])
 
 #[test]
 fn no_replies(rt: HostRuntime) {
-    let texts: [&[u8]; 14] = [
+    let texts: [&[u8]; 19] = [
         b"",
         b"Dropped",
         b"dropped ",
         b"granted",
-        b"granted 01",
-        b"granted 1 ",
+        b"granted 1",
+        b"granted 1-07",
+        b"granted 1-7 ",
+        b"cancelled 1-",
+        b"outcome",
+        b"outcome confirmed",
+        b"outcome waiting",
         b"yes ",
         b"changes 4294967296",
         b"status complete 1 nodes",

@@ -1,27 +1,29 @@
 -- What an append leaves, from call to call.
-use Rattle.std.proofs.Common.{◌≡◌, ℕ, ◌+◌, ◌<◌, ◌≤◌, List, [], ◌∷◌, ◌++◌, length, Some}
+use Rattle.std.proofs.Common.{◌≡◌, ℕ, ◌+◌, ◌≤◌, List, [], ◌∷◌, ◌++◌, length, Some}
 use Rattle.std.proofs.Common.{sym, ◌∙◌, ap, subst, arith, inl, inr}
-use Rattle.std.proofs.lemmas.List.{length_push}
-use Rattle.ix_values.specs.PlainAction.{PlainAction}
+use Rattle.std.proofs.lemmas.List.{length-append}
 use Rattle.ix_journal.specs.History.{PlainHistory}
-use Rattle.ix_values.specs.Texts.{IsAction}
+use Rattle.ix_journal.specs.Entries.{behind, pair_of}
+use Rattle.ix_journal.specs.declared.entries.Entry.{Entry}
+use Rattle.ix_journal.specs.declared.entries.Marks.{Marks}
 use Rattle.ix_outside.specs.Crashes.{Crashes, AreLawful, LeavesTheFile}
 use Rattle.ix_outside.specs.Disk.{Disk, OfFile, MakesFile, Overwrites, Torn}
 use Rattle.ix_outside.specs.SiteState.{SiteState}
 use Rattle.ix_outside.specs.inside.DiskCalls.{DiskCalls, LeavesOnly}
 use Rattle.ix_journal.specs.Format.{record_of}
-use Rattle.ix_journal.specs.Recovery.{IsJournal}
+use Rattle.ix_journal.specs.Recovery.{IsJournalWith}
 use Rattle.ix_store.specs.inside.Keeping.{Fits, IsWithOrWithout}
 use Rattle.ix_store.specs.Keeping.{Keeping}
 use Rattle.ix_store.specs.inside.Steps.{MaybeTorn}
 use Rattle.ix_store.proofs.Told.{of_told, to_told, made, came, just}
 use Rattle.ix_store.proofs.Calls.{now_has, calls_more, torn_has}
+use Rattle.ix_store.proofs.Histories.{MayAppend}
 use Rattle.ix_store.proofs.Appending.{torn_behind, staged, torn_gate, opened_gate}
 
 -- the file as it reads is the journal too
 fitting_file : (old : SiteState) (was : Crashes) (store : Keeping) (text : List ℕ) (history : PlainHistory)
     → AreLawful old was → Fits old was store text history → (told : Disk) → old.disk ≡ Some told
-    → IsJournal told.file text history store.gate
+    → IsJournalWith told.file text history store.marks store.gate
 fitting_file old was store text history lawful fits told is =
     fits.images told is told.file (of_told was.now old.disk told is lawful.file)
 
@@ -33,7 +35,7 @@ pub place_behind : (old : SiteState) (was : Crashes) (store : Keeping) (text : L
 place_behind old was store text history lawful fits =
     to_told (λ file. store.gate + 1 ≤ length file) old.disk (λ told is.
     let journal = fitting_file old was store text history lawful fits told is in
-    let within = journal.closes.records.within in omega arith)
+    let within = journal.journal.closes.records.within in omega arith)
 
 -- `mid` is behind the call that writes the record
 module _ (old mid : SiteState) (was then : Crashes) (calls : DiskCalls old mid was then)
@@ -43,19 +45,19 @@ module _ (old mid : SiteState) (was then : Crashes) (calls : DiskCalls old mid w
     → LeavesOnly (MaybeTorn (store.gate + 1) (length bytes) was.now) old then)
   where
     abbrev Same : List ℕ → Type 0
-    Same image = IsJournal image text history store.gate
+    Same image = IsJournalWith image text history store.marks store.gate
 
     -- what is left while the record is written
     recorded : (disk : Disk) → old.disk ≡ Some disk → LeavesOnly Same old then
     recorded disk told image left = elim (images disk told image left) [
       | inl now ↦ fits.images disk told image now
-      | inr torn ↦ torn_behind text history store.gate (length bytes) torn.0 image
+      | inr torn ↦ torn_behind text history store.marks store.gate (length bytes) torn.0 image
           (fits.images disk told torn.0 torn.1) torn.2
     ]
 
-    pub recorded_images : (action : PlainAction) (disk : Disk) → old.disk ≡ Some disk
-        → LeavesOnly (IsWithOrWithout text history action) old then
-    recorded_images action disk told image left = (store.gate, inl (recorded disk told image left))
+    pub recorded_images : (entry : Entry) (disk : Disk) → old.disk ≡ Some disk
+        → LeavesOnly (IsWithOrWithout text history store.marks entry) old then
+    recorded_images entry disk told image left = (store.gate, inl (recorded disk told image left))
 
     -- the gate's own place is in the file
     pub place_gate : OfFile (λ file. store.gate ≤ length file) mid.disk
@@ -65,32 +67,32 @@ module _ (old mid : SiteState) (was then : Crashes) (calls : DiskCalls old mid w
         let journal =
         now_has Same old mid was then calls
         (recorded before.disk before.told) lawful' told.file now in
-        let within = journal.closes.records.within in omega arith)
+        let within = journal.journal.closes.records.within in omega arith)
 
     -- `new` is behind the call that opens the gate
-    module _ (action : PlainAction) (valid : IsAction action) (few : store.count < 1000000)
-        (spelled : bytes ≡ record_of action ++ 0 ∷ [])
+    module _ (entry : Entry) (may : MayAppend store.count store.marks entry)
+        (spelled : bytes ≡ record_of entry ++ 0 ∷ [])
         (written : MakesFile (Overwrites (store.gate + 1) bytes) old.disk mid.disk)
         (settled : LeavesTheFile mid.disk then.now) (new : SiteState) (is : Crashes)
       where
         abbrev both : List ℕ → Type 0
-        both image = IsWithOrWithout text history action image
+        both image = IsWithOrWithout text history store.marks entry image
 
-        fewer : length history < 1000000
-        fewer = let counts = fits.count in omega arith
+        may_append : MayAppend (length history) store.marks entry
+        may_append = subst (λ (n : ℕ). MayAppend n store.marks entry) fits.count may
 
         module _ (disk : Disk) (told : old.disk ≡ Some disk) where
-          journal : IsJournal disk.file text history store.gate
+          journal : IsJournalWith disk.file text history store.marks store.gate
           journal = fitting_file old was store text history lawful fits disk told
 
           abbrev staged_file : List ℕ
-          staged_file = staged text history store.gate disk.file (record_of action ++ 0 ∷ [])
+          staged_file = staged text history store.marks store.gate disk.file (record_of entry ++ 0 ∷ [])
 
           -- the file with the record behind the gate
           middle : (there : Disk) → Overwrites (store.gate + 1) bytes disk.file there.file
               → there.file ≡ staged_file
           middle there makes =
-              subst (λ (b : List ℕ). there.file ≡ staged text history store.gate disk.file b)
+              subst (λ (b : List ℕ). there.file ≡ staged text history store.marks store.gate disk.file b)
               spelled makes
 
           pub gated_images : DiskCalls mid new then is
@@ -99,25 +101,27 @@ module _ (old mid : SiteState) (was then : Crashes) (calls : DiskCalls old mid w
               → LeavesOnly both old is
           gated_images calls' images' =
               let there = made _ old.disk mid.disk disk told written in
-              let before = recorded_images action disk told in
+              let before = recorded_images entry disk told in
               calls_more both old mid was then calls before new is calls' (λ image left.
               torn_has both store.gate 1 mid.disk there.disk then.now there.told settled
               (now_has both old mid was then calls before lawful')
-              (λ after torn. torn_gate text history store.gate disk.file journal action valid fewer
+              (λ after torn. torn_gate text history store.marks store.gate disk.file journal entry may_append
               after
               (subst (λ (f : List ℕ). Torn store.gate 1 f after)
               (middle there.disk there.makes) torn))
               image (images' there.disk there.told image left))
 
-        -- after the gate is opened the store fits with one action more
+        -- after the gate is opened the store fits with one record more
         pub fits_more : MakesFile (Overwrites store.gate (165 ∷ [])) mid.disk new.disk
             → LeavesTheFile new.disk is.now → (after : Keeping)
             → after.gate ≡ store.gate + length bytes
-            → after.count ≡ store.count + 1 → Fits new is after text (history ++ action ∷ [])
-        fits_more opened settled' after gate count =
-            let more : PlainHistory = history ++ action ∷ [] in
+            → after.count ≡ store.count + length (pair_of entry)
+            → after.marks ≡ behind store.marks entry
+            → Fits new is after text (history ++ pair_of entry)
+        fits_more opened settled' after gate count marked =
+            let more : PlainHistory = history ++ pair_of entry in
             record {
-              count = let counts = fits.count in omega (arith, length_push history action);
+              count = let counts = fits.count in omega (arith, length-append history (pair_of entry));
               images = λ last told image now.
                   let there = came _ mid.disk new.disk last told opened in
                   let first = came _ old.disk mid.disk there.disk there.told written in
@@ -125,8 +129,9 @@ module _ (old mid : SiteState) (was then : Crashes) (calls : DiskCalls old mid w
                   let over = subst (λ (f : List ℕ). Overwrites store.gate (165 ∷ []) f image)
                   (middle first.disk first.told there.disk first.makes) (same ∙ there.makes) in
                   let place = gate ∙ ap (λ (b : List ℕ). store.gate + length b) spelled in
-                  subst (IsJournal image text more) (sym place)
-                  (opened_gate text history store.gate first.disk.file
+                  subst (λ (m : Marks). IsJournalWith image text more m after.gate) (sym marked)
+                  (subst (IsJournalWith image text more (behind store.marks entry)) (sym place)
+                  (opened_gate text history store.marks store.gate first.disk.file
                   (journal first.disk first.told)
-                  action valid fewer image over);
+                  entry may_append image over));
             }

@@ -5,7 +5,7 @@ use Rattle.ix_outside.specs.Disk.{Disk, MakesFile, Overwrites, Torn}
 use Rattle.ix_outside.specs.SiteState.{SiteState}
 use Rattle.ix_outside.specs.inside.DiskCalls.{DiskCalls, LeavesOnly}
 use Rattle.ix_outside.proofs.Passing.{DiskCalls-join}
-use Rattle.ix_journal.specs.Format.{header}
+use Rattle.ix_journal.specs.inside.Writing.{new_header}
 use Rattle.ix_store.specs.inside.Steps.{IsBegun, MaybeTorn}
 use Rattle.ix_store.proofs.Beginning.{heading, headed, opening}
 use Rattle.ix_store.proofs.Calls.{now_has, calls_more, torn_has}
@@ -30,7 +30,7 @@ module _ (text : List ℕ) (short : length text < 65536) (old mid : SiteState) (
       image (images' disk told image left))
 
   -- while the head gate is opened
-  pub opened_images : AreLawful mid' then' → bytes ≡ header text ++ 0 ∷ []
+  pub opened_images : AreLawful mid' then' → bytes ≡ new_header text ++ 0 ∷ []
       → MakesFile (Overwrites 1 bytes) mid.disk mid'.disk → LeavesTheFile mid'.disk then'.now
       → (new : SiteState) (is : Crashes) → DiskCalls mid' new then' is
       → ((disk : Disk) → mid'.disk ≡ Some disk → LeavesOnly (MaybeTorn 0 1 then'.now) mid' is)

@@ -1,6 +1,7 @@
 mod Told
 mod Calls
 mod ReadCalls
+mod Histories
 mod Appending
 mod Appended
 mod Reading

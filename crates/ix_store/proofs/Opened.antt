@@ -1,21 +1,22 @@
 -- What a file is, from its first bytes, and what a start leaves of it.
 use Rattle.std.proofs.Common.{◌≡◌, ◌⊎◌, ℕ, ◌+◌, ◌<◌, List, [], ◌∷◌, ◌++◌, length, Some}
-use Rattle.std.proofs.Common.{◌≤◌, Option, Vec, Result, Ok, Err, MatchResult}
-use Rattle.std.proofs.Common.{sym, subst, arith, inl, inr}
-use Rattle.std.specs.Prelude.{All}
+use Rattle.std.proofs.Common.{Option, Vec, Result, Ok, Err, MatchResult}
+use Rattle.std.proofs.Common.{refl, sym, ◌∙◌, ap, subst, arith, inl, inr}
 use Rattle.std.specs.declared.alloc.Global.{Global}
-use Rattle.ix_values.specs.Texts.{IsAction}
+use Rattle.ix_journal.specs.Entries.{fresh, marks_of, pairs_of}
 use Rattle.ix_journal.specs.History.{PlainHistory}
+use Rattle.ix_journal.specs.declared.entries.Entry.{Entry}
+use Rattle.ix_journal.specs.declared.entries.Marks.{Marks}
 use Rattle.ix_outside.specs.Crashes.{Crashes, LeavesTheFile}
 use Rattle.ix_outside.specs.Disk.{Disk, OfFile, MakesFile, Stays}
 use Rattle.ix_outside.specs.SiteState.{SiteState}
 use Rattle.ix_outside.specs.inside.DiskCalls.{DiskCalls, LeavesOnly}
-use Rattle.ix_journal.specs.Format.{farthest_gate, header}
+use Rattle.ix_journal.specs.inside.Writing.{new_header}
 use Rattle.ix_journal.specs.Kinds.{IsReady, unfinished, unopened, foreign, ready}
-use Rattle.ix_journal.specs.Records.{ClosesAt}
-use Rattle.ix_journal.specs.Recovery.{IsJournal, Recovers}
+use Rattle.ix_journal.specs.Recovery.{IsJournalWith, Keeps}
 use Rattle.ix_journal.proofs.KindLaws.{one_kind}
-use Rattle.ix_journal.proofs.OutcomeLaws.{one_history}
+use Rattle.ix_journal.proofs.OrderLemmas.{number_of}
+use Rattle.ix_journal.proofs.OutcomeLaws.{one_list}
 use Rattle.ix_journal.proofs.WritingLaws.{opened}
 use Rattle.ix_store.specs.declared.fault.OpenFault.{OpenFault}
 use Rattle.ix_store.specs.declared.fault.OpenFault.TheVariants as fault
@@ -29,29 +30,41 @@ use Rattle.ix_store.specs.Keeping.{Keeping}
 use Rattle.ix_store.specs.inside.Reading.{IsHeadOf}
 use Rattle.ix_store.specs.inside.Refusals.{Refuses, TellsNothing}
 use Rattle.ix_store.specs.inside.Starting.{CountsOpening, LeavesOnStart, SettlesOpening}
-use Rattle.ix_store.specs.inside.Steps.{IsBegun, IsFound, IsSound, RefusesHead}
+use Rattle.ix_store.specs.inside.Steps.{ClosesWith, IsBegun, IsFound, IsSound, IsSoundly, RefusesHead}
 use Rattle.ix_store.specs.inside.Steps.{StopsReading}
 use Rattle.ix_store.proofs.Calls.{calls_more}
 use Rattle.ix_store.proofs.ReadCalls.{stayed_of}
 use Rattle.ix_store.proofs.Told.{just}
 
--- a new file recovers no action
-new_recovers : (file text : List ℕ) → IsNew file text → Recovers file []
-new_recovers file text (inl new) = Recovers.unfinished file new
-new_recovers file text (inr new) = Recovers.unopened file text new
+-- a new file keeps no record
+new_keeps : (file text : List ℕ) → IsNew file text → Keeps file []
+new_keeps file text (inl new) = Keeps.unfinished file new
+new_keeps file text (inr new) = Keeps.unopened file text new
 
-begun_recovers : (text image : List ℕ) → IsBegun text image → Recovers image []
-begun_recovers text image (inl new) = new_recovers image text new
-begun_recovers text image (inr journal) = Recovers.ready image text [] (7 + length text) journal
+-- a journal keeps its records
+pub journal_keeps : (file text : List ℕ) (history : PlainHistory) (marks : Marks) (gate : ℕ)
+    → (w : IsJournalWith file text history marks gate) → Keeps file w.entries
+journal_keeps file text history marks gate w = Keeps.ready file text w.entries gate w.journal
+
+begun_keeps : (text image : List ℕ) → IsBegun text image → Keeps image []
+begun_keeps text image (inl new) = new_keeps image text new
+begun_keeps text image (inr w) =
+    subst (Keeps image) (none w.entries w.pairs (ap (λ (m : Marks). m.boots) w.marked))
+    (journal_keeps image text [] fresh (7 + length text) w)
+  where
+    none : (entries : List Entry) → pairs_of entries ≡ [] → (marks_of entries).boots ≡ 0 → entries ≡ []
+    none [] pairs boots = refl
+    none (e ∷ entries) pairs boots =
+        absurd (omega (arith, number_of (e ∷ entries), ap length pairs))
 
 begun_own : (text image : List ℕ) → IsBegun text image → IsOwn image text
 begun_own text image (inl new) = inl new
-begun_own text image (inr journal) = inr (journal.first, journal.ready)
+begun_own text image (inr w) = inr (w.journal.first, w.journal.ready)
 
 -- what was found, of the file and whatever the site tells
 pub found_journal : (text : List ℕ) (found : Found) (kept : Kept) (file : List ℕ)
     → found ≡ fd.Journal kept → IsFound text found file
-    → IsJournal file text kept.history.items kept.gate
+    → IsJournalWith file text kept.history.items kept.marks kept.gate
 found_journal text found kept file is found_so =
     let P : Found → Type 0 = λ f. IsFound text f file in subst P is found_so
 
@@ -61,7 +74,7 @@ found_new text found head file is found_so =
     let P : Found → Type 0 = λ f. IsFound text f file in subst P is found_so
 
 pub found_sound : (found : Found) (kept : Kept) → found ≡ fd.Journal kept → IsSound found
-    → (kept.gate ≤ farthest_gate (length kept.history.items)) × All IsAction kept.history.items
+    → IsSoundly kept.history.items kept.marks kept.gate × (kept.marks.boots < 1000000)
 found_sound found kept is sound = subst IsSound is sound
 
 -- what was found of a file that stays was found of it before
@@ -129,10 +142,28 @@ module _ (head file text : List ℕ) (is_head : IsHeadOf head file) where
     ready_there : IsReady file text first
     ready_there = is_head.kind (ready text first) is_ready
 
-    pub journal_read : (history : PlainHistory) (gate : ℕ) → ClosesAt file first history gate
-        → IsJournal file text history gate
-    journal_read history gate closes =
-        record { first = first; ready = ready_there; closes = closes }
+    pub journal_read : (history : PlainHistory) (marks : Marks) (gate : ℕ)
+        → ClosesWith file first history marks gate → IsJournalWith file text history marks gate
+    journal_read history marks gate w = record {
+      entries = w.entries;
+      journal = record { first = first; ready = ready_there; closes = w.closes };
+      pairs = w.pairs;
+      marked = w.marked;
+    }
+
+    -- a journal of a million boots has no room for another
+    pub full_read : (history : PlainHistory) (marks : Marks) (gate : ℕ)
+        → ClosesWith file first history marks gate → marks.boots ≡ 1000000
+        → Refuses file text fault.Many
+    full_read history marks gate w full =
+        let journal = journal_read history marks gate w in (
+          (first, ready_there),
+          inr (record {
+            entries = journal.entries;
+            keeps = journal_keeps file text history marks gate journal;
+            number = ap (λ (m : Marks). m.boots) journal.marked ∙ full;
+          }),
+        )
 
     pub stop_read : (fault : OpenFault) → StopsReading first fault file → Refuses file text fault
     stop_read fault.NotJournal stops = absurd stops
@@ -143,33 +174,45 @@ module _ (head file text : List ℕ) (is_head : IsHeadOf head file) where
     )
     stop_read fault.Many stops = (
       (first, ready_there),
-      record { text = text; first = first; ready = ready_there; many = stops },
+      inl (record { text = text; first = first; ready = ready_there; many = stops }),
     )
     stop_read fault.Disk stops = tt
     stop_read fault.Memory stops = tt
 
 -- a new file and a journal are opened
-pub opens_new : (file text : List ℕ) → IsNew file text → Opens file text []
-opens_new file text new = record { own = inl new; recovers = new_recovers file text new }
-
-pub opens_journal : (file text : List ℕ) (history : PlainHistory) (gate : ℕ)
-    → IsJournal file text history gate
-    → Opens file text history
-opens_journal file text history gate journal = record {
-  own = inr (journal.first, journal.ready);
-  recovers = Recovers.ready file text history gate journal;
+pub opens_new : (file text : List ℕ) → IsNew file text → Opens file text [] 0
+opens_new file text new = record {
+  own = inl new;
+  recovers = record { entries = []; keeps = new_keeps file text new; pairs = refl };
+  holds = record { entries = []; keeps = new_keeps file text new; number = refl };
 }
+
+pub opens_journal : (file text : List ℕ) (history : PlainHistory) (marks : Marks) (gate : ℕ)
+    → IsJournalWith file text history marks gate
+    → Opens file text history marks.boots
+opens_journal file text history marks gate w =
+    let keeps = journal_keeps file text history marks gate w in
+    record {
+      own = inr (w.journal.first, w.journal.ready);
+      recovers = record { entries = w.entries; keeps = keeps; pairs = w.pairs };
+      holds = record {
+        entries = w.entries;
+        keeps = keeps;
+        number = ap (λ (m : Marks). m.boots) w.marked;
+      };
+    }
 
 -- the store of a journal that alone may be left fits
 pub fits_only : (site : SiteState) (crashes : Crashes) (store : Keeping) (text : List ℕ)
     (history : PlainHistory)
     → store.count ≡ length history → LeavesTheFile site.disk crashes.now
-    → ((disk : Disk) → site.disk ≡ Some disk → IsJournal disk.file text history store.gate)
+    → ((disk : Disk) → site.disk ≡ Some disk → IsJournalWith disk.file text history store.marks
+    store.gate)
     → Fits site crashes store text history
 fits_only site crashes store text history counts settled journal = record {
   count = counts;
   images = λ disk told image now.
-      subst (λ (f : List ℕ). IsJournal f text history store.gate)
+      subst (λ (f : List ℕ). IsJournalWith f text history store.marks store.gate)
       (sym (just site.disk disk crashes.now told settled image now)) (journal disk told);
 }
 
@@ -178,7 +221,7 @@ pub leaves_same : (text file : List ℕ) (old new : SiteState) (was is : Crashes
     → MakesFile Stays old.disk new.disk
     → LeavesOnly was.now old is → LeavesOnStart text file old new was is
 leaves_same text file old new was is stays only = record {
-  recovers = λ history recovered image left. inl (only image left);
+  keeps = λ entries kept image left. inl (only image left);
   own = λ own image left. inl (only image left);
   stays = λ other. (stays, only);
 }
@@ -194,11 +237,11 @@ leaves_begun text file old mid new was then is new_file calls only calls' begun 
     calls_more P old mid was then calls (λ image left. inl (only image left)) new is calls'
     (λ image left. inr (begun image left)) in
     record {
-      recovers = λ history recovered image left. elim (both image left) [
+      keeps = λ entries kept image left. elim (both image left) [
         | inl before ↦ inl before
-        | inr now ↦ inr (subst (Recovers image)
-            (one_history file [] history (new_recovers file text new_file) recovered)
-            (begun_recovers text image now))
+        | inr now ↦ inr (subst (Keeps image)
+            (one_list file [] entries (new_keeps file text new_file) kept)
+            (begun_keeps text image now))
       ];
       own = λ own image left. elim (both image left) [
         | inl before ↦ inl before
@@ -209,8 +252,13 @@ leaves_begun text file old mid new was then is new_file calls only calls' begun 
 
 -- the journal that was made
 pub made_anew : (text : List ℕ) → length text < 65536 → (file : List ℕ)
-    → file ≡ 165 ∷ (header text ++ 0 ∷ [])
-    → IsJournal file text [] (7 + length text)
+    → file ≡ 165 ∷ (new_header text ++ 0 ∷ [])
+    → IsJournalWith file text [] fresh (7 + length text)
 made_anew text short file is =
-    subst (λ (f : List ℕ). IsJournal f text [] (7 + length text)) (sym is)
-    (opened text 0 [] short (omega arith))
+    subst (λ (f : List ℕ). IsJournalWith f text [] fresh (7 + length text)) (sym is)
+    (record {
+      entries = [];
+      journal = opened 50 text 0 [] (inr refl) short (omega arith);
+      pairs = refl;
+      marked = refl;
+    })

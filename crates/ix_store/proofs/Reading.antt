@@ -2,61 +2,76 @@
 use Rattle.std.proofs.Common.{◌≡◌, ◌≢◌, ℕ, ◌+◌, ◌-◌, ◌*◌, ◌<◌, ◌≤◌, List, [], ◌∷◌, ◌++◌}
 use Rattle.std.proofs.Common.{length, drop, Bool, true}
 use Rattle.std.proofs.Common.{false, take, min, Some, None, Bor, if◌then◌else◌, Option}
-use Rattle.std.proofs.Common.{sym, ◌∙◌, ap, subst, arith, inl, inr}
-use Rattle.std.proofs.lemmas.List.{append_assoc, length-append, length-drop, length_push}
+use Rattle.std.proofs.Common.{refl, sym, ◌∙◌, ap, subst, arith, inl, inr}
+use Rattle.std.proofs.lemmas.List.{append_assoc, length-append, length-drop}
 use Rattle.std.proofs.lemmas.List.{drop-append-le, take-append-le, take-append-drop}
 use Rattle.std.proofs.lemmas.List.{drop-drop, drop_all}
 use Rattle.std.proofs.lemmas.List.{take-take, length-take, take_min}
 use Rattle.std.proofs.Math.Seq.{take-add}
 use Rattle.std.proofs.lemmas.List.Elements.{All-append, All-cons, All-nil}
 use Rattle.std.specs.Prelude.{All}
-use Rattle.ix_values.specs.PlainAction.{PlainAction, text_of}
-use Rattle.ix_journal.specs.History.{PlainHistory}
 use Rattle.ix_values.specs.Texts.{IsAction}
-use Rattle.ix_values.specs.Faults.{IsActionText}
 use Rattle.ix_outside.specs.Disk.{Disk, OfFile}
+use Rattle.ix_journal.specs.declared.entries.Entry.{Entry}
+use Rattle.ix_journal.specs.declared.entries.Entry.TheVariants as said
+use Rattle.ix_journal.specs.declared.entries.Marks.{Marks}
 use Rattle.ix_journal.specs.declared.slide.Slid.TheVariants as slid
+use Rattle.ix_journal.specs.Entries.{AreFew, IsEntry, MayFollow, behind, entry_text, marks_of}
+use Rattle.ix_journal.specs.Entries.{pair_of, pairs_of}
+use Rattle.ix_journal.specs.History.{PlainHistory, Spent}
 use Rattle.ix_journal.specs.Kinds.{HasKind}
 use Rattle.ix_journal.specs.Format.{IsClosed, header, with_length, record_of}
 use Rattle.ix_journal.specs.Records.{BeginsWithRecord, Holds, ClosesAt, IsDamagedFrom, IsManyFrom}
 use Rattle.ix_journal.specs.Answers.{Standing, at_gate, Gives}
-use Rattle.ix_journal.specs.Kept.{Kept, empty_at, extended}
-use Rattle.ix_journal.specs.Slide.{Tells, RecordsGive, WantMore, IsShort, after}
+use Rattle.ix_journal.specs.Kept.{Kept, empty_at, extended, moved}
+use Rattle.ix_journal.specs.Slide.{GivesText, Leaves, Tells, RecordsGive, WantMore, IsShort}
+use Rattle.ix_journal.specs.inside.Reading.{IsText, Says}
+use Rattle.ix_journal.proofs.EntryTexts.{entries-same}
 use Rattle.ix_journal.proofs.HoldsLemmas.{holds_none, holds_more, gate_behind}
 use Rattle.ix_journal.proofs.KindFronts.{Covers, kinds_of_front}
-use Rattle.ix_journal.proofs.RecordFronts.{text_short}
+use Rattle.ix_journal.proofs.OrderLemmas.{entry_near, marks_of-more}
 use Rattle.ix_journal.proofs.SlideLaws.{stays_away}
-use Rattle.ix_journal.proofs.SlideLemmas.{gives_record, gives_closed, gives_damage, further}
+use Rattle.ix_journal.proofs.SlideLemmas.{gives_text, gives_closed, gives_damage, further}
 use Rattle.ix_store.specs.inside.Reading.{BeginsWith, Feeds, IsHeadOf}
+use Rattle.ix_store.specs.inside.Steps.{ClosesWith, KeepsNot, MayKeep, StopsReading}
+use Rattle.ix_store.specs.declared.fault.OpenFault.{OpenFault}
+use Rattle.ix_store.specs.declared.fault.OpenFault.TheVariants as fault
+use Rattle.ix_store.proofs.Histories.{pairs-more}
 use Rattle.ix_store.proofs.Told.{of_told}
 
 -- bytes that want more are few
-want_few : (bytes : List ℕ) → WantMore bytes → length bytes ≤ 168
+want_few : (bytes : List ℕ) → WantMore bytes → length bytes ≤ 210
 want_few [] want = omega arith
 want_few (gate ∷ []) want = omega arith
 want_few (gate ∷ high ∷ []) want = omega arith
 want_few (gate ∷ high ∷ low ∷ rest) want =
     let most = want.1 in let few = want.2 in omega arith
 
--- a Slide behind these records, whatever the file: `at` is the place behind the kept bytes
+-- a Slide behind records of these actions, whatever the file: `at` is the place behind the kept bytes
 pub record IsOnWay (first at : ℕ) (history : PlainHistory) (kept : Kept) : Type 0 where
   pub place : at ≡ kept.gate + length kept.bytes
   pub some : 0 < length kept.bytes
   pub room : length kept.bytes ≤ 4096
-  pub near : kept.gate ≤ first + 168 * length history
-  pub valid : All IsAction history
+  pub near : kept.gate ≤ first + 197 * length history + 15 * kept.marks.boots
+  pub valid : All (λ (spent : Spent). IsAction spent.1) history
   pub few : length history ≤ 1000000
+  pub boots : kept.marks.boots ≤ 1000000
 
--- the records of the file are these up to the Slide's gate, and the kept bytes are the file's
+-- the records of the file up to the Slide's gate tell these actions and leave the Slide's marks, and
+-- the kept bytes are the file's
 pub record Reached (first at : ℕ) (history : PlainHistory) (kept : Kept) (file : List ℕ) : Type 0 where
-  pub records : Holds file first history kept.gate
+  pub entries : List Entry
+  pub records : Holds file first entries kept.gate
+  pub pairs : pairs_of entries ≡ history
+  pub marked : marks_of entries ≡ kept.marks
   pub here : kept.bytes ++ drop at file ≡ drop kept.gate file
   pub end : kept.ended ≡ true → drop at file ≡ []
 
 -- a number that falls from step to step
 abbrev pub steps_left : PlainHistory → Kept → ℕ
 steps_left history kept =
-    (1000000 - length history) * 5000 + (4096 - length kept.bytes) + (if kept.ended then 0 else 1)
+    (2000000 - (length history + kept.marks.boots)) * 5000 + (4096 - length kept.bytes)
+    + (if kept.ended then 0 else 1)
 
 -- the Slide at the first gate, with so many bytes of the front from there on
 module _ (head : List ℕ) (first count : ℕ) (within : first < length head)
@@ -73,8 +88,9 @@ module _ (head : List ℕ) (first count : ℕ) (within : first < length head)
     some = omega (arith, piece_len, length-drop first head);
     room = omega (arith, piece_len);
     near = omega arith;
-    valid = All-nil IsAction;
+    valid = All-nil (λ (spent : Spent). IsAction spent.1);
     few = omega arith;
+    boots = omega arith;
   }
 
   pub starts_reached : (file : List ℕ) → BeginsWith head file
@@ -87,7 +103,10 @@ module _ (head : List ℕ) (first count : ℕ) (within : first < length head)
       sym (take-append-le count (drop first head) rest (omega arith))
       ∙ ap (take count) (sym behind) in
       record {
+        entries = [];
         records = holds_none file first (omega (arith, longer, length-append head rest));
+        pairs = refl;
+        marked = refl;
         here = ap (λ (b : List ℕ). b ++ drop (first + count) file) front
             ∙ ap (λ (b : List ℕ). take count (drop first file) ++ b)
             (sym (drop-drop count first file))
@@ -95,148 +114,273 @@ module _ (head : List ℕ) (first count : ℕ) (within : first < length head)
         end = λ ended. absurd cc;
       }
 
--- a record is lent
-module _ (first at : ℕ) (history : PlainHistory) (kept : Kept) (text : Bor (List ℕ))
-    (tells : Tells kept (slid.Record text)) where
-  -- its text is an action's
-  pub text_lent : IsActionText text.now
-  text_lent =
-      let at_first = tells.1 in
-      record { action = at_first.0; valid = at_first.2.begins.valid; same = at_first.1 }
+-- of the records reached there aren't too many
+few_reached : (first at : ℕ) (history : PlainHistory) (kept : Kept) (file : List ℕ)
+    → (reached : Reached first at history kept file) → IsOnWay first at history kept
+    → AreFew reached.entries
+few_reached first at history kept file reached way = record {
+  actions = let few = way.few in omega (arith, ap length reached.pairs);
+  boots = let boots = way.boots in omega (arith, ap (λ (m : Marks). m.boots) reached.marked);
+}
 
-  text_len : length text.now ≤ 165
-  text_len =
-      let at_first = tells.1 in
-      let short = text_short at_first.0 at_first.2.begins.valid in
-      omega (arith, ap length at_first.1)
+-- a record is lent
+pub text_lent : (kept : Kept) (text : Bor (List ℕ)) → Tells kept (slid.Record text) → IsText text.now
+text_lent kept text tells =
+    let at_first = tells.1.1 in
+    (at_first.0, record { valid = at_first.2.begins.valid; same = at_first.1 })
+
+-- a record that says this was lent, and may follow; what is kept then
+record IsLent (kept : Kept) (text : Bor (List ℕ)) (entry : Entry) (new : Kept) : Type 0 where
+  given : GivesText kept.bytes 0 kept.marks text (behind kept.marks entry)
+  says : given.0 ≡ entry
+  next : new ≡ moved kept (3 + length text.now) (behind kept.marks entry)
+
+lent_so : (kept new : Kept) (text : Bor (List ℕ)) (entry : Entry) → Says text.now entry
+    → Leaves kept (slid.Record text) new → IsLent kept text entry new
+lent_so kept new text entry says leaves =
+    let first = leaves.1 in
+    let same : first.0 ≡ entry =
+    entries-same first.0 entry first.2.begins.valid says.valid (sym first.1 ∙ says.same) in
+    let left : leaves.0 ≡ behind kept.marks entry =
+    ap (λ (s : Standing). s.marks) first.3 ∙ ap (behind kept.marks) same in
+    let family : Marks → Type 0 = λ m.
+    (given : GivesText kept.bytes 0 kept.marks text m) × (given.0 ≡ entry)
+    × (new ≡ moved kept (3 + length text.now) m) in
+    let all = subst family left (first, same, leaves.2) in
+    record { given = all.0; says = all.1; next = all.2 }
+
+module _ (kept new : Kept) (text : Bor (List ℕ)) (entry : Entry) (says : Says text.now entry)
+    (leaves : Leaves kept (slid.Record text) new) where
+  lent : IsLent kept text entry new
+  lent = lent_so kept new text entry says leaves
+
+  follows : MayFollow kept.marks entry
+  follows = subst (MayFollow kept.marks) lent.says lent.given.2.follows
+
+  len : length text.now ≡ length (entry_text entry)
+  len = ap length says.same
 
   gate_kept : 3 + length text.now < length kept.bytes
   gate_kept =
-      let at_first = tells.1 in
-      let len : length text.now ≡ length (text_of at_first.0) = ap length at_first.1 in
-      omega (arith, len, gate_behind kept.bytes 0 at_first.0 at_first.2.begins)
+      omega (arith, ap length lent.given.1, gate_behind kept.bytes 0 lent.given.0 lent.given.2.begins)
 
-  module _ (action : PlainAction) (valid : IsAction action) (spelled : text_of action ≡ text.now)
-    where
-      pub lent_on_way : (length history ≡ 1000000 → ⊥) → IsOnWay first at history kept
-          → IsOnWay first at (history ++ action ∷ []) (after kept (slid.Record text))
-      lent_on_way more way =
-          let more_gates = gate_kept in
-          let few = way.few in
-          let near = way.near in
-          let place = way.place in
-          let room = way.room in
-          let left = length-drop (3 + length text.now) kept.bytes in
-          let pushed = length_push history action in
-          record {
-            place = omega (arith, left);
-            some = omega (arith, left);
-            room = omega (arith, left);
-            near = let short = text_len in omega (arith, pushed);
-            valid = All-append IsAction history (action ∷ []) way.valid
-                (All-cons IsAction action [] valid (All-nil IsAction));
-            few = omega (arith, pushed);
-          }
+  module _ (first at : ℕ) (history : PlainHistory) (may : MayKeep (length history) entry)
+      (way : IsOnWay first at history kept) where
+    room_for : (length history + length (pair_of entry) ≤ 1000000)
+        × ((behind kept.marks entry).boots ≤ 1000000)
+    room_for = by entry may follows
+      where
+        by : (e : Entry) → MayKeep (length history) e → MayFollow kept.marks e
+            → (length history + length (pair_of e) ≤ 1000000) × ((behind kept.marks e).boots ≤ 1000000)
+        by (said.Boot number) may follows = let few = way.few in (omega arith, omega arith)
+        by (said.Spent ticket action) may follows = let boots = way.boots in (omega arith, omega arith)
+        by (said.Plain action) may follows = let boots = way.boots in (omega arith, omega arith)
 
-      pub lent_less : (length history ≡ 1000000 → ⊥) → IsOnWay first at history kept
-          → steps_left (history ++ action ∷ []) (after kept (slid.Record text))
-          < steps_left history kept
-      lent_less more way =
-          let few = way.few in
-          let room = way.room in
-          omega (arith, length_push history action)
+    more_valid : All (λ (spent : Spent). IsAction spent.1) (pair_of entry)
+    more_valid = by entry says.valid
+      where
+        by : (e : Entry) → IsEntry e → All (λ (spent : Spent). IsAction spent.1) (pair_of e)
+        by (said.Boot number) valid = All-nil (λ (spent : Spent). IsAction spent.1)
+        by (said.Spent ticket action) valid =
+            All-cons (λ (spent : Spent). IsAction spent.1) (Some ticket, action) [] valid.1
+            (All-nil (λ (spent : Spent). IsAction spent.1))
+        by (said.Plain action) valid =
+            All-cons (λ (spent : Spent). IsAction spent.1) (None, action) [] valid
+            (All-nil (λ (spent : Spent). IsAction spent.1))
 
-      pub lent_reached : (file : List ℕ) → Reached first at history kept file
-          → Reached first at (history ++ action ∷ []) (after kept (slid.Record text)) file
-      lent_reached file reached =
-          let rest = drop at file in
-          let given = gives_record file kept.gate kept.bytes rest reached.here text tells.1 in
-          let same : text_of action ≡ text_of given.0 = spelled ∙ given.1 in
-          let texts : record_of action ≡ record_of given.0 = ap with_length same in
-          let begins : BeginsWithRecord (drop (kept.gate + 1) file) action = record {
-            behind = given.2.begins.behind;
-            spells = given.2.begins.spells
-                ∙ ap (λ (r : List ℕ). r ++ given.2.begins.behind) (sym texts);
-            gate = given.2.begins.gate;
-            valid = valid;
-          } in
-          let len : length (text_of action) ≡ length text.now = ap length spelled in
-          let next : kept.gate + 1 + length (record_of action) ≡ kept.gate + (3 + length text.now) =
-          omega (arith, len) in
-          record {
-            records = subst (Holds file first (history ++ action ∷ [])) next
-                (holds_more file first history kept.gate action reached.records
-                given.2.open_there begins);
-            here = further file kept.gate kept.bytes rest reached.here (3 + length text.now)
-                (let more_gates = gate_kept in omega arith);
-            end = reached.end;
-          }
+    one_more : 1 + length history + kept.marks.boots
+        ≤ length history + length (pair_of entry) + (behind kept.marks entry).boots
+    one_more = by entry
+      where
+        by : (e : Entry) → 1 + length history + kept.marks.boots
+            ≤ length history + length (pair_of e) + (behind kept.marks e).boots
+        by (said.Boot number) = omega arith
+        by (said.Spent ticket action) = omega arith
+        by (said.Plain action) = omega arith
 
-  -- behind a million records
-  pub lent_many : length history ≡ 1000000 → (file : List ℕ) → Reached first at history kept file
-      → IsManyFrom file first
-  lent_many most file reached =
-      let given =
-      gives_record file kept.gate kept.bytes (drop at file) reached.here text tells.1 in
-      record {
-        history = history;
-        gate = kept.gate;
-        records = reached.records;
-        open_there = given.2.open_there;
-        most = most;
-      }
+    abbrev after : Kept
+    after = moved kept (3 + length text.now) (behind kept.marks entry)
+
+    lent_on_way : IsOnWay first at (history ++ pair_of entry) after
+    lent_on_way =
+        let more_gates = gate_kept in
+        let near = way.near in
+        let place = way.place in
+        let room = way.room in
+        let left = length-drop (3 + length text.now) kept.bytes in
+        let pushed = length-append history (pair_of entry) in
+        record {
+          place = omega (arith, left);
+          some = omega (arith, left);
+          room = omega (arith, left);
+          near = omega (arith, pushed, len, entry_near kept.marks entry says.valid follows room_for.1);
+          valid = All-append (λ (spent : Spent). IsAction spent.1) history (pair_of entry) way.valid
+              more_valid;
+          few = omega (arith, pushed, room_for.0);
+          boots = room_for.1;
+        }
+
+    pub next_on_way : IsOnWay first at (history ++ pair_of entry) new
+    next_on_way =
+        subst (IsOnWay first at (history ++ pair_of entry)) (sym lent.next) lent_on_way
+
+    lent_less : steps_left (history ++ pair_of entry) after < steps_left history kept
+    lent_less =
+        let room = way.room in
+        omega (arith, length-append history (pair_of entry), one_more, room_for.0, room_for.1)
+
+    pub next_less : steps_left (history ++ pair_of entry) new < steps_left history kept
+    next_less =
+        subst (λ (k : Kept). steps_left (history ++ pair_of entry) k < steps_left history kept)
+        (sym lent.next) lent_less
+
+  -- in the file the record stands behind those reached
+  module _ (first at : ℕ) (history : PlainHistory) (file : List ℕ)
+      (reached : Reached first at history kept file) where
+    abbrev rest : List ℕ
+    rest = drop at file
+
+    given_there : GivesText file kept.gate kept.marks text (behind kept.marks entry)
+    given_there = gives_text file kept.gate kept.bytes rest reached.here kept.marks
+        (behind kept.marks entry) text lent.given
+
+    begins_there : BeginsWithRecord (drop (kept.gate + 1) file) entry
+    begins_there =
+        let there = given_there.2.begins in
+        let texts : record_of given_there.0 ≡ record_of entry =
+        ap with_length (sym given_there.1 ∙ says.same) in
+        record {
+          behind = there.behind;
+          spells = there.spells ∙ ap (λ (r : List ℕ). r ++ there.behind) texts;
+          gate = there.gate;
+          valid = says.valid;
+        }
+
+    follows_there : MayFollow (marks_of reached.entries) entry
+    follows_there = subst (λ (m : Marks). MayFollow m entry) (sym reached.marked) follows
+
+    lent_reached : Reached first at (history ++ pair_of entry)
+        (moved kept (3 + length text.now) (behind kept.marks entry)) file
+    lent_reached =
+        let next : kept.gate + 1 + length (record_of entry) ≡ kept.gate + (3 + length text.now) =
+        omega (arith, len) in
+        record {
+          entries = reached.entries ++ entry ∷ [];
+          records = subst (Holds file first (reached.entries ++ entry ∷ [])) next
+              (holds_more file first reached.entries kept.gate entry reached.records
+              given_there.2.open_there begins_there follows_there);
+          pairs = pairs-more reached.entries entry
+              ∙ ap (λ (h : PlainHistory). h ++ pair_of entry) reached.pairs;
+          marked = marks_of-more reached.entries entry
+              ∙ ap (λ (m : Marks). behind m entry) reached.marked;
+          here = further file kept.gate kept.bytes rest reached.here (3 + length text.now)
+              (let more_gates = gate_kept in omega arith);
+          end = reached.end;
+        }
+
+    pub next_reached : Reached first at (history ++ pair_of entry) new file
+    next_reached =
+        subst (λ (k : Kept). Reached first at (history ++ pair_of entry) k file) (sym lent.next)
+        lent_reached
+
+    -- a record that isn't kept makes too many
+    pub lent_many : IsOnWay first at history kept → (MayKeep (length history) entry → ⊥)
+        → IsManyFrom file first
+    lent_many way not = record {
+      entries = reached.entries;
+      entry = entry;
+      gate = kept.gate;
+      records = reached.records;
+      open_there = given_there.2.open_there;
+      few = few_reached first at history kept file reached way;
+      begins = begins_there;
+      follows = follows_there;
+      many = λ few. not (kept_few few);
+    }
+      where
+        kept_few : AreFew (reached.entries ++ entry ∷ []) → MayKeep (length history) entry
+        kept_few few =
+            let actions = few.actions in
+            let boots = few.boots in
+            by entry follows
+            (omega (
+              arith,
+              ap length (pairs-more reached.entries entry),
+              ap length reached.pairs,
+              length-append (pairs_of reached.entries) (pair_of entry),
+            ))
+            (omega (
+              arith,
+              ap (λ (m : Marks). m.boots) (marks_of-more reached.entries entry),
+              ap (λ (m : Marks). (behind m entry).boots) reached.marked,
+            ))
+          where
+            by : (e : Entry) → MayFollow kept.marks e → length history + length (pair_of e) ≤ 1000000
+                → (behind kept.marks e).boots ≤ 1000000 → MayKeep (length history) e
+            by (said.Boot number) follows actions boots = omega arith
+            by (said.Spent ticket action) follows actions boots = omega arith
+            by (said.Plain action) follows actions boots = omega arith
 
 -- a closed gate is met, or damage
 module _ (first at : ℕ) (history : PlainHistory) (kept : Kept) (file : List ℕ)
-    (reached : Reached first at history kept file) (few : length history ≤ 1000000) where
-  closed_here : (gate : ℕ) (new : Standing) → Gives (at_gate file gate) None new
+    (reached : Reached first at history kept file) (way : IsOnWay first at history kept) where
+  closed_here : (gate : ℕ) (marks : Marks) (new : Standing) → Gives (at_gate file gate marks) None new
       → IsClosed file gate
-  closed_here gate new (inl damaged, same) = absurd cc
-  closed_here gate new (inr closed, same) = closed
+  closed_here gate marks new (inl damaged, same) = absurd cc
+  closed_here gate marks new (inr closed, same) = closed
 
-  pub closes : (gate : ℕ) → Tells kept (slid.Closed gate) → ClosesAt file first history gate
+  pub closes : (gate : ℕ) → Tells kept (slid.Closed gate)
+      → ClosesWith file first history kept.marks gate
   closes gate tells =
       let given =
-      gives_closed file kept.gate kept.bytes (drop at file) reached.here gate tells.1 in
+      gives_closed file kept.gate kept.bytes (drop at file) reached.here kept.marks gate tells.1 in
       let place : kept.gate ≡ gate = omega (arith, given.0) in
-      subst (ClosesAt file first history) place (record {
-        records = reached.records;
-        closed = closed_here kept.gate _ given.1;
-        few = few;
-      })
+      record {
+        entries = reached.entries;
+        closes = subst (ClosesAt file first reached.entries) place (record {
+          records = reached.records;
+          closed = closed_here kept.gate kept.marks _ given.1;
+          few = few_reached first at history kept file reached way;
+        });
+        pairs = reached.pairs;
+        marked = reached.marked;
+      }
 
   module _ (place : ℕ) (tells : Tells kept (slid.Damaged place)) where
-    given_damage : RecordsGive 0 file kept.gate (slid.Damaged place)
+    given_damage : RecordsGive 0 file kept.gate kept.marks (slid.Damaged place)
     given_damage =
-        gives_damage file kept.gate kept.bytes (drop at file) reached.here place
+        gives_damage file kept.gate kept.bytes (drop at file) reached.here kept.marks place
         (stays_away kept.bytes (drop at file) kept.ended tells.1.2.1.1.open_there tells.0
         reached.end)
         tells.1
 
-    pub damage_many : length history ≡ 1000000 → IsManyFrom file first
-    damage_many most = record {
-      history = history;
+    pub damages : IsDamagedFrom file first place
+    damages = record {
+      entries = reached.entries;
       gate = kept.gate;
       records = reached.records;
       open_there = given_damage.2.1.1.open_there;
-      most = most;
-    }
-
-    pub damages : (length history ≡ 1000000 → ⊥) → IsDamagedFrom file first place
-    damages more = record {
-      history = history;
-      gate = kept.gate;
-      records = reached.records;
-      open_there = given_damage.2.1.1.open_there;
-      few = omega arith;
-      no_record = given_damage.2.1.1.no_record;
+      few = few_reached first at history kept file reached way;
+      no_record = λ e follows. given_damage.2.1.1.no_record e
+          (subst (λ (m : Marks). MayFollow m e) reached.marked follows);
       place = let first_place = given_damage.1 in let second = given_damage.2.1.0 in
           omega arith;
     }
 
+-- why a record isn't kept is a reason to stop
+pub stops_keeping : (first count : ℕ) (file : List ℕ) (entry : Entry) (why : OpenFault)
+    → KeepsNot count entry why → ((MayKeep count entry → ⊥) → IsManyFrom file first)
+    → StopsReading first why file
+stops_keeping first count file entry fault.NotJournal not many = absurd not
+stops_keeping first count file entry (fault.OtherExpression kept) not many = absurd not
+stops_keeping first count file entry (fault.Damaged at) not many = absurd not
+stops_keeping first count file entry fault.Many not many = many not
+stops_keeping first count file entry fault.Disk not many = absurd not
+stops_keeping first count file entry fault.Memory not many = tt
+
 -- more bytes come, or the end is told
 module _ (first at : ℕ) (history : PlainHistory) (kept : Kept) (short : IsShort kept) where
-  short_few : length kept.bytes ≤ 168
+  short_few : length kept.bytes ≤ 210
   short_few = want_few kept.bytes short.1
 
   pub fed_on_way : (disk : Option Disk) (next : ℕ) (new : Kept) → Feeds disk at kept next new
@@ -248,6 +392,7 @@ module _ (first at : ℕ) (history : PlainHistory) (kept : Kept) (short : IsShor
     near = way.near;
     valid = way.valid;
     few = way.few;
+    boots = way.boots;
   }
   fed_on_way disk _ _ (Feeds.told_the_end file) way = record {
     place = way.place;
@@ -256,6 +401,7 @@ module _ (first at : ℕ) (history : PlainHistory) (kept : Kept) (short : IsShor
     near = way.near;
     valid = way.valid;
     few = way.few;
+    boots = way.boots;
   }
 
   going : let left : ℕ = if kept.ended then 0 else 1 in left ≡ 1
@@ -274,7 +420,10 @@ module _ (first at : ℕ) (history : PlainHistory) (kept : Kept) (short : IsShor
       let P : List ℕ → Type 0 = λ f. drop at f ≡ piece ++ drop (at + length piece) f in
       let read : P file = subst P same (of_told P disk told is of_file) in
       record {
+        entries = reached.entries;
         records = reached.records;
+        pairs = reached.pairs;
+        marked = reached.marked;
         here = append_assoc kept.bytes piece (drop (at + length piece) file)
             ∙ ap (λ (b : List ℕ). kept.bytes ++ b) (sym read) ∙ reached.here;
         end = λ ended. absurd (let e : true ≡ false = sym ended ∙ short.0 in cc);
@@ -282,7 +431,10 @@ module _ (first at : ℕ) (history : PlainHistory) (kept : Kept) (short : IsShor
   fed_reached file disk told is same _ _ (Feeds.told_the_end of_file) reached =
       let P : List ℕ → Type 0 = λ f. drop at f ≡ [] in
       record {
+        entries = reached.entries;
         records = reached.records;
+        pairs = reached.pairs;
+        marked = reached.marked;
         here = reached.here;
         end = λ ended. subst P same (of_told P disk told is of_file);
       }
@@ -355,5 +507,5 @@ covers_few file count few head text behind w =
       arith,
       length-take 7 file,
       ap length w.spells,
-      length-append (header text) behind,
+      length-append (header w.version text) behind,
     )))

@@ -9,10 +9,11 @@ pub enum OpenFault {
     NotJournal,
     /// It is the journal of another expression, whose text it keeps.
     OtherExpression { kept: Vec<u8> },
-    /// The open gate in front of this place isn't followed by a whole record of an action and a
-    /// further gate.
+    /// The open gate in front of this place isn't followed by a whole record that may stand there
+    /// and a further gate.
     Damaged { at: usize },
-    /// A million records are open, and so is the gate behind them.
+    /// The 1,000,001st record of an action is open, or the 1,000,001st boot; or 1,000,000 boots are
+    /// there, so that there is no room for another.
     Many,
     /// There was no memory for the front of the file, the history, the header or the text kept.
     Memory,

@@ -13,6 +13,7 @@ use crate::OpenFault;
 use crate::judge::judge;
 use crate::read::read_head;
 use crate::records::{Kept, read_records};
+use ix_journal::MOST_BOOTS;
 use ix_outside::Site;
 use std::alloc::Global;
 
@@ -51,7 +52,8 @@ pub(crate) fn sync_and_find<S: Site>(
     find(alloc, site, text)
 }
 
-/// Finds out what the file is: its kind, then whether it keeps the text, then its records.
+/// Finds out what the file is: its kind, then whether it keeps the text, then its records, and
+/// whether there is room for another boot.
 fn find<S: Site>(alloc: Global, site: &mut S, text: &[u8]) -> Result<Found, OpenFault>
     requires { (S.state site.old).attached ≡ true }
     ensures file { MatchResult result
@@ -73,7 +75,12 @@ fn find<S: Site>(alloc: Global, site: &mut S, text: &[u8]) -> Result<Found, Open
         Err(fault) => return Err(fault),
     };
     match read_records(alloc, site, &head, first) {
-        Ok(kept) => Ok(Found::Journal(kept)),
+        Ok(kept) => {
+            if kept.marks.boots >= MOST_BOOTS {
+                return Err(OpenFault::Many);
+            }
+            Ok(Found::Journal(kept))
+        }
         Err(fault) => Err(fault),
     }
 }

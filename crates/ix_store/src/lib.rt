@@ -1,4 +1,5 @@
-//! The journal on a site: it is opened once, and then each action is appended to it.
+//! The journal on a site: it is opened once, and then a boot, and each action with its ticket, is
+//! appended to it.
 //!
 //! Whatever fails, and whenever the site stops, what is left can be opened again. A file that isn't
 //! a journal of the expression that is handed in stays as it was. An action is kept from the moment

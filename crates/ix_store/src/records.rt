@@ -1,31 +1,33 @@
 //! The records of a file, read in pieces.
 
-ghost use Rattle.std.specs.Prelude.{◌≡◌, ◌^◌, ◌<◌, ◌≤◌, true, false, length, All};
-ghost use Rattle.std.specs.Prelude.{IfOk, MatchResult};
-ghost use Rattle.ix_values.specs.Texts.{IsAction};
+ghost use Rattle.std.specs.Prelude.{◌≡◌, ◌^◌, ◌<◌, ◌≤◌, ◌++◌, true, false, length, IfOk, IfErr};
+ghost use Rattle.std.specs.Prelude.{OnOk, MatchResult};
 ghost use Rattle.ix_outside.specs.Counts.{CountsFault};
 ghost use Rattle.ix_outside.specs.Disk.{OfFile};
+ghost use Rattle.ix_journal.specs.Entries.{IsEntry, pair_of};
 ghost use Rattle.ix_journal.specs.Format.{farthest_gate};
-ghost use Rattle.ix_journal.specs.Records.{ClosesAt};
 ghost use Rattle.ix_store.specs.inside.Reading.{BeginsWith, Feeds, OnlyReads};
 ghost use Rattle.ix_store.specs.inside.Starting.{CountsOpening};
+ghost use Rattle.ix_store.specs.inside.Steps.{ClosesWith, IsSoundly, KeepsNot, MayKeep};
 ghost use Rattle.ix_store.specs.inside.Steps.{StopsReading};
 
 use crate::OpenFault;
-use ix_journal::{MOST_RECORDS, SLIDE_ROOM, Slid, Slide};
+use ix_journal::{Entry, MOST_BOOTS, MOST_RECORDS, Marks, SLIDE_ROOM, Slid, Slide};
 use ix_outside::{DiskFailed, Site};
-use ix_values::Action;
+use ix_values::{Action, Ticket};
 use std::alloc::Global;
 
-/// The open records of a ready file, and the place of its first closed gate.
+/// What the open records of a ready file tell, and the place of its first closed gate.
 #[derive(Drop)]
 pub(crate) struct Kept {
-    pub(crate) history: Vec<Action>,
+    pub(crate) history: Vec<(Option<Ticket>, Action)>,
     pub(crate) gate: u64,
+    pub(crate) marks: Marks,
 }
 
-/// The open records from this gate on of a file that begins with `head`, and the place of the first
-/// closed gate. The file is read in pieces, and none of it is kept but the actions.
+/// What the open records tell from this gate on of a file that begins with `head`, and the place of
+/// the first closed gate. The file is read in pieces, and none of it is kept but the actions with
+/// their tickets.
 pub(crate) fn read_records<S: Site>(
     alloc: Global,
     site: &mut S,
@@ -34,15 +36,14 @@ pub(crate) fn read_records<S: Site>(
 ) -> Result<Kept, OpenFault>
     requires attached { (S.state site.old).attached ≡ true }
     requires within { first < length head.now }
-    requires near { first ≤ farthest_gate 0 }
+    requires near { first ≤ farthest_gate 0 0 }
     requires head { OfFile (BeginsWith head.now) (S.state site.old).disk }
     ensures file { MatchResult result
-        (λ kept. OfFile (λ file. ClosesAt file first kept.history.items kept.gate)
+        (λ kept. OfFile (λ file. ClosesWith file first kept.history.items kept.marks kept.gate)
         (S.state site.old).disk)
         (λ fault. OfFile (StopsReading first fault) (S.state site.old).disk) }
-    ensures near { IfOk result
-        (λ kept. kept.gate ≤ farthest_gate (length kept.history.items)) }
-    ensures valid { IfOk result (λ kept. All IsAction kept.history.items) }
+    ensures sound { IfOk result
+        (λ kept. IsSoundly kept.history.items kept.marks kept.gate) }
     ensures reads { OnlyReads (S.state site.old) (S.state site.new)
         (S.crashes site.old) (S.crashes site.new) }
     ensures failed { CountsOpening result
@@ -57,19 +58,42 @@ pub(crate) fn read_records<S: Site>(
                 Ok(next) => at = next,
                 Err(_) => return Err(OpenFault::Disk),
             },
-            Slid::Record(text) => {
-                // The gate behind a million records is open: what follows it means nothing.
-                if history.len() == MOST_RECORDS {
-                    return Err(OpenFault::Many);
-                }
-                if history.push(Action::of_text(text)).is_err() {
-                    return Err(OpenFault::Memory);
-                }
+            Slid::Record(text) => match keep(&mut history, Entry::of_text(text)) {
+                Ok(()) => {}
+                Err(fault) => return Err(fault),
+            },
+            Slid::Closed { gate } => {
+                let marks = slide.marks();
+                return Ok(Kept {
+                    history,
+                    gate,
+                    marks,
+                });
             }
-            Slid::Closed { gate } => return Ok(Kept { history, gate }),
-            Slid::Damaged { .. } if history.len() == MOST_RECORDS => return Err(OpenFault::Many),
             Slid::Damaged { at } => return Err(OpenFault::Damaged { at: at as usize }),
         }
+    }
+}
+
+/// Keeps an action that a record tells behind those of the history, with its ticket. A record that
+/// would make too many actions or boots is refused.
+fn keep(history: &mut Vec<(Option<Ticket>, Action)>, entry: Entry) -> Result<(), OpenFault>
+    ensures kept { OnOk result (history.new.items ≡ history.old.items ++ pair_of entry) }
+    ensures may { OnOk result (MayKeep (length history.old.items) entry) }
+    ensures refused { IfErr result (KeepsNot (length history.old.items) entry) }
+{
+    let spent = match entry {
+        Entry::Boot(number) if number > MOST_BOOTS => return Err(OpenFault::Many),
+        Entry::Boot(_) => return Ok(()),
+        Entry::Spent { ticket, action } => (Some(ticket), action),
+        Entry::Plain(action) => (None, action),
+    };
+    if history.len() >= MOST_RECORDS {
+        return Err(OpenFault::Many);
+    }
+    match history.push(spent) {
+        Ok(()) => Ok(()),
+        Err(_) => Err(OpenFault::Memory),
     }
 }
 

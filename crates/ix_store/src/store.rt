@@ -1,54 +1,65 @@
 //! The store.
 
-ghost use Rattle.std.specs.Prelude.{◌≡◌, ◌<◌, ◌≤◌};
+ghost use Rattle.std.specs.Prelude.{◌≡◌, ◌+◌, ◌<◌, ◌≤◌, length};
+ghost use Rattle.ix_journal.specs.Entries.{behind, pair_of};
 ghost use Rattle.ix_journal.specs.Format.{farthest_gate};
+ghost use Rattle.ix_journal.specs.declared.TheConstants.{MOST_RECORDS, MOST_BOOTS};
+ghost use Rattle.ix_journal.specs.inside.Writing.{entry_of};
 
 use crate::OpenFault;
 use crate::begin::begin;
 use crate::find::{Found, sync_and_find};
 use crate::write::write_through;
 use arrayvec::ArrayVec;
-use ix_journal::{FRONT_LENGTH, MOST_RECORDS, OPEN, record_bytes};
+use ix_journal::{FRONT_LENGTH, MOST_BOOTS, MOST_RECORDS, Marks, OPEN, Record, record_bytes};
 use ix_outside::{DiskFailed, Site};
-use ix_values::Action;
+use ix_values::{Action, Ticket};
 use std::alloc::Global;
 
-/// The place of the first closed gate of a site's journal, and how many records stand in front of
-/// it. A store whose append failed takes no other: the journal is to be opened again.
+/// The place of the first closed gate of a site's journal, how many actions stand in front of it,
+/// and what the records there leave. A store whose append or boot failed takes no other: the
+/// journal is to be opened again.
 #[derive(Drop, Debug)]
 pub struct Store {
     gate: u64,
     count: usize,
+    marks: Marks,
     failed: bool,
-    ghost near: { gate ≤ farthest_gate count },
+    ghost near: { gate ≤ farthest_gate count marks.boots },
+    ghost actions: { count ≤ MOST_RECORDS },
+    ghost boots: { marks.boots ≤ MOST_BOOTS },
 }
 
 impl Store {
-    ghost use Rattle.std.specs.Prelude.{ℕ, List, [], ◌∷◌, ◌++◌, true, false, length, IfOk, IfErr};
-    ghost use Rattle.std.specs.Prelude.{OnOk, All, is_err};
+    ghost use Rattle.std.specs.Prelude.{ℕ, List, [], ◌∷◌, ◌++◌, true, false, Some};
+    ghost use Rattle.std.specs.Prelude.{IfOk, IfErr, OnOk, All, is_err};
     ghost use Rattle.std.specs.Option.{ForSome};
-    ghost use Rattle.ix_journal.specs.History.{PlainHistory};
     ghost use Rattle.ix_values.specs.Texts.{IsAction};
+    ghost use Rattle.ix_journal.specs.Entries.{CanSpend, MayFollow};
+    ghost use Rattle.ix_journal.specs.History.{PlainHistory, Spent};
+    ghost use Rattle.ix_journal.specs.declared.entries.Entry.TheVariants as entry;
     ghost use Rattle.ix_outside.specs.Counts.{CountsFault};
     ghost use Rattle.ix_outside.specs.Disk.{MakesFile};
     ghost use Rattle.ix_outside.specs.inside.DiskCalls.{DiskCalls, LeavesOnly};
     ghost use Rattle.ix_store.specs.inside.Opens.{Opens};
-    ghost use Rattle.ix_store.specs.inside.Keeping.{Fits, IsWithOrWithout};
+    ghost use Rattle.ix_store.specs.inside.Keeping.{Fits, IsBootedOrNot, IsWithOrWithout, booted};
     ghost use Rattle.ix_store.specs.inside.KeptBy.{kept};
     ghost use Rattle.ix_store.specs.inside.Refusals.{Refuses};
     ghost use Rattle.ix_store.specs.inside.Starting.{CountsOpening, LeavesOnStart, MakesNew};
     ghost use Rattle.ix_store.specs.inside.Starting.{SettlesOpening};
 
     /// Opens the attached file as the journal of an expression with this text, and gives the
-    /// history that it keeps. A journal that was never opened is made anew: a gate, the header of the
-    /// text and a closed gate. Any other file stays.
+    /// history that it keeps, each action with the ticket that was spent on it where that is kept.
+    /// A journal that was never opened is made anew: a gate, the header of the text and a closed
+    /// gate. Any other file stays. No boot is written.
     ///
     /// What was left unsynced before is brought to the disk first. Then, in this order:
     /// - `NotJournal`: the file is no journal, nor the front of one;
     /// - `OtherExpression`: it keeps another text, whether it was opened or not;
-    /// - `Damaged`: an open gate, one of the first 1,000,000, isn't followed by a whole record of
-    ///   an action and a further gate;
-    /// - `Many`: 1,000,000 records are open, and so is the gate behind them.
+    /// - `Damaged`: an open gate isn't followed by a whole record that may stand there and a further
+    ///   gate, and no record in front of it makes too many;
+    /// - `Many`: the 1,000,001st record of an action is open, or the 1,000,001st boot; or the
+    ///   journal holds 1,000,000 boots.
     ///
     /// `Disk` comes where a call of the disk failed, and `Memory` where memory was wanted, both at
     /// any step. After them a journal that was to be made anew may be so in part; after any other
@@ -57,13 +68,13 @@ impl Store {
         alloc: Global,
         site: &mut S,
         text: &[u8],
-    ) -> Result<(Store, Vec<Action>), OpenFault>
+    ) -> Result<(Store, Vec<(Option<Ticket>, Action)>), OpenFault>
         requires attached { (S.state site.old).attached ≡ true }
         requires short { length text.now < 65536 }
 
         // What the file is, as it reads at the call.
         ensures opened { IfOk result (λ opened. ForSome (S.state site.old).disk (λ disk.
-            Opens disk.file text.now opened.1.items)) }
+            Opens disk.file text.now opened.1.items (kept opened.0).marks.boots)) }
         ensures refused { IfErr result (λ fault. ForSome (S.state site.old).disk (λ disk.
             Refuses disk.file text.now fault)) }
 
@@ -71,7 +82,9 @@ impl Store {
         ensures fits { IfOk result (λ opened. Fits (S.state site.new) (S.crashes site.new)
             (kept opened.0) text.now opened.1.items) }
         ensures works { IfOk result (λ opened. (kept opened.0).failed ≡ false) }
-        ensures valid { IfOk result (λ opened. All IsAction opened.1.items) }
+        ensures room { IfOk result (λ opened. (kept opened.0).marks.boots < MOST_BOOTS) }
+        ensures valid { IfOk result
+            (λ opened. All (λ (spent : Spent). IsAction spent.1) opened.1.items) }
 
         // What the disk is left with, whatever the answer.
         ensures made { OnOk result (MakesFile (MakesNew text.now)
@@ -89,6 +102,7 @@ impl Store {
                 let store = Store {
                     gate: kept.gate,
                     count: kept.history.len(),
+                    marks: kept.marks,
                     failed: false,
                 };
                 Ok((store, kept.history))
@@ -98,6 +112,7 @@ impl Store {
                     let store = Store {
                         gate: (FRONT_LENGTH + text.len()) as u64,
                         count: 0,
+                        marks: Marks::fresh(),
                         failed: false,
                     };
                     Ok((store, Vec::new(alloc)))
@@ -108,26 +123,123 @@ impl Store {
         }
     }
 
-    /// Appends an action to the journal. After Ok it is kept. After a fault it may be kept or not,
-    /// and the journal is to be opened again. No memory is taken.
-    pub fn append<S: Site>(&mut self, site: &mut S, action: &Action) -> Result<(), DiskFailed>
+    /// Appends the next boot to the journal, and gives its number, from 1. After Ok it is kept.
+    /// After a fault it may be kept or not, and the journal is to be opened again. The history stays
+    /// as it is. No memory is taken.
+    pub fn boot<S: Site>(&mut self, site: &mut S) -> Result<u64, DiskFailed>
         requires attached { (S.state site.old).attached ≡ true }
         requires works { (kept self.old).failed ≡ false }
-        requires few { (kept self.old).count < MOST_RECORDS }
+        requires room { (kept self.old).marks.boots < MOST_BOOTS }
         requires fits { (text : List ℕ) × (history : PlainHistory)
             × Fits (S.state site.old) (S.crashes site.old) (kept self.old) text history }
 
-        ensures appended { OnOk result ((text : List ℕ) (history : PlainHistory)
+        ensures number { IfOk result (λ number. number ≡ (kept self.old).marks.boots + 1) }
+        ensures booted { OnOk result ((kept self.new).marks ≡ booted (kept self.old).marks) }
+        ensures fits { OnOk result ((text : List ℕ) (history : PlainHistory)
             → Fits (S.state site.old) (S.crashes site.old) (kept self.old) text history
-            → Fits (S.state site.new) (S.crashes site.new) (kept self.new) text
-            (history ++ action.now ∷ [])) }
+            → Fits (S.state site.new) (S.crashes site.new) (kept self.new) text history) }
         ensures works { (kept self.new).failed ≡ is_err result }
 
         // What the disk is left with, whatever the answer.
         ensures images { (text : List ℕ) (history : PlainHistory)
             → Fits (S.state site.old) (S.crashes site.old) (kept self.old) text history
             → ForSome (S.state site.old).disk (λ _.
-            LeavesOnly (IsWithOrWithout text history action.now)
+            LeavesOnly (IsBootedOrNot text history (kept self.old).marks)
+            (S.state site.old) (S.crashes site.new)) }
+        ensures failed { CountsFault result
+            (S.state site.old).counts.disk (S.state site.new).counts.disk }
+        ensures calls { DiskCalls (S.state site.old) (S.state site.new)
+            (S.crashes site.old) (S.crashes site.new) }
+    {
+        let number = self.marks.boots + 1;
+        match self.append_record(site, &Record::Boot(number)) {
+            Ok(()) => Ok(number),
+            Err(failed) => Err(failed),
+        }
+    }
+
+    /// Appends an action to the journal, with the ticket that is spent on it. After Ok both are
+    /// kept. After a fault they may be kept or not, and the journal is to be opened again. The
+    /// number of boots stays as it is. No memory is taken.
+    pub fn append<S: Site>(
+        &mut self,
+        site: &mut S,
+        ticket: Ticket,
+        action: &Action,
+    ) -> Result<(), DiskFailed>
+        requires attached { (S.state site.old).attached ≡ true }
+        requires works { (kept self.old).failed ≡ false }
+        requires few { (kept self.old).count < MOST_RECORDS }
+        requires spends { CanSpend (kept self.old).marks ticket }
+        requires fits { (text : List ℕ) × (history : PlainHistory)
+            × Fits (S.state site.old) (S.crashes site.old) (kept self.old) text history }
+
+        ensures appended { OnOk result ((text : List ℕ) (history : PlainHistory)
+            → Fits (S.state site.old) (S.crashes site.old) (kept self.old) text history
+            → Fits (S.state site.new) (S.crashes site.new) (kept self.new) text
+            (history ++ (Some ticket, action.now) ∷ [])) }
+        ensures spent { OnOk result ((kept self.new).marks
+            ≡ behind (kept self.old).marks (entry.Spent ticket action.now)) }
+        ensures boots { (kept self.new).marks.boots ≡ (kept self.old).marks.boots }
+        ensures works { (kept self.new).failed ≡ is_err result }
+
+        // What the disk is left with, whatever the answer.
+        ensures images { (text : List ℕ) (history : PlainHistory)
+            → Fits (S.state site.old) (S.crashes site.old) (kept self.old) text history
+            → ForSome (S.state site.old).disk (λ _. LeavesOnly
+            (IsWithOrWithout text history (kept self.old).marks (entry.Spent ticket action.now))
+            (S.state site.old) (S.crashes site.new)) }
+        ensures failed { CountsFault result
+            (S.state site.old).counts.disk (S.state site.new).counts.disk }
+        ensures calls { DiskCalls (S.state site.old) (S.state site.new)
+            (S.crashes site.old) (S.crashes site.new) }
+    {
+        self.append_record(site, &Record::Spent { ticket, action })
+    }
+
+    /// How many boots the journal holds: as many as the file as it was read, and one more for each
+    /// that was written since.
+    pub fn boots(&self) -> u64
+        ensures { result ≡ (kept self.now).marks.boots }
+    {
+        self.marks.boots
+    }
+
+    /// Whether an append or a boot failed.
+    pub fn has_failed(&self) -> bool
+        ensures { result ≡ (kept self.now).failed }
+    {
+        self.failed
+    }
+
+    /// Appends a record that may stand behind those of the journal.
+    fn append_record<S: Site>(
+        &mut self,
+        site: &mut S,
+        written: &Record<'_>,
+    ) -> Result<(), DiskFailed>
+        requires attached { (S.state site.old).attached ≡ true }
+        requires works { (kept self.old).failed ≡ false }
+        requires actions { (kept self.old).count + length (pair_of (entry_of written.now))
+            ≤ MOST_RECORDS }
+        requires boots { (behind (kept self.old).marks (entry_of written.now)).boots
+            ≤ MOST_BOOTS }
+        requires follows { MayFollow (kept self.old).marks (entry_of written.now) }
+        requires fits { (text : List ℕ) × (history : PlainHistory)
+            × Fits (S.state site.old) (S.crashes site.old) (kept self.old) text history }
+
+        ensures appended { OnOk result ((text : List ℕ) (history : PlainHistory)
+            → Fits (S.state site.old) (S.crashes site.old) (kept self.old) text history
+            → Fits (S.state site.new) (S.crashes site.new) (kept self.new) text
+            (history ++ pair_of (entry_of written.now))) }
+        ensures marks { OnOk result ((kept self.new).marks
+            ≡ behind (kept self.old).marks (entry_of written.now)) }
+        ensures boots { IfErr result (λ _. (kept self.new).marks ≡ (kept self.old).marks) }
+        ensures works { (kept self.new).failed ≡ is_err result }
+        ensures images { (text : List ℕ) (history : PlainHistory)
+            → Fits (S.state site.old) (S.crashes site.old) (kept self.old) text history
+            → ForSome (S.state site.old).disk (λ _. LeavesOnly
+            (IsWithOrWithout text history (kept self.old).marks (entry_of written.now))
             (S.state site.old) (S.crashes site.new)) }
         ensures failed { CountsFault result
             (S.state site.old).counts.disk (S.state site.new).counts.disk }
@@ -135,22 +247,43 @@ impl Store {
             (S.crashes site.old) (S.crashes site.new) }
     {
         let mut bytes = ArrayVec::new();
-        record_bytes(action, &mut bytes);
+        record_bytes(written, &mut bytes);
         let gate = self.gate;
         self.failed = true;
         write_through(site, gate + 1, bytes.as_slice())?;
         // The record is on the disk before the gate in front of it is opened.
         write_through(site, gate, &[OPEN])?;
+        let (count, marks) = passed(self.count, &self.marks, written);
         self.gate = gate + bytes.len() as u64;
-        self.count += 1;
+        self.count = count;
+        self.marks = marks;
         self.failed = false;
         Ok(())
     }
+}
 
-    /// Whether an append failed.
-    pub fn has_failed(&self) -> bool
-        ensures { result ≡ (kept self.now).failed }
-    {
-        self.failed
+/// How many actions there are, and what the records leave, with this one behind them.
+fn passed(count: usize, marks: &Marks, written: &Record<'_>) -> (usize, Marks)
+    requires actions { count + length (pair_of (entry_of written.now)) ≤ MOST_RECORDS }
+    requires boots { (behind marks.now (entry_of written.now)).boots ≤ MOST_BOOTS }
+    ensures count { result.0 ≡ count + length (pair_of (entry_of written.now)) }
+    ensures marks { result.1 ≡ behind marks.now (entry_of written.now) }
+{
+    match written {
+        Record::Boot(_) => (
+            count,
+            Marks {
+                boots: marks.boots + 1,
+                seq: 0,
+            },
+        ),
+        Record::Spent { ticket, .. } => (
+            count + 1,
+            Marks {
+                boots: marks.boots,
+                seq: ticket.seq,
+            },
+        ),
+        Record::Plain(_) => (count + 1, *marks),
     }
 }

@@ -169,14 +169,26 @@ const PATIENTS: &[u8] = b"all $p *(any $x (call($p,$x) - perform($p,$x)))";
 const BOTH: &[u8] = b"all $p *(any $x (call($p,$x) - perform($p,$x))) \
         @ all $x *(any $p (call($p,$x) - perform($p,$x)))";
 
-// The journal of `a - b` with the action `a`.
+// The journal of the first version of `a - b` with the action `a`.
 const OF_A: &[u8] = b"\xA5IXJ1\x00\x05a - b\xA5\x00\x01a\x00";
+
+// The same behind a start.
+const OF_A_BOOTED: &[u8] = b"\xA5IXJ1\x00\x05a - b\xA5\x00\x01a\xA5\x00\x06boot 1\x00";
 
 // One of `a - b` without records.
 const EMPTY: &[u8] = b"\xA5IXJ1\x00\x05a - b\x00";
 
 // The same before that action.
 const BEFORE_A: &[u8] = b"\xA5IXJ1\x00\x05a - b\x7F\x00\x01a\x00";
+
+// The same behind a start in which `a` was confirmed.
+const BOOTED_OF_A: &[u8] = b"\xA5IXJ1\x00\x05a - b\xA5\x00\x06boot 1\xA5\x00\x051-1 a\x00";
+
+// What a start makes of no journal of `a - b`.
+const NEW: &[u8] = b"\xA5IXJ2\x00\x05a - b\xA5\x00\x06boot 1\x00";
+
+// The same behind a run in which `a` was confirmed.
+const NEW_OF_A: &[u8] = b"\xA5IXJ2\x00\x05a - b\xA5\x00\x06boot 1\xA5\x00\x051-1 a\x00";
 
 mod bounds;
 mod events;

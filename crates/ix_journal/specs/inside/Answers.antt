@@ -2,7 +2,8 @@
 use Rattle.std.specs.Prelude.{ℕ, ◌-◌, List, length}
 use Rattle.std.specs.Prelude.{Option, Some, None, if◌then◌else◌}
 use Rattle.std.specs.Iterator.{Count, at_most}
-use Rattle.ix_journal.specs.History.{PlainHistory}
+use Rattle.ix_journal.specs.Entries.{marks_of, pairs_of}
+use Rattle.ix_journal.specs.declared.entries.Entry.{Entry}
 use Rattle.ix_journal.specs.declared.records.Records.{Records}
 use Rattle.ix_journal.specs.declared.outcome.JournalFault.{JournalFault}
 use Rattle.ix_journal.specs.declared.outcome.JournalFault.TheVariants as fault
@@ -13,18 +14,24 @@ use Rattle.ix_journal.specs.Answers.{Standing}
 -- where these records stand
 abbrev pub standing : Records → Standing
 standing records =
-    record { bytes = records.bytes.now; gate = records.gate; damaged = records.damaged }
+    record {
+      bytes = records.bytes.now;
+      gate = records.gate;
+      marks = records.marks;
+      damaged = records.damaged;
+    }
 
 -- no more items are left than bytes behind the gate
 abbrev pub items_left : Standing → Count
 items_left old = at_most (if old.damaged then 0 else length old.bytes - old.gate)
 
--- what a scan tells: the text, how many records are open, and the place of the first closed gate
-pub data IsScanned (bytes : List ℕ) : Option (List ℕ) → ℕ → ℕ → Type 0 where
-  unfinished : IsUnfinished bytes → IsScanned bytes None 0 0
-  unopened : (text : List ℕ) → IsUnopened bytes text → IsScanned bytes (Some text) 0 0
-  ready : (text : List ℕ) (history : PlainHistory) (gate : ℕ) → IsJournal bytes text history gate
-      → IsScanned bytes (Some text) (length history) gate
+-- what a scan tells: the text, how many open records are of actions, the place of the first closed
+-- gate, and how many open records are boots
+pub data IsScanned (bytes : List ℕ) : Option (List ℕ) → ℕ → ℕ → ℕ → Type 0 where
+  unfinished : IsUnfinished bytes → IsScanned bytes None 0 0 0
+  unopened : (text : List ℕ) → IsUnopened bytes text → IsScanned bytes (Some text) 0 0 0
+  ready : (text : List ℕ) (entries : List Entry) (gate : ℕ) → IsJournal bytes text entries gate
+      → IsScanned bytes (Some text) (length (pairs_of entries)) gate (marks_of entries).boots
 
 -- the file has this fault
 abbrev pub HasFault : List ℕ → JournalFault → Type 0

@@ -1,7 +1,7 @@
 //! A Slide beside the plain records, whatever the pieces; and its answers at their edges.
 use super::*;
-use crate::{header_bytes, record_bytes};
-use ix_values::Action;
+use crate::{Record, header_bytes, record_bytes};
+use ix_values::{Action, Ticket};
 use std::alloc::Global;
 use std::process::Abort;
 use std::test::Fail;
@@ -63,8 +63,13 @@ fn begun(alloc: Global) -> Result<Vec<u8>, Fail> {
 /// Opens the last gate, and puts the record of this action and a closed gate behind it.
 fn append(file: &mut Vec<u8>, text: &[u8]) -> Result<(), Fail> {
     let action = Action::read(text).ok().ok_or("no action")?;
+    append_record(file, &Record::Plain(&action))
+}
+
+/// Opens the last gate, and puts this record and a closed gate behind it.
+fn append_record(file: &mut Vec<u8>, record: &Record<'_>) -> Result<(), Fail> {
     let mut bytes = ArrayVec::new();
-    record_bytes(&action, &mut bytes);
+    record_bytes(record, &mut bytes);
     let _ = file.pop();
     file.push(OPEN)?;
     file.extend_from_slice(&bytes)?;
@@ -92,6 +97,43 @@ fn pieces_of_a_long_journal(rt: HostRuntime) -> Result<(), Fail> {
         compare(&rt, &file, 9, length);
     }
     for length in [4095, 4096, 4097, file.len()] {
+        compare(&rt, &file, 9, length);
+    }
+    Ok(())
+}
+
+/// Boots, each with a record of an action whose ticket has the greatest number; the last ticket is
+/// of another boot.
+#[test]
+fn pieces_of_boots(rt: HostRuntime) -> Result<(), Fail> {
+    let mut file = begun(rt.alloc())?;
+    let action = Action::read(LONGEST).ok().ok_or("no action")?;
+    for boot in 1..=30 {
+        append_record(&mut file, &Record::Boot(boot))?;
+        let ticket = Ticket {
+            boot,
+            seq: u64::MAX,
+        };
+        append_record(
+            &mut file,
+            &Record::Spent {
+                ticket,
+                action: &action,
+            },
+        )?;
+    }
+    for length in [1, 7, 100, 4096, file.len()] {
+        compare(&rt, &file, 9, length);
+    }
+    let ticket = Ticket { boot: 31, seq: 1 };
+    append_record(
+        &mut file,
+        &Record::Spent {
+            ticket,
+            action: &action,
+        },
+    )?;
+    for length in [1, 7, 100, 4096, file.len()] {
         compare(&rt, &file, 9, length);
     }
     Ok(())
@@ -161,9 +203,11 @@ fn answers_to_few_bytes(rt: HostRuntime) {
         (b"\xA5\x00\x01a\xA5", ("record", 1), ("record", 1)),
         (b"\xA5\x00\x01 ", ("more", 0), ("damaged", 10)),
         (b"\xA5\x00\x01 \x00", ("damaged", 10), ("damaged", 10)),
-        // Lengths of 165, 166 and 256 bytes.
-        (b"\xA5\x00\xA5", ("more", 0), ("damaged", 10)),
-        (b"\xA5\x00\xA6", ("damaged", 10), ("damaged", 10)),
+        (b"\xA5\x00\x06boot 1\x00", ("record", 6), ("record", 6)),
+        (b"\xA5\x00\x06boot 2\x00", ("damaged", 10), ("damaged", 10)),
+        // Lengths of 207, 208 and 256 bytes.
+        (b"\xA5\x00\xCF", ("more", 0), ("damaged", 10)),
+        (b"\xA5\x00\xD0", ("damaged", 10), ("damaged", 10)),
         (b"\xA5\x01\x00", ("damaged", 10), ("damaged", 10)),
         (b"\x00", ("closed", 9), ("closed", 9)),
         (b"\x7F\x00\x01a\x00", ("closed", 9), ("closed", 9)),

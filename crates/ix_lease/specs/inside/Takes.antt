@@ -1,5 +1,6 @@
 -- What taking a reservation answers.
 use Rattle.std.specs.Prelude.{◌≡◌, ◌<◌, ℕ}
+use Rattle.ix_values.specs.declared.tickets.Ticket.{Ticket}
 use Rattle.ix_lease.specs.declared.Slot.{Slot}
 use Rattle.ix_lease.specs.declared.Slot.TheVariants.{Free, Held}
 use Rattle.ix_lease.specs.declared.Take.{Take}
@@ -7,7 +8,7 @@ use Rattle.ix_lease.specs.declared.Take.TheVariants.{Taken, Expired, NoSuch}
 use Rattle.ix_lease.specs.Slots.{IsOpenAt, HasTicket}
 
 -- what a slot that was old and is new answers to this ticket at this moment
-abbrev pub Takes : Slot → ℕ → ℕ → Take → Slot → Type 0
+abbrev pub Takes : Slot → Ticket → ℕ → Take → Slot → Type 0
 Takes old ticket moment (Taken action) new = (deadline : ℕ) × (old ≡ Held ticket action deadline) × (moment < deadline) × (new ≡ Free)
 Takes old ticket moment Expired new = HasTicket old ticket × (¬ IsOpenAt old moment) × (new ≡ old)
 Takes old ticket moment NoSuch new = (¬ HasTicket old ticket) × (new ≡ old)

@@ -59,12 +59,12 @@ pub record StartsOver (x : Form) (limit : ℕ) (journal : List ℕ) (before afte
   pub at : SiteState
   pub only : OnlyDisk before after
   pub attached : after.attached ≡ true
-  pub fresh : m ≡ started (opening_of x limit m.machine.history) m.store
+  pub fresh : m ≡ started (opening_of x limit m.machine.history m.machine.boot) m.store
   pub small : tree_size x [] ≤ limit
   pub opened : IsOpened journal at.tick before.disk at.disk
   pub stays : KeepsOpened at.disk after.disk
   pub later : at.tick ≤ after.tick
-  pub starts : ForSome at.disk (λ disk. IsStartable (opening_of x limit m.machine.history) disk.file)
+  pub starts : ForSome at.disk (λ disk. IsStartable (opening_of x limit m.machine.history m.machine.boot) disk.file)
   pub keeps : IsSome at.disk → (image : List ℕ) → is.left at.tick image
       → Keeps x (length m.machine.history) m.machine.history image
   pub fits : FitsSite m after is

@@ -99,7 +99,7 @@ pub record OnlyPlays (old new : Player) : Type 0 where
 pub record IsBetween (m : ManagerState) (player : Player) : Type 0 where
   pub goes_on : m.ended ≡ false
   pub marks : m.marks ≡ unmarked
-  pub tickets : m.machine.ticket < 2 ^ 63
+  pub tickets : m.machine.number < 2 ^ 63
   pub open_sink : player.failed ≡ false
 
 -- the manager took the script's next event, its replies were put, and the journal kept its history
@@ -113,7 +113,7 @@ pub record TakesTurn (old : ManagerState) (was : Player) (new : ManagerState) (n
   pub fits : FitsEvent event piece
   pub handled : Handles old event piece ending new
       (told_of (record was { given = now.given })) (told_of now)
-  pub tickets : new.machine.ticket ≤ old.machine.ticket + length piece
+  pub tickets : new.machine.number ≤ old.machine.number + length piece
   pub turn_is : IsTurn now.failed ending event.kind turn
   pub fault : now.failed ≡ true → Rose was.sink.faults now.sink.faults
   pub saves : SavesRun ending old new stretch.before stretch.after stretch.was stretch.is
@@ -125,12 +125,12 @@ pub record Stands (opening : Opening) (known : Option (List ℕ)) (m : ManagerSt
   pub answers : List (List (List Reply))
   pub follows : FollowsRun opening player.given answers m
   pub marks : m.marks ≡ unmarked
-  pub tickets : m.machine.ticket ≤ 1 + 4096 * length player.given
+  pub tickets : m.machine.number ≤ 1 + 4096 * length player.given
   pub open_sink : player.failed ≡ false
   pub first : (events : List GivenEvent) → HasEvents player.script events → AreFirst events player.given
   pub no_end : Each IsNoEnd player.given
   pub text : player.sink.written ≡ append_known known (run_text player.given answers)
-  pub saves : SavesFrom opening going m.machine.history m.store stretch
+  pub saves : SavesFrom opening going m.machine m.store stretch
 
 -- how a replay of these bytes of a script may end that took these events and left the machine so
 pub record ReplaysScript (opening : Opening) (turns : ℕ) (script : List ℕ)
@@ -144,7 +144,7 @@ pub record ReplaysScript (opening : Opening) (turns : ℕ) (script : List ℕ)
   pub plays : (events : List GivenEvent) → HasEvents script events → Plays turns events played
   pub ends : ReplayEnds turns stretch.before.counts stretch.after.counts played status whole part
   pub store : Keeping
-  pub saves : SavesFrom opening played.ending last.history store stretch
+  pub saves : SavesFrom opening played.ending last store stretch
 
 -- the same, whatever events were taken
 abbrev pub ReplaysOn : Opening → ℕ → List ℕ → MachineState → Stretch

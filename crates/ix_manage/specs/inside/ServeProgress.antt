@@ -11,7 +11,7 @@ use Rattle.ix_outside.specs.declared.event.Event.{Event}
 use Rattle.ix_proto.specs.declared.reply.Reply.{Reply}
 use Rattle.ix_store.specs.Keeping.{Keeping}
 use Rattle.ix_manager.specs.Handled.{ManagerState, FitsEvent, Handles}
-use Rattle.ix_manager.specs.Machine.{MachineState}
+use Rattle.ix_manager.specs.Machine.{MachineState, start_of}
 use Rattle.ix_manager.specs.RunLaws.{FollowsRun, given_event}
 use Rattle.ix_manager.specs.Runs.{Ending, Opening, going}
 use Rattle.ix_manager.specs.Images.{with_failed}
@@ -57,10 +57,10 @@ pub record Serves (opening : Opening) (taken : List GivenEvent) (m : ManagerStat
     (stretch : Stretch) : Type 0 where
   pub answers : List (List (List Reply))
   pub follows : FollowsRun opening taken answers m
-  pub tickets : m.machine.ticket ≤ 1 + 4096 * length taken
+  pub tickets : m.machine.number ≤ 1 + 4096 * length taken
   pub no_end : Each IsNoEnd taken
   pub sent : SentFor opening m.machine.history taken answers m.marks stretch
-  pub saves : SavesFrom opening going m.machine.history m.store stretch
+  pub saves : SavesFrom opening going m.machine m.store stretch
 
 -- the manager took an event of the site, its replies were sent, and the journal kept its history
 pub record TakesOver (old new : ManagerState) (stretch : Stretch) (turn : Turn) : Type 0 where
@@ -74,7 +74,7 @@ pub record TakesOver (old new : ManagerState) (stretch : Stretch) (turn : Turn) 
   pub marked : (conn : ℕ)
       → get_or old.marks conn false ≡ false → get_or new.marks conn false ≡ true
       → Rose stretch.before.counts.send stretch.after.counts.send
-  pub tickets : new.machine.ticket ≤ old.machine.ticket + length piece
+  pub tickets : new.machine.number ≤ old.machine.number + length piece
   pub turn_is : IsTurn false ending event.kind turn
   pub saves : SavesRun ending old new stretch.before stretch.after stretch.was stretch.is
   pub since : (t : ℕ) (least : ℕ) (start : Sends) (taken : List GivenEvent)
@@ -106,7 +106,7 @@ pub record ServedSession (opening : Opening) (turns : ℕ) (last : MachineState)
   pub last_is : session.last ≡ last
   pub takes : Takes turns session
   pub store : Keeping
-  pub saves : SavesFrom opening session.ending last.history store stretch
+  pub saves : SavesFrom opening session.ending last store stretch
 
 -- how a session ends by the answer of the loop that took its events
 abbrev pub EndsTo : {T : Type 0} → ℕ → Counts → Counts → Session → Result T Stop → Type 0
@@ -150,7 +150,7 @@ pub data ServesOn (opening : Opening) (turns : ℕ) (socket : List ℕ) (last : 
     (stretch : Stretch) : ℕ → List ℕ → List ℕ → Option Session → Type 0 where
   unheard : {status : ℕ} {whole part : List ℕ} (store : Keeping)
       → stretch.after.contents ≡ stretch.before.contents
-      → SavesFrom opening going opening.history store stretch
+      → SavesFrom opening going (start_of opening.history opening.boot) store stretch
       → Rose stretch.before.counts.wire stretch.after.counts.wire
       → LastLine 6 [] (line (codes "refused wire")) status whole part
       → ServesOn opening turns socket last stretch status whole part None

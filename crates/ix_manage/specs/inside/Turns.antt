@@ -1,13 +1,13 @@
 -- A run as far as it went: what it started from, what an event's turn is, and what its journal keeps.
 use Rattle.std.specs.Prelude.{◌≡◌, ◌≢◌, ◌⊎◌, Bool, true, false}
-use Rattle.ix_values.specs.PlainAction.{PlainAction}
-use Rattle.ix_journal.specs.History.{PlainHistory}
+use Rattle.ix_journal.specs.History.{Spent}
 use Rattle.ix_outside.specs.Crashes.{Crashes}
 use Rattle.ix_outside.specs.SiteState.{SiteState}
 use Rattle.ix_outside.specs.declared.event.EventKind.{EventKind}
 use Rattle.ix_outside.specs.declared.event.EventKind.TheVariants.{End}
 use Rattle.ix_store.specs.Keeping.{Keeping}
 use Rattle.ix_manager.specs.Handled.{ManagerState, started}
+use Rattle.ix_manager.specs.Machine.{MachineState, start_of}
 use Rattle.ix_manager.specs.Runs.{Ending, Opening, going, stopped, failed}
 use Rattle.ix_manager.specs.inside.Saving.{Saves}
 use Rattle.ix_manage.specs.declared.turn.Turn.{Turn}
@@ -15,7 +15,8 @@ use Rattle.ix_manage.specs.declared.turn.Turn.TheVariants.{More, Done, Cut, Fail
 
 -- what a manager's run would start from as the manager stands
 abbrev pub opening_of : ManagerState → Opening
-opening_of m = record { form = m.form; limit = m.limit; history = m.machine.history }
+opening_of m =
+    record { form = m.form; limit = m.limit; history = m.machine.history; boot = m.machine.boot }
 
 -- the manager was just started
 abbrev pub IsStarted : ManagerState → Type 0
@@ -43,11 +44,11 @@ abbrev pub IsTurn : Bool → Ending → EventKind → Turn → Type 0
 IsTurn lost ending kind More = (lost ≡ false) × (ending ≡ going) × (kind ≢ End)
 IsTurn lost ending kind Done = (lost ≡ false) × ((kind ≡ End) ⊎ (ending ≡ stopped))
 IsTurn lost ending kind Cut = lost ≡ true
-IsTurn lost ending kind Failed = (lost ≡ false) × ((a : PlainAction) × (ending ≡ failed a))
+IsTurn lost ending kind Failed = (lost ≡ false) × ((spent : Spent) × (ending ≡ failed spent))
 
 -- over a stretch of calls the journal kept the history of a run that started from the opening, and
--- goes on or ended so with this history
-abbrev pub SavesFrom : Opening → Ending → PlainHistory → Keeping → Stretch → Type 0
-SavesFrom opening ending history store stretch =
-    Saves ending opening.form opening.history history store
+-- goes on or ended so in this state
+abbrev pub SavesFrom : Opening → Ending → MachineState → Keeping → Stretch → Type 0
+SavesFrom opening ending last store stretch =
+    Saves ending opening.form (start_of opening.history opening.boot) last store
     stretch.before stretch.after stretch.was stretch.is

@@ -11,7 +11,7 @@ use Rattle.ix_proto.specs.declared.reply.Reply.{Reply}
 use Rattle.ix_proto.specs.declared.reply.Reply.TheVariants as reply
 use Rattle.ix_proto.specs.declared.request.Request.{Request}
 use Rattle.ix_engine.specs.Allowed.{IsAllowed}
-use Rattle.ix_manager.specs.Machine.{MachineState, MachineWatch, Step, Tells, Polls}
+use Rattle.ix_manager.specs.Machine.{MachineState, MachineWatch, Step, Tells, Polls, word_of}
 use Rattle.ix_manager.specs.declared.machine.Answer.{Answer}
 use Rattle.ix_manager.specs.declared.machine.Answer.TheVariants as answer
 
@@ -29,7 +29,7 @@ watch_of watch = record { name = watch.name; action = watch.action; told = watch
 -- of each watch of this name it is noted whether its action is allowed
 abbrev pub IsRefreshed : Core → List ℕ → Type 0
 IsRefreshed core name =
-    Each (λ (watch : PlainWatch). watch.name ≡ name → Tells (IsAllowed core.form core.limit core.state.history watch.action) watch.now) core.noted
+    Each (λ (watch : PlainWatch). watch.name ≡ name → Tells (IsAllowed core.form core.limit (word_of core.state) watch.action) watch.now) core.noted
 
 -- the replies that tell changes
 abbrev pub change_replies : List (PlainAction × Bool) → List Reply
@@ -46,7 +46,7 @@ MachineAnswers old request (answer.Confirm ticket) new = Lends request (confirm 
 
 -- a poll of a name was told
 pub record TellsPoll (old : Core) (name : List ℕ) (new : Core) : Type 0 where
-  pub polls : Polls (IsAllowed old.form old.limit old.state.history) name old.state.watches
+  pub polls : Polls (IsAllowed old.form old.limit (word_of old.state)) name old.state.watches
       (change_replies (changes_of name old.noted)) new.state.watches
   pub rest : new.state ≡ record old.state { watches = new.state.watches }
   pub form : new.form ≡ old.form

@@ -1,5 +1,5 @@
 -- What a call that answers one request makes of the machine.
-use Rattle.std.specs.Prelude.{◌≡◌, ℕ, ◌+◌, ◌<◌, ◌≤◌, Bool, false, List, [], ◌∷◌, length, Result, Ok, Err}
+use Rattle.std.specs.Prelude.{◌≡◌, ◌⊎◌, ℕ, ◌+◌, ◌<◌, Bool, false, List, [], ◌∷◌, length, Result, Ok, Err}
 use Rattle.ix_words.specs.Each.{Each}
 use Rattle.ix_engine.specs.inside.Engine.{EngineState, Allows}
 use Rattle.ix_values.specs.PlainAction.{PlainAction}
@@ -11,16 +11,25 @@ use Rattle.ix_watch.specs.declared.WatchFault.TheVariants.{Full, Memory}
 use Rattle.ix_proto.specs.Requests.{PlainRequest, poll}
 use Rattle.ix_proto.specs.inside.ReplyTexts.{CanBeTold}
 use Rattle.ix_proto.specs.declared.reply.Reply.{Reply}
-use Rattle.ix_manager.specs.Machine.{Step, Tells}
+use Rattle.ix_lease.specs.declared.Slot.TheVariants.{Free, Held}
+use Rattle.ix_manager.specs.Machine.{MachineState, Step, Tells, next_ticket}
 use Rattle.ix_manager.specs.inside.Core.{Core, IsRefreshed}
 use Rattle.ix_manager.specs.declared.machine.Answer.{Answer}
 use Rattle.ix_manager.specs.declared.machine.Answer.TheVariants as answer
+
+-- The boot stays. The slot and the next number stay, or the slot is free now, or it is held by the
+-- next ticket, and the number rose by one.
+pub record MayReserve (old new : MachineState) : Type 0 where
+  pub boot : new.boot ≡ old.boot
+  pub slot : ((new.slot ≡ old.slot) × (new.number ≡ old.number))
+      ⊎ ((new.slot ≡ Free) × (new.number ≡ old.number))
+      ⊎ ((a : PlainAction) × (deadline : ℕ) × (new.slot ≡ Held (next_ticket old) a deadline)
+      × (new.number ≡ old.number + 1))
 
 -- the request's step, with one reply; the expression and the limit stay
 pub record Does (old : Core) (request : PlainRequest) (one : Reply) (new : Core) : Type 0 where
   pub step : Step old.form old.limit old.state request (one ∷ []) new.state
   pub told : CanBeTold one
-  pub ticket : new.state.ticket ≤ old.state.ticket + 1
   pub form : new.form ≡ old.form
   pub limit : new.limit ≡ old.limit
 

@@ -1,14 +1,19 @@
 -- A manager over a site: when it fits, and what an event makes of both.
-use Rattle.std.specs.Prelude.{◌≡◌, ◌⊎◌, ◌≤◌, ℕ, false, List, length}
+use Rattle.std.specs.Prelude.{◌≡◌, ◌⊎◌, ◌<◌, ◌≤◌, ℕ, false, List, length}
 use Rattle.std.specs.Prelude.{None, IsSome, Result, Ok, Err}
 use Rattle.ix_values.specs.PlainAction.{PlainAction}
-use Rattle.ix_journal.specs.History.{PlainHistory}
+use Rattle.ix_values.specs.declared.tickets.Ticket.{Ticket}
+use Rattle.ix_journal.specs.Entries.{CanSpend}
+use Rattle.ix_journal.specs.History.{Spent}
+use Rattle.ix_journal.specs.Recovery.{HoldsBoots}
+use Rattle.ix_journal.specs.declared.entries.Marks.{Marks}
 use Rattle.ix_expr.specs.CanonicalText.{canonical_text}
 use Rattle.ix_expr.specs.Form.{Form}
 use Rattle.ix_outside.specs.Crashes.{Crashes}
 use Rattle.ix_outside.specs.SiteState.{SiteState}
 use Rattle.ix_outside.specs.inside.DiskCalls.{KeepsOpened}
 use Rattle.ix_outside.specs.declared.event.Event.{Event}
+use Rattle.ix_lease.specs.declared.Slot.TheVariants.{Held}
 use Rattle.ix_store.specs.inside.Keeping.{Fits}
 use Rattle.ix_store.specs.Keeping.{Keeping}
 use Rattle.ix_manager.specs.declared.faults.Go.{Go}
@@ -18,19 +23,31 @@ use Rattle.ix_manager.specs.declared.faults.Stop.TheVariants.{Disk}
 use Rattle.ix_manager.specs.Runs.{Ending, going, stopped, failed}
 use Rattle.ix_manager.specs.Images.{Keeps, with_failed, EndsAs}
 use Rattle.ix_manager.specs.Handled.{ManagerState, Handles}
+use Rattle.ix_manager.specs.Machine.{MachineState}
 use Rattle.ix_manager.specs.Wire.{all_replies}
 use Rattle.ix_manager.specs.inside.Acknowledging.{Acknowledges, SendsMore}
 
--- a store whose append hasn't failed fits the site with the expression's canonical text and the
--- history
-pub record FitsWith (x : Form) (history : PlainHistory) (store : Keeping)
+-- The tickets of a machine go on behind those that are kept: it is in the boot that was kept last,
+-- and its next number is above the last one spent in it. So is that of the ticket that is reserved,
+-- which was granted in this boot.
+pub record TicketsGoOn (marks : Marks) (s : MachineState) : Type 0 where
+  pub boot : s.boot ≡ marks.boots
+  pub begun : 0 < s.boot
+  pub number : marks.seq < s.number
+  pub reserved : (ticket : Ticket) (a : PlainAction) (deadline : ℕ)
+      → s.slot ≡ Held ticket a deadline → CanSpend marks ticket × (ticket.seq < s.number)
+
+-- a store that hasn't failed fits the site with the expression's canonical text and the machine's
+-- history, behind which its tickets go on
+pub record FitsWith (x : Form) (s : MachineState) (store : Keeping)
     (site : SiteState) (crashes : Crashes) : Type 0 where
   pub works : store.failed ≡ false
-  pub fits : Fits site crashes store (canonical_text x) history
+  pub fits : Fits site crashes store (canonical_text x) s.history
+  pub tickets : TicketsGoOn store.marks s
 
--- the manager's store fits the site with its expression and its history
+-- the manager's store fits the site with its expression and its machine
 abbrev pub FitsSite : ManagerState → SiteState → Crashes → Type 0
-FitsSite m site crashes = FitsWith m.form m.machine.history m.store site crashes
+FitsSite m site crashes = FitsWith m.form m.machine m.store site crashes
 
 -- whether the run goes on after an answer
 abbrev pub ending_after : Go → Ending
@@ -40,13 +57,14 @@ ending_after Stopped = stopped
 -- how the run stands after an answer: a confirm that failed ended it, where the disk did
 abbrev pub EndsBy : Result Go Stop → Ending → Type 0
 EndsBy (Ok go) ending = ending ≡ ending_after go
-EndsBy (Err Disk) ending = (a : PlainAction) × (ending ≡ failed a)
+EndsBy (Err Disk) ending = (spent : Spent) × (ending ≡ failed spent)
 
 -- An event is handled over a site. Where the site still tells its disk, each image that a crash
 -- since the call began may leave keeps all actions that were confirmed before, and no others than
--- those that are confirmed now and the one whose confirm failed; and each that a crash now may
--- leave is as the run ends. Where it still tells its sends too, each image that a crash at some
--- moment since the call began may have left keeps all that was acknowledged by then.
+-- those that are confirmed now and the one whose confirm failed, and holds just the boots up to the
+-- machine's; and each that a crash now may leave is as the run ends. Where it still tells its sends
+-- too, each image that a crash at some moment since the call began may have left keeps all that was
+-- acknowledged by then.
 pub record HandlesOver (old : ManagerState) (event : Event) (bytes : List ℕ)
     (result : Result Go Stop) (new : ManagerState) (before after : SiteState) (is : Crashes)
     : Type 0 where
@@ -55,6 +73,8 @@ pub record HandlesOver (old : ManagerState) (event : Event) (bytes : List ℕ)
   pub handles : Handles old event bytes ending new before.contents after.contents
   pub keeps : IsSome after.disk → (image : List ℕ) → is.left before.tick image
       → Keeps old.form (length old.machine.history) (with_failed ending new.machine.history) image
+  pub boots : IsSome after.disk → (image : List ℕ) → is.left before.tick image
+      → HoldsBoots image old.machine.boot
   pub ends : IsSome after.disk
       → (image : List ℕ) → is.now image → EndsAs ending new.machine.history image
   pub acknowledges : Acknowledges old.form (length old.machine.history)

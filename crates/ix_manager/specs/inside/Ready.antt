@@ -1,6 +1,10 @@
 -- What stands ready for a reservation, and why an action isn't prepared for one.
-use Rattle.std.specs.Prelude.{◌≡◌, ℕ, ◌<◌, ◌≤◌, Option, Some, None, length}
+use Rattle.std.specs.Prelude.{◌≡◌, ℕ, ◌<◌, ◌≤◌, ◌==◌, Bool, false, Option, Some, None, length, Vec}
+use Rattle.std.specs.Prelude.{if◌then◌else◌}
+use Rattle.std.specs.Vec.{vec_capacity, vec_len}
+use Rattle.std.specs.declared.alloc.Global.{Global}
 use Rattle.ix_values.specs.PlainAction.{PlainAction}
+use Rattle.ix_values.specs.declared.tickets.Ticket.{Ticket}
 use Rattle.ix_can.specs.TreeOf.{tree_size}
 use Rattle.ix_engine.specs.inside.Engine.{EngineState, Follows, Permits, extended}
 use Rattle.ix_engine.specs.declared.next.Next.{Next}
@@ -15,11 +19,23 @@ pub record IsPrepared (engine : EngineState) (action : PlainAction) (next : Next
   pub follows : Follows engine next.action next.tree
   pub spare : 1 ≤ engine.spare
 
--- where the slot is held, its action is prepared
-abbrev pub IsReady : EngineState → Slot → Option Next → Type 0
-IsReady engine Free pending = Unit {0}
-IsReady engine (Held ticket action deadline) None = ⊥
-IsReady engine (Held ticket action deadline) (Some next) = IsPrepared engine action next
+-- where the slot is held, its action is prepared, and there is memory for a ticket more
+abbrev pub IsReady : EngineState → Vec (Option Ticket) Global → Slot → Option Next → Type 0
+IsReady engine tickets Free pending = Unit {0}
+IsReady engine tickets (Held ticket action deadline) None = ⊥
+IsReady engine tickets (Held ticket action deadline) (Some next) =
+    IsPrepared engine action next × (vec_len tickets < vec_capacity tickets)
+
+-- each action of the engine has its ticket, or none, and a reservation is ready
+pub record IsMachine (engine : EngineState) (tickets : Vec (Option Ticket) Global) (slot : Slot)
+    (pending : Option Next) : Type 0 where
+  pub each : length tickets.items ≡ length engine.history
+  pub ready : IsReady engine tickets slot pending
+
+-- the pair's ticket is this one
+abbrev pub has_ticket : Ticket → Option Ticket → Bool
+has_ticket ticket None = false
+has_ticket ticket (Some kept) = if kept.boot == ticket.boot then kept.seq == ticket.seq else false
 
 -- the refusals of an action that isn't prepared
 pub data Refuses (engine : EngineState) (action : PlainAction) : Reply → Type 0 where

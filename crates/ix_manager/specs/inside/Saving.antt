@@ -1,8 +1,10 @@
 -- What calls on a site make of the journal, and of what a crash may leave.
 use Rattle.std.specs.Prelude.{◌≡◌, ◌⊎◌, ℕ, ◌<◌, ◌≤◌, List, ◌++◌, length}
-use Rattle.std.specs.Prelude.{None, IsSome, Result, Ok, Err, ⊤}
+use Rattle.std.specs.Prelude.{None, Some, IsSome, Result, Ok, Err, ⊤}
 use Rattle.ix_values.specs.PlainAction.{PlainAction}
+use Rattle.ix_values.specs.declared.tickets.Ticket.{Ticket}
 use Rattle.ix_journal.specs.History.{PlainHistory}
+use Rattle.ix_journal.specs.Recovery.{HoldsBoots}
 use Rattle.ix_expr.specs.Form.{Form}
 use Rattle.ix_lease.specs.declared.Slot.{Slot}
 use Rattle.ix_lease.specs.declared.Slot.TheVariants.{Held}
@@ -22,15 +24,16 @@ use Rattle.ix_manager.specs.declared.faults.Stop.TheVariants.{Disk}
 use Rattle.ix_manager.specs.Runs.{Ending, going, stopped, failed}
 use Rattle.ix_manager.specs.Images.{Keeps, with_failed, EndsAs}
 use Rattle.ix_manager.specs.Handled.{ManagerState}
+use Rattle.ix_manager.specs.Machine.{MachineState}
 use Rattle.ix_manager.specs.inside.Acknowledging.{SendsMore}
 use Rattle.ix_manager.specs.inside.Core.{Core}
 use Rattle.ix_manager.specs.inside.Does.{Does}
 use Rattle.ix_manager.specs.inside.OverSite.{FitsWith}
 
--- the journal fits the site with the machine's expression and history
+-- the journal fits the site with the machine
 abbrev pub FitsJournal : Journaled → SiteState → Crashes → Type 0
 FitsJournal j site crashes =
-    FitsWith j.machine.form j.machine.state.history (kept j.store) site crashes
+    FitsWith j.machine.form j.machine.state (kept j.store) site crashes
 
 -- unless a confirm failed, this holds
 abbrev pub UnlessFailed : Ending → Type 0 → Type 0
@@ -54,21 +57,24 @@ pub record OnlySends (old new : SiteState) (was is : Crashes) : Type 0 where
   pub images : LeavesOnly was.now old is
   pub sends : SendsMore old new is
 
--- Over calls for a machine of the expression, which ended so: the history went on, and each image
--- keeps the actions of the one before, and no others than those of the new one and the one whose
--- confirm failed; what had been sent by each moment stands between. Unless one did, the store as it
--- is then fits.
-pub record Saves (ending : Ending) (x : Form) (old new : PlainHistory) (store : Keeping)
+-- Over calls for a machine of the expression, which ended so: the history went on in this boot, and
+-- each image keeps the actions of the one before, and no others than those of the new one and the
+-- one whose confirm failed, and no boot more; what had been sent by each moment stands between.
+-- Unless one did, the store as it is then fits.
+pub record Saves (ending : Ending) (x : Form) (old new : MachineState) (store : Keeping)
     (before after : SiteState) (was is : Crashes) : Type 0 where
   pub passes : Passes before after was is
   pub sends : SendsMore before after is
   pub count : before.counts.disk ≤ after.counts.disk
   pub told : IsSome after.disk → IsSome before.disk
   pub rest : PlainHistory
-  pub grows : old ++ rest ≡ with_failed ending new
+  pub grows : old.history ++ rest ≡ with_failed ending new.history
+  pub boot : new.boot ≡ old.boot
   pub keeps : IsSome after.disk
-      → LeavesOnly (Keeps x (length old) (with_failed ending new)) before is
-  pub ends : IsSome after.disk → (image : List ℕ) → is.now image → EndsAs ending new image
+      → LeavesOnly (Keeps x (length old.history) (with_failed ending new.history)) before is
+  pub boots : IsSome after.disk → LeavesOnly (λ image. HoldsBoots image old.boot) before is
+  pub ends : IsSome after.disk
+      → (image : List ℕ) → is.now image → EndsAs ending new.history image
   pub fits : UnlessFailed ending (FitsWith x new store after is)
   pub faults : WhereFailed ending (Rose before.counts.disk after.counts.disk)
 
@@ -76,35 +82,35 @@ pub record Saves (ending : Ending) (x : Form) (old new : PlainHistory) (store : 
 abbrev pub SavesJournal : Ending → Journaled → Journaled → SiteState → SiteState
     → Crashes → Crashes → Type 0
 SavesJournal ending old new before after was is =
-    Saves ending old.machine.form old.machine.state.history new.machine.state.history
-    (kept new.store) before after was is
+    Saves ending old.machine.form old.machine.state new.machine.state (kept new.store)
+    before after was is
 
 -- of a manager
 abbrev pub SavesRun : Ending → ManagerState → ManagerState → SiteState → SiteState
     → Crashes → Crashes → Type 0
 SavesRun ending old new before after was is =
-    Saves ending old.form old.machine.history new.machine.history new.store before after was is
+    Saves ending old.form old.machine new.machine new.store before after was is
 
 -- what the reservation of a ticket is found to be
-abbrev pub Finds : Core → ℕ → Take → Type 0
+abbrev pub Finds : Core → Ticket → Take → Type 0
 Finds core ticket take = (slot : Slot) × Takes core.state.slot ticket core.state.moment take slot
 
 -- the open reservation's confirm made its step
-abbrev pub Commits : Core → Reply → Core → Type 0
-Commits old reply new = (ticket : ℕ) (a : PlainAction) (deadline : ℕ)
+abbrev pub Commits : Core → Ticket → Reply → Core → Type 0
+Commits old ticket reply new = (a : PlainAction) (deadline : ℕ)
     → old.state.slot ≡ Held ticket a deadline → old.state.moment < deadline
     → Does old (confirm ticket) reply new
 
 -- a confirm was answered by its step, or its append failed: then nothing of the machine changed
-abbrev pub ConfirmEnds : ℕ → Result Reply Stop → Core → Core → Ending → Type 0
+abbrev pub ConfirmEnds : Ticket → Result Reply Stop → Core → Core → Ending → Type 0
 ConfirmEnds ticket (Ok reply) old new ending =
     Does old (confirm ticket) reply new × (ending ≡ going)
 ConfirmEnds ticket (Err Disk) old new ending =
     (a : PlainAction) × (deadline : ℕ) × (old.state.slot ≡ Held ticket a deadline)
-    × (old.state.moment < deadline) × (new ≡ old) × (ending ≡ failed a)
+    × (old.state.moment < deadline) × (new ≡ old) × (ending ≡ failed (Some ticket, a))
 
 -- a confirm was answered over a site
-pub record ConfirmsOver (ticket : ℕ) (result : Result Reply Stop) (old new : Journaled)
+pub record ConfirmsOver (ticket : Ticket) (result : Result Reply Stop) (old new : Journaled)
     (before after : SiteState) (was is : Crashes) : Type 0 where
   pub ending : Ending
   pub confirms : ConfirmEnds ticket result old.machine new.machine ending

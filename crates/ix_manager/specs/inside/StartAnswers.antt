@@ -1,11 +1,11 @@
 -- What starting a manager answers, and what a crash meanwhile may leave.
-use Rattle.std.specs.Prelude.{◌≡◌, ◌≢◌, ◌⊎◌, ℕ, List, ⊤}
+use Rattle.std.specs.Prelude.{◌≡◌, ◌≢◌, ◌⊎◌, ℕ, ◌+◌, List, ⊤}
 use Rattle.std.specs.Prelude.{Result, Ok, Err}
-use Rattle.ix_journal.specs.History.{PlainHistory}
+use Rattle.ix_journal.specs.History.{PlainHistory, actions_of}
 use Rattle.ix_expr.specs.CanonicalText.{canonical_text}
 use Rattle.ix_expr.specs.Form.{Form}
 use Rattle.ix_journal.specs.Kinds.{IsUnfinished, IsForeign}
-use Rattle.ix_journal.specs.Recovery.{IsDamaged, IsMany, Recovers}
+use Rattle.ix_journal.specs.Recovery.{HoldsBoots, IsDamaged, IsMany, Recovers}
 use Rattle.ix_outside.specs.Crashes.{Crashes}
 use Rattle.ix_outside.specs.Disk.{MakesFile, Stays}
 use Rattle.ix_outside.specs.SiteState.{SiteState}
@@ -25,28 +25,36 @@ IsFault x limit file fault.Disk = ⊤
 IsFault x limit file fault.Foreign = IsForeign file
 IsFault x limit file (fault.Other kept) = HasText file kept.items × (kept.items ≢ canonical_text x)
 IsFault x limit file (fault.Damaged at) = IsReadyWith file (canonical_text x) × IsDamaged file at
-IsFault x limit file fault.Many = IsReadyWith file (canonical_text x) × IsMany file
+IsFault x limit file fault.Many =
+    IsReadyWith file (canonical_text x) × (IsMany file ⊎ HoldsBoots file 1000000)
 IsFault x limit file (fault.Word number) =
-    (history : PlainHistory) × OpensAs x file history × IsNoWord x limit history number
+    (history : PlainHistory) × OpensAs x file history
+    × IsNoWord x limit (actions_of history) number
 IsFault x limit file (fault.Heavy number l) =
-    (history : PlainHistory) × OpensAs x file history × IsHeavy x limit history number × (l ≡ limit)
+    (history : PlainHistory) × OpensAs x file history
+    × IsHeavy x limit (actions_of history) number × (l ≡ limit)
 IsFault x limit file fault.Memory = ⊤
 
 -- what a start answers by the file, under a limit that the initial tree is within
 abbrev pub StartsFrom : Form → ℕ → List ℕ → Result ManagerState StartFault → Type 0
-StartsFrom x limit file (Ok m) = IsStartable (opening_of x limit m.machine.history) file
+StartsFrom x limit file (Ok m) =
+    IsStartable (opening_of x limit m.machine.history m.machine.boot) file
 StartsFrom x limit file (Err why) = IsFault x limit file why
 
 -- What a crash since a start began may leave, by the file as it read then: an image that might have
--- been left before, or one that recovers the same; and where the file is unfinished or has the
--- expression's text, one that the expression may open. Where no run starts from the file, it stays,
--- and nothing else may be left than before.
+-- been left before, or one that recovers the same and holds as many boots or one more; and where
+-- the file is unfinished or has the expression's text, one that the expression may open. Where no
+-- run starts from the file, it stays, and nothing else may be left than before.
 pub record StartLeaves (x : Form) (limit : ℕ) (file : List ℕ)
     (old new : SiteState) (was is : Crashes) : Type 0 where
   pub recovers : (history : PlainHistory) → Recovers file history
       → (image : List ℕ) → is.left old.tick image → was.now image ⊎ Recovers image history
+  pub boots : (boots : ℕ) → HoldsBoots file boots
+      → (image : List ℕ) → is.left old.tick image
+      → was.now image ⊎ HoldsBoots image boots ⊎ HoldsBoots image (boots + 1)
   pub own : IsUnfinished file ⊎ HasText file (canonical_text x)
       → (image : List ℕ) → is.left old.tick image → was.now image ⊎ IsOwn x image
-  pub refused : ((history : PlainHistory) → ¬ IsStartable (opening_of x limit history) file)
+  pub refused : ((history : PlainHistory) (boot : ℕ)
+      → ¬ IsStartable (opening_of x limit history boot) file)
       → MakesFile Stays old.disk new.disk
       × ((image : List ℕ) → is.left old.tick image → was.now image)

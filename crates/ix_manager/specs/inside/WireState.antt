@@ -59,7 +59,7 @@ pub record AnswersRequest (conn : ℕ) (request : Request) (ending : Ending) (ol
   pub sends : SendsAll conn replies before after
   pub form : new.form ≡ old.form
   pub limit : new.limit ≡ old.limit
-  pub ticket : new.state.ticket ≤ old.state.ticket + 1
+  pub number : new.state.number ≤ old.state.number + 1
 
 -- a request is answered over a site
 pub record RequestOver (conn : ℕ) (request : Request) (result : Result Go Stop)
@@ -78,7 +78,7 @@ pub record AnswersItem (conn : ℕ) (item : Item) (ending : Ending) (old new : C
   pub sends : SendsAll conn replies before after
   pub form : new.form ≡ old.form
   pub limit : new.limit ≡ old.limit
-  pub ticket : new.state.ticket ≤ old.state.ticket + 1
+  pub number : new.state.number ≤ old.state.number + 1
 
 -- an item is answered over a site
 pub record ItemOver (conn : ℕ) (item : Item) (result : Result Go Stop) (old new : Journaled)

@@ -7,6 +7,7 @@ use Rattle.ix_proto.specs.declared.request_fault.Cause.TheVariants as cause
 abbrev pub code_of : Cause → ℕ
 code_of cause.UnknownRequest = 11
 code_of cause.NoAction = 12
+code_of cause.NoTicket = 13
 code_of cause.NoNumber = 13
 code_of cause.LeaseOutOfRange = 14
 code_of cause.WordCount = 15

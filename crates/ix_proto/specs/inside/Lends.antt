@@ -2,14 +2,16 @@
 use Rattle.std.specs.Prelude.{◌≡◌, ℕ, List}
 use Rattle.ix_values.specs.PlainAction.{text_of}
 use Rattle.ix_proto.specs.declared.request.Request.{Request}
-use Rattle.ix_proto.specs.declared.request.Request.TheVariants.{Ask, Confirm, Cancel, May, Watch, Drop, Poll, Status, Log, Stop}
-use Rattle.ix_proto.specs.Requests.{PlainRequest, ask, confirm, cancel, may, watch, drop_watch, poll, status, log, stop, request_words, IsRequest}
+use Rattle.ix_proto.specs.declared.request.Request.TheVariants.{Ask, Confirm, Cancel, Outcome, May, Watch, Drop, Poll, Status, Log, Stop}
+use Rattle.ix_proto.specs.Requests.{PlainRequest, ask, confirm, cancel, outcome, may, watch, drop_watch, poll, status, log, stop, request_words, IsRequest}
 
--- a request that was read lends the texts of this request's name and action, and has its numbers
+-- a request that was read lends the texts of this request's name and action, and has its ticket and
+-- its numbers
 abbrev pub Lends : Request → PlainRequest → Type 0
 Lends (Ask text number) (ask action lease) = (text.now ≡ text_of action) × (number ≡ lease)
-Lends (Confirm number) (confirm ticket) = number ≡ ticket
-Lends (Cancel number) (cancel ticket) = number ≡ ticket
+Lends (Confirm read) (confirm ticket) = read ≡ ticket
+Lends (Cancel read) (cancel ticket) = read ≡ ticket
+Lends (Outcome read) (outcome ticket) = read ≡ ticket
 Lends (May text) (may action) = text.now ≡ text_of action
 Lends (Watch bytes text) (watch name action) = (bytes.now ≡ name) × (text.now ≡ text_of action)
 Lends (Drop bytes text) (drop_watch name action) = (bytes.now ≡ name) × (text.now ≡ text_of action)

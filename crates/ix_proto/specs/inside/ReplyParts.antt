@@ -2,9 +2,10 @@
 use Rattle.std.specs.Prelude.{◌≡◌, ℕ, ◌<◌, ◌^◌, Option, Some, None, List, ◌∷◌, ◌++◌, codes}
 use Rattle.std.specs.Fmt.{decimal}
 use Rattle.ix_values.specs.PlainAction.{text_of}
-use Rattle.ix_proto.specs.Replies.{IsReply, IsRefusal, yes_or_no, complete_or_partial, with_number, has_number, refusal_text}
+use Rattle.ix_values.specs.Tickets.{ticket_text}
+use Rattle.ix_proto.specs.Replies.{IsReply, IsRefusal, outcome_text, yes_or_no, complete_or_partial, with_number, has_number, refusal_text}
 use Rattle.ix_proto.specs.declared.reply.Reply.{Reply}
-use Rattle.ix_proto.specs.declared.reply.Reply.TheVariants.{Granted, Confirmed, Cancelled, May, Watching, Dropped, Changes, Change, Status, Entry, Stopping, Refused}
+use Rattle.ix_proto.specs.declared.reply.Reply.TheVariants.{Granted, Confirmed, Cancelled, Outcome, May, Watching, Dropped, Changes, Change, Status, Entry, Stopping, Refused}
 use Rattle.ix_proto.specs.declared.reply_read.Kind.{Kind}
 use Rattle.ix_proto.specs.declared.reply_read.Kind.TheVariants as kind
 
@@ -13,6 +14,7 @@ abbrev pub kind_word : Kind → List ℕ
 kind_word kind.Granted = codes "granted"
 kind_word kind.Confirmed = codes "confirmed"
 kind_word kind.Cancelled = codes "cancelled"
+kind_word kind.Outcome = codes "outcome"
 kind_word (kind.Answer answer) = yes_or_no answer
 kind_word kind.Watching = codes "watching"
 kind_word kind.Dropped = codes "dropped"
@@ -27,6 +29,7 @@ abbrev pub kind_of : Reply → Kind
 kind_of (Granted ticket) = kind.Granted
 kind_of (Confirmed count) = kind.Confirmed
 kind_of (Cancelled ticket) = kind.Cancelled
+kind_of (Outcome outcome) = kind.Outcome
 kind_of (May answer) = kind.Answer answer
 kind_of (Watching answer) = kind.Watching
 kind_of Dropped = kind.Dropped
@@ -43,9 +46,10 @@ nodes_text nodes = codes "nodes " ++ decimal nodes
 
 -- what stands behind the first word and a space
 abbrev pub behind : Reply → Option (List ℕ)
-behind (Granted ticket) = Some (decimal ticket)
+behind (Granted ticket) = Some (ticket_text ticket)
 behind (Confirmed count) = Some (decimal count)
-behind (Cancelled ticket) = Some (decimal ticket)
+behind (Cancelled ticket) = Some (ticket_text ticket)
+behind (Outcome outcome) = Some (outcome_text outcome)
 behind (May answer) = None
 behind (Watching answer) = Some (yes_or_no answer)
 behind Dropped = None

@@ -4,4 +4,9 @@ use Rattle.ix_store.specs.Keeping.{Keeping}
 
 -- what is kept
 abbrev pub kept : Store → Keeping
-kept store = record { gate = store.gate; count = store.count; failed = store.failed }
+kept store = record {
+  gate = store.gate;
+  count = store.count;
+  marks = store.marks;
+  failed = store.failed;
+}

@@ -1,18 +1,20 @@
 -- What a fault tells of the file that wasn't opened.
 use Rattle.std.specs.Prelude.{◌≢◌, ◌⊎◌, List, ℕ, ⊤}
 use Rattle.ix_journal.specs.Kinds.{IsForeign, IsUnopened}
-use Rattle.ix_journal.specs.Recovery.{IsDamaged, IsMany}
+use Rattle.ix_journal.specs.Recovery.{HoldsBoots, IsDamaged, IsMany}
+use Rattle.ix_journal.specs.declared.TheConstants.{MOST_BOOTS}
 use Rattle.ix_store.specs.declared.fault.OpenFault.{OpenFault}
 use Rattle.ix_store.specs.declared.fault.OpenFault.TheVariants as fault
 use Rattle.ix_store.specs.Opening.{IsReadyWith}
 
--- a file for which the text is another than the one that it keeps, if it keeps one
+-- no journal; one of another text; or one of this text that is damaged, holds too many records, or
+-- has no room for a boot
 abbrev pub Refuses : List ℕ → List ℕ → OpenFault → Type 0
 Refuses file text fault.NotJournal = IsForeign file
 Refuses file text (fault.OtherExpression kept) =
     (IsUnopened file kept.items ⊎ IsReadyWith file kept.items) × (kept.items ≢ text)
 Refuses file text (fault.Damaged at) = IsReadyWith file text × IsDamaged file at
-Refuses file text fault.Many = IsReadyWith file text × IsMany file
+Refuses file text fault.Many = IsReadyWith file text × (IsMany file ⊎ HoldsBoots file MOST_BOOTS)
 Refuses file text fault.Disk = ⊤
 Refuses file text fault.Memory = ⊤
 

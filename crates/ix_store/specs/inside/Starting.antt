@@ -1,14 +1,14 @@
 -- What a start leaves on the disk, and what it counts.
 use Rattle.std.specs.Prelude.{◌≡◌, ◌⊎◌, ℕ, List, [], ◌∷◌, ◌++◌, Option, Result, Ok, Err}
-use Rattle.ix_journal.specs.History.{PlainHistory}
+use Rattle.ix_journal.specs.declared.entries.Entry.{Entry}
 use Rattle.ix_outside.specs.Counts.{Rose}
 use Rattle.ix_outside.specs.Crashes.{Crashes, LeavesTheFile}
 use Rattle.ix_outside.specs.Disk.{Disk, MakesFile, Stays}
 use Rattle.ix_outside.specs.SiteState.{SiteState}
 use Rattle.ix_outside.specs.inside.DiskCalls.{LeavesOnly}
 use Rattle.ix_journal.specs.declared.TheConstants.{CLOSED, OPEN}
-use Rattle.ix_journal.specs.Format.{header}
-use Rattle.ix_journal.specs.Recovery.{Recovers}
+use Rattle.ix_journal.specs.inside.Writing.{new_header}
+use Rattle.ix_journal.specs.Recovery.{Keeps}
 use Rattle.ix_store.specs.declared.fault.OpenFault.{OpenFault}
 use Rattle.ix_store.specs.declared.fault.OpenFault.TheVariants as fault
 use Rattle.ix_store.specs.Opening.{IsNew}
@@ -16,18 +16,19 @@ use Rattle.ix_store.specs.inside.Opens.{IsOwn}
 use Rattle.ix_store.specs.inside.Refusals.{TellsNothing}
 
 -- What a crash during the start with this text may have left, where the file read so at its begin:
--- an image that might have been left before, or one that recovers what the file does; and if the
--- file was unfinished or had this text, it is so too. A file that isn't to be made anew stays.
+-- an image that might have been left before, or one that keeps the records that the file keeps, so
+-- that it recovers the same history and holds as many boots; and if the file was unfinished or had
+-- this text, it is so too. A file that isn't to be made anew stays.
 pub record LeavesOnStart (text file : List ℕ) (old new : SiteState)
     (was is : Crashes) : Type 0 where
-  pub recovers : (history : PlainHistory) → Recovers file history
-      → LeavesOnly (λ image. was.now image ⊎ Recovers image history) old is
+  pub keeps : (entries : List Entry) → Keeps file entries
+      → LeavesOnly (λ image. was.now image ⊎ Keeps image entries) old is
   pub own : IsOwn file text → LeavesOnly (λ image. was.now image ⊎ IsOwn image text) old is
   pub stays : ¬ IsNew file text → MakesFile Stays old.disk new.disk × LeavesOnly was.now old is
 
 -- the bytes of a journal of this text that was made anew: an open gate, its header, a closed gate
 abbrev pub new_journal : List ℕ → List ℕ
-new_journal text = OPEN ∷ header text ++ CLOSED ∷ []
+new_journal text = OPEN ∷ new_header text ++ CLOSED ∷ []
 
 -- a file that is to be made anew has these bytes then
 abbrev pub MakesNew : List ℕ → List ℕ → List ℕ → Type 0

@@ -1,13 +1,18 @@
 -- What the parts of a start and an append come to.
-use Rattle.std.specs.Prelude.{◌≡◌, ◌≢◌, ◌⊎◌, ℕ, ◌+◌, ◌≤◌, List, [], length, All, ⊤}
+use Rattle.std.specs.Prelude.{◌≡◌, ◌≢◌, ◌⊎◌, ℕ, ◌+◌, ◌<◌, ◌≤◌, List, [], length, All, ⊤}
 use Rattle.std.specs.Prelude.{Option, Some, None}
 use Rattle.ix_values.specs.Texts.{IsAction}
 use Rattle.ix_outside.specs.Disk.{Torn}
-use Rattle.ix_journal.specs.declared.TheConstants.{FRONT_LENGTH}
+use Rattle.ix_journal.specs.Entries.{fresh, marks_of, pairs_of}
 use Rattle.ix_journal.specs.Format.{farthest_gate}
+use Rattle.ix_journal.specs.History.{PlainHistory, Spent}
 use Rattle.ix_journal.specs.Kinds.{IsForeign, IsReady, IsUnopened}
-use Rattle.ix_journal.specs.Records.{IsDamagedFrom, IsManyFrom}
-use Rattle.ix_journal.specs.Recovery.{IsJournal}
+use Rattle.ix_journal.specs.Records.{ClosesAt, IsDamagedFrom, IsManyFrom}
+use Rattle.ix_journal.specs.Recovery.{IsJournalWith}
+use Rattle.ix_journal.specs.declared.TheConstants.{FRONT_LENGTH, MOST_RECORDS, MOST_BOOTS}
+use Rattle.ix_journal.specs.declared.entries.Entry.{Entry}
+use Rattle.ix_journal.specs.declared.entries.Entry.TheVariants as entry
+use Rattle.ix_journal.specs.declared.entries.Marks.{Marks}
 use Rattle.ix_store.specs.declared.fault.OpenFault.{OpenFault}
 use Rattle.ix_store.specs.declared.fault.OpenFault.TheVariants as fault
 use Rattle.ix_store.specs.declared.find.Found.{Found}
@@ -22,7 +27,8 @@ MaybeTorn at count was image =
 
 -- unfinished or unopened, or a journal of this text without records
 abbrev pub IsBegun : List ℕ → List ℕ → Type 0
-IsBegun text image = IsNew image text ⊎ IsJournal image text [] (FRONT_LENGTH + length text)
+IsBegun text image =
+    IsNew image text ⊎ IsJournalWith image text [] fresh (FRONT_LENGTH + length text)
 
 -- a file with this front is to be made anew, or is ready with the text and this first gate
 abbrev pub IsJudged : List ℕ → List ℕ → Option ℕ → Type 0
@@ -37,16 +43,46 @@ RefusesHead head text (fault.OtherExpression kept) =
 RefusesHead head text fault.Memory = ⊤
 RefusesHead head text _ = ⊥
 
+-- from `first` on the open records tell this history and leave these marks, and the first closed
+-- gate is at `gate`
+pub record ClosesWith (file : List ℕ) (first : ℕ) (history : PlainHistory) (marks : Marks)
+    (gate : ℕ) : Type 0 where
+  pub entries : List Entry
+  pub closes : ClosesAt file first entries gate
+  pub pairs : pairs_of entries ≡ history
+  pub marked : marks_of entries ≡ marks
+
 -- the file is to be made anew, and begins so, or keeps this history of the text
 abbrev pub IsFound : List ℕ → Found → List ℕ → Type 0
 IsFound text (found.New head) file = IsNew file text × IsHeadOf head.items file
-IsFound text (found.Journal kept) file = IsJournal file text kept.history.items kept.gate
+IsFound text (found.Journal kept) file =
+    IsJournalWith file text kept.history.items kept.marks kept.gate
 
--- whatever the site tells, the gate is as near as those of a journal, and the actions are actions
+-- whatever the site tells, the gate is as near as those of a journal, the actions are actions, and
+-- they and the boots aren't too many
+pub record IsSoundly (history : PlainHistory) (marks : Marks) (gate : ℕ) : Type 0 where
+  pub near : gate ≤ farthest_gate (length history) marks.boots
+  pub valid : All (λ (spent : Spent). IsAction spent.1) history
+  pub actions : length history ≤ MOST_RECORDS
+  pub boots : marks.boots ≤ MOST_BOOTS
+
+-- so is what was found, and it has room for a boot
 abbrev pub IsSound : Found → Type 0
 IsSound (found.New head) = ⊤
 IsSound (found.Journal kept) =
-    (kept.gate ≤ farthest_gate (length kept.history.items)) × All IsAction kept.history.items
+    IsSoundly kept.history.items kept.marks kept.gate × (kept.marks.boots < MOST_BOOTS)
+
+-- a record may be kept behind so many actions: another one, or a boot that isn't one too many
+abbrev pub MayKeep : ℕ → Entry → Type 0
+MayKeep count (entry.Boot number) = number ≤ MOST_BOOTS
+MayKeep count (entry.Spent ticket action) = count < MOST_RECORDS
+MayKeep count (entry.Plain action) = count < MOST_RECORDS
+
+-- why a record isn't kept behind so many actions: it may not be, or memory ran out
+abbrev pub KeepsNot : ℕ → Entry → OpenFault → Type 0
+KeepsNot count entry fault.Many = ¬ MayKeep count entry
+KeepsNot count entry fault.Memory = ⊤
+KeepsNot count entry _ = ⊥
 
 -- the text that is kept, unless memory ran out
 abbrev pub KeepsOther : List ℕ → OpenFault → Type 0

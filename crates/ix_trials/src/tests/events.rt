@@ -143,9 +143,9 @@ const EVENTS: [(&[u64], &[Coming<'static>], &[u8], usize, Go); 4] = [
             (1, 10, b"status\nmay b\nma"),
             (0, 11, b"0\n"),
             (0, 12, b""),
-            (1, 60, b"y b\nconfirm 1\nlog 1\n"),
+            (1, 60, b"y b\nconfirm 1-1\nlog 1\n"),
         ],
-        b"1 status partial 0 nodes 2\n1 no\n0 granted 1\n1 no\n1 confirmed 1\n1 entry 1 a\n",
+        b"1 status partial 0 nodes 2\n1 no\n0 granted 1-1\n1 no\n1 confirmed 1\n1 entry 1 a\n",
         1,
         Go::More,
     ),
@@ -153,15 +153,15 @@ const EVENTS: [(&[u64], &[Coming<'static>], &[u8], usize, Go); 4] = [
         &[],
         &[
             (0, 10, b"ask a 50\n"),
-            (0, 60, b"confirm 1\n"),
-            (0, 61, b"confirm 2\n"),
+            (0, 60, b"confirm 1-1\n"),
+            (0, 61, b"confirm 1-2\n"),
         ],
-        b"0 granted 1\n0 refused 31 expired\n0 refused 30 no such ticket\n",
+        b"0 granted 1-1\n0 refused 31 expired\n0 refused 30 no such ticket\n",
         0,
         Go::More,
     ),
     (
-        &[6],
+        &[10],
         &[
             (0, 1, b"may a\nmay a\nmay a\n"),
             (1, 1, b"may b\n"),
@@ -195,29 +195,30 @@ fn events_of_several_connections(rt: HostRuntime) -> Result<(), Fail> {
 #[test]
 fn confirms_are_in_the_journal(rt: HostRuntime) -> Result<(), Fail> {
     // The file, the calls that fail, what comes, what is sent, and the file then. Calls 0 to 4
-    // attach and read a journal, 5 sends `granted`, and 6 to 9 append: 9 is the second sync.
-    let confirm: &[Coming<'_>] = &[(0, 1, b"ask a 50\nconfirm 1\nstatus\n")];
+    // attach and read a journal, 5 to 8 append the boot, 9 sends `granted`, and 10 to 13 append:
+    // 13 is the second sync.
+    let confirm: &[Coming<'_>] = &[(0, 1, b"ask a 50\nconfirm 1-1\nstatus\n")];
     let cases: [(&[u8], &[u64], &[Coming<'_>], &[u8], &[u8]); 3] = [
         (
             OF_A,
             &[],
             &[(0, 5, b"status\nlog 1\nlog 2\n")],
             b"0 status partial 1 nodes 3\n0 entry 1 a\n0 refused 42 no such entry\n",
-            OF_A,
+            OF_A_BOOTED,
         ),
         (
             EMPTY,
             &[],
             confirm,
-            b"0 granted 1\n0 confirmed 1\n0 status partial 1 nodes 3\n",
-            OF_A,
+            b"0 granted 1-1\n0 confirmed 1\n0 status partial 1 nodes 3\n",
+            BOOTED_OF_A,
         ),
         (
             EMPTY,
-            &[9],
+            &[13],
             confirm,
-            b"0 granted 1\n0 refused 91 disk\n",
-            OF_A,
+            b"0 granted 1-1\n0 refused 91 disk\n",
+            BOOTED_OF_A,
         ),
     ];
     for (file, fail, events, text, then) in cases {

@@ -7,54 +7,54 @@ use super::*;
 const REQUESTS: [(&[u8], &[u8], &[u8]); 11] = [
     (
         PATIENTS,
-        b"10 0 ask call(p1,x1) 1000\n20 0 confirm 1\n25 0 status\n30 1 ask call(p1,x2) 1000\n\
+        b"10 0 ask call(p1,x1) 1000\n20 0 confirm 1-1\n25 0 status\n30 1 ask call(p1,x2) 1000\n\
             40 1 ask call(p2,x1) 1000",
-        b"history 0\n0 granted 1\n0 confirmed 1\n0 status partial 1 nodes 10\n\
-            1 refused 21 not permitted\n1 granted 2\n",
+        b"history 0\n0 granted 1-1\n0 confirmed 1\n0 status partial 1 nodes 10\n\
+            1 refused 21 not permitted\n1 granted 1-2\n",
     ),
     (
         BOTH,
-        b"10 0 ask call(p1,x1) 1000\n20 0 confirm 1\n25 0 status\n30 1 ask call(p2,x1) 1000\n\
+        b"10 0 ask call(p1,x1) 1000\n20 0 confirm 1-1\n25 0 status\n30 1 ask call(p2,x1) 1000\n\
             40 1 ask call(p2,x2) 1000",
-        b"history 0\n0 granted 1\n0 confirmed 1\n0 status partial 1 nodes 21\n\
-            1 refused 21 not permitted\n1 granted 2\n",
+        b"history 0\n0 granted 1-1\n0 confirmed 1\n0 status partial 1 nodes 21\n\
+            1 refused 21 not permitted\n1 granted 1-2\n",
     ),
     (
         b"a - b",
-        b"100 0 ask a 50\n149 0 confirm 1",
-        b"history 0\n0 granted 1\n0 confirmed 1\n",
+        b"100 0 ask a 50\n149 0 confirm 1-1",
+        b"history 0\n0 granted 1-1\n0 confirmed 1\n",
     ),
     (
         b"a - b",
-        b"100 0 ask a 50\n150 0 confirm 1\n150 0 confirm 1\n150 0 confirm 2",
-        b"history 0\n0 granted 1\n0 refused 31 expired\n0 refused 31 expired\n\
+        b"100 0 ask a 50\n150 0 confirm 1-1\n150 0 confirm 1-1\n150 0 confirm 1-2",
+        b"history 0\n0 granted 1-1\n0 refused 31 expired\n0 refused 31 expired\n\
             0 refused 30 no such ticket\n",
     ),
     (
         b"a - b",
-        b"200 0 status\n100 0 ask a 10\n50 1 ask a 10\n210 0 confirm 1\n210 1 ask a 10\n\
-            210 0 confirm 1",
-        b"history 0\n0 status partial 0 nodes 2\n0 granted 1\n1 refused 20 busy until 210\n\
-            0 refused 31 expired\n1 granted 2\n0 refused 30 no such ticket\n",
+        b"200 0 status\n100 0 ask a 10\n50 1 ask a 10\n210 0 confirm 1-1\n210 1 ask a 10\n\
+            210 0 confirm 1-1",
+        b"history 0\n0 status partial 0 nodes 2\n0 granted 1-1\n1 refused 20 busy until 210\n\
+            0 refused 31 expired\n1 granted 1-2\n0 refused 30 no such ticket\n",
     ),
     (
         b"a - b",
         b"10 0 ask \\\n11 1 may\\\n12 0 a 1000\n13 1  b",
-        b"history 0\n0 granted 1\n1 no\n",
+        b"history 0\n0 granted 1-1\n1 no\n",
     ),
     (
         BOTH,
         b"1 0 watch w call(p1,x1)\n1 0 watch w call(p1,x1)\n2 0 ask call(p1,x1) 9\n\
-            3 0 confirm 1\n4 1 poll w\n5 1 poll w\n6 1 drop w call(p1,x1)\n\
+            3 0 confirm 1-1\n4 1 poll w\n5 1 poll w\n6 1 drop w call(p1,x1)\n\
             7 1 drop w call(p1,x1)\n8 1 poll w",
-        b"history 0\n0 watching yes\n0 watching yes\n0 granted 1\n0 confirmed 1\n1 changes 1\n\
+        b"history 0\n0 watching yes\n0 watching yes\n0 granted 1-1\n0 confirmed 1\n1 changes 1\n\
             1 no call(p1,x1)\n1 changes 0\n1 dropped\n1 refused 41 no such watch\n\
             1 changes 0\n",
     ),
     (
         b"a",
-        b"1 0 ask a 5\n1 1 cancel 1\n1 0 confirm 1\n1 0 stop\n2 0 status",
-        b"history 0\n0 granted 1\n1 cancelled 1\n0 refused 30 no such ticket\n0 stopping\n",
+        b"1 0 ask a 5\n1 1 cancel 1-1\n1 0 confirm 1-1\n1 0 stop\n2 0 status",
+        b"history 0\n0 granted 1-1\n1 cancelled 1-1\n0 refused 30 no such ticket\n0 stopping\n",
     ),
     (
         b"a",
@@ -64,8 +64,8 @@ const REQUESTS: [(&[u8], &[u8], &[u8]); 11] = [
     ),
     (
         b"a",
-        b"18446744073709551615 0 ask a 1000\n18446744073709551615 0 confirm 1",
-        b"history 0\n0 granted 1\n0 refused 31 expired\n",
+        b"18446744073709551615 0 ask a 1000\n18446744073709551615 0 confirm 1-1",
+        b"history 0\n0 granted 1-1\n0 refused 31 expired\n",
     ),
     (b"a", b"", b"history 0\n"),
 ];
@@ -104,9 +104,9 @@ fn replays_end(rt: HostRuntime) -> Result<(), Fail> {
         (
             &NODES,
             b"#(a - b)",
-            b"1 0 ask a 5\n1 0 confirm 1\n1 0 ask a 5\n1 0 confirm 2\n1 0 ask a 5\n1 0 status",
+            b"1 0 ask a 5\n1 0 confirm 1-1\n1 0 ask a 5\n1 0 confirm 1-2\n1 0 ask a 5\n1 0 status",
             0,
-            b"history 0\n0 granted 1\n0 confirmed 1\n0 granted 2\n0 confirmed 2\n\
+            b"history 0\n0 granted 1-1\n0 confirmed 1\n0 granted 1-2\n0 confirmed 2\n\
                 0 refused 22 large 8\n0 status partial 2 nodes 8\n",
         ),
         (&FEW, b"a - b", b"", 3, b"refused expression 14 large 1\n"),
@@ -233,10 +233,10 @@ fn append_ask(
     let conn = patient % 6;
     let ticket = number + 1;
     let asked = format!(in alloc;
-        "1 {conn} ask {verb}(p{patient},x{examination}) 60000\n1 {conn} confirm {ticket}\n"
+        "1 {conn} ask {verb}(p{patient},x{examination}) 60000\n1 {conn} confirm 1-{ticket}\n"
     )?;
     script.extend_from_slice(asked.as_bytes())?;
-    let answered = format!(in alloc; "{conn} granted {ticket}\n{conn} confirmed {ticket}\n")?;
+    let answered = format!(in alloc; "{conn} granted 1-{ticket}\n{conn} confirmed {ticket}\n")?;
     wanted.extend_from_slice(answered.as_bytes())
 }
 

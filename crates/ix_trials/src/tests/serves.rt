@@ -122,25 +122,25 @@ fn two_connections_are_served(rt: HostRuntime) -> Result<(), Fail> {
             PATIENTS,
             &[
                 (0, 10, b"ask call(p1,x1) 1000\n"),
-                (0, 20, b"confirm 1\n"),
+                (0, 20, b"confirm 1-1\n"),
                 (0, 25, b"status\n"),
                 (1, 30, b"ask call(p1,x2) 1000\n"),
                 (1, 40, b"ask call(p2,x1) 1000\n"),
             ],
-            b"0 granted 1\n0 confirmed 1\n0 status partial 1 nodes 10\n\
-            1 refused 21 not permitted\n1 granted 2\n",
+            b"0 granted 1-1\n0 confirmed 1\n0 status partial 1 nodes 10\n\
+            1 refused 21 not permitted\n1 granted 1-2\n",
         ),
         (
             BOTH,
             &[
                 (0, 10, b"ask call(p1,x1) 1000\n"),
-                (0, 20, b"confirm 1\n"),
+                (0, 20, b"confirm 1-1\n"),
                 (0, 25, b"status\n"),
                 (1, 30, b"ask call(p2,x1) 1000\n"),
                 (1, 40, b"ask call(p2,x2) 1000\n"),
             ],
-            b"0 granted 1\n0 confirmed 1\n0 status partial 1 nodes 21\n\
-            1 refused 21 not permitted\n1 granted 2\n",
+            b"0 granted 1-1\n0 confirmed 1\n0 status partial 1 nodes 21\n\
+            1 refused 21 not permitted\n1 granted 1-2\n",
         ),
     ];
     for (expression, coming, sent) in cases {
@@ -162,7 +162,7 @@ fn serves_go_on_from_their_journals(rt: HostRuntime) -> Result<(), Fail> {
             &[(0, 1, b"may a\n")],
             b"history 0\n",
             b"0 yes\n",
-            b"\xA5IXJ1\x00\x01a\x00",
+            b"\xA5IXJ2\x00\x01a\xA5\x00\x06boot 1\x00",
         ),
         (
             b"a - b",
@@ -170,15 +170,15 @@ fn serves_go_on_from_their_journals(rt: HostRuntime) -> Result<(), Fail> {
             &[(0, 5, b"status\n"), (0, 5, b"log 1\n"), (0, 5, b"log 2\n")],
             b"history 1\n",
             b"0 status partial 1 nodes 3\n0 entry 1 a\n0 refused 42 no such entry\n",
-            OF_A,
+            OF_A_BOOTED,
         ),
         (
             b"a - b",
             BEFORE_A,
-            &[(0, 1, b"ask a 5\n"), (0, 2, b"confirm 1\n")],
+            &[(0, 1, b"ask a 5\n"), (0, 2, b"confirm 1-1\n")],
             b"history 0\n",
-            b"0 granted 1\n0 confirmed 1\n",
-            OF_A,
+            b"0 granted 1-1\n0 confirmed 1\n",
+            BOOTED_OF_A,
         ),
     ];
     for (expression, journal, coming, put, sent, left) in cases {
@@ -193,7 +193,7 @@ fn serves_go_on_from_their_journals(rt: HostRuntime) -> Result<(), Fail> {
 
 // A serve of `a - b` without a journal, in which `a` is asked for and confirmed.
 fn serve_a(alloc: Global, call: Option<u64>, fuse: Option<u64>) -> Result<Served, Fail> {
-    let coming: [Coming<'_>; 2] = [(0, 100, b"ask a 50\n"), (0, 149, b"confirm 1\n")];
+    let coming: [Coming<'_>; 2] = [(0, 100, b"ask a 50\n"), (0, 149, b"confirm 1-1\n")];
     let outside = Outside {
         journal: b"",
         coming: &coming,
@@ -205,18 +205,18 @@ fn serve_a(alloc: Global, call: Option<u64>, fuse: Option<u64>) -> Result<Served
 
 #[test]
 fn failed_calls_end_serves_but_for_sends(rt: HostRuntime) -> Result<(), Fail> {
-    // Calls 0 to 8 attach the journal and make it anew, 9 listens, 10 and 12 take the events, 11
-    // sends `granted`, and 13 to 16 append: 16 is the second sync.
+    // Calls 0 to 8 attach the journal and make it, 9 to 12 append the boot, 13 listens, 14 and 16
+    // take the events, 15 sends `granted`, and 17 to 20 append: 20 is the second sync.
     let cases: [(u64, u8, &[u8], &[u8], &[u8]); 4] = [
-        (9, 6, b"refused wire\n", b"", EMPTY),
-        (11, 0, b"history 0\n", b"0 grant", OF_A),
-        (12, 6, b"history 0\nrefused wire\n", b"0 granted 1\n", EMPTY),
+        (13, 6, b"refused wire\n", b"", NEW),
+        (15, 0, b"history 0\n", b"0 grante", NEW_OF_A),
+        (16, 6, b"history 0\nrefused wire\n", b"0 granted 1-1\n", NEW),
         (
-            16,
+            20,
             5,
             b"history 0\nrefused disk\n",
-            b"0 granted 1\n0 refused 91 disk\n",
-            OF_A,
+            b"0 granted 1-1\n0 refused 91 disk\n",
+            NEW_OF_A,
         ),
     ];
     for (call, status, put, sent, journal) in cases {
@@ -233,16 +233,16 @@ fn failed_calls_end_serves_but_for_sends(rt: HostRuntime) -> Result<(), Fail> {
 fn status_without(call: u64) -> u8 {
     match call {
         // The listen, and the three calls for an event.
-        9 | 10 | 12 | 18 => 6,
+        13 | 14 | 16 | 22 => 6,
         // The two sends, and the first number that no call has.
-        11 | 17 | 19 => 0,
+        15 | 21 | 23 => 0,
         _ => 5,
     }
 }
 
 #[test]
 fn each_call_of_a_serve_fails_in_turn(rt: HostRuntime) -> Result<(), Fail> {
-    for call in 0..20 {
+    for call in 0..24 {
         let served = serve_a(rt.alloc(), Some(call), None)?;
         assert_eq!(rt; served.status, status_without(call), "call {call}");
     }
@@ -259,18 +259,18 @@ fn is_kept(alloc: Global, served: &Served) -> Result<bool, Fail> {
     };
     let (opened, _) = run_from(alloc, &REPLAY, b"a - b", b"", left)?;
     let put = opened.bytes.as_slice();
-    let acknowledged = served.sent.as_slice().starts_with(b"0 granted 1\n0 c");
+    let acknowledged = served.sent.as_slice().starts_with(b"0 granted 1-1\n0 c");
     let found = put == b"history 1\n".as_slice();
     Ok(found || (put == b"history 0\n".as_slice() && !acknowledged))
 }
 
 #[test]
 fn what_was_acknowledged_is_kept(rt: HostRuntime) -> Result<(), Fail> {
-    for fuse in 0..20 {
+    for fuse in 0..24 {
         let served = serve_a(rt.alloc(), None, Some(fuse))?;
         let kept = is_kept(rt.alloc(), &served)?;
         assert!(rt; kept, "fuse {fuse}");
-        assert_eq!(rt; served.status == 0, fuse == 19, "fuse {fuse}");
+        assert_eq!(rt; served.status == 0, fuse == 23, "fuse {fuse}");
     }
     Ok(())
 }

@@ -1,15 +1,24 @@
 //! Files that a crash may leave: each is opened, with the history that its synced bytes have.
 use super::stores::{
-    EMPTY, ONE, UNOPENED, Went, action, append_both, site_with, start_at, start_on,
+    EMPTY, NEW, UNOPENED, Went, action, append_both, site_with, start_at, start_on,
 };
 use std::alloc::Global;
 use std::test::Fail;
 
-// A journal of `a - b` with the record of `a` behind a closed gate.
-const CLOSED: &[u8] = b"\xA5IXJ1\x00\x05a - b\x00\x00\x01a\x00";
+// A journal of `a - b` with a boot behind a closed gate, and behind an open one.
+const CLOSED_BOOT: &[u8] = b"\xA5IXJ1\x00\x05a - b\x00\x00\x06boot 1\x00";
 
-// One without records whose head gate isn't open yet.
-const SHUT: &[u8] = b"\x00IXJ1\x00\x05a - b\x00";
+const BOOT: &[u8] = b"\xA5IXJ1\x00\x05a - b\xA5\x00\x06boot 1\x00";
+
+// The last with the record of `a` behind a closed gate, and behind an open one.
+const CLOSED: &[u8] = b"\xA5IXJ1\x00\x05a - b\xA5\x00\x06boot 1\x00\x00\x051-1 a\x00";
+
+const ONE: &[u8] = b"\xA5IXJ1\x00\x05a - b\xA5\x00\x06boot 1\xA5\x00\x051-1 a\x00";
+
+// One without records whose head gate isn't open yet, and the same of the first version.
+const SHUT: &[u8] = b"\x00IXJ2\x00\x05a - b\x00";
+
+const SHUT_BEFORE: &[u8] = b"\x00IXJ1\x00\x05a - b\x00";
 
 // What a crash may change of a file: the bytes from one place up to another may be any, and the
 // file may end anywhere from a length on.
@@ -72,30 +81,37 @@ fn first_lost_of_all(
     Ok(None)
 }
 
-// The file behind an append of `a` in which the call of this number fails.
-fn behind_an_append(alloc: Global, call: u64) -> Result<Vec<u8>, Fail> {
+// The file behind appends of a boot and of `a` that end so where the call of this number fails.
+fn behind_an_append(alloc: Global, call: u64, end: Went) -> Result<Vec<u8>, Fail> {
     let mut site = site_with(alloc, EMPTY, &[call])?;
     let went = append_both(alloc, &mut site, &action(b"a")?, &action(b"b")?)?;
-    if went != (Went::Opened { has_failed: true }) {
+    if went != end {
         return Err("another end".into());
     }
     Ok(site.image().to_vec(alloc)?)
 }
 
+const NOT_BOOTED: Went = Went::NotBooted { has_failed: true };
+
+const NOT_APPENDED: Went = Went::Opened { has_failed: true };
+
 #[test]
 fn images_of_a_record_that_was_not_synced(rt: HostRuntime) -> Result<(), Fail> {
-    // Calls 0 to 4 attach and read the journal, 5 writes the record, and 6 syncs. The last
-    // row has each front of what was written as it is.
-    let left = behind_an_append(rt.alloc(), 6)?;
-    assert!(rt; left.as_slice() == CLOSED);
-    for (from, to) in [(13, 17), (14, 17), (15, 16), (16, 17), (17, 17)] {
-        let pending = Pending {
-            from,
-            to,
-            least: 13,
-        };
-        let lost = first_lost_of_all(rt.alloc(), CLOSED, pending)?;
-        assert_eq!(rt; lost, None, "from {from} to {to}");
+    // Calls 0 to 4 attach and read the journal, 5 writes the boot, and 6 syncs; 9 and 10 do so
+    // for the action. A row that ends where it begins has each front of what was written as it is.
+    let cases: [(u64, Went, &[u8], usize); 2] = [
+        (6, NOT_BOOTED, CLOSED_BOOT, 13),
+        (10, NOT_APPENDED, CLOSED, 22),
+    ];
+    for (call, end, then, least) in cases {
+        let left = behind_an_append(rt.alloc(), call, end)?;
+        assert!(rt; left.as_slice() == then, "call {call}");
+        let to = then.len();
+        for from in [least, least + 1, least + 2, to - 1, to] {
+            let pending = Pending { from, to, least };
+            let lost = first_lost_of_all(rt.alloc(), then, pending)?;
+            assert_eq!(rt; lost, None, "call {call}, from {from}");
+        }
     }
     Ok(())
 }
@@ -112,17 +128,29 @@ fn with_byte(alloc: Global, file: &[u8], place: usize, byte: u8) -> Result<Vec<u
 
 #[test]
 fn images_of_a_gate_that_was_not_synced(rt: HostRuntime) -> Result<(), Fail> {
-    // Call 7 opens the gate in front of the record, and 8 is the second sync.
-    let unopened = behind_an_append(rt.alloc(), 7)?;
-    assert!(rt; unopened.as_slice() == CLOSED);
-    let opened = behind_an_append(rt.alloc(), 8)?;
-    assert!(rt; opened.as_slice() == ONE);
+    // Call 7 opens the gate in front of the boot, and 8 is its second sync; 11 and 12 do so for
+    // the action.
+    let cases: [(u64, Went, &[u8]); 4] = [
+        (7, NOT_BOOTED, CLOSED_BOOT),
+        (8, NOT_BOOTED, BOOT),
+        (11, NOT_APPENDED, CLOSED),
+        (12, NOT_APPENDED, ONE),
+    ];
+    for (call, end, then) in cases {
+        let left = behind_an_append(rt.alloc(), call, end)?;
+        assert!(rt; left.as_slice() == then, "call {call}");
+    }
     for byte in 0..=255 {
-        let image = with_byte(rt.alloc(), ONE, 12, byte)?;
+        let is_open = byte == 0xA5;
+        let image = with_byte(rt.alloc(), BOOT, 12, byte)?;
         let told = start_on(rt.alloc(), &image, b"a - b")?;
-        let history: &[u8] = if byte == 0xA5 { b"a " } else { b"" };
-        assert_eq!(rt; told.word, "opened", "gate {byte}");
-        assert!(rt; told.text.as_slice() == history, "gate {byte}");
+        assert_eq!(rt; told.word, "opened", "the boot's gate {byte}");
+        assert_eq!(rt; told.boots, u64::from(is_open), "the boot's gate {byte}");
+        let image = with_byte(rt.alloc(), ONE, 21, byte)?;
+        let told = start_on(rt.alloc(), &image, b"a - b")?;
+        let history: &[u8] = if is_open { b"a " } else { b"" };
+        assert_eq!(rt; told.word, "opened", "the action's gate {byte}");
+        assert!(rt; told.text.as_slice() == history, "the action's gate {byte}");
     }
     Ok(())
 }
@@ -130,11 +158,11 @@ fn images_of_a_gate_that_was_not_synced(rt: HostRuntime) -> Result<(), Fail> {
 #[test]
 fn images_of_a_head_gate_that_was_not_synced(rt: HostRuntime) -> Result<(), Fail> {
     for byte in 0..=255 {
-        let image = with_byte(rt.alloc(), EMPTY, 0, byte)?;
+        let image = with_byte(rt.alloc(), NEW, 0, byte)?;
         let told = start_on(rt.alloc(), &image, b"a - b")?;
         assert_eq!(rt; told.word, "opened", "head gate {byte}");
         assert!(rt; told.text.is_empty(), "head gate {byte}");
-        assert!(rt; told.file.as_slice() == EMPTY, "head gate {byte}");
+        assert!(rt; told.file.as_slice() == NEW, "head gate {byte}");
     }
     Ok(())
 }
@@ -168,11 +196,11 @@ fn images_of_a_start(rt: HostRuntime) -> Result<(), Fail> {
     let rows: [(&[u8], u64, &[u8], Pending); 7] = [
         (b"", 4, b"\x00", head),
         (b"", 6, SHUT, header),
-        (b"", 8, EMPTY, whole),
-        (UNOPENED, 6, SHUT, whole),
+        (b"", 8, NEW, whole),
+        (UNOPENED, 6, SHUT_BEFORE, whole),
         (UNOPENED, 7, b"\x00", head),
         (UNOPENED, 9, SHUT, header),
-        (UNOPENED, 11, EMPTY, whole),
+        (UNOPENED, 11, NEW, whole),
     ];
     for (file, call, then, pending) in rows {
         let left = behind_a_start(rt.alloc(), file, call)?;

@@ -53,12 +53,12 @@ fn a_piece_that_is_not_read_is_a_fault_of_the_disk(rt: HostRuntime) -> Result<()
 
 #[test]
 fn nothing_is_read_behind_a_million_records(rt: HostRuntime) -> Result<(), Fail> {
-    // The gate behind a million records stands in one of the first 978 pieces, which give at least
-    // 4,092 bytes each. There are some hundred pieces more.
+    // The record behind a million stands in one of the first 979 pieces, which give at least 4,092
+    // bytes each. There are some hundred pieces more.
     let file = long_journal(rt.alloc(), 1_100)?;
     let mut site = site_with(rt.alloc(), &file, &[])?;
     let told = start_at(rt.alloc(), &mut site, b"*a")?;
     assert_eq!(rt; told.word, "many");
-    assert!(rt; site.calls() <= 5 + 978, "{}", site.calls());
+    assert!(rt; site.calls() <= 5 + 979, "{}", site.calls());
     Ok(())
 }

@@ -5,19 +5,26 @@ use arrayvec::ArrayVec;
 use ix_memory::MemorySite;
 use ix_outside::Site;
 use ix_store::{OpenFault, Store};
-use ix_values::Action;
+use ix_values::{Action, Ticket};
 use std::alloc::Global;
 use std::test::Fail;
 
-// Journals of `a - b`: without records, with the action `a`, and with `b` behind it.
+// Journals of `a - b` of the first version: without records, with the action `a`, and with `b`
+// behind it.
 pub(super) const EMPTY: &[u8] = b"\xA5IXJ1\x00\x05a - b\x00";
 
-pub(super) const ONE: &[u8] = b"\xA5IXJ1\x00\x05a - b\xA5\x00\x01a\x00";
+const ONE: &[u8] = b"\xA5IXJ1\x00\x05a - b\xA5\x00\x01a\x00";
 
 const BOTH: &[u8] = b"\xA5IXJ1\x00\x05a - b\xA5\x00\x01a\xA5\x00\x01b\x00";
 
 // One that was never opened.
 pub(super) const UNOPENED: &[u8] = b"\x7FIXJ1\x00\x05a - b\x00";
+
+// What a start makes of no journal.
+pub(super) const NEW: &[u8] = b"\xA5IXJ2\x00\x05a - b\x00";
+
+// One with a record of each kind: a boot, an action with its ticket, and an action alone.
+const KINDS: &[u8] = b"\xA5IXJ2\x00\x05a - b\xA5\x00\x06boot 1\xA5\x00\x051-1 a\xA5\x00\x01b\x00";
 
 // A site with this file, whose calls of these numbers fail. Call 0 attached the file.
 pub(super) fn site_with(alloc: Global, file: &[u8], fail: &[u64]) -> Result<MemorySite, Fail>
@@ -34,9 +41,9 @@ pub(super) fn site_with(alloc: Global, file: &[u8], fail: &[u64]) -> Result<Memo
 }
 
 // The texts of the actions, with a space behind each.
-fn texts_of(alloc: Global, actions: &[Action]) -> Result<Vec<u8>, Fail> {
+fn texts_of(alloc: Global, history: &[(Option<Ticket>, Action)]) -> Result<Vec<u8>, Fail> {
     let mut texts = Vec::new(alloc);
-    for action in actions {
+    for (_, action) in history {
         let mut text = ArrayVec::new();
         action.write(&mut text);
         texts.extend_from_slice(&text)?;
@@ -45,13 +52,14 @@ fn texts_of(alloc: Global, actions: &[Action]) -> Result<Vec<u8>, Fail> {
     Ok(texts)
 }
 
-// What a start answered: a word, the history's texts or the text that is kept, and the place of
-// damage; and the file then.
+// What a start answered: a word, the history's texts or the text that is kept, the place of
+// damage, and the boots; and the file then.
 #[derive(Drop)]
 pub(super) struct Told {
     pub(super) word: &'static str,
     pub(super) text: Vec<u8>,
     at: usize,
+    pub(super) boots: u64,
     pub(super) file: Vec<u8>,
 }
 
@@ -69,8 +77,10 @@ pub(super) fn start_at(alloc: Global, site: &mut MemorySite, text: &[u8]) -> Res
     requires short { length text.now < 65536 }
     ensures { site.new.attached ≡ true }
 {
+    let mut boots = 0;
     let (word, text, at) = match Store::start(alloc, site, text) {
         Ok((store, history)) => {
+            boots = store.boots();
             let word = if store.has_failed() {
                 "failed"
             } else {
@@ -90,6 +100,7 @@ pub(super) fn start_at(alloc: Global, site: &mut MemorySite, text: &[u8]) -> Res
         word,
         text,
         at,
+        boots,
         file,
     })
 }
@@ -97,12 +108,13 @@ pub(super) fn start_at(alloc: Global, site: &mut MemorySite, text: &[u8]) -> Res
 #[test]
 fn files_that_are_opened(rt: HostRuntime) -> Result<(), Fail> {
     // The file, the history, and what the file then is.
-    let cases: [(&[u8], &[u8], &[u8]); 7] = [
+    let cases: [(&[u8], &[u8], &[u8]); 8] = [
         // Absent, and unfinished.
-        (b"", b"", EMPTY),
-        (b"\x5A", b"", EMPTY),
-        (b"\x00\x00\x00IXJ", b"", EMPTY),
-        (UNOPENED, b"", EMPTY),
+        (b"", b"", NEW),
+        (b"\x5A", b"", NEW),
+        (b"\x00\x00\x00IXJ", b"", NEW),
+        (UNOPENED, b"", NEW),
+        (KINDS, b"a b ", KINDS),
         (ONE, b"a ", ONE),
         (BOTH, b"a b ", BOTH),
         // The gate in front of the record is closed.
@@ -154,6 +166,22 @@ fn each_front_of_a_journal(rt: HostRuntime) -> Result<(), Fail> {
         assert_eq!(rt; told.word, word, "of length {length}");
         assert_eq!(rt; told.at, at, "of length {length}");
         assert!(rt; told.text.as_slice() == history, "of length {length}");
+    }
+    Ok(())
+}
+
+#[test]
+fn each_front_of_a_journal_with_records_of_each_kind(rt: HostRuntime) -> Result<(), Fail> {
+    for length in 13..KINDS.len() {
+        let told = start_on(rt.alloc(), &KINDS[..length], b"a - b")?;
+        // The records stand behind the gates at 12, 21 and 29, the last of them open in the front.
+        let at = match length {
+            ..=21 => 13,
+            ..=29 => 22,
+            _ => 30,
+        };
+        assert_eq!(rt; told.word, "damaged", "of length {length}");
+        assert_eq!(rt; told.at, at, "of length {length}");
     }
     Ok(())
 }
@@ -222,6 +250,8 @@ fn a_start_that_failed_is_made_again(rt: HostRuntime) -> Result<(), Fail> {
 pub(super) enum Went {
     // It wasn't opened: the disk failed.
     NotOpened,
+    // The boot failed.
+    NotBooted { has_failed: bool },
     // The first append failed.
     Opened { has_failed: bool },
     // The second append failed.
@@ -229,7 +259,8 @@ pub(super) enum Went {
     AppendedBoth,
 }
 
-// Opens the journal of `a - b`, and appends two actions, unless a call of the disk fails.
+// Opens the journal of `a - b`, and appends a boot and two actions, unless a call of the disk
+// fails.
 pub(super) fn append_both<S: Site>(
     alloc: Global,
     site: &mut S,
@@ -246,11 +277,15 @@ pub(super) fn append_both<S: Site>(
     if history.len() > 1000 {
         return Err("too many actions".into());
     }
-    let Ok(()) = store.append(site, first) else {
+    let Ok(boot) = store.boot(site) else {
+        let has_failed = store.has_failed();
+        return Ok(Went::NotBooted { has_failed });
+    };
+    let Ok(()) = store.append(site, Ticket { boot, seq: 1 }, first) else {
         let has_failed = store.has_failed();
         return Ok(Went::Opened { has_failed });
     };
-    let Ok(()) = store.append(site, second) else {
+    let Ok(()) = store.append(site, Ticket { boot, seq: 2 }, second) else {
         let has_failed = store.has_failed();
         return Ok(Went::AppendedFirst { has_failed });
     };
@@ -262,12 +297,16 @@ pub(super) fn action(text: &[u8]) -> Result<Action, Fail> {
     Ok(Action::read(text).map_err(|_| "no action")?)
 }
 
+// The journal of `a - b` behind a boot in which both were appended.
+const BOTH_SPENT: &[u8] =
+    b"\xA5IXJ2\x00\x05a - b\xA5\x00\x06boot 1\xA5\x00\x051-1 a\xA5\x00\x051-2 b\x00";
+
 #[test]
 fn appended_actions_are_in_the_journal(rt: HostRuntime) -> Result<(), Fail> {
     let mut site = site_with(rt.alloc(), b"", &[])?;
     let went = append_both(rt.alloc(), &mut site, &action(b"a")?, &action(b"b")?)?;
     assert_eq!(rt; went, Went::AppendedBoth);
-    assert!(rt; site.image() == BOTH);
+    assert!(rt; site.image() == BOTH_SPENT);
     let told = start_on(rt.alloc(), site.image(), b"a - b")?;
     assert!(rt; told.text.as_slice() == b"a b ".as_slice());
     Ok(())
@@ -281,6 +320,7 @@ fn may_keep(alloc: Global, went: Went, history: &[u8], texts: [&[u8]; 2]) -> Res
     let is_both = history == both.as_slice();
     Ok(match went {
         Went::NotOpened => history.is_empty(),
+        Went::NotBooted { has_failed } => has_failed && history.is_empty(),
         Went::Opened { has_failed } => has_failed && (history.is_empty() || is_one),
         Went::AppendedFirst { has_failed } => has_failed && (is_one || is_both),
         Went::AppendedBoth => is_both,
@@ -312,7 +352,7 @@ fn each_call_of_the_disk_fails_in_turn(rt: HostRuntime) -> Result<(), Fail> {
         (EMPTY, [LONGEST, LONGEST]),
     ];
     for (file, texts) in rows {
-        for number in 1..24 {
+        for number in 1..28 {
             let stops = stops_at(rt.alloc(), file, texts, number)?;
             assert!(rt; stops, "call {number} of {file:?} and {texts:?}");
         }

@@ -78,7 +78,7 @@ returns-in-Ok-start-clause-starts g c =
           let disk = the_value at.disk some in
           start_keeps x limit at mid p q disk.0 c.args.journal.now disk.1
           (left_at at.disk p.now c.in-Ok.ensures.now disk.0 disk.1) (told.leaves disk.0 disk.1)
-          m.machine.history (told.not_large small disk.0 disk.1);
+          m.machine.history m.machine.boot (told.not_large small disk.0 disk.1);
       fits = told.fits;
       since = λ sends known.
           let contents = told.calls.rest.contents ∙ c.in-Ok.ensures.rest.contents in
@@ -90,7 +90,7 @@ returns-in-Ok-start-clause-starts g c =
           let disk = the_value at.disk (kept_told at.disk mid.disk told.calls.opened some) in
           start_keeps x limit at mid p q disk.0 c.args.journal.now disk.1
           (left_at at.disk p.now c.in-Ok.ensures.now disk.0 disk.1) (told.leaves disk.0 disk.1)
-          m.machine.history (told.not_large small disk.0 disk.1))
+          m.machine.history m.machine.boot (told.not_large small disk.0 disk.1))
           (λ now is. (
             ap (λ (s : Sends). s.sent) (some_is (sym is ∙ ap (λ (k : Contents). k.sends) contents ∙ known)),
             λ left since. told.calls.sent sends at_known left since,

@@ -1,6 +1,6 @@
 use Rattle.std.proofs.Common.{refl, ap, rules, sym, subst, ◌∙◌}
 use Rattle.ix_script.specs.inside.Site.{playing}
-use Rattle.ix_manage.specs.Session.{history_line}
+use Rattle.ix_manage.proofs.HistoryLines.{line_of}
 use Rattle.ix_manage.specs.inside.ReplayProgress.{FitsDisk, between, player}
 use Rattle.ix_manage.specs.inside.Turns.{opening_of}
 use Rattle.ix_manage.proofs.Journaling.{alone_lawful, fits_again}
@@ -16,7 +16,7 @@ returns-in-Err-clause-leaves g c =
     c.deref.result.now (g.K.Sink.state c.args.out.now) (g.K.Sink.state c.put.new.self) _ _
     (alone_lawful (g.S.Site.state site) (g.S.Site.crashes site) (g.met.S.Site.lawful site))
     (fits_again c.args.manager.now _ _ _ _ refl refl c.requires.fits)
-    (c.deref.ensures.0 ∙ c.history_line.ensures ∙ ap history_line c.history.ensures)
+    (c.deref.ensures.0 ∙ c.history_line.ensures ∙ line_of _ _ c.history.ensures)
     c.in-Err.ensures.part c.in-Err.ensures.failed
 
 pub take_events-requires-clause-fits : goal.take_events-requires-clause-fits
@@ -35,7 +35,7 @@ returns-clause-leaves g c =
     let stretch = between g.S.Site.state g.S.Site.crashes at_first.site (playing c.take_events.new.site).site in
     let put = history_put manager.machine.history c.deref.result.now start
     (g.K.Sink.state c.put.new.self) (g.K.Sink.state at_first.sink)
-    (c.deref.ensures.0 ∙ c.history_line.ensures ∙ ap history_line c.history.ensures)
+    (c.deref.ensures.0 ∙ c.history_line.ensures ∙ line_of _ _ c.history.ensures)
     c.in-Ok.ensures.whole c.in-Ok.ensures.rest (ap g.K.Sink.state first.ensures.sink) in
     leaves_over g.S.Site.state g.S.Site.crashes (opening_of manager) c.args.turns c.args.script
     c.take_events.new.manager.machine start c.take_events.result

@@ -25,7 +25,7 @@ returns-in-Err-clause-turn g c =
     let told = c.in-Err.ensures in
     let sends = ap (λ (k : Contents). k.sends) told.contents in
     unheard refl told.contents told.failed
-    (wire_saves m.form m.machine.history m.store a b p q lawful lawful' c.requires.fits
+    (wire_saves m.form m.machine m.store a b p q lawful lawful' c.requires.fits
     (next_only a b p q told.rest told.now told.call sends))
     (λ t least start taken answers serves.
     serves_call t m.form least m.machine.history start taken answers m.marks a b p q lawful lawful'
@@ -42,7 +42,7 @@ handle-go-requires-clause-fits g c =
     let b = g.S.Site.state c.next.new.self in
     let p = g.S.Site.crashes c.args.site.now in
     let q = g.S.Site.crashes c.next.new.self in
-    fits_sends m.form m.machine.history m.store a b p q
+    fits_sends m.form m.machine m.store a b p q
     (next_only a b p q told.rest told.now told.call (ap (λ (k : Contents). k.sends) told.contents))
     c.requires.fits
 
@@ -63,7 +63,7 @@ returns-clause-turn g c =
     let go = c.handle-go in
     let over = go.ensures.handles in
     let saves = event_saves m go.new.self event c.piece.result.now go.result over.ending over.handles.answers b d q r
-    over.answered over.handles.takes over.keeps over.ends go.ensures.failed go.ensures.fits
+    over.answered over.handles.takes over.keeps over.boots over.ends go.ensures.failed go.ensures.fits
     go.ensures.passes go.ensures.site.disk go.ensures.site.opened over.sends in
     took (record {
       event = event;
@@ -81,9 +81,9 @@ returns-clause-turn g c =
       marked = λ conn opened marked. subst (λ n. Rose n d.counts.send) told.rest.send (go.ensures.marks conn opened marked);
       tickets = go.ensures.tickets;
       turn_is = c.turn_of.ensures over.ending over.answered;
-      saves = saves_join over.ending m.form m.machine.history m.machine.history go.new.self.machine.history m.store go.new.self.store
+      saves = saves_join over.ending m.form m.machine m.machine go.new.self.machine m.store go.new.self.store
           a b d p q r (g.met.S.Site.lawful go.new.site)
-          (wire_saves m.form m.machine.history m.store a b p q lawful lawful'
+          (wire_saves m.form m.machine m.store a b p q lawful lawful'
           c.requires.fits (next_only a b p q told.rest told.now told.call sends))
           saves;
       since = λ t least start taken answers serves.

@@ -29,7 +29,7 @@ returns-clause-turn g c =
     let saves = event_saves c.args.manager.now go.new.self next.result c.piece.result.now go.result over.ending over.handles.answers
     (disk_alone (g.S.Site.state site)) (disk_alone (g.S.Site.state last))
     (without_sends (g.S.Site.crashes site)) (without_sends (g.S.Site.crashes last))
-    over.answered over.handles.takes over.keeps over.ends go.ensures.failed
+    over.answered over.handles.takes over.keeps over.boots over.ends go.ensures.failed
     (ok_fits go.result go.new.self _ _ _ _ refl refl go.ensures.fits)
     (passes_again _ _ _ _ _ _ refl refl go.ensures.passes) go.ensures.site.disk go.ensures.site.opened
     (more_untold (disk_alone (g.S.Site.state site)) (disk_alone (g.S.Site.state last)) (without_sends (g.S.Site.crashes last)) refl) in

@@ -6,6 +6,7 @@ use Rattle.ix_words.specs.Each.{item}
 use Rattle.ix_watch.specs.inside.Watches.{changes_of}
 use Rattle.ix_manager.proofs.AcknowledgedLemmas.{no_confirm_answered, changes_confirm_none}
 use Rattle.ix_manager.proofs.AnswerLemmas.{one_answered, poll_answered}
+use Rattle.ix_manager.proofs.HistoryLemmas.{number_rises, told_reserves}
 use Rattle.ix_manager.proofs.OverLemmas.{request_over, confirm_request}
 use Rattle.ix_manager.proofs.answering.answer_request.Goals as goal
 
@@ -18,9 +19,10 @@ returns-in-One g c =
     let after = wired c.send_reply.new.gone (g.S.Site.state b) in
     let old = c.args.journaled.now.machine in
     request_over c.args.conn c.args.request.now c.go_behind.result c.args.journaled.now _ before after (g.S.Site.crashes a) (g.S.Site.crashes b)
-    (g.met.S.Site.lawful a) (g.met.S.Site.lawful b) c.requires.fits c.answer.ensures.history refl
+    (g.met.S.Site.lawful a) (g.met.S.Site.lawful b) c.requires.fits c.answer.ensures.history c.answer.ensures.tickets refl
     (one_answered c.args.conn c.args.request.now c.go_behind.result c.in-One.reply old c.answer.new.self before after
-    c.in-One.ensures.answers c.go_behind.ensures c.send_reply.ensures.sends c.answer.ensures.form c.answer.ensures.limit c.answer.ensures.tickets)
+    c.in-One.ensures.answers c.go_behind.ensures c.send_reply.ensures.sends c.answer.ensures.form c.answer.ensures.limit
+    (number_rises c.answer.ensures.tickets))
     c.send_reply.ensures.only
     (let asked = c.requires.plain in
     no_confirm_answered (c.in-One.ensures.answers.0 asked.0 asked.1 asked.2)
@@ -37,7 +39,8 @@ returns-in-Poll g c =
     let polls = c.in-Poll.ensures.answers in
     request_over c.args.conn c.args.request.now c.go_behind-in-Poll.result c.args.journaled.now _ before after (g.S.Site.crashes a) (g.S.Site.crashes b)
     (g.met.S.Site.lawful a) (g.met.S.Site.lawful b) c.requires.fits
-    (ap (λ (s : MachineState). s.history) c.tell.ensures.rest ∙ c.answer.ensures.history) refl
+    (ap (λ (s : MachineState). s.history) c.tell.ensures.rest ∙ c.answer.ensures.history)
+    (told_reserves old c.answer.new.self c.tell.new.self c.in-Poll.name c.tell.ensures polls.1) refl
     (poll_answered c.args.conn c.args.request.now c.go_behind-in-Poll.result c.in-Poll.name old c.answer.new.self c.tell.new.self before after
     polls.0 c.go_behind-in-Poll.ensures polls.1 c.answer.ensures.form c.answer.ensures.limit c.tell.ensures c.send_changes.ensures.sends)
     c.send_changes.ensures.only (item tt

@@ -14,7 +14,7 @@ invariant-items g l =
     (wired l.gone (g.S.Site.state l.site)) (g.S.Site.crashes l.site)
     × (holds_after l.fn.lines l.fn.piece.bytes.now ≡ holds_after l.lines l.rest)
     × IsClean l.lines
-    × (l.journaled.machine.state.ticket + length l.rest ≤ l.fn.journaled.machine.state.ticket + length l.fn.piece.bytes.now)
+    × (l.journaled.machine.state.number + length l.rest ≤ l.fn.journaled.machine.state.number + length l.fn.piece.bytes.now)
 
 abbrev pub decreases-items : goal.decreases-items
 decreases-items g l = length l.rest

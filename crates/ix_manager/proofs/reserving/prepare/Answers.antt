@@ -32,6 +32,11 @@ returns-in-Err-Memory-clause-refused c =
     let room = room_left _ c.history.ensures.most (λ all. let e = c.prepare.ensures.full.1 (partial, all) in cc) in
     subst (λ (r : Reply). Refuses c.args.engine.now c.args.action.now r) (sym c.refused-in-Err-Memory.ensures) (memory partial room)
 
+pub returns-in_default-clause-refused : goal.returns-in_default-clause-refused
+returns-in_default-clause-refused c =
+    let allowed = c.in-Ok.ensures.permitted in
+    subst (λ (r : Reply). Refuses c.args.engine.now c.args.action.now r) (sym c.refused-in_default.ensures) (memory allowed.permitted allowed.room)
+
 pub returns-in-Err-clause-refused : goal.returns-in-Err-clause-refused
 returns-in-Err-clause-refused c =
     let allowed = c.in-Ok.ensures.permitted in

@@ -6,8 +6,8 @@ use Rattle.ix_proto.proofs.request.read_confirm.Goals as goal
 pub returns : goal.returns
 returns c =
     record {
-      plain = confirm c.in_ok-number.number;
-      valid = c.in_ok-number.ensures.fits;
+      plain = confirm c.in_ok-ticket.ticket;
+      valid = c.in_ok-ticket.ensures.0;
       lends = refl;
-      same = first_and_one c.in_ok-word.ensures c.in_ok-number.ensures.same;
+      same = first_and_one c.in_ok-word.ensures c.in_ok-ticket.ensures.1;
     }

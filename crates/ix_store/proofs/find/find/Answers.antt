@@ -1,10 +1,11 @@
-use Rattle.std.proofs.Common.{List, ℕ, sym, subst}
+use Rattle.std.proofs.Common.{List, ℕ, sym, arith, subst}
+use Rattle.ix_store.specs.declared.fault.OpenFault.TheVariants as fault
 use Rattle.ix_store.specs.declared.find.Found.TheVariants as found
 use Rattle.ix_store.specs.inside.Reading.{IsHeadOf}
 use Rattle.ix_store.specs.inside.Refusals.{Refuses}
-use Rattle.ix_store.specs.inside.Steps.{IsFound, IsJudged}
-use Rattle.ix_store.proofs.Opened.{new_read, refusal_read, refuses_any}
-use Rattle.ix_store.proofs.Told.{of_told, to_told}
+use Rattle.ix_store.specs.inside.Steps.{ClosesWith, IsFound, IsJudged}
+use Rattle.ix_store.proofs.Opened.{full_read, new_read, refusal_read, refuses_any}
+use Rattle.ix_store.proofs.Told.{made, of_told, to_told}
 use Rattle.ix_store.proofs.find.find.Goals as goal
 
 -- the front wasn't read
@@ -33,3 +34,26 @@ returns-in-Err-judge-clause-file g c =
     let same : IsHeadOf c.deref.result.now told.file =
     subst (λ (b : List ℕ). IsHeadOf b told.file) (sym c.deref.ensures.value) is_head in
     refusal_read c.deref.result.now told.file c.args.text.now same _ c.in-Err-judge.ensures)
+
+-- there is no room for a boot
+pub returns-then-kept-ge-MOST_BOOTS-clause-file : goal.returns-then-kept-ge-MOST_BOOTS-clause-file
+returns-then-kept-ge-MOST_BOOTS-clause-file g c =
+    let text = c.args.text.now in
+    let front = c.deref.result.now in
+    let kept = c.in-Ok-read_records.kept in
+    to_told (λ file. Refuses file text fault.Many)
+    (g.S.Site.state c.args.site.now).disk (λ told is.
+    let there = made _ _ _ told is c.in-Ok.ensures.reads.stays in
+    let is_head = of_told _ _ told is c.in-Ok.ensures.head in
+    let same : IsHeadOf front told.file =
+    subst (λ (b : List ℕ). IsHeadOf b told.file) (sym c.deref.ensures.value) is_head in
+    let judged = subst (IsJudged front text) c.in-Ok-Some.field-0-is c.in-Ok-Some.ensures in
+    let closes = of_told (λ file. ClosesWith file c.in-Ok-Some.first kept.history.items kept.marks kept.gate)
+    _ there.disk there.told c.in-Ok-read_records.ensures.file in
+    let most = c.in-Ok-read_records.ensures.sound.boots in
+    let full = c.if-kept-ge-MOST_BOOTS.true in
+    full_read front told.file text same c.in-Ok-Some.first judged kept.history.items kept.marks
+    kept.gate
+    (subst (λ (f : List ℕ). ClosesWith f c.in-Ok-Some.first kept.history.items kept.marks kept.gate)
+    there.makes closes)
+    (omega arith))

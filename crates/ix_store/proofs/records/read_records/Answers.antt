@@ -1,18 +1,18 @@
-use Rattle.std.proofs.Common.{◌≡◌, ◌+◌, ◌++◌, ◌∷◌, [], length, take, drop}
-use Rattle.std.proofs.Common.{refl, sym, ◌∙◌, ap, subst, arith, rules}
+use Rattle.std.proofs.Common.{◌≡◌, ◌+◌, ◌<◌, length, take, drop}
+use Rattle.std.proofs.Common.{refl, sym, ◌∙◌, ap, subst, arith}
 use Rattle.std.proofs.lemmas.List.{take_rest}
 use Rattle.ix_journal.specs.History.{PlainHistory}
 use Rattle.ix_journal.specs.Kept.{Kept, empty_at, extended}
-use Rattle.ix_journal.specs.Slide.{after}
-use Rattle.ix_journal.specs.Records.{ClosesAt}
+use Rattle.ix_journal.specs.declared.entries.Marks.{Marks}
+use Rattle.ix_journal.specs.Slide.{Leaves}
 use Rattle.ix_store.specs.declared.fault.OpenFault.TheVariants as fault
 use Rattle.ix_store.specs.inside.Reading.{Feeds}
-use Rattle.ix_store.specs.inside.Steps.{StopsReading}
+use Rattle.ix_store.specs.inside.Steps.{ClosesWith, StopsReading}
 use Rattle.ix_store.proofs.ReadCalls.{reads_none, reads_join}
 use Rattle.ix_store.proofs.Reading.{IsOnWay, Reached, starts_on_way, starts_reached}
 use Rattle.ix_store.proofs.Reading.{fed_on_way, fed_less, fed_reached}
-use Rattle.ix_store.proofs.Reading.{lent_on_way, lent_reached, lent_many}
-use Rattle.ix_store.proofs.Reading.{closes, damages, damage_many}
+use Rattle.ix_store.proofs.Reading.{next_on_way, next_less, next_reached, lent_many, text_lent}
+use Rattle.ix_store.proofs.Reading.{closes, damages, steps_left, stops_keeping}
 use Rattle.ix_store.proofs.Told.{of_told, to_told, made}
 use Rattle.ix_store.proofs.records.read_records.Goals as goal
 
@@ -50,7 +50,7 @@ records-init g c =
 pub records-smaller-in-Ok : goal.records-smaller-in-Ok
 records-smaller-in-Ok g c =
     let now = c.records in
-    let same = c.next.follows.holds-at-none ∙ ap (after now.slide) c.in-More.is in
+    let same = subst (λ a. Leaves now.slide a c.next.follows.lender-at-none) c.in-More.is c.next.follows.holds-at-none in
     let fed = subst (λ (k : Kept). Feeds (g.S.Site.state now.site).disk now.at k c.in-Ok.next
     c.feed.new.slide) same c.in-Ok.ensures.fed in
     fed_less c.args.first now.at now.history.items now.slide c.in-More.ensures.tells _ _ _ fed
@@ -62,7 +62,7 @@ records-preserved-in-Ok g c =
     let tells = c.in-More.ensures.tells in
     let next = c.in-Ok.next in
     let new = c.feed.new.slide in
-    let same = c.next.follows.holds-at-none ∙ ap (after now.slide) c.in-More.is in
+    let same = subst (λ a. Leaves now.slide a c.next.follows.lender-at-none) c.in-More.is c.next.follows.holds-at-none in
     let fed = subst (λ (k : Kept). Feeds (g.S.Site.state now.site).disk now.at k next new)
     same c.in-Ok.ensures.fed in
     record {
@@ -78,79 +78,75 @@ records-preserved-in-Ok g c =
     }
 
 -- a record is lent
+pub of_text-requires : goal.of_text-requires
+of_text-requires g c = text_lent c.records.slide c.in-Record.text c.in-Record.ensures.tells
+
+pub records-smaller : goal.records-smaller
+records-smaller g c =
+    let now = c.records in
+    let new = c.next.follows.lender-at-none in
+    let leaves = subst (λ a. Leaves now.slide a new) c.in-Record.is c.next.follows.holds-at-none in
+    subst (λ (h : PlainHistory). steps_left h new < steps_left now.history.items now.slide)
+    (sym c.in-Ok-keep.ensures.kept)
+    (next_less now.slide new c.in-Record.text c.of_text.result c.of_text.ensures leaves c.args.first
+    now.at now.history.items c.in-Ok-keep.ensures.may now.invariant.way)
+
 pub records-preserved : goal.records-preserved
 records-preserved g c =
     let now = c.records in
+    let items = now.history.items in
+    let new = c.next.follows.lender-at-none in
     let text = c.in-Record.text in
-    let tells = c.in-Record.ensures.tells in
-    let action = c.of_text.result in
-    let valid = c.of_text.ensures.valid in
-    let spelled = c.of_text.ensures.same in
-    let same = c.next.follows.holds-at-none ∙ ap (after now.slide) c.in-Record.is in
-    let pushed : c.push.new.self.items ≡ now.history.items ++ action ∷ [] = search rules in
-    let few : length now.history.items ≡ 1000000 → ⊥ = λ e.
-    c.if-len-eq-MOST_RECORDS.false (c.len.ensures ∙ (now.history.ok.0 ∙ e)) in
+    let entry = c.of_text.result in
+    let leaves = subst (λ a. Leaves now.slide a new) c.in-Record.is c.next.follows.holds-at-none in
+    let pushed = c.in-Ok-keep.ensures.kept in
     record {
       reads = now.invariant.reads;
       counts = now.invariant.counts;
-      way = subst (λ (w : PlainHistory). IsOnWay c.args.first now.at w c.next.follows.lender-at-none)
-          (sym pushed)
-          (subst (IsOnWay c.args.first now.at (now.history.items ++ action ∷ [])) (sym same)
-          (lent_on_way c.args.first now.at now.history.items now.slide text tells action valid
-          spelled few now.invariant.way));
-      reached = to_told
-          (Reached c.args.first now.at c.push.new.self.items c.next.follows.lender-at-none)
+      way = subst (λ (h : PlainHistory). IsOnWay c.args.first now.at h new) (sym pushed)
+          (next_on_way now.slide new text entry c.of_text.ensures leaves c.args.first now.at items
+          c.in-Ok-keep.ensures.may now.invariant.way);
+      reached = to_told (Reached c.args.first now.at c.keep.new.history.items new)
           (g.S.Site.state c.args.site.now).disk (λ told is.
-          subst (λ (w : PlainHistory).
-          Reached c.args.first now.at w c.next.follows.lender-at-none told.file)
-          (sym pushed)
-          (subst (λ (k : Kept). Reached c.args.first now.at (now.history.items ++ action ∷ []) k
-          told.file) (sym same)
-          (lent_reached c.args.first now.at now.history.items now.slide text tells action valid
-          spelled told.file (of_told _ _ told is now.invariant.reached))));
+          subst (λ (h : PlainHistory). Reached c.args.first now.at h new told.file) (sym pushed)
+          (next_reached now.slide new text entry c.of_text.ensures leaves c.args.first now.at items
+          told.file (of_told _ _ told is now.invariant.reached)));
     }
 
--- a million records are open, and so is the gate behind them
-pub returns-then-len-eq-MOST_RECORDS-clause-file :
-    goal.returns-then-len-eq-MOST_RECORDS-clause-file
-returns-then-len-eq-MOST_RECORDS-clause-file g c =
+-- a record isn't kept
+pub returns-in-Err-keep-clause-file : goal.returns-in-Err-keep-clause-file
+returns-in-Err-keep-clause-file g c =
     let now = c.records in
-    let most : length now.history.items ≡ 1000000 =
-    sym now.history.ok.0 ∙ sym c.len.ensures ∙ c.if-len-eq-MOST_RECORDS.true in
-    to_told (StopsReading c.args.first fault.Many) (g.S.Site.state c.args.site.now).disk
+    let items = now.history.items in
+    let new = c.next.follows.lender-at-none in
+    let leaves = subst (λ a. Leaves now.slide a new) c.in-Record.is c.next.follows.holds-at-none in
+    to_told (StopsReading c.args.first c.in-Err-keep.fault) (g.S.Site.state c.args.site.now).disk
     (λ told is.
-    lent_many c.args.first now.at now.history.items now.slide c.in-Record.text
-    c.in-Record.ensures.tells most told.file (of_told _ _ told is now.invariant.reached))
+    stops_keeping c.args.first (length items) told.file c.of_text.result c.in-Err-keep.fault
+    c.in-Err-keep.ensures.refused
+    (lent_many now.slide new c.in-Record.text c.of_text.result c.of_text.ensures leaves c.args.first
+    now.at items told.file (of_told _ _ told is now.invariant.reached) now.invariant.way))
 
+-- damage, or a closed gate
 pub returns-in-Damaged-clause-file : goal.returns-in-Damaged-clause-file
 returns-in-Damaged-clause-file g c =
     let now = c.records in
-    let counted = c.if-len-eq-MOST_RECORDS-2.true in
-    let few = now.invariant.way.few in
-    to_told (StopsReading c.args.first fault.Many) (g.S.Site.state c.args.site.now).disk
-    (λ told is.
-    damage_many c.args.first now.at now.history.items now.slide told.file
-    (of_told _ _ told is now.invariant.reached) few c.in-Damaged.at c.in-Damaged.ensures.tells
-    (omega (arith, now.history.ok.0)))
-
--- damage, or a closed gate
-pub returns-in-Damaged-2-clause-file : goal.returns-in-Damaged-2-clause-file
-returns-in-Damaged-2-clause-file g c =
-    let now = c.records in
-    let counted = c.if-len-eq-MOST_RECORDS-2.false in
-    let few = now.invariant.way.few in
     to_told (StopsReading c.args.first (fault.Damaged c.in-Damaged.at))
     (g.S.Site.state c.args.site.now).disk (λ told is.
     damages c.args.first now.at now.history.items now.slide told.file
-    (of_told _ _ told is now.invariant.reached) few c.in-Damaged.at c.in-Damaged.ensures.tells
-    (λ most. counted (omega (arith, now.history.ok.0))))
+    (of_told _ _ told is now.invariant.reached) now.invariant.way c.in-Damaged.at
+    c.in-Damaged.ensures.tells)
 
 pub returns-in-Closed-clause-file : goal.returns-in-Closed-clause-file
 returns-in-Closed-clause-file g c =
     let now = c.records in
     let items = now.history.items in
-    to_told (λ file. ClosesAt file c.args.first items c.in-Closed.gate)
+    let gate = c.in-Closed.gate in
+    let new = c.next.follows.lender-at-none in
+    let same = subst (λ a. Leaves now.slide a new) c.in-Closed.is c.next.follows.holds-at-none in
+    let marks = c.marks-marks.ensures ∙ ap (λ (k : Kept). k.marks) same in
+    to_told (λ file. ClosesWith file c.args.first items c.marks-marks.result gate)
     (g.S.Site.state c.args.site.now).disk (λ told is.
-    closes c.args.first now.at items now.slide told.file
-    (of_told _ _ told is now.invariant.reached) now.invariant.way.few c.in-Closed.gate
-    c.in-Closed.ensures.tells)
+    subst (λ (m : Marks). ClosesWith told.file c.args.first items m gate) (sym marks)
+    (closes c.args.first now.at items now.slide told.file
+    (of_told _ _ told is now.invariant.reached) now.invariant.way gate c.in-Closed.ensures.tells))

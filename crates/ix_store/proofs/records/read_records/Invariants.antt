@@ -4,7 +4,7 @@ use Rattle.ix_store.specs.inside.Reading.{OnlyReads}
 use Rattle.ix_store.proofs.Reading.{IsOnWay, Reached, steps_left}
 use Rattle.ix_store.proofs.records.read_records.Given as goal
 
--- calls so far only read, none of them failed, and where the file is told, the Slide stands behind these records of it
+-- calls so far only read, none of them failed, and where the file is told, the Slide stands behind records of it that tell this history
 abbrev pub invariant-records : goal.invariant-records
 invariant-records g l = record {
   reads : OnlyReads (g.S.Site.state l.fn.site) (g.S.Site.state l.site)

@@ -11,8 +11,8 @@ returns-in-None-clause-steps c =
       record {
         sound = c.if-self.false;
         open_there = gate_read _ _ _ records.within c.if-self-2.false;
-        no_record = λ action w. c.in-None.ensures action
-            (subst (λ (rest : List ℕ). BeginsWithRecord rest action)
+        no_record = λ entry follows w. c.in-None.ensures entry follows
+            (subst (λ (rest : List ℕ). BeginsWithRecord rest entry)
             (sym (take_rest records.bytes.now (records.gate + 1))) w);
       },
       refl,

@@ -23,7 +23,7 @@ returns-in-Ok g c =
     let after = c.append.new.site in
     confirmed_over c.args.ticket c.in-Taken.action c.args.self.now _ (g.S.Site.state site) (g.S.Site.state after) (g.S.Site.crashes site) (g.S.Site.crashes after)
     (g.met.S.Site.lawful after) c.requires.fits c.in-Taken.ensures.takes c.append.ensures.calls c.append.ensures.images
-    c.commit.result c.commit.ensures.commits c.in-Ok.ensures.appended c.in-Ok.ensures.works
+    c.commit.result c.commit.ensures.commits c.in-Ok.ensures.appended c.in-Ok.ensures.spent c.in-Ok.ensures.works
 
 pub returns-in-Err : goal.returns-in-Err
 returns-in-Err g c =

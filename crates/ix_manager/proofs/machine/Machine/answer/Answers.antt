@@ -6,7 +6,7 @@ use Rattle.ix_proto.specs.declared.reply.Reply.TheVariants.{Stopping}
 use Rattle.ix_manager.specs.Machine.{Step, stopping}
 use Rattle.ix_manager.specs.inside.Core.{Core}
 use Rattle.ix_manager.proofs.Requesting.{OfEach, ask_is, may_is, watch_is, drop_is, stop_is}
-use Rattle.ix_manager.proofs.HistoryLemmas.{does_history, poll_history}
+use Rattle.ix_manager.proofs.HistoryLemmas.{does_history, poll_history, step_reserves, poll_reserves}
 use Rattle.ix_manager.proofs.machine.Machine.answer.Goals as goal
 
 -- the step of a request that was answered by one reply
@@ -70,3 +70,19 @@ returns-in-Drop-clause-history c = does_history c.args.self.now c.drop_watch.new
 
 pub returns-in-Poll-clause-history : goal.returns-in-Poll-clause-history
 returns-in-Poll-clause-history c = poll_history c.args.self.now c.poll.new.self _ c.poll.result c.poll.ensures
+
+-- each may reserve the next ticket
+pub returns-in-Ask-clause-tickets : goal.returns-in-Ask-clause-tickets
+returns-in-Ask-clause-tickets c = step_reserves c.ask.ensures.step
+
+pub returns-in-Cancel-clause-tickets : goal.returns-in-Cancel-clause-tickets
+returns-in-Cancel-clause-tickets c = step_reserves c.cancel.ensures.step
+
+pub returns-in-Watch-clause-tickets : goal.returns-in-Watch-clause-tickets
+returns-in-Watch-clause-tickets c = step_reserves c.watch.ensures.step
+
+pub returns-in-Drop-clause-tickets : goal.returns-in-Drop-clause-tickets
+returns-in-Drop-clause-tickets c = step_reserves c.drop_watch.ensures.step
+
+pub returns-in-Poll-clause-tickets : goal.returns-in-Poll-clause-tickets
+returns-in-Poll-clause-tickets c = poll_reserves c.args.self.now c.poll.new.self _ c.poll.result c.poll.ensures

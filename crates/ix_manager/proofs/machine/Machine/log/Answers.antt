@@ -17,7 +17,7 @@ returns-in-Some-get c =
     let i = c.self.inside in
     let next : c.args.number ≡ c.in-Some.index + 1 = let h = c.in-Some.ensures in omega arith in
     seen_same _ _ _ _ _ c.self.view_is refl
-    (entry_does i.engine i.slot i.watches i.moment i.ticket c.args.number c.in-Some.index c.in-Some-get.action.now next
+    (entry_does i.engine i.tickets.items i.slot i.watches i.moment i.boot i.number c.self.invariant.each c.args.number c.in-Some.index c.in-Some-get.action.now next
     (subst (λ (w : Word). c.in-Some.index < length w) c.history.ensures.value c.in-Some-get.ensures.lookup.3.0)
     (subst (λ (w : Word). c.in-Some-get.action.now ≡ get_or w c.in-Some.index c.in-Some-get.action.now) c.history.ensures.value
     (c.in-Some-get.ensures.lookup.3.1 c.in-Some-get.action.now)))
@@ -27,5 +27,5 @@ returns-in-None c =
     let i = c.self.inside in
     let next : c.args.number ≡ c.in-Some.index + 1 = let h = c.in-Some.ensures in omega arith in
     seen_same _ _ _ _ _ c.self.view_is c.refused-in-None.ensures
-    (no_entry_does i.engine i.slot i.watches i.moment i.ticket c.args.number c.in-Some.index next
+    (no_entry_does i.engine i.tickets.items i.slot i.watches i.moment i.boot i.number c.self.invariant.each c.args.number c.in-Some.index next
     (subst (λ (w : Word). length w ≤ c.in-Some.index) c.history.ensures.value c.in-None.ensures.lookup.3))

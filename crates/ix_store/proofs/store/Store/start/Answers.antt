@@ -1,5 +1,7 @@
 use Rattle.std.proofs.Common.{◌≡◌, ◌+◌, ℕ, List, length, ◌∙◌, sym, ap, arith, subst}
-use Rattle.ix_journal.specs.Recovery.{IsJournal}
+use Rattle.ix_journal.specs.Entries.{fresh}
+use Rattle.ix_journal.specs.Recovery.{IsJournalWith}
+use Rattle.ix_journal.specs.declared.entries.Marks.{Marks}
 use Rattle.ix_journal.specs.History.{PlainHistory}
 use Rattle.ix_store.specs.Opening.{IsNew}
 use Rattle.ix_store.specs.inside.Opens.{Opens}
@@ -18,15 +20,16 @@ pub invariant_of-store : goal.invariant_of-store
 invariant_of-store g c =
     let kept = c.in-Ok-Journal.kept in
     let sound = found_sound _ kept c.in-Ok-Journal.field-0-is c.in-Ok-Journal.ensures.sound in
-    let near = sound.0 in
+    let near = sound.0.near in
+    let actions = sound.0.actions in
     let counts : c.len.result ≡ length kept.history.items = c.len.ensures ∙ kept.history.ok.0 in
-    record { near = omega arith }
+    record { near = omega arith; actions = omega arith; boots = sound.0.boots }
 
 pub returns-in-Ok-Journal-clause-opened : goal.returns-in-Ok-Journal-clause-opened
 returns-in-Ok-Journal-clause-opened g c told is =
     let kept = c.in-Ok-Journal.kept in
     let text = c.args.text.now in
-    opens_journal told.file text _ kept.gate
+    opens_journal told.file text _ kept.marks kept.gate
     (found_journal text _ kept told.file c.in-Ok-Journal.field-0-is
     (of_told _ _ told is c.in-Ok-Journal.ensures.file))
 
@@ -37,14 +40,14 @@ returns-in-Ok-Journal-clause-fits g c =
     fits_only _ _ _ text kept.history.items
     (c.len.ensures ∙ kept.history.ok.0) c.in-Ok-Journal.ensures.settled (λ disk told.
     let before = came _ _ _ disk told c.sync_and_find.ensures.stays in
-    subst (λ (f : List ℕ). IsJournal f text kept.history.items kept.gate) (sym before.makes)
+    subst (λ (f : List ℕ). IsJournalWith f text kept.history.items kept.marks kept.gate) (sym before.makes)
     (found_journal text _ kept before.disk.file c.in-Ok-Journal.field-0-is
     (of_told _ _ before.disk before.told c.in-Ok-Journal.ensures.file)))
 
 pub returns-in-Ok-Journal-clause-valid : goal.returns-in-Ok-Journal-clause-valid
 returns-in-Ok-Journal-clause-valid g c =
     (found_sound _ c.in-Ok-Journal.kept c.in-Ok-Journal.field-0-is
-    c.in-Ok-Journal.ensures.sound).1
+    c.in-Ok-Journal.ensures.sound).0.valid
 
 pub returns-in-Ok-Journal-clause-images : goal.returns-in-Ok-Journal-clause-images
 returns-in-Ok-Journal-clause-images g c told is =
@@ -58,7 +61,7 @@ returns-in-Ok-Journal-clause-made g c =
     makes_weaken Stays (MakesNew text) _ _ (λ told is file same new.
     let journal = found_journal text _ kept told.file c.in-Ok-Journal.field-0-is
     (of_told _ _ told is c.in-Ok-Journal.ensures.file) in
-    absurd (ready_not_new told.file text (journal.first, journal.ready) new))
+    absurd (ready_not_new told.file text (journal.journal.first, journal.journal.ready) new))
     c.sync_and_find.ensures.stays
 
 -- it is to be made anew
@@ -85,8 +88,10 @@ pub returns-in-Ok-clause-opened : goal.returns-in-Ok-clause-opened
 returns-in-Ok-clause-opened g c told is =
     let new = found_new c.args.text.now _ c.in-Ok-New.head told.file c.in-Ok-New.field-0-is
     (of_told _ _ told is c.in-Ok-New.ensures.file) in
-    subst (Opens told.file c.args.text.now) (sym c.new.ensures.items)
-    (opens_new told.file c.args.text.now new.0)
+    let text = c.args.text.now in
+    subst (λ (m : Marks). Opens told.file text c.new.result.items m.boots) (sym c.fresh.ensures)
+    (subst (λ (h : PlainHistory). Opens told.file text h 0) (sym c.new.ensures.items)
+    (opens_new told.file text new.0))
 
 pub returns-in-Ok-clause-fits : goal.returns-in-Ok-clause-fits
 returns-in-Ok-clause-fits g c =
@@ -95,8 +100,10 @@ returns-in-Ok-clause-fits g c =
     fits_only _ _ _ text c.new.result.items (ap length none) c.in-Ok.ensures.settled
     (λ disk told.
     let before = came _ _ _ disk told c.in-Ok.ensures.begun in
-    subst (λ (w : PlainHistory). IsJournal disk.file text w (7 + length text)) none
-    (made_anew text c.requires.short disk.file before.makes))
+    subst (λ (m : Marks). IsJournalWith disk.file text c.new.result.items m (7 + length text))
+    (sym c.fresh.ensures)
+    (subst (λ (w : PlainHistory). IsJournalWith disk.file text w fresh (7 + length text)) none
+    (made_anew text c.requires.short disk.file before.makes)))
 
 pub returns-in-Ok-clause-made : goal.returns-in-Ok-clause-made
 returns-in-Ok-clause-made g c =

@@ -1,0 +1,5 @@
+use Rattle.ix_journal.proofs.OutcomeLaws as lemmas
+use Rattle.ix_journal.proofs.laws.one_list.Goals as goal
+
+pub returns : goal.returns
+returns c = lemmas.one_list
