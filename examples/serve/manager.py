@@ -108,27 +108,31 @@ class Engine:
         self.tell = tell or (lambda line, reply: None)
         self.waiting, self.lock = set(), threading.Lock()
 
-    def do(self, action, within=None, since=None):
+    def do(self, action, within=None, ticket=None, note=None):
         """Brings the action about, as soon as the rules permit it, and gives its number in the history.
 
         It is confirmed as soon as it is granted, so it has to be an instant: a beginning, an end, a decision. After
-        `within` seconds, where that is given, no further try is made. An engine that may have done the action before
-        it was started again gives `since`, a length of the history from before that: then the log is read first.
+        `within` seconds, where that is given, no further try is made. An engine that may be started again itself gives
+        `note`: it is called with each ticket before that is confirmed, and keeps it. After its start it gives the kept
+        one as `ticket`, and the manager is asked first what became of it.
         """
         pause = Pause(None if within is None else time.monotonic() + within, self.pause)
-        lost = since  # the length of the history before a confirm whose reply was lost
+        lost = ticket  # the ticket of a confirm whose reply was lost
         while not pause.is_over():
             try:
-                with self.turn() as (connection, length):
+                with self.turn() as connection:
                     if lost is not None:
-                        number = self.find(connection, action, lost, length)
+                        number = self.settle(connection, action, lost)
                         if number is not None:
                             return number
                         lost = None
                     reply = self.send(connection, f"ask {action} {self.lease}")[0]
                     if reply.startswith("granted "):
-                        lost = length
-                        reply = self.send(connection, f"confirm {reply.split()[1]}")[0]
+                        granted = reply.split()[1]
+                        if note is not None:
+                            note(granted)
+                        lost = granted
+                        reply = self.send(connection, f"confirm {granted}")[0]
                         if reply.startswith("confirmed "):
                             return int(reply.split()[1])
                         self.check(action, reply, may_count=True)
@@ -141,6 +145,20 @@ class Engine:
             else:
                 pause.wait()
         raise TooLate(action, "the time is over", may_count=lost is not None)
+
+    def settle(self, connection, action, ticket):
+        """The number of the ticket's action in the history, or None where it isn't there and never will be."""
+        reply = self.send(connection, f"outcome {ticket}")[0]
+        if reply == "outcome open":
+            reply = self.send(connection, f"confirm {ticket}")[0]
+            if reply.startswith("refused 3"):  # the lease ended meanwhile
+                return None
+        if reply == "outcome never":
+            return None
+        if "confirmed " in reply:
+            return int(reply.split()[-1])
+        # 30: this manager's journal never granted the ticket, as after a backup was put back.
+        raise ForPeople(action, reply, may_count=True)
 
     @contextlib.contextmanager
     def activity(self, begin, end, undo=None):
@@ -159,15 +177,15 @@ class Engine:
 
     @contextlib.contextmanager
     def turn(self):
-        """A connection that the manager reads, and the length of the history. No other client is read until it closes.
+        """A connection that the manager reads. No other client is read until it closes.
 
         Only `status` is sent before the manager has come to it, so that an engine which gives up while it waits leaves
         no ask behind that is granted to nobody.
         """
         with Connection(self.path, self.limit) as connection:
-            status = self.send(connection, "status")[0]
+            self.send(connection, "status")
             connection.socket.settimeout(REPLY)
-            yield connection, int(status.split()[2])
+            yield connection
 
     def length(self):
         """The length of the history."""
@@ -182,16 +200,6 @@ class Engine:
         reply = connection.request(line)
         self.tell(line, reply)
         return reply
-
-    def find(self, connection, action, before, length):
-        """The action's number among those behind the first `before`, or None.
-
-        The log says what happened and not who asked for it, so an action has to be one engine's alone.
-        """
-        for number in range(before + 1, length + 1):
-            if self.send(connection, f"log {number}")[0] == f"entry {number} {action}":
-                return number
-        return None
 
     def wait_for(self, action, pause):
         """Waits until the action is allowed, or may be. The watch has a name that nobody else polls."""

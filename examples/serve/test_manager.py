@@ -19,7 +19,10 @@ STATUS = ("status", "status partial 7 nodes 21")
 LATER = ("status", "status partial 9 nodes 21")
 WATCH = f"watch e_1 {A}"
 DROPPED = [(f"drop e_1 {A}", "dropped")]
-DONE = [STATUS, (ASK, "granted 3"), ("confirm 3", "confirmed 8")]
+DONE = [STATUS, (ASK, "granted 1-3"), ("confirm 1-3", "confirmed 8")]
+LOST = [STATUS, (ASK, "granted 1-3"), ("confirm 1-3", "close")]
+OUTCOME = "outcome 1-3"
+AGAIN = [(ASK, "granted 2-1"), ("confirm 2-1", "confirmed 10")]
 REFUSED = [STATUS, (ASK, "refused 21 not permitted")]
 CLOSE, SILENCE = "close", "silence"
 
@@ -87,16 +90,16 @@ class TestEngine(unittest.TestCase):
             ("a poll is lost", [
                 REFUSED, [(WATCH, "watching no")], [("poll e_1", CLOSE)], [(WATCH, "watching yes")], DROPPED, DONE], 8),
             ("no watches are left", [REFUSED, [(WATCH, "refused 40 watches full")], DROPPED, DONE], 8),
-            ("expired", [[STATUS, (ASK, "granted 2"), ("confirm 2", "refused 31 expired")], DONE], 8),
+            ("expired", [[STATUS, (ASK, "granted 1-2"), ("confirm 1-2", "refused 31 expired")], DONE], 8),
             ("the turn is lost", [[("status", CLOSE)], DONE], 8),
             ("the ask is lost", [[STATUS, (ASK, CLOSE)], DONE], 8),
-            ("the confirm is lost and counts", [
-                [STATUS, (ASK, "granted 3"), ("confirm 3", CLOSE)],
-                [LATER, ("log 8", "entry 8 call(ben,lab)"), ("log 9", f"entry 9 {A}")]], 9),
-            ("the confirm is lost and doesn't count", [
-                [STATUS, (ASK, "granted 3"), ("confirm 3", CLOSE)],
-                [LATER, ("log 8", "entry 8 call(ben,lab)"), ("log 9", "entry 9 call(eve,lab)"),
-                 (ASK, "granted 1"), ("confirm 1", "confirmed 10")]], 10),
+            ("the confirm is lost and counts", [LOST, [LATER, (OUTCOME, "outcome confirmed 9")]], 9),
+            ("the confirm is lost and the reservation is open", [
+                LOST, [LATER, (OUTCOME, "outcome open"), ("confirm 1-3", "confirmed 10")]], 10),
+            ("it is open, and ends meanwhile", [
+                LOST, [LATER, (OUTCOME, "outcome open"), ("confirm 1-3", "refused 31 expired"), *AGAIN]], 10),
+            ("the confirm is lost and doesn't count", [LOST, [LATER, (OUTCOME, "outcome never"), *AGAIN]], 10),
+            ("the answer is lost too", [LOST, [LATER, (OUTCOME, CLOSE)], [LATER, (OUTCOME, "outcome confirmed 9")]], 9),
         ]
         for name, connections, number in rows:
             with self.subTest(name):
@@ -108,10 +111,10 @@ class TestEngine(unittest.TestCase):
             ("refused 23 full", None, False),
             ("refused 90 memory", None, False),
             ("refused 12 action", None, False),
-            ("granted 3", "refused 91 disk", True),
+            ("granted 1-3", "refused 91 disk", True),
         ]
         for reply, confirmed, may_count in rows:
-            row = [STATUS, (ASK, reply)] + ([("confirm 3", confirmed)] if confirmed else [])
+            row = [STATUS, (ASK, reply)] + ([("confirm 1-3", confirmed)] if confirmed else [])
             with self.subTest(reply), self.assertRaises(ForPeople) as raised:
                 self.play([row], lambda engine: engine.do(A))
             self.assertEqual(raised.exception.may_count, may_count)
@@ -119,18 +122,26 @@ class TestEngine(unittest.TestCase):
     def test_no_ask_is_sent_before_the_turn_came(self):
         self.assertEqual(self.play([[("status", SILENCE)], DONE], lambda engine: engine.do(A), turn=0.2), 8)
 
-    def test_an_engine_that_was_started_again_reads_the_log_first(self):
-        row = [LATER, ("log 8", "entry 8 call(ben,lab)"), ("log 9", f"entry 9 {A}")]
-        self.assertEqual(self.play([row], lambda engine: engine.do(A, since=7)), 9)
+    def test_an_engine_that_was_started_again_asks_for_its_ticket_first(self):
+        noted = []
+        self.assertEqual(self.play([DONE], lambda engine: engine.do(A, note=noted.append)), 8)
+        self.assertEqual(noted, ["1-3"])
+        row = [LATER, (OUTCOME, "outcome confirmed 8")]
+        self.assertEqual(self.play([row], lambda engine: engine.do(A, ticket=noted[0])), 8)
+
+    def test_a_ticket_that_the_journal_never_granted_is_for_people(self):
+        row = [LATER, (OUTCOME, "refused 30 no such ticket")]
+        with self.assertRaises(ForPeople) as raised:
+            self.play([row], lambda engine: engine.do(A, ticket="1-3"))
+        self.assertTrue(raised.exception.may_count)
 
     def test_the_time_of_the_caller(self):
         with self.assertRaises(TooLate) as raised:
             Engine(self.path, "e", pause=0.01).do(A, within=0.1)  # nobody listens
         self.assertFalse(raised.exception.may_count)
-        lost = [STATUS, (ASK, "granted 3"), ("confirm 3", CLOSE)]
         with self.assertRaises(TooLate) as raised:
             # The table has one connection, so nobody listens behind it.
-            self.play([lost], lambda engine: engine.do(A, within=0.2))
+            self.play([LOST], lambda engine: engine.do(A, within=0.2))
         self.assertTrue(raised.exception.may_count)
 
     def test_a_manager_that_comes_later(self):
@@ -143,7 +154,7 @@ class TestEngine(unittest.TestCase):
 
     def test_an_activity_is_two_actions_and_its_undo_a_third(self):
         def confirmed(action, number):
-            return [STATUS, (f"ask {action} 5000", "granted 1"), ("confirm 1", f"confirmed {number}")]
+            return [STATUS, (f"ask {action} 5000", "granted 2-1"), ("confirm 2-1", f"confirmed {number}")]
 
         def work(fails):
             def run(engine):
