@@ -1,7 +1,7 @@
 -- The file is attached, and the manager fits the site.
 use Rattle.std.proofs.Common.{◌≡◌, true}
 use Rattle.ix_manager.specs.inside.OverSite.{FitsSite}
-use Rattle.ix_trials.proofs.tests.events.hand_all.Given as goal
+use Rattle.ix_trials_of_events.proofs.tests.hand_all.Given as goal
 
 abbrev pub invariant-loop-coming : goal.invariant-loop-coming
 invariant-loop-coming g l =

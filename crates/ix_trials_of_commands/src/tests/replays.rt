@@ -1,7 +1,25 @@
-//! What a replay puts.
+//! What a replay puts that begins without a journal.
 ghost use Rattle.std.specs.Prelude.{◌<◌};
 
 use super::*;
+
+const REPLAY: [&str; 4] = ["replay", "expression", "-", "actions"];
+
+// Compares what a replay puts, and its status, with what is wanted.
+fn check_replay(
+    alloc: Global,
+    words: &[&str],
+    expression: &[u8],
+    script: &[u8],
+    status: u8,
+    bytes: &[u8],
+) -> Result<bool, Fail> {
+    let got = run_on(alloc, words, expression, script, None)?;
+    Ok(got.status == status && got.bytes.as_slice() == bytes)
+}
+
+// Each patient has one examination at a time.
+const PATIENTS: &[u8] = b"all $p *(any $x (call($p,$x) - perform($p,$x)))";
 
 // Expressions, scripts, and what a replay puts.
 const REQUESTS: [(&[u8], &[u8], &[u8]); 11] = [

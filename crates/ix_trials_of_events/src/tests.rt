@@ -4,11 +4,41 @@ ghost use Rattle.std.specs.Prelude.{◌≡◌, ◌≤◌, true, IfOk, OnSome};
 ghost use Rattle.ix_manager.specs.inside.OverSite.{FitsSite};
 ghost use Rattle.ix_step.specs.inside.Limits.{most_size};
 
-use super::*;
 use ix_expr::{Atom, Expr, Expression, has_numbers};
 use ix_manager::{Go, Manager, StartFault, Stop};
-use ix_outside::{Event, EventKind};
+use ix_memory::MemorySite;
+use ix_outside::{Event, EventKind, Site};
 use ix_values::Name;
+use std::alloc::{AllocError, Global};
+use std::test::Fail;
+
+// The journal of the first version of `a - b` with the action `a`.
+const OF_A: &[u8] = b"\xA5IXJ1\x00\x05a - b\xA5\x00\x01a\x00";
+
+// The same behind a start.
+const OF_A_BOOTED: &[u8] = b"\xA5IXJ1\x00\x05a - b\xA5\x00\x01a\xA5\x00\x06boot 1\x00";
+
+// One of `a - b` without records.
+const EMPTY: &[u8] = b"\xA5IXJ1\x00\x05a - b\x00";
+
+// The same behind a start in which `a` was confirmed.
+const BOOTED_OF_A: &[u8] = b"\xA5IXJ1\x00\x05a - b\xA5\x00\x06boot 1\xA5\x00\x051-1 a\x00";
+
+// A connection, a moment, and bytes that come then in one piece. Without bytes the connection is
+// closed.
+type Coming<'a> = (u8, u64, &'a [u8]);
+
+// Of each send its connection, a space and its bytes.
+fn sent_by(alloc: Global, site: &MemorySite) -> Result<Vec<u8>, Fail> {
+    let mut sent = Vec::new(alloc);
+    for index in 0..site.sent_len() {
+        let (conn, bytes) = site.sent_at(index);
+        let conn = format!(in alloc; "{conn} ")?;
+        sent.extend_from_slice(conn.as_bytes())?;
+        sent.extend_from_slice(bytes)?;
+    }
+    Ok(sent)
+}
 
 fn atom(text: &[u8]) -> Result<Expr, Fail> {
     let name = Name::read(text).ok_or("not a name")?;

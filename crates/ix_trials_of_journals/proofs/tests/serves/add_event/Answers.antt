@@ -1,6 +1,6 @@
-use Rattle.ix_trials.proofs.Coming.{come_push}
-use Rattle.ix_trials.proofs.tests.serves.add_event.Goals.{in-Ok, in-Err}
-use Rattle.ix_trials.proofs.tests.serves.add_event.Goals as goal
+use Rattle.ix_trials_of_journals.proofs.Coming.{come_push}
+use Rattle.ix_trials_of_journals.proofs.tests.serves.add_event.Goals.{in-Ok, in-Err}
+use Rattle.ix_trials_of_journals.proofs.tests.serves.add_event.Goals as goal
 
 pub returns : goal.returns
 returns c = record {

@@ -1,4 +1,4 @@
-//! The top call and what it stands on, over devices in memory.
+//! The top call over devices in memory, on journals.
 ghost use Rattle.std.specs.Prelude.{◌≡◌, false, IfOk};
 
 use ix_manage::manage;
@@ -100,23 +100,6 @@ fn run_from(
     Ok((ended, site.image().to_vec(alloc)?))
 }
 
-// The same without a journal before.
-fn run_on(
-    alloc: Global,
-    words: &[&str],
-    expression: &[u8],
-    actions: &[u8],
-    failing: Option<u64>,
-) -> Result<Ended, Fail> {
-    let before = Before {
-        journal: b"",
-        call: None,
-        put: failing,
-    };
-    let (ended, _) = run_from(alloc, words, expression, actions, before)?;
-    Ok(ended)
-}
-
 // A connection, a moment, and bytes that come then in one piece. Without bytes the connection is
 // closed.
 type Coming<'a> = (u8, u64, &'a [u8]);
@@ -133,34 +116,7 @@ fn sent_by(alloc: Global, site: &MemorySite) -> Result<Vec<u8>, Fail> {
     Ok(sent)
 }
 
-const TRACE: [&str; 3] = ["trace", "expression", "actions"];
-
-// Compares what is put, and the status, with what is wanted.
-fn check(
-    alloc: Global,
-    expression: &[u8],
-    actions: &[u8],
-    status: u8,
-    bytes: &[u8],
-) -> Result<bool, Fail> {
-    let got = run_on(alloc, &TRACE, expression, actions, None)?;
-    Ok(got.status == status && got.bytes.as_slice() == bytes)
-}
-
 const REPLAY: [&str; 4] = ["replay", "expression", "-", "actions"];
-
-// Compares what a replay puts, and its status, with what is wanted.
-fn check_replay(
-    alloc: Global,
-    words: &[&str],
-    expression: &[u8],
-    script: &[u8],
-    status: u8,
-    bytes: &[u8],
-) -> Result<bool, Fail> {
-    let got = run_on(alloc, words, expression, script, None)?;
-    Ok(got.status == status && got.bytes.as_slice() == bytes)
-}
 
 // Each patient has one examination at a time.
 const PATIENTS: &[u8] = b"all $p *(any $x (call($p,$x) - perform($p,$x)))";
@@ -175,9 +131,6 @@ const OF_A: &[u8] = b"\xA5IXJ1\x00\x05a - b\xA5\x00\x01a\x00";
 // The same behind a start.
 const OF_A_BOOTED: &[u8] = b"\xA5IXJ1\x00\x05a - b\xA5\x00\x01a\xA5\x00\x06boot 1\x00";
 
-// One of `a - b` without records.
-const EMPTY: &[u8] = b"\xA5IXJ1\x00\x05a - b\x00";
-
 // The same before that action.
 const BEFORE_A: &[u8] = b"\xA5IXJ1\x00\x05a - b\x7F\x00\x01a\x00";
 
@@ -190,13 +143,5 @@ const NEW: &[u8] = b"\xA5IXJ2\x00\x05a - b\xA5\x00\x06boot 1\x00";
 // The same behind a run in which `a` was confirmed.
 const NEW_OF_A: &[u8] = b"\xA5IXJ2\x00\x05a - b\xA5\x00\x06boot 1\xA5\x00\x051-1 a\x00";
 
-mod bounds;
-mod events;
-mod follows;
 mod journals;
-mod refusals;
-mod replays;
 mod serves;
-mod simplifies;
-mod traces;
-mod works;
