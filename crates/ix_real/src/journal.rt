@@ -1,5 +1,9 @@
 //! The file of a site: how it is opened, and reads that come in pieces.
-ghost use Rattle.std.specs.Prelude.{◌≤◌, length, IfOk};
+ghost use Rattle.std.specs.Prelude.{◌≡◌, ℕ, ◌+◌, ◌<◌, ◌≤◌, List, length, take, None, IfOk};
+ghost use Rattle.std.specs.Io.{ReadsAtMost};
+ghost use Rattle.std.specs.Io.KnownBytes.{Consumes, IsAtEnd};
+ghost use Rattle.std.specs.declared.option.Option.{Option};
+ghost use Rattle.ix_real.specs.inside.Places.{known_from};
 
 use std::fs::{File, OpenOptions};
 use std::io::ErrorKind;
@@ -36,16 +40,48 @@ fn sync_folder(rt: &impl rt::Files<File = File>, name: &str) -> io::Result<()> {
     File::open(rt, folder)?.sync_all()
 }
 
-/// Reads from `at` on until the buffer is full or the file ends, and gives the number of bytes.
-pub(crate) fn fill_at(file: &File, at: u64, buf: &mut [u8]) -> io::Result<usize>
-    ensures { IfOk result (λ count. count ≤ length buf.old) }
+/// A file that is read at a place.
+pub(crate) trait ReadAt {
+    /// The bytes of the file, where they are known.
+    ghost bytes: { Self → Option (List ℕ) };
+
+    /// Reads some bytes from `at` on, and gives their number: none only where the file ends, or
+    /// where the buffer has no room.
+    fn read_some(&self, at: u64, buf: &mut [u8]) -> io::Result<usize>
+        ensures bound { ReadsAtMost result buf.new }
+        ensures bytes { IfOk result (λ count. Consumes (known_from at (bytes self.now))
+            (known_from (at + count) (bytes self.now)) (take count buf.new)) }
+        ensures end { IfOk result (λ count. count ≡ 0 → 0 < length buf.old
+            → IsAtEnd (known_from at (bytes self.now))) };
+}
+
+/// A file of the disk tells no contents.
+impl ReadAt for File {
+    ghost bytes = { λ _. None };
+
+    fn read_some(&self, at: u64, buf: &mut [u8]) -> io::Result<usize> {
+        self.read_at(buf, at)
+    }
+}
+
+/// Reads from `at` on until the buffer is full or the file ends, and gives the number of bytes. A
+/// read that was interrupted, or that gave a part, goes on.
+pub(crate) fn fill_at<F: ReadAt>(file: &F, at: u64, buf: &mut [u8]) -> io::Result<usize>
+    ensures bound { IfOk result (λ count. count ≤ length buf.old) }
+    ensures bytes { IfOk result (λ count. Consumes (known_from at (F.bytes file.now))
+        (known_from (at + count) (F.bytes file.now)) (take count buf.new)) }
+    ensures whole { IfOk result (λ count. count < length buf.old
+        → IsAtEnd (known_from (at + count) (F.bytes file.now))) }
 {
     let mut filled = 0;
     for _ in 0..u64::MAX {
         if filled == buf.len() {
             return Ok(filled);
         }
-        match file.read_at(&mut buf[filled..], at.saturating_add(filled as u64)) {
+        let Some(place) = at.checked_add(filled as u64) else {
+            break;
+        };
+        match file.read_some(place, &mut buf[filled..]) {
             Ok(0) => return Ok(filled),
             Ok(count) => filled += count,
             Err(error) if error.kind() == ErrorKind::Interrupted => {}
@@ -53,4 +89,44 @@ pub(crate) fn fill_at(file: &File, at: u64, buf: &mut [u8]) -> io::Result<usize>
         }
     }
     Err(io::Error::from(ErrorKind::TimedOut))
+}
+
+#[cfg(test)]
+mod tests {
+    use super::*;
+
+    /// Gives a byte at each read.
+    #[derive(Drop)]
+    struct Slow([u8; 6]);
+
+    impl ReadAt for Slow {
+        ghost bytes = { λ _. None };
+
+        fn read_some(&self, at: u64, buf: &mut [u8]) -> io::Result<usize> {
+            if at >= 6 || buf.is_empty() {
+                return Ok(0);
+            }
+            buf[0] = self.0[at as usize];
+            Ok(1)
+        }
+    }
+
+    #[test]
+    fn a_slow_file_fills_the_buffer_or_ends(rt: HostRuntime) {
+        let file = Slow(*b"abcdef");
+        let cases: [(u64, usize, &[u8]); 4] = [
+            (0, 6, b"abcdef--"),
+            (1, 5, b"bcdef---"),
+            (5, 1, b"f-------"),
+            (6, 0, b"--------"),
+        ];
+        for (at, count, bytes) in cases {
+            let mut buf = [b'-'; 8];
+            assert!(rt; fill_at(&file, at, &mut buf).is_ok_and(|read| read == count));
+            assert!(rt; buf.as_slice() == bytes, "from {at}");
+        }
+        let mut buf = [b'-'; 3];
+        assert!(rt; fill_at(&file, 2, &mut buf).is_ok_and(|read| read == 3));
+        assert!(rt; buf == *b"cde");
+    }
 }

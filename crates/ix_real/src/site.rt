@@ -1,5 +1,7 @@
 //! A Unix socket, and one file.
-ghost use Rattle.std.specs.Prelude.{◌≡◌, ◌≤◌, ◌<◌, true, false, length, IfOk, OnErr, refl};
+ghost use Rattle.std.specs.Prelude.{◌≡◌, ◌≤◌, ◌<◌, ◌/◌, ◌^◌, ◌-◌, min, true, false, length};
+ghost use Rattle.std.specs.Prelude.{IfOk, OnErr, refl};
+ghost use Rattle.std.specs.Duration.{as_nanos};
 ghost use Rattle.ix_outside.specs.Contents.{Gives};
 ghost use Rattle.ix_outside.specs.Counts.{Rose};
 ghost use Rattle.ix_outside.specs.Crashes.{LeavesTheSame, OneCall};
@@ -20,8 +22,9 @@ use std::marker::Model;
 use std::net::Net;
 use std::os::unix::fs::FileExt;
 use std::os::unix::net::{UnixListener, UnixStream};
-use std::rt;
 use std::rt::Clock;
+use std::time::Duration;
+use std::{io, rt};
 
 /// A Unix socket that takes one connection after the other, and one file that no other process
 /// writes meanwhile.
@@ -122,10 +125,13 @@ impl<'a, R> RealSite<'a, R> {
     }
 }
 
-/// Milliseconds since 1970, and 0 where the clock can't be read or stands before that: no moment
-/// that a manager knows goes back by it.
-fn moment(clock: &impl Clock) -> u64 {
-    match clock.since_1970() {
+/// The moment that a clock told: milliseconds since 1970, and 0 where the clock can't be read or
+/// stands before that: no moment that a manager knows goes back by it.
+fn moment(told: io::Result<Duration>) -> u64
+    ensures told { IfOk told (λ time. result ≡ min (as_nanos time / 1_000_000) (2 ^ 64 - 1)) }
+    ensures untold { OnErr told (result ≡ 0) }
+{
+    match told {
         Ok(time) => u64::try_from(time.as_millis()).unwrap_or(u64::MAX),
         Err(_) => 0,
     }
@@ -172,7 +178,7 @@ impl<R: rt::Files<File = File> + Net + Clock> Site for RealSite<'_, R> {
         }
         Ok(Event {
             conn: 0,
-            moment: moment(self.rt),
+            moment: moment(self.rt.since_1970()),
             kind,
         })
     }
