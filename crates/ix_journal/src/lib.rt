@@ -7,8 +7,8 @@
 //! two bytes, the higher first. A gate is one byte, and is open exactly where it is A5. What stands
 //! behind the first closed gate means nothing.
 //!
-//! Boots are numbered from 1. A ticket is of the last boot in front of its record, and its number is
-//! above those of earlier records of this boot.
+//! Boots are numbered from 1. A ticket is of the last boot in front of its record, and its number
+//! is above those of earlier records of this boot.
 //!
 //! No reader copies or takes memory: texts are lent slices of the bytes.
 #![tactic(auto)]

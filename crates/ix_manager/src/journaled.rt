@@ -20,9 +20,9 @@ pub(crate) struct Journaled {
 }
 
 impl Journaled {
-    /// Answers that the action of the ticket was done: where its reservation is open, the ticket and
-    /// the action are appended to the journal, and then to the history. Where the disk fails, the
-    /// history and the reservation stay. Takes no memory.
+    /// Answers that the action of the ticket was done: where its reservation is open, the ticket
+    /// and the action are appended to the journal, and then to the history. Where the disk fails,
+    /// the history and the reservation stay. Takes no memory.
     pub(crate) fn confirm<S: Site>(&mut self, ticket: Ticket, site: &mut S) -> Result<Reply, Stop>
         requires attached { (S.state site.old).attached ≡ true }
         requires fits { FitsJournal self.old (S.state site.old) (S.crashes site.old) }

@@ -79,9 +79,9 @@ pub fn told_entries_stay()
     ensures { ToldEntriesStay }
 {}
 
-/// What comes later: the last state of a run; of each event, a state of which a crash may leave what
-/// the images meanwhile keep; and the start from an image that holds the boots of a state and keeps
-/// what a crash in it may leave.
+/// What comes later: the last state of a run; of each event, a state of which a crash may leave
+/// what the images meanwhile keep; and the start from an image that holds the boots of a state and
+/// keeps what a crash in it may leave.
 pub fn later_states_are_these()
     ensures { LaterStatesAreThese }
 {}

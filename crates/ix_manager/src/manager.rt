@@ -86,9 +86,9 @@ impl Manager {
     /// nothing else can refuse, the boot is recorded; no other file is changed. The limit, 1 to
     /// 1,000,000, is the most that the Size of the history's tree may be.
     ///
-    /// The faults are met in their order, but `Disk` and `Memory` at any step; where the initial tree
-    /// is above the limit, no call of the site is made. After these two a journal that was to be made
-    /// anew may be so in part, and after `Disk` the boot may be recorded.
+    /// The faults are met in their order, but `Disk` and `Memory` at any step; where the initial
+    /// tree is above the limit, no call of the site is made. After these two a journal that was to
+    /// be made anew may be so in part, and after `Disk` the boot may be recorded.
     pub fn start<S: Site>(
         alloc: Global,
         site: &mut S,

@@ -129,9 +129,9 @@ fn advance_node(step: Step, expr: &Expr, tree: &Knot) -> Result<Knot, Unbuilt>
     }
 }
 
-/// The moved tree where the action is in the alphabet, else the tree as it was. Of `all`, which moves
-/// no other value's state than the action's own, the alphabet isn't asked: where the action isn't in
-/// it, the moved tree is dead.
+/// The moved tree where the action is in the alphabet, else the tree as it was. Of `all`, which
+/// moves no other value's state than the action's own, the alphabet isn't asked: where the action
+/// isn't in it, the moved tree is dead.
 #[cycle(advance)]
 pub(crate) fn advance_inside(step: Step, expr: &Expr, tree: &Knot) -> Result<Knot, Unbuilt>
     requires ready { Ready (form_of expr.now) step.env.now tree.now }

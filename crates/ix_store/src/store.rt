@@ -56,8 +56,8 @@ impl Store {
     /// What was left unsynced before is brought to the disk first. Then, in this order:
     /// - `NotJournal`: the file is no journal, nor the front of one;
     /// - `OtherExpression`: it keeps another text, whether it was opened or not;
-    /// - `Damaged`: an open gate isn't followed by a whole record that may stand there and a further
-    ///   gate, and no record in front of it makes too many;
+    /// - `Damaged`: an open gate isn't followed by a whole record that may stand there and a
+    ///   further gate, and no record in front of it makes too many;
     /// - `Many`: the 1,000,001st record of an action is open, or the 1,000,001st boot; or the
     ///   journal holds 1,000,000 boots.
     ///
@@ -124,8 +124,8 @@ impl Store {
     }
 
     /// Appends the next boot to the journal, and gives its number, from 1. After Ok it is kept.
-    /// After a fault it may be kept or not, and the journal is to be opened again. The history stays
-    /// as it is. No memory is taken.
+    /// After a fault it may be kept or not, and the journal is to be opened again. The history
+    /// stays as it is. No memory is taken.
     pub fn boot<S: Site>(&mut self, site: &mut S) -> Result<u64, DiskFailed>
         requires attached { (S.state site.old).attached ≡ true }
         requires works { (kept self.old).failed ≡ false }

@@ -1,6 +1,7 @@
 //! Tickets: what a granted ask is known by, in the run that granted it and behind its end.
 
-ghost use Rattle.std.specs.Prelude.{◌≡◌, ◌+◌, ◌<◌, ◌≤◌, ◌^◌, ◌==◌, [], ◌++◌, MatchOption, position, decimal};
+ghost use Rattle.std.specs.Prelude.{◌≡◌, ◌+◌, ◌<◌, ◌≤◌, ◌^◌, ◌==◌, [], ◌++◌, MatchOption};
+ghost use Rattle.std.specs.Prelude.{decimal, position};
 ghost use Rattle.arrayvec.specs.ArrayVec.{array_vec_len};
 ghost use Rattle.ix_values.specs.Laws.{TextsTellTicketsApart};
 ghost use Rattle.ix_values.specs.Tickets.{IsTicket, IsTicketText, ticket_text};
