@@ -23,7 +23,7 @@ use Rattle.ix_manager.proofs.GrowingLemmas.{Grows, grows_not, grows_twice, none_
 use Rattle.ix_manager.proofs.Changing.{Changes, empties, grants, item_changes, keeps, stores}
 
 -- what comes later than what comes later
-later_join : {x : Form} {s t u : MachineState} → Later x s t → Later x t u → Later x s u
+pub later_join : {x : Form} {s t u : MachineState} → Later x s t → Later x t u → Later x s u
 later_join stays rest = rest
 later_join (rises moment first) rest = rises moment (later_join first rest)
 later_join (answered step first) rest = answered step (later_join first rest)
@@ -54,7 +54,7 @@ kept_grows : {s : MachineState} {kept : PlainHistory} → MayKeep s kept → Gro
 kept_grows whole = grows_not _
 kept_grows (confirming {ticket = ticket} {a = a} held before) = ((Some ticket, a) ∷ [], refl)
 
-later_grows : {x : Form} {s later : MachineState} → Later x s later → Grows s.history later.history
+pub later_grows : {x : Form} {s later : MachineState} → Later x s later → Grows s.history later.history
 later_grows stays = grows_not _
 later_grows (rises moment rest) = later_grows rest
 later_grows {s = s} {later = later} (answered {between = between} step rest) =

@@ -15,7 +15,7 @@ use Rattle.ix_manager.specs.Images.{IsStartable}
 use Rattle.ix_manager.specs.LaterLaws.{OverTicketsStayOver}
 use Rattle.ix_manager.specs.Machine.{start_of}
 use Rattle.ix_manager.specs.Runs.{Opening}
-use Rattle.ix_manager.proofs.TicketLemmas.{IsWell, later_over, later_well, over_begins, starts_well}
+use Rattle.ix_manager.proofs.TicketLemmas.{IsWell, later_over, later_well, over_begins, starts_well, well_holds}
 
 -- the pair's ticket is of one of so many boots
 abbrev IsOfBoots : ℕ → Spent → Type 0
@@ -66,4 +66,4 @@ start_well opening image starts =
 
 pub over_tickets_stay_over : OverTicketsStayOver
 over_tickets_stay_over opening image s after later limit asked replies ticket starts reached step tells rest =
-    later_over rest (over_begins step (later_well reached (start_well opening image starts)) tells)
+    later_over rest (over_begins step (well_holds s (later_well reached (start_well opening image starts))) tells)

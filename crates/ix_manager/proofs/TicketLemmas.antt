@@ -13,21 +13,13 @@ use Rattle.ix_lease.specs.declared.Slot.{Slot}
 use Rattle.ix_lease.specs.declared.Slot.TheVariants.{Free, Held}
 use Rattle.ix_proto.specs.Requests.{PlainRequest}
 use Rattle.ix_proto.specs.declared.reply.Reply.{Reply}
+use Rattle.ix_manager.specs.Granted.{IsGranted, WasGranted}
 use Rattle.ix_manager.specs.Later.{Later, MayKeep, whole, confirming, stays, rises, answered, restarts}
 use Rattle.ix_manager.specs.LaterLaws.{TellsOver}
 use Rattle.ix_manager.specs.Machine.{IsAbsent, MachineState, Step, next_ticket, start_of, confirm_expired, confirm_no_such, cancelled, cancel_expired, cancel_no_such, outcome_never}
 use Rattle.ix_manager.specs.Runs.{raised}
 use Rattle.ix_manager.proofs.Changing.{Changes, item_changes, keeps, empties, grants, stores}
 use Rattle.ix_manager.proofs.SlotLemmas.{free_holds, same_ticket, some_ticket}
-
--- the ticket was granted in this boot, below the number, or in an earlier one
-pub record IsGranted (boot number : ℕ) (ticket : Ticket) : Type 0 where
-  pub earlier : ticket.boot ≤ boot
-  pub below : ticket.boot ≡ boot → ticket.seq < number
-
--- the ticket of the pair, where it has one, was
-abbrev pub WasGranted : ℕ → ℕ → Spent → Type 0
-WasGranted boot number spent = (ticket : Ticket) → spent.0 ≡ Some ticket → IsGranted boot number ticket
 
 -- the ticket was granted last, and isn't kept
 pub record IsLast (boot number : ℕ) (history : PlainHistory) (ticket : Ticket) : Type 0 where
@@ -52,14 +44,14 @@ are_well {boot = boot} {boot' = boot'} {number = number} {number' = number'} {hi
     (subst (λ v. AreWell boot number v slot') (sym h)
     (subst (λ v. AreWell boot number history v) (sym k) well)))
 
-later_number : (boot number : ℕ) (spent : Spent) → WasGranted boot number spent → WasGranted boot (number + 1) spent
+pub later_number : (boot number : ℕ) (spent : Spent) → WasGranted boot number spent → WasGranted boot (number + 1) spent
 later_number boot number spent was = λ ticket is.
     let g = was ticket is in record {
       earlier = g.earlier;
       below = λ same. let below = g.below same in omega (arith, below);
     }
 
-next_boot : (boot number : ℕ) (spent : Spent) → WasGranted boot number spent → WasGranted (boot + 1) 1 spent
+pub next_boot : (boot number : ℕ) (spent : Spent) → WasGranted boot number spent → WasGranted (boot + 1) 1 spent
 next_boot boot number spent was = λ ticket is.
     let earlier = (was ticket is).earlier in record {
       earlier = omega (arith, earlier);
@@ -67,7 +59,7 @@ next_boot boot number spent was = λ ticket is.
     }
 
 -- the next ticket isn't kept
-next_absent : (boot number : ℕ) (spent : Spent) → WasGranted boot number spent → spent.0 ≢ Some (record { boot = boot; seq = number })
+pub next_absent : (boot number : ℕ) (spent : Spent) → WasGranted boot number spent → spent.0 ≢ Some (record { boot = boot; seq = number })
 next_absent boot number spent was = λ is.
     let below = (was (record { boot = boot; seq = number }) is).below refl in omega (arith, below)
 
@@ -198,11 +190,11 @@ later_over (answered step rest) over = later_over rest (over_changes (item_chang
 later_over (restarts may rest) over = later_over rest (over_starts may over)
 
 -- a slot with the ticket is held by it
-held_with : (slot : Slot) (ticket : Ticket) → HasTicket slot ticket → (a : PlainAction) × (deadline : ℕ) × (slot ≡ Held ticket a deadline)
+pub held_with : (slot : Slot) (ticket : Ticket) → HasTicket slot ticket → (a : PlainAction) × (deadline : ℕ) × (slot ≡ Held ticket a deadline)
 held_with Free ticket has = absurd has
 held_with (Held held a deadline) ticket has = (a, deadline, ap (λ t. Held t a deadline) has)
 
-open_until : (slot : Slot) (ticket : Ticket) (a : PlainAction) (deadline moment : ℕ) → slot ≡ Held ticket a deadline → moment < deadline → IsOpenAt slot moment
+pub open_until : (slot : Slot) (ticket : Ticket) (a : PlainAction) (deadline moment : ℕ) → slot ≡ Held ticket a deadline → moment < deadline → IsOpenAt slot moment
 open_until slot ticket a deadline moment is before = subst (λ k. IsOpenAt k moment) (sym is) before
 
 not_open : (slot : Slot) (ticket : Ticket) (a : PlainAction) (deadline moment : ℕ) → slot ≡ Held ticket a deadline → (IsOpenAt slot moment → ⊥) → deadline ≤ moment
@@ -211,28 +203,40 @@ not_open slot ticket a deadline moment is shut = elim (cases_lt moment deadline)
   | inr behind ↦ behind
 ]
 
--- a reservation that isn't open any more
-expired_over : (s : MachineState) (ticket : Ticket) → IsWell s → HasTicket s.slot ticket → (IsOpenAt s.slot s.moment → ⊥) → IsOver s ticket
-expired_over s ticket well has shut =
-    let it = held_with s.slot ticket has in
-    let last = well.held ticket it.0 it.1 it.2 in record {
+-- the ticket of a reservation was granted, and isn't kept
+pub record IsReserved (boot number : ℕ) (history : PlainHistory) (ticket : Ticket) : Type 0 where
+  pub granted : IsGranted boot number ticket
+  pub absent : IsAbsent ticket history
+
+abbrev pub HoldsReserved : MachineState → Type 0
+HoldsReserved s = (ticket : Ticket) (a : PlainAction) (deadline : ℕ) → s.slot ≡ Held ticket a deadline → IsReserved s.boot s.number s.history ticket
+
+pub well_holds : (s : MachineState) → IsWell s → HoldsReserved s
+well_holds s well ticket a deadline is =
+    let last = well.held ticket a deadline is in record {
       granted = record {
         earlier = let same = last.boot_is in omega (arith, same);
         below = λ same. let seq = last.seq_is in omega (arith, seq);
       };
       absent = last.absent;
+    }
+
+-- a reservation that isn't open any more
+expired_over : (s : MachineState) (ticket : Ticket) → HoldsReserved s → HasTicket s.slot ticket → (IsOpenAt s.slot s.moment → ⊥) → IsOver s ticket
+expired_over s ticket holds has shut =
+    let it = held_with s.slot ticket has in
+    let of = holds ticket it.0 it.1 it.2 in record {
+      granted = of.granted;
+      absent = of.absent;
       shut = λ a deadline is. not_open s.slot ticket a deadline s.moment is shut;
     }
 
-cancelled_over : (s : MachineState) (ticket : Ticket) (a : PlainAction) (deadline : ℕ) → IsWell s → s.slot ≡ Held ticket a deadline
+cancelled_over : (s : MachineState) (ticket : Ticket) (a : PlainAction) (deadline : ℕ) → HoldsReserved s → s.slot ≡ Held ticket a deadline
     → IsOver (record s { slot = Free }) ticket
-cancelled_over s ticket a deadline well held =
-    let last = well.held ticket a deadline held in record {
-      granted = record {
-        earlier = let same = last.boot_is in omega (arith, same);
-        below = λ same. let seq = last.seq_is in omega (arith, seq);
-      };
-      absent = last.absent;
+cancelled_over s ticket a deadline holds held =
+    let of = holds ticket a deadline held in record {
+      granted = of.granted;
+      absent = of.absent;
       shut = λ a deadline is. free_holds _ a deadline is;
     }
 
@@ -241,16 +245,16 @@ has_held slot ticket a deadline is = subst (λ k. HasTicket k ticket) (sym is) r
 
 -- behind a reply that tells so the ticket is over
 pub over_begins : {x : Form} {limit : ℕ} {s after : MachineState} {asked : PlainRequest} {replies : List Reply} {ticket : Ticket}
-    → Step x limit s asked replies after → IsWell s → TellsOver asked replies ticket → IsOver after ticket
-over_begins {s = s} (confirm_expired {ticket = asked} has shut) well tells =
-    subst (IsOver s) tells.1 (expired_over s asked well has shut)
-over_begins {s = s} (cancel_expired {ticket = asked} has shut) well tells =
-    subst (IsOver s) tells.1 (expired_over s asked well has shut)
-over_begins {s = s} (cancelled {ticket = asked} a deadline held before) well tells =
-    subst (IsOver (record s { slot = Free })) tells (cancelled_over s asked a deadline well held)
-over_begins (confirm_no_such none) well tells = let no = tells.0 in absurd (omega (arith, no))
-over_begins (cancel_no_such none) well tells = let no = tells.0 in absurd (omega (arith, no))
-over_begins {s = s} (outcome_never {ticket = asked} absent shut ungranted) well tells =
+    → Step x limit s asked replies after → HoldsReserved s → TellsOver asked replies ticket → IsOver after ticket
+over_begins {s = s} (confirm_expired {ticket = asked} has shut) holds tells =
+    subst (IsOver s) tells.1 (expired_over s asked holds has shut)
+over_begins {s = s} (cancel_expired {ticket = asked} has shut) holds tells =
+    subst (IsOver s) tells.1 (expired_over s asked holds has shut)
+over_begins {s = s} (cancelled {ticket = asked} a deadline held before) holds tells =
+    subst (IsOver (record s { slot = Free })) tells (cancelled_over s asked a deadline holds held)
+over_begins (confirm_no_such none) holds tells = let no = tells.0 in absurd (omega (arith, no))
+over_begins (cancel_no_such none) holds tells = let no = tells.0 in absurd (omega (arith, no))
+over_begins {s = s} (outcome_never {ticket = asked} absent shut ungranted) holds tells =
     subst (IsOver s) tells (record {
       granted = record {
         earlier = elim (cases_lt s.boot asked.boot) [
@@ -265,7 +269,7 @@ over_begins {s = s} (outcome_never {ticket = asked} absent shut ungranted) well 
       absent = absent;
       shut = λ a deadline is. not_open s.slot asked a deadline s.moment is (λ open_still. shut (open_still, has_held s.slot asked a deadline is));
     })
-over_begins _ well tells = absurd tells
+over_begins _ holds tells = absurd tells
 
 -- a start over tickets of earlier boots
 pub starts_well : (history : PlainHistory) (boot : ℕ)

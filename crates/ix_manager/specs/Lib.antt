@@ -8,6 +8,7 @@ pub mod Images
 pub mod Acknowledged
 pub mod ImageLaws
 pub mod Handled
+pub mod Granted
 pub mod Later
 pub mod LaterLaws
 pub mod Starts
