@@ -1,0 +1,11 @@
+pub mod LineLemmas
+pub mod HearingLemmas
+pub mod Lasting
+pub mod StepFacts
+pub mod CauseLemmas
+pub mod ToldLemmas
+pub mod WordLemmas
+pub mod TurnLemmas
+pub mod ClientCauses
+pub mod RunLemmas
+pub mod RefusalLemmas

@@ -1,0 +1,5 @@
+use Rattle.ix_client.proofs.LineLemmas.{outcome_is}
+use Rattle.ix_client.proofs.lines.outcome_line.Goals as goal
+
+pub returns : goal.returns
+returns c = outcome_is c.args.ticket c.ticket_line.result.items c.ticket_line.ensures.valid c.ticket_line.ensures.text

@@ -1,0 +1,79 @@
+//! The lines of the requests that a client makes, each with the byte 10 that ends it.
+ghost use Rattle.std.specs.Prelude.{◌≡◌, ◌+◌, ◌≤◌, [], ◌∷◌, ◌++◌, length, decimal};
+ghost use Rattle.arrayvec.specs.ArrayVec.{array_vec_len};
+ghost use Rattle.ix_values.specs.PlainAction.{text_of};
+ghost use Rattle.ix_values.specs.Tickets.{IsTicket, ticket_text};
+ghost use Rattle.ix_proto.specs.Requests.{IsLease};
+ghost use Rattle.ix_proto.specs.Requests as request;
+ghost use Rattle.ix_client.specs.Links.{IsLineOf};
+
+use arrayvec::ArrayVec;
+use itoa::Buffer;
+use ix_values::{Action, Ticket};
+
+/// A line is at most 180 bytes long.
+pub(crate) type Line = ArrayVec<u8, 256>;
+
+pub(crate) fn ask_line(action: &Action, lease: u32) -> Line
+    requires { IsLease lease }
+    ensures { IsLineOf (request.ask action.now lease) result.items }
+{
+    let mut text = ArrayVec::<u8, 168>::new();
+    action.write(&mut text);
+    let mut buffer = Buffer::new();
+    let mut line = Line::new();
+    append_word(&mut line, b"ask");
+    append_word(&mut line, text.as_slice());
+    append_last(&mut line, buffer.format(lease).as_bytes());
+    line
+}
+
+pub(crate) fn confirm_line(ticket: Ticket) -> Line
+    ensures { IsLineOf (request.confirm ticket) result.items }
+{
+    ticket_line(b"confirm", ticket)
+}
+
+pub(crate) fn cancel_line(ticket: Ticket) -> Line
+    ensures { IsLineOf (request.cancel ticket) result.items }
+{
+    ticket_line(b"cancel", ticket)
+}
+
+pub(crate) fn outcome_line(ticket: Ticket) -> Line
+    ensures { IsLineOf (request.outcome ticket) result.items }
+{
+    ticket_line(b"outcome", ticket)
+}
+
+fn ticket_line(verb: &[u8], ticket: Ticket) -> Line
+    requires { length verb.now ≤ 16 }
+    ensures text { result.items ≡ verb.now ++ 32 ∷ ticket_text ticket ++ 10 ∷ [] }
+    ensures valid { IsTicket ticket }
+{
+    let mut text = ArrayVec::<u8, 48>::new();
+    ticket.write(&mut text);
+    let mut line = Line::new();
+    append_word(&mut line, verb);
+    append_last(&mut line, text.as_slice());
+    line
+}
+
+/// A word in front of others.
+fn append_word(line: &mut Line, word: &[u8])
+    requires { array_vec_len line.old + length word.now ≤ 255 }
+    ensures items { line.new.items ≡ line.old.items ++ word.now ++ 32 ∷ [] }
+    ensures len { array_vec_len line.new ≡ array_vec_len line.old + length word.now + 1 }
+{
+    let _ = line.try_extend_from_slice(word);
+    line.push(b' ');
+}
+
+/// The last word.
+fn append_last(line: &mut Line, word: &[u8])
+    requires { array_vec_len line.old + length word.now ≤ 255 }
+    ensures { line.new.items ≡ line.old.items ++ word.now ++ 10 ∷ [] }
+{
+    let _ = line.try_extend_from_slice(word);
+    line.push(b'\n');
+}
