@@ -5,12 +5,14 @@
         ..                                        # the work: no reservation is held meanwhile
 
 `Engine.do` brings an action about exactly once, over busy managers, restarts and lost replies. `Connection` sends
-single requests of docs/protocol.md.
+single requests of docs/protocol.md. `ask`, `confirm`, `cancel` and `settle` are what stands between the two: each is one
+request, and what it gives has to be spent (docs/client.md).
 """
 
 import contextlib
 import itertools
 import random
+import re
 import socket
 import threading
 import time
@@ -23,6 +25,10 @@ POLLS = 10  # polls before a watch is set again: a restart that no connection me
 LONGEST_NAME = 24  # bytes of an engine's name; the names of its watches have up to 32
 
 FOR_PEOPLE = ("22", "23", "90", "91")
+
+NUMBER = "(?:0|[1-9][0-9]*)"
+TICKET = f"{NUMBER}-{NUMBER}"
+REFUSAL = f"refused (?:20 busy until {NUMBER}|21 not permitted|22 large {NUMBER}|23 full)"
 
 
 class Connection:
@@ -78,6 +84,128 @@ class ForPeople(NotDone):
 
 class TooLate(NotDone):
     """The time that the caller set has passed."""
+
+
+class Refused(NotDone):
+    """The manager refused the ask with a code from 20 to 23: the action isn't reserved."""
+
+    def __init__(self, action, reply):
+        super().__init__(action, reply)
+        self.code = int(reply.split()[1])
+
+
+class Unspent(Exception):
+    """A grant was let go of, or spent twice."""
+
+
+class Grant:
+    """A ticket and its action, to be spent once. It complains on standard error where it is let go of before that."""
+
+    def __init__(self, ticket, action):
+        self.ticket, self.action, self.is_spent = ticket, action, False
+
+    def __repr__(self):
+        return f"{type(self).__name__}({self.ticket!r}, {self.action!r})"
+
+    def __del__(self):
+        # Python doesn't raise this any further, but prints it.
+        if not self.is_spent:
+            raise Unspent(f"{self!r} was let go of")
+
+    def check(self):
+        if self.is_spent:
+            raise Unspent(f"{self!r} was spent before")
+
+    def spend(self):
+        self.check()
+        self.is_spent = True
+        return self.ticket, self.action
+
+
+class Granted(Grant):
+    """A granted action. It is spent by `confirm` or `cancel`."""
+
+
+class Pending(Grant):
+    """A granted action of which it isn't known what became of it. It is spent by `settle`.
+
+    An engine that was started again makes one of the ticket and the action that it had written down.
+    """
+
+
+class Done:
+    """The action is the one of this number of the history."""
+
+    def __init__(self, number):
+        self.number = number
+
+    def __eq__(self, other):
+        return isinstance(other, Done) and self.number == other.number
+
+    def __repr__(self):
+        return f"Done({self.number})"
+
+
+# The action isn't in the history, and never will be by its ticket.
+EXPIRED, CANCELLED, NEVER = "expired", "cancelled", "never"
+
+
+def hear(link, line):
+    """The first line of the reply to a request, or None where none came or it isn't a text. `link` is a `Connection`, an
+    `Engine`, or anything else whose `request` gives the lines of a reply and raises OSError where it is lost."""
+    try:
+        return link.request(line)[0]
+    except (OSError, ValueError):
+        return None
+
+
+def ask(link, action, lease=LEASE):
+    """Asks for the action, to be reserved for so many milliseconds, and gives a `Granted`.
+
+    Raises `Refused` where it is refused with a code from 20 to 23, and `ForPeople` where another reply comes. An OSError
+    says that the reply is lost: the action may be reserved, until the lease is over, but it won't happen by this ask.
+    """
+    try:
+        reply = link.request(f"ask {action} {lease}")[0]
+    except ValueError as error:
+        raise ForPeople(action, f"no text: {error}") from error
+    if re.fullmatch(f"granted {TICKET}", reply):
+        return Granted(reply.split()[1], action)
+    if re.fullmatch(REFUSAL, reply):
+        raise Refused(action, reply)
+    raise ForPeople(action, reply)
+
+
+def confirm(link, granted):
+    """Tells the manager that the action was done: a `Done`, `EXPIRED`, or a `Pending` where it isn't known which."""
+    granted.check()
+    reply = hear(link, f"confirm {granted.ticket}")
+    ticket, action = granted.spend()
+    if reply is not None and re.fullmatch(f"confirmed {NUMBER}", reply):
+        return Done(int(reply.split()[1]))
+    return EXPIRED if reply == "refused 31 expired" else Pending(ticket, action)
+
+
+def cancel(link, granted):
+    """Tells the manager that the action won't be done: `CANCELLED`, `EXPIRED`, or a `Pending`."""
+    granted.check()
+    reply = hear(link, f"cancel {granted.ticket}")
+    ticket, action = granted.spend()
+    if reply == f"cancelled {ticket}":
+        return CANCELLED
+    return EXPIRED if reply == "refused 31 expired" else Pending(ticket, action)
+
+
+def settle(link, pending):
+    """Asks what became of the action: a `Done`, `NEVER`, a `Granted` that is still open, or a `Pending` again."""
+    pending.check()
+    reply = hear(link, f"outcome {pending.ticket}")
+    ticket, action = pending.spend()
+    if reply is not None and re.fullmatch(f"outcome confirmed {NUMBER}", reply):
+        return Done(int(reply.split()[2]))
+    if reply == "outcome never":
+        return NEVER
+    return Granted(ticket, action) if reply == "outcome open" else Pending(ticket, action)
 
 
 class Pause:

@@ -2,6 +2,8 @@
 """Tests of manager.py over a manager that is played here: what it is sent has to be the lines of a table, connection by
 connection, and it answers by the table."""
 
+import contextlib
+import io
 import os
 import socket
 import sys
@@ -11,7 +13,8 @@ import unittest
 
 sys.dont_write_bytecode = True
 import manager
-from manager import Engine, ForPeople, TooLate
+from manager import (CANCELLED, EXPIRED, NEVER, Done, Engine, ForPeople, Granted, Pending, Refused, TooLate, Unspent,
+                     ask, cancel, confirm, settle)
 
 A = "call(anna,xray)"
 ASK = f"ask {A} 5000"
@@ -172,6 +175,84 @@ class TestEngine(unittest.TestCase):
         first, second = engine.take_name(), engine.take_name()
         engine.give_name(first)
         self.assertEqual((first, second, engine.take_name()), ("e_1", "e_2", "e_1"))
+
+
+class Answering:
+    """A link that gives one reply, or raises it, and keeps what it was sent."""
+
+    def __init__(self, reply):
+        self.reply, self.sent = reply, None
+
+    def request(self, line):
+        self.sent = line
+        if isinstance(self.reply, Exception):
+            raise self.reply
+        return [self.reply]
+
+
+LOSSES = [ConnectionError(), UnicodeDecodeError("ascii", b"x", 0, 1, "not ascii"), "", "yes", "refused 91 disk",
+          "refused 30 no such ticket", "confirmed", "confirmed 01", "outcome", "granted 1-3 ", "confirmed 8\r"]
+
+
+class TestGrants(unittest.TestCase):
+    def call(self, function, grant, reply, line):
+        """What the call makes of the reply to its line, told as a text; what has to be spent is spent."""
+        link = Answering(reply)
+        given = function(link, grant)
+        self.assertEqual(link.sent, line)
+        self.assertTrue(grant.is_spent)
+        told = repr(given)
+        if isinstance(given, (Granted, Pending)):
+            given.spend()
+        return told
+
+    def test_a_confirm(self):
+        for reply, told in [("confirmed 8", repr(Done(8))), ("refused 31 expired", repr(EXPIRED)),
+                            *((reply, f"Pending('1-3', '{A}')") for reply in [*LOSSES, "cancelled 1-3"])]:
+            with self.subTest(repr(reply)):
+                self.assertEqual(self.call(confirm, Granted("1-3", A), reply, "confirm 1-3"), told)
+
+    def test_a_cancel(self):
+        for reply, told in [("cancelled 1-3", repr(CANCELLED)), ("refused 31 expired", repr(EXPIRED)),
+                            *((reply, f"Pending('1-3', '{A}')") for reply in [*LOSSES, "cancelled 1-4"])]:
+            with self.subTest(repr(reply)):
+                self.assertEqual(self.call(cancel, Granted("1-3", A), reply, "cancel 1-3"), told)
+
+    def test_a_settling(self):
+        for reply, told in [("outcome confirmed 8", repr(Done(8))), ("outcome never", repr(NEVER)),
+                            ("outcome open", f"Granted('1-3', '{A}')"),
+                            *((reply, f"Pending('1-3', '{A}')") for reply in [*LOSSES, "confirmed 8"])]:
+            with self.subTest(repr(reply)):
+                self.assertEqual(self.call(settle, Pending("1-3", A), reply, "outcome 1-3"), told)
+
+    def test_an_ask(self):
+        link = Answering("granted 1-3")
+        granted = ask(link, A, 7)
+        self.assertEqual((link.sent, granted.spend()), (f"ask {A} 7", ("1-3", A)))
+        for code, text in ((20, "busy until 9"), (21, "not permitted"), (22, "large 100000"), (23, "full")):
+            with self.assertRaises(Refused) as raised:
+                ask(Answering(f"refused {code} {text}"), A)
+            self.assertEqual((raised.exception.code, raised.exception.may_count), (code, False))
+        for reply in ("refused 90 memory", "refused 24 x", "refused 21", "yes", "", "granted 1", "granted 01-3", LOSSES[1]):
+            with self.subTest(repr(reply)), self.assertRaises(ForPeople):
+                ask(Answering(reply), A)
+        with self.assertRaises(ConnectionError):
+            ask(Answering(ConnectionError()), A)
+
+    def test_a_grant_is_spent_once_and_complains_where_it_is_let_go_of(self):
+        granted = Granted("1-3", A)
+        self.assertEqual(confirm(Answering("confirmed 8"), granted), Done(8))
+        for again in (confirm, cancel):
+            link = Answering("confirmed 9")
+            with self.assertRaises(Unspent):
+                again(link, granted)
+            self.assertIsNone(link.sent)
+        said = io.StringIO()
+        with contextlib.redirect_stderr(said):
+            confirm(Answering(""), Granted("1-3", A))  # nobody takes the Pending
+            del granted
+        self.assertIn(f"Pending('1-3', '{A}') was let go of", said.getvalue())
+        self.assertNotIn("Granted(", said.getvalue())
 
 
 unittest.main()

@@ -1,0 +1,158 @@
+//! The way to a real manager.
+ghost use Rattle.std.specs.Prelude.{◌≡◌, IsTrue};
+ghost use Rattle.ix_proto.specs.Requests.{PlainRequest};
+ghost use Rattle.ix_proto.specs.inside.Lends.{Lends};
+ghost use Rattle.ix_client.specs.Links.{IsExpected, IsLineOf, IsLineWith};
+ghost use Rattle.ix_ixc.specs.inside.Untold.{untold_link};
+
+use arrayvec::ArrayVec;
+use ix_client::{Link, LinkFailed};
+use ix_proto::{Reply, Request};
+use ix_values::{texts_tell_actions_apart, texts_tell_tickets_apart};
+use std::io::{ErrorKind, Read, Write};
+use std::marker::Model;
+use std::net::Net;
+use std::os::unix::net::UnixStream;
+
+/// The most bytes that a reply has, without the byte 10 that ends it.
+const LONGEST_REPLY: usize = 255;
+
+/// A manager's Unix socket. Each call makes a connection of its own, and closes it.
+///
+/// A call waits for the manager, however long it takes. What comes behind the first line of a reply
+/// isn't read.
+#[derive(Drop)]
+pub(crate) struct RealLink<'a, R> {
+    rt: &'a R,
+    socket: &'a str,
+    faults: u64,
+    balks: u64,
+}
+
+/// Contracts see how many calls failed, and how many gave a line that wasn't an expected reply.
+impl<'a, R> Model for RealLink<'a, R> {
+    ghost use Rattle.ix_ixc.specs.inside.Untold.{RealLinkState};
+
+    ghost Value = { RealLinkState };
+
+    ghost view = { λ link. record { faults = link.faults; balks = link.balks } };
+}
+
+impl<'a, R> RealLink<'a, R> {
+    /// No call was made yet.
+    pub(crate) fn new(rt: &'a R, socket: &'a str) -> Self
+        ensures { result ≡ record { faults = 0; balks = 0 } }
+    {
+        RealLink {
+            rt,
+            socket,
+            faults: 0,
+            balks: 0,
+        }
+    }
+}
+
+impl<R: Net> Link for RealLink<'_, R> {
+    ghost state = { untold_link };
+
+    ghost sound = { λ _. tt };
+
+    fn call(&mut self, line: &[u8], out: &mut ArrayVec<u8, 256>) -> Result<(), LinkFailed> {
+        if !exchange(self.rt, self.socket, line, out) {
+            self.faults = self.faults.saturating_add(1);
+            return Err(LinkFailed);
+        }
+        if !is_expected(line, out.as_slice()) {
+            self.balks = self.balks.saturating_add(1);
+        }
+        Ok(())
+    }
+}
+
+/// Sends the line over a new connection, and puts the first line that comes back into `out`. False
+/// where no whole line comes.
+fn exchange(net: &impl Net, socket: &str, line: &[u8], out: &mut ArrayVec<u8, 256>) -> bool {
+    match UnixStream::connect(net, socket) {
+        Ok(mut stream) => stream.write_all(line).is_ok() && receive(&mut stream, out),
+        Err(_) => false,
+    }
+}
+
+/// Puts the bytes in front of the first byte 10 behind those of `out`. False where the stream fails
+/// or ends before it, or where they are more than `LONGEST_REPLY`. An interrupted read goes on.
+fn receive<S: Read>(stream: &mut S, out: &mut ArrayVec<u8, 256>) -> bool {
+    let mut piece = [0u8; 256];
+    for _ in 0..u64::MAX {
+        match stream.read(&mut piece) {
+            Ok(0) => return false,
+            Ok(count) => match take_piece(&piece[..count], out) {
+                Taken::Whole => return true,
+                Taken::Part => {}
+                Taken::TooLong => return false,
+            },
+            Err(error) if error.kind() == ErrorKind::Interrupted => {}
+            Err(_) => return false,
+        }
+    }
+    false
+}
+
+/// What a piece of a reply made of its first line.
+#[derive(Clone, Copy, Debug, PartialEq, Eq)]
+enum Taken {
+    /// The line is whole.
+    Whole,
+    /// The line goes on behind the piece.
+    Part,
+    /// The line has more than `LONGEST_REPLY` bytes.
+    TooLong,
+}
+
+/// Puts the bytes of the piece that stand in front of its first byte 10 behind those of `out`.
+fn take_piece(piece: &[u8], out: &mut ArrayVec<u8, 256>) -> Taken {
+    let end = piece.iter().position(|byte| *byte == b'\n');
+    let front = &piece[..end.unwrap_or(piece.len())];
+    if out.len().saturating_add(front.len()) > LONGEST_REPLY {
+        return Taken::TooLong;
+    }
+    let _ = out.try_extend_from_slice(front);
+    if end.is_some() {
+        Taken::Whole
+    } else {
+        Taken::Part
+    }
+}
+
+/// Whether a line is an expected reply to the request of another, which is given with its byte 10.
+fn is_expected(line: &[u8], reply: &[u8]) -> bool
+    ensures { IsTrue result → (asked : PlainRequest) → IsLineOf asked line.now
+        → IsLineWith (IsExpected asked) reply.now }
+{
+    texts_tell_actions_apart();
+    texts_tell_tickets_apart();
+    let Some((_, words)) = line.split_last() else {
+        return false;
+    };
+    match (Request::read(words), Reply::read(reply)) {
+        (Ok(request), Some(reply)) => answers(request, reply),
+        _ => false,
+    }
+}
+
+/// Whether the reply is expected where this was asked.
+fn answers(request: Request<'_>, reply: Reply) -> bool
+    ensures { IsTrue result → (asked : PlainRequest) → Lends request.entry asked
+        → IsExpected asked reply }
+{
+    match (request, reply) {
+        (Request::Ask { .. }, Reply::Granted(_)) => true,
+        (Request::Ask { .. }, Reply::Refused { code, .. }) => (20..=23).contains(&code),
+        (Request::Confirm(_), Reply::Confirmed(_)) => true,
+        (Request::Cancel(asked), Reply::Cancelled(told)) => asked == told,
+        (Request::Outcome(_), Reply::Outcome(_)) => true,
+        _ => false,
+    }
+}
+
+#[cfg(test)]
+mod tests;
