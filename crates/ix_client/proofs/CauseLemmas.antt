@@ -10,7 +10,8 @@ use Rattle.ix_proto.specs.declared.reply.Reply.TheVariants as reply
 use Rattle.ix_client.specs.Grant.{Grant}
 use Rattle.ix_client.specs.Grants.{Heard, asked_by, cancelled_by, confirmed_by, is_refusal_of_ask, refused_by, same_ticket, settled_by}
 use Rattle.ix_client.specs.Hearing.{HasCause}
-use Rattle.ix_client.specs.Laws.{EitherRose, OddAnswersHaveACause}
+use Rattle.ix_client.specs.Rising.{EitherRose}
+use Rattle.ix_client.specs.Laws.{OddAnswersHaveACause}
 use Rattle.ix_client.specs.Links.{LinkState}
 use Rattle.ix_client.specs.declared.grants.AskFault.{AskFault}
 use Rattle.ix_client.specs.declared.grants.AskFault.TheVariants as fault

@@ -6,11 +6,11 @@ use Rattle.ix_values.specs.declared.tickets.Ticket.{Ticket}
 use Rattle.ix_outside.specs.Counts.{Rose}
 use Rattle.ix_outside.specs.SinkState.{SinkState}
 use Rattle.ix_client.specs.Client.{ClientEnds, GoesOnBehind, GoesOnFrom, NamesAsk, Runs, Serves, TakesTurn, TakesTurns, again, another, bad_words, comes_to, done, ends, ends_with, never, none_left, serves, unsure, usage}
-use Rattle.ix_client.specs.ClientLaws.{RoseBy}
+use Rattle.ix_client.specs.Rising.{RoseBy}
 use Rattle.ix_client.specs.Endings.{PutsLine, part, status_of, whole}
 use Rattle.ix_client.specs.Grant.{Grant}
 use Rattle.ix_client.specs.Hearing.{Asks, Confirms}
-use Rattle.ix_client.specs.Laws.{EitherRose}
+use Rattle.ix_client.specs.Rising.{EitherRose}
 use Rattle.ix_client.specs.Links.{LinkState, NoFewer}
 use Rattle.ix_client.specs.declared.ended.Ended.{Ended}
 use Rattle.ix_client.specs.declared.ended.Ended.TheVariants as ended

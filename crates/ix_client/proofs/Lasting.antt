@@ -18,7 +18,7 @@ use Rattle.ix_manager.proofs.SlotLemmas.{some_ticket}
 use Rattle.ix_manager.proofs.TicketLemmas.{HoldsReserved, later_number, next_absent, next_boot}
 use Rattle.ix_client.specs.Grant.{Grant}
 use Rattle.ix_client.specs.Laws.{AgreesWith, SoundStatesLast, StandingGrantsLast, Stands}
-use Rattle.ix_client.specs.Links.{AreApart, IsSound, pairs_of, reserved}
+use Rattle.ix_client.specs.Sound.{AreApart, IsSound, pairs_of, reserved}
 
 -- the pair of the next ticket
 abbrev pub next_pair : ℕ → ℕ → PlainAction → Spent

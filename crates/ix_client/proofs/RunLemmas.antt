@@ -15,7 +15,8 @@ use Rattle.ix_client.specs.Grant.{Grant}
 use Rattle.ix_client.specs.Grants.{Heard, asked_by}
 use Rattle.ix_client.specs.Hearing.{ComesOf, Confirms, Hears}
 use Rattle.ix_client.specs.Laws.{IsPairOf, IsToldOver, Stands}
-use Rattle.ix_client.specs.Links.{IsSound, LinkState, TellsBy, Told, failed, stepped}
+use Rattle.ix_client.specs.Sound.{IsSound}
+use Rattle.ix_client.specs.Links.{LinkState, TellsBy, Told, failed, stepped}
 use Rattle.ix_client.specs.declared.ended.Ended.{Ended}
 use Rattle.ix_client.specs.declared.ended.Ended.TheVariants as ended
 use Rattle.ix_client.specs.declared.grants.AskFault.{AskFault}

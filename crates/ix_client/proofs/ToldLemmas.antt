@@ -25,7 +25,8 @@ use Rattle.ix_client.specs.Grant.{Grant}
 use Rattle.ix_client.specs.Grants.{Heard, asked_by, cancelled_by, confirmed_by, is_refusal_of_ask, refused_by, same_ticket, settled_by}
 use Rattle.ix_client.specs.Hearing.{ComesOf, HasCause, Hears}
 use Rattle.ix_client.specs.Laws.{AgreesWith, DoneIsPermanent, GrantsStand, IsHeardRefusal, IsPairOf, IsToldOver, NeverIsPermanent, Stands, UnsureHasACause}
-use Rattle.ix_client.specs.Links.{Answers, GoesOn, IsSound, LinkState, TellsBy, Told, failed, pairs_of, reserved, stepped}
+use Rattle.ix_client.specs.Links.{Answers, GoesOn, LinkState, TellsBy, Told, failed, stepped}
+use Rattle.ix_client.specs.Sound.{IsSound, pairs_of, reserved}
 use Rattle.ix_client.specs.declared.grants.AskFault.{AskFault}
 use Rattle.ix_client.specs.declared.grants.AskFault.TheVariants as fault
 use Rattle.ix_client.specs.declared.grants.Cancel.TheVariants as cancel

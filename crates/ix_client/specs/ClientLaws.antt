@@ -1,5 +1,5 @@
--- What the ends of a run tell of the counts, and of a manager that is told.
-use Rattle.std.specs.Prelude.{◌≡◌, ◌⊎◌, ℕ, ◌+◌, ◌-◌, ◌^◌, ◌<◌, ◌≤◌, List, [], ◌∷◌, Some}
+-- What the ends of a run tell of a manager that is told.
+use Rattle.std.specs.Prelude.{◌≡◌, ◌⊎◌, ℕ, ◌<◌, ◌≤◌, List, [], ◌∷◌, Some}
 use Rattle.ix_values.specs.PlainAction.{PlainAction}
 use Rattle.ix_values.specs.declared.tickets.Ticket.{Ticket}
 use Rattle.ix_proto.specs.Requests as request
@@ -12,12 +12,6 @@ use Rattle.ix_client.specs.Client.{Serves}
 use Rattle.ix_client.specs.Laws.{IsPairOf, IsToldOver}
 use Rattle.ix_client.specs.Links.{LinkState, Told}
 use Rattle.ix_client.specs.declared.ended.Ended.TheVariants as ended
-
--- the two counts rose by so many together, or one of them stands at its greatest value
-abbrev pub RoseBy : ℕ → LinkState → LinkState → Type 0
-RoseBy n old new =
-    (old.faults + old.balks + n ≤ new.faults + new.balks)
-    ⊎ (2 ^ 64 - 1 ≤ new.faults) ⊎ (2 ^ 64 - 1 ≤ new.balks)
 
 -- no ask was granted the ticket before this state
 abbrev pub IsFresh : MachineState → Ticket → Type 0

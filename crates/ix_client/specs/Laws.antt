@@ -16,7 +16,9 @@ use Rattle.ix_manager.specs.Machine.{IsAbsent, MachineState, Step}
 use Rattle.ix_client.specs.Grant.{Grant}
 use Rattle.ix_client.specs.Grants.{Heard, asked_by}
 use Rattle.ix_client.specs.Hearing.{Asks, Cancels, Confirms, Settles}
-use Rattle.ix_client.specs.Links.{IsSound, LinkState, Told, pairs_of}
+use Rattle.ix_client.specs.Links.{LinkState, Told}
+use Rattle.ix_client.specs.Rising.{EitherRose}
+use Rattle.ix_client.specs.Sound.{IsSound, pairs_of}
 use Rattle.ix_client.specs.declared.grants.AskFault.{AskFault}
 use Rattle.ix_client.specs.declared.grants.AskFault.TheVariants as fault
 use Rattle.ix_client.specs.declared.grants.Cancel.TheVariants as cancel
@@ -97,10 +99,6 @@ NeverIsPermanent =
     → IsToldOver old new before after → TellsNever g old new
     → Later after.form after.machine later
     → IsAbsent g.ticket later.history
-
--- one of the two counts rose
-abbrev pub EitherRose : LinkState → LinkState → Type 0
-EitherRose old new = Rose old.faults new.faults ⊎ Rose old.balks new.balks
 
 -- over every link, an answer that isn't the expected one comes only where a count rose
 pub record OddAnswersHaveACause : Type 0 where

@@ -1,7 +1,9 @@
 pub mod Grant
 pub mod Links
+pub mod Sound
 pub mod Grants
 pub mod Hearing
+pub mod Rising
 pub mod Laws
 pub mod Endings
 pub mod Client

@@ -1,12 +1,8 @@
 -- What a proof knows of a link, and what a call makes of it.
-use Rattle.std.specs.Prelude.{◌≡◌, ◌⊎◌, ℕ, ◌<◌, ◌≤◌, List, [], ◌∷◌, ◌++◌, Option, None, Some}
+use Rattle.std.specs.Prelude.{◌≡◌, ◌⊎◌, ℕ, ◌≤◌, List, [], ◌∷◌, ◌++◌, Option, None, Some}
 use Rattle.std.specs.Prelude.{Result, Ok, Err, ⊤}
-use Rattle.ix_words.specs.Each.{Each}
 use Rattle.ix_values.specs.declared.tickets.Ticket.{Ticket}
 use Rattle.ix_expr.specs.Form.{Form}
-use Rattle.ix_journal.specs.History.{PlainHistory}
-use Rattle.ix_lease.specs.declared.Slot.{Slot}
-use Rattle.ix_lease.specs.declared.Slot.TheVariants.{Free, Held}
 use Rattle.ix_lines.specs.Words.{words_of}
 use Rattle.ix_outside.specs.Counts.{Rose}
 use Rattle.ix_proto.specs.Replies.{IsReply, reply_text}
@@ -14,9 +10,8 @@ use Rattle.ix_proto.specs.Requests as request
 use Rattle.ix_proto.specs.Requests.{PlainRequest, IsRequest, request_words}
 use Rattle.ix_proto.specs.declared.reply.Reply.{Reply}
 use Rattle.ix_proto.specs.declared.reply.Reply.TheVariants as reply
-use Rattle.ix_manager.specs.Granted.{WasGranted}
 use Rattle.ix_manager.specs.Later.{Later}
-use Rattle.ix_manager.specs.Machine.{IsAbsent, MachineState, Step}
+use Rattle.ix_manager.specs.Machine.{MachineState, Step}
 use Rattle.ix_manager.specs.Refusals.{disk}
 use Rattle.ix_client.specs.declared.link.LinkFailed.{LinkFailed}
 
@@ -37,33 +32,6 @@ pub record LinkState : Type 0 where
 pub record NoFewer (old new : LinkState) : Type 0 where
   pub faults : old.faults ≤ new.faults
   pub balks : old.balks ≤ new.balks
-
--- the pair of a reservation, whether it is open or not
-abbrev pub reserved : Slot → PlainHistory
-reserved Free = []
-reserved (Held ticket a deadline) = (Some ticket, a) ∷ []
-
--- the pairs of the history, and behind them that of the reservation
-abbrev pub pairs_of : MachineState → PlainHistory
-pairs_of s = s.history ++ reserved s.slot
-
--- no ticket stands in two pairs
-abbrev pub AreApart : PlainHistory → Type 0
-AreApart [] = ⊤
-AreApart (spent ∷ others) =
-    ((ticket : Ticket) → spent.0 ≡ Some ticket → IsAbsent ticket others) × AreApart others
-
--- The boot and the next number aren't 0, no ticket stands twice in the history and the reservation
--- together, and each of them was granted in an earlier boot, or in this one below the next number.
-pub record IsSound (s : MachineState) : Type 0 where
-  pub boot : 0 < s.boot
-  pub number : 0 < s.number
-  pub apart : AreApart (pairs_of s)
-  pub granted : Each (WasGranted s.boot s.number) (pairs_of s)
-
-abbrev pub IsSoundWhereTold : Option Told → Type 0
-IsSoundWhereTold None = ⊤
-IsSoundWhereTold (Some told) = IsSound told.machine
 
 -- a manager of the same expression and limit, whose state came so of the other's
 pub record GoesOn (Comes : Form → ℕ → MachineState → MachineState → Type 0) (old new : Told)

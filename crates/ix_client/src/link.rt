@@ -1,7 +1,8 @@
 //! The way to a manager.
 ghost use Rattle.std.specs.Prelude.{◌≡◌, []};
 ghost use Rattle.ix_proto.specs.Requests.{PlainRequest};
-ghost use Rattle.ix_client.specs.Links.{Calls, IsCall, IsLineOf, IsSoundWhereTold, LinkState};
+ghost use Rattle.ix_client.specs.Links.{Calls, IsCall, IsLineOf, LinkState};
+ghost use Rattle.ix_client.specs.Sound.{IsSoundWhereTold};
 ghost use Rattle.ix_client.specs.Links.{NoFewer};
 
 use arrayvec::ArrayVec;

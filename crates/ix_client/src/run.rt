@@ -6,9 +6,9 @@ ghost use Rattle.ix_outside.specs.Counts.{Rose};
 ghost use Rattle.ix_outside.specs.SinkState.{OnlyPuts};
 ghost use Rattle.ix_proto.specs.Requests.{IsLease};
 ghost use Rattle.ix_client.specs.Client.{ClientEnds, NamesAsk, Runs, Serves, ends_with};
-ghost use Rattle.ix_client.specs.ClientLaws.{RoseBy};
+ghost use Rattle.ix_client.specs.Rising.{RoseBy};
 ghost use Rattle.ix_client.specs.Endings.{PutsLine};
-ghost use Rattle.ix_client.specs.Laws.{EitherRose};
+ghost use Rattle.ix_client.specs.Rising.{EitherRose};
 
 use crate::calls::{ask, confirm};
 use crate::ended::Ended;
