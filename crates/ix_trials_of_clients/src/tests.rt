@@ -1,0 +1,194 @@
+//! Runs of a client.
+ghost use Rattle.std.specs.Prelude.{None};
+
+use arrayvec::ArrayVec;
+use ix_client::{Link, LinkFailed, client};
+use ix_memory::MemorySink;
+use std::alloc::Global;
+use std::test::Fail;
+
+/// The most bytes that a run puts in a test.
+const ROOM: usize = 1024;
+
+/// A link that gives these lines one after the other, and fails at an empty one and behind the last.
+/// It counts each line as one that wasn't expected.
+#[derive(Drop)]
+struct Script<'a> {
+    lines: &'a [&'a [u8]],
+    next: usize,
+    faults: u64,
+    balks: u64,
+}
+
+impl Link for Script<'_> {
+    ghost state = { λ link. record { faults = link.faults; balks = link.balks; told = None } };
+
+    ghost sound = { λ _. tt };
+
+    fn call(&mut self, _line: &[u8], out: &mut ArrayVec<u8, 256>) -> Result<(), LinkFailed> {
+        let line = match self.lines.get(self.next) {
+            Some(line) => *line,
+            None => b"",
+        };
+        self.next = self.next.saturating_add(1);
+        if line.is_empty() || out.try_extend_from_slice(line).is_err() {
+            self.faults = self.faults.saturating_add(1);
+            return Err(LinkFailed);
+        }
+        self.balks = self.balks.saturating_add(1);
+        Ok(())
+    }
+}
+
+/// The words of a command line.
+fn words_of(alloc: Global, words: &[&str]) -> Result<Vec<String>, Fail> {
+    let mut texts = Vec::new(alloc);
+    for word in words {
+        texts.push(String::from_str(alloc, word)?)?;
+    }
+    Ok(texts)
+}
+
+/// A sink whose first put fails, or none.
+fn sink_of(alloc: Global, failing: bool) -> Result<MemorySink, Fail> {
+    let mut fail = Vec::new(alloc);
+    if failing {
+        fail.push(0)?;
+    }
+    Ok(MemorySink::new(alloc, ROOM, fail)?)
+}
+
+/// Whether a run of these words over a link that gives these lines ends so.
+fn ends_so(
+    alloc: Global,
+    words: &[&str],
+    lines: &[&[u8]],
+    status: u8,
+    put: &[u8],
+) -> Result<bool, Fail> {
+    let words = words_of(alloc, words)?;
+    let mut out = sink_of(alloc, status == 10)?;
+    let mut link = Script {
+        lines,
+        next: 0,
+        faults: 0,
+        balks: 0,
+    };
+    let ended = client(&words, &mut link, &mut out);
+    Ok(ended == status && out.bytes() == put && link.next == lines.len())
+}
+
+/// What an ask of `a` comes to when these lines come back.
+#[test]
+fn answers_end_a_run(rt: HostRuntime) -> Result<(), Fail> {
+    let cases: [(&[&[u8]], u8, &[u8]); 16] = [
+        (&[b"granted 1-7", b"confirmed 12"], 0, b"done 12\n"),
+        (
+            &[b"granted 1-7", b"", b"outcome confirmed 3"],
+            0,
+            b"done 3\n",
+        ),
+        (
+            &[b"granted 1-7", b"refused 91 disk", b"outcome confirmed 3"],
+            0,
+            b"done 3\n",
+        ),
+        (
+            &[b"granted 1-7", b"", b"outcome open", b"confirmed 4"],
+            0,
+            b"done 4\n",
+        ),
+        (&[b"refused 20 busy until 5"], 3, b"refused 20\n"),
+        (&[b"refused 21 not permitted"], 3, b"refused 21\n"),
+        (&[b"refused 22 large 9"], 3, b"refused 22\n"),
+        (&[b"refused 23 full"], 3, b"refused 23\n"),
+        (&[b"granted 1-7", b"refused 31 expired"], 4, b"never\n"),
+        (
+            &[
+                b"granted 1-7",
+                b"refused 30 no such ticket",
+                b"outcome never",
+            ],
+            4,
+            b"never\n",
+        ),
+        (
+            &[b"granted 1-7", b"", b"outcome open", b"refused 31 expired"],
+            4,
+            b"never\n",
+        ),
+        (&[b""], 6, b"refused link\n"),
+        (&[b"yes"], 7, b"refused reply\n"),
+        (&[b"granted 01-7"], 7, b"refused reply\n"),
+        (&[b"refused 90 memory"], 9, b"refused memory\n"),
+        (&[b"refused 21 not permitted"], 10, b""),
+    ];
+    for (lines, status, put) in cases {
+        let is_so = ends_so(rt.alloc(), &["s", "a", "5"], lines, status, put)?;
+        assert!(rt; is_so, "status {status}");
+    }
+    Ok(())
+}
+
+/// Eight turns that end unsure: nothing comes back, the ticket isn't known, another one is cancelled,
+/// and so on. A ninth would find that it is done.
+#[test]
+fn eight_turns_are_taken(rt: HostRuntime) -> Result<(), Fail> {
+    let lines: [&[u8]; 12] = [
+        b"granted 2-1",
+        b"",
+        b"",
+        b"refused 30 no such ticket",
+        b"outcome maybe",
+        b"cancelled 2-2",
+        b"outcome open",
+        b"refused 91 disk",
+        b"confirmed 3",
+        b"yes",
+        b"",
+        b"outcome confirmed 9",
+    ];
+    let mut out = sink_of(rt.alloc(), false)?;
+    let words = words_of(rt.alloc(), &["s", "a", "5"])?;
+    let mut link = Script {
+        lines: &lines,
+        next: 0,
+        faults: 0,
+        balks: 0,
+    };
+    assert_eq!(rt; client(&words, &mut link, &mut out), 8);
+    assert!(rt; out.bytes() == b"unsure 2-1\n".as_slice());
+    assert_eq!(rt; (link.next, link.faults), (11, 3));
+    Ok(())
+}
+
+/// Words that name no ask: nothing is asked.
+#[test]
+fn words_name_an_ask_or_none(rt: HostRuntime) -> Result<(), Fail> {
+    let refused: [&[&str]; 9] = [
+        &["s"],
+        &["s", "a"],
+        &["s", "a", "5", "x"],
+        &["s", "1a", "5"],
+        &["s", "a()", "5"],
+        &["s", "a", "0"],
+        &["s", "a", "05"],
+        &["s", "a", "86400001"],
+        &["s", "a", ""],
+    ];
+    for words in refused {
+        assert!(rt; ends_so(rt.alloc(), words, &[], 2, b"refused words\n")?);
+    }
+    assert!(rt; ends_so(rt.alloc(), &[], &[], 0, b"ixc SOCKET ACTION MILLIS\n")?);
+    let lines: [&[u8]; 2] = [b"granted 1-1", b"confirmed 1"];
+    assert!(rt;
+        ends_so(
+            rt.alloc(),
+            &["", "a(b,1)", "86400000"],
+            &lines,
+            0,
+            b"done 1\n"
+        )?
+    );
+    Ok(())
+}
