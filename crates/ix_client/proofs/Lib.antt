@@ -9,3 +9,12 @@ pub mod TurnLemmas
 pub mod ClientCauses
 pub mod RunLemmas
 pub mod RefusalLemmas
+pub mod RequestsApart
+pub mod JournalSound
+pub mod CallLines
+pub mod CallSteps
+pub mod PassingLemmas
+pub mod OverLemmas
+pub mod TellLemmas
+pub mod LinkLemmas
+pub mod StartedLemmas

@@ -8,3 +8,5 @@ pub mod Laws
 pub mod Endings
 pub mod Client
 pub mod ClientLaws
+pub mod inside
+pub mod lemmas

@@ -7,14 +7,18 @@
 mod calls;
 mod ended;
 mod exchange;
+mod expected;
 mod grants;
 pub mod laws;
 mod lines;
 mod link;
+mod manager_link;
 mod run;
 mod turns;
 
 pub use calls::{ask, cancel, confirm, settle};
+pub use expected::is_expected;
 pub use grants::{AskFault, Cancel, Confirm, Granted, Pending, Settle};
 pub use link::{Link, LinkFailed};
+pub use manager_link::ManagerLink;
 pub use run::client;

@@ -1,14 +1,9 @@
 //! The way to a real manager.
-ghost use Rattle.std.specs.Prelude.{◌≡◌, IsTrue};
-ghost use Rattle.ix_proto.specs.Requests.{PlainRequest};
-ghost use Rattle.ix_proto.specs.inside.Lends.{Lends};
-ghost use Rattle.ix_client.specs.Links.{IsExpected, IsLineOf, IsLineWith};
+ghost use Rattle.std.specs.Prelude.{◌≡◌};
 ghost use Rattle.ix_ixc.specs.inside.Untold.{untold_link};
 
 use arrayvec::ArrayVec;
-use ix_client::{Link, LinkFailed};
-use ix_proto::{Reply, Request};
-use ix_values::{texts_tell_actions_apart, texts_tell_tickets_apart};
+use ix_client::{Link, LinkFailed, is_expected};
 use std::io::{ErrorKind, Read, Write};
 use std::marker::Model;
 use std::net::Net;
@@ -120,37 +115,6 @@ fn take_piece(piece: &[u8], out: &mut ArrayVec<u8, 256>) -> Taken {
         Taken::Whole
     } else {
         Taken::Part
-    }
-}
-
-/// Whether a line is an expected reply to the request of another, which is given with its byte 10.
-fn is_expected(line: &[u8], reply: &[u8]) -> bool
-    ensures { IsTrue result → (asked : PlainRequest) → IsLineOf asked line.now
-        → IsLineWith (IsExpected asked) reply.now }
-{
-    texts_tell_actions_apart();
-    texts_tell_tickets_apart();
-    let Some((_, words)) = line.split_last() else {
-        return false;
-    };
-    match (Request::read(words), Reply::read(reply)) {
-        (Ok(request), Some(reply)) => answers(request, reply),
-        _ => false,
-    }
-}
-
-/// Whether the reply is expected where this was asked.
-fn answers(request: Request<'_>, reply: Reply) -> bool
-    ensures { IsTrue result → (asked : PlainRequest) → Lends request.entry asked
-        → IsExpected asked reply }
-{
-    match (request, reply) {
-        (Request::Ask { .. }, Reply::Granted(_)) => true,
-        (Request::Ask { .. }, Reply::Refused { code, .. }) => (20..=23).contains(&code),
-        (Request::Confirm(_), Reply::Confirmed(_)) => true,
-        (Request::Cancel(asked), Reply::Cancelled(told)) => asked == told,
-        (Request::Outcome(_), Reply::Outcome(_)) => true,
-        _ => false,
     }
 }
 

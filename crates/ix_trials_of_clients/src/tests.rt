@@ -1,8 +1,10 @@
 //! Runs of a client.
 ghost use Rattle.std.specs.Prelude.{None};
 
+mod over_managers;
+
 use arrayvec::ArrayVec;
-use ix_client::{Link, LinkFailed, client};
+use ix_client::{Link, LinkFailed, client, is_expected};
 use ix_memory::MemorySink;
 use std::alloc::Global;
 use std::test::Fail;
@@ -10,8 +12,8 @@ use std::test::Fail;
 /// The most bytes that a run puts in a test.
 const ROOM: usize = 1024;
 
-/// A link that gives these lines one after the other, and fails at an empty one and behind the last.
-/// It counts each line as one that wasn't expected.
+/// A link that gives these lines one after the other, and fails at an empty one and behind the
+/// last. It counts each line as one that wasn't expected.
 #[derive(Drop)]
 struct Script<'a> {
     lines: &'a [&'a [u8]],
@@ -130,8 +132,8 @@ fn answers_end_a_run(rt: HostRuntime) -> Result<(), Fail> {
     Ok(())
 }
 
-/// Eight turns that end unsure: nothing comes back, the ticket isn't known, another one is cancelled,
-/// and so on. A ninth would find that it is done.
+/// Eight turns that end unsure: nothing comes back, the ticket isn't known, another one is
+/// cancelled, and so on. A ninth would find that it is done.
 #[test]
 fn eight_turns_are_taken(rt: HostRuntime) -> Result<(), Fail> {
     let lines: [&[u8]; 12] = [
@@ -191,4 +193,27 @@ fn words_name_an_ask_or_none(rt: HostRuntime) -> Result<(), Fail> {
         )?
     );
     Ok(())
+}
+
+#[test]
+fn a_line_is_an_expected_reply_or_not(rt: HostRuntime) {
+    let lines: [(&[u8], &[u8], bool); 14] = [
+        (b"ask a 5\n", b"granted 1-1", true),
+        (b"ask a 5\n", b"refused 20 busy until 7", true),
+        (b"ask a 5\n", b"refused 23 full", true),
+        (b"ask a 5\n", b"refused 90 memory", false),
+        (b"ask a 5\n", b"refused 16 name", false),
+        (b"ask a 5\n", b"confirmed 1", false),
+        (b"confirm 1-1\n", b"confirmed 1", true),
+        (b"confirm 1-1\n", b"refused 31 expired", false),
+        (b"confirm 1-1\n", b"confirmed 01", false),
+        (b"cancel 1-1\n", b"cancelled 1-1", true),
+        (b"cancel 1-1\n", b"cancelled 1-2", false),
+        (b"outcome 1-1\n", b"outcome never", true),
+        (b"outcome 1-1\n", b"refused 30 no such ticket", false),
+        (b"outcome 1-1\n", b"", false),
+    ];
+    for (line, reply, expected) in lines {
+        assert_eq!(rt; is_expected(line, reply), expected);
+    }
 }

@@ -1,4 +1,4 @@
-//! A link to no manager, and replies of every kind.
+//! A link to no manager, and lines that are cut.
 use super::*;
 use std::process::Abort;
 use std::test::Fail;
@@ -14,29 +14,6 @@ fn a_link_to_an_absent_socket_fails_and_counts(rt: HostRuntime) -> Result<(), Fa
     assert_eq!(rt; link.call(b"confirm 1-1\n", &mut out), Err(LinkFailed));
     assert_eq!(rt; (link.faults, link.balks), (1, 0));
     Ok(())
-}
-
-#[test]
-fn a_line_is_an_expected_reply_or_not(rt: HostRuntime) {
-    let lines: [(&[u8], &[u8], bool); 14] = [
-        (b"ask a 5\n", b"granted 1-1", true),
-        (b"ask a 5\n", b"refused 20 busy until 7", true),
-        (b"ask a 5\n", b"refused 23 full", true),
-        (b"ask a 5\n", b"refused 90 memory", false),
-        (b"ask a 5\n", b"refused 16 name", false),
-        (b"ask a 5\n", b"confirmed 1", false),
-        (b"confirm 1-1\n", b"confirmed 1", true),
-        (b"confirm 1-1\n", b"refused 31 expired", false),
-        (b"confirm 1-1\n", b"confirmed 01", false),
-        (b"cancel 1-1\n", b"cancelled 1-1", true),
-        (b"cancel 1-1\n", b"cancelled 1-2", false),
-        (b"outcome 1-1\n", b"outcome never", true),
-        (b"outcome 1-1\n", b"refused 30 no such ticket", false),
-        (b"outcome 1-1\n", b"", false),
-    ];
-    for (line, reply, expected) in lines {
-        assert_eq!(rt; is_expected(line, reply), expected);
-    }
 }
 
 /// Gives each piece in one read, is interrupted in front of each, and then fails.

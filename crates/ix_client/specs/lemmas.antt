@@ -1,0 +1,2 @@
+-- Lemmas that ghost members of impls need.
+pub mod SoundTold

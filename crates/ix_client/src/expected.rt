@@ -1,0 +1,43 @@
+//! Which replies to a request are expected.
+ghost use Rattle.std.specs.Prelude.{◌≡◌, true};
+ghost use Rattle.ix_proto.specs.Requests.{PlainRequest};
+ghost use Rattle.ix_proto.specs.inside.Lends.{Lends};
+ghost use Rattle.ix_client.specs.Links.{IsExpected, IsLineOf, IsLineWith};
+
+use ix_proto::{Reply, Request};
+use ix_values::texts_tell_tickets_apart;
+
+/// Whether a line is an expected reply to the request of another, which is given with its byte 10:
+/// to an ask a ticket or a refusal from 20 to 23, to a confirm the number of its action, to a
+/// cancel its own ticket, and to an outcome what became of its ticket.
+pub fn is_expected(line: &[u8], reply: &[u8]) -> bool
+    ensures { result ≡ true → (asked : PlainRequest) → IsLineOf asked line.now
+        → IsLineWith (IsExpected asked) reply.now }
+{
+    texts_tell_tickets_apart();
+    let Some((_, words)) = line.split_last() else {
+        return false;
+    };
+    let Ok(request) = Request::read(words) else {
+        return false;
+    };
+    match Reply::read(reply) {
+        Some(told) => answers(request, &told),
+        None => false,
+    }
+}
+
+/// Whether the reply is an expected one to the request.
+fn answers(request: Request<'_>, told: &Reply) -> bool
+    ensures { result ≡ true → (asked : PlainRequest) → Lends request.entry asked
+        → IsExpected asked told.now }
+{
+    match (request, told) {
+        (Request::Ask { .. }, Reply::Granted(_)) => true,
+        (Request::Ask { .. }, Reply::Refused { code, .. }) => 20 <= *code && *code <= 23,
+        (Request::Confirm(_), Reply::Confirmed(_)) => true,
+        (Request::Cancel(ticket), Reply::Cancelled(told)) => ticket == *told,
+        (Request::Outcome(_), Reply::Outcome(_)) => true,
+        _ => false,
+    }
+}
