@@ -5,7 +5,7 @@ use Rattle.ix_expr.specs.Form.{Form}
 use Rattle.ix_parse.specs.Faults.{StandsFor, IsFirstFault}
 use Rattle.ix_outside.specs.Contents.{GivenEvent}
 use Rattle.ix_lines.specs.TextLines.{lines_of}
-use Rattle.ix_outside.specs.Files.{Listing, HasFile, HasLonger}
+use Rattle.ix_outside.specs.Files.{Listing, HasFile}
 use Rattle.ix_outside.specs.FilesState.{FilesState, OnlyFaults}
 use Rattle.ix_outside.specs.SiteState.{SiteState}
 use Rattle.ix_outside.proofs.Counting.{Rose-earlier}
@@ -16,7 +16,7 @@ use Rattle.ix_manage.specs.Around.{around_of}
 use Rattle.ix_manage.specs.Command.{expression_of, limit_of}
 use Rattle.ix_manage.specs.FollowLines.{FollowEnds}
 use Rattle.ix_manage.specs.Ends.{JobEnds, ReadsRest, bad_text, bad_actions, large, lost_expression, lost_actions, no_memory, traced, bad_script, lost_script, long_lines, lost_lines, followed}
-use Rattle.ix_manage.specs.inside.Refusal.{refusal_line, refusal_status, RefusesExpression, RefusesActions, RefusesLines, RefusesScript, RefusesStart, RefusesText, IsBadScript}
+use Rattle.ix_manage.specs.inside.Refusal.{HasLongLines, longer, refusal_line, refusal_status, RefusesExpression, RefusesActions, RefusesLines, RefusesScript, RefusesStart, RefusesText, IsBadScript}
 use Rattle.ix_manage.specs.Puts.{LastLine}
 use Rattle.ix_manage.specs.Session.{Session}
 use Rattle.ix_manage.specs.Replay.{HasBadScript, ReadsEvents, bad_line}
@@ -24,7 +24,8 @@ use Rattle.ix_manage.specs.Trace.{HasBadActions, within, large_line, ReadsForm, 
 use Rattle.ix_manage.specs.inside.Following.{FollowsLines}
 use Rattle.ix_manage.specs.inside.TracesLines.{TracesLines}
 use Rattle.ix_manage.specs.declared.refusal.Refusal.{Refusal}
-use Rattle.ix_manage.specs.declared.refusal.Refusal.TheVariants.{BadText, Large, LostExpression, BadActions, LostActions, BadScript, LostScript, LongLines, LostLines, Memory}
+use Rattle.ix_manage.specs.declared.refusal.Refusal.TheVariants.{Bad, Lost, Large, Memory}
+use Rattle.ix_manage.specs.declared.refusal.Input.TheVariants.{Expression, Actions, Script, Lines}
 
 module _ (files later : FilesState) (name text passed : List ℕ) (same : passed ≡ text) (file : HasFile files.contents name text) where
   -- a text that is read is that of the file
@@ -35,39 +36,40 @@ module _ (files later : FilesState) (name text passed : List ℕ) (same : passed
   -- what refuses the text refuses the file
   pub read_err : (r : Result Form Refusal) → IfErr r (RefusesText passed) → IfErr r (RefusesExpression files later name)
   read_err (Ok x) why = tt
-  read_err (Err (BadText code at)) why = within file (subst (λ t. IsFirstFault t code at) same why)
+  read_err (Err (Bad Expression code at)) why = within file (subst (λ t. IsFirstFault t code at) same why)
   read_err (Err Memory) why = why
   read_err (Err _) why = absurd why
 
 -- what refuses the file refuses the start
 pub start_refused : (files later : FilesState) (name : List ℕ) (limit : ℕ) (refusal : Refusal)
     → RefusesExpression files later name refusal → RefusesStart files later name limit refusal
-start_refused files later name limit (BadText code at) why = why
-start_refused files later name limit LostExpression why = why
+start_refused files later name limit (Bad Expression code at) why = why
+start_refused files later name limit (Lost Expression) why = why
 start_refused files later name limit Memory why = why
 start_refused files later name limit _ why = absurd why
 
 -- what refuses a file behind another load refuses it from the start on
 pub actions_refused_later : (files mid later : FilesState) (name : List ℕ) (refusal : Refusal) → OnlyFaults files mid
     → RefusesActions mid later name refusal → RefusesActions files later name refusal
-actions_refused_later files mid later name (BadActions code at) only why =
+actions_refused_later files mid later name (Bad Actions code at) only why =
     subst (λ known. HasBadActions known name code at) only.contents why
-actions_refused_later files mid later name LostActions only why = Rose-earlier files.faults mid.faults later.faults only.faults why
+actions_refused_later files mid later name (Lost Actions) only why = Rose-earlier files.faults mid.faults later.faults only.faults why
 actions_refused_later files mid later name Memory only why = why
 actions_refused_later files mid later name _ only why = absurd why
 
 pub lines_refused_later : (files mid later : FilesState) (name : List ℕ) (refusal : Refusal) → OnlyFaults files mid
     → RefusesLines mid later name refusal → RefusesLines files later name refusal
-lines_refused_later files mid later name LongLines only why = subst (λ known. HasLonger known name 67108864) only.contents why
-lines_refused_later files mid later name LostLines only why = Rose-earlier files.faults mid.faults later.faults only.faults why
+lines_refused_later files mid later name (Bad Lines code at) only why =
+    subst (λ known. HasLongLines known name code at) only.contents why
+lines_refused_later files mid later name (Lost Lines) only why = Rose-earlier files.faults mid.faults later.faults only.faults why
 lines_refused_later files mid later name Memory only why = why
 lines_refused_later files mid later name _ only why = absurd why
 
 pub script_refused_later : (files mid later : FilesState) (name : List ℕ) (refusal : Refusal) → OnlyFaults files mid
     → RefusesScript mid later name refusal → RefusesScript files later name refusal
-script_refused_later files mid later name (BadScript code at) only why =
+script_refused_later files mid later name (Bad Script code at) only why =
     subst (λ known. HasBadScript known name code at) only.contents why
-script_refused_later files mid later name LostScript only why = Rose-earlier files.faults mid.faults later.faults only.faults why
+script_refused_later files mid later name (Lost Script) only why = Rose-earlier files.faults mid.faults later.faults only.faults why
 script_refused_later files mid later name Memory only why = why
 script_refused_later files mid later name _ only why = absurd why
 
@@ -82,8 +84,8 @@ EndsWith files later job refusal =
 pub expression_refused : (files later : FilesState) (job : Job) (expression : List ℕ)
     → expression_of job ≡ Some expression → (refusal : Refusal) → RefusesExpression files later expression refusal
     → EndsWith files later job refusal
-expression_refused files later job expression is (BadText code at) why status whole part last site = bad_text is why refl last
-expression_refused files later job expression is LostExpression why status whole part last site = lost_expression is why refl last
+expression_refused files later job expression is (Bad Expression code at) why status whole part last site = bad_text is why refl last
+expression_refused files later job expression is (Lost Expression) why status whole part last site = lost_expression is why refl last
 expression_refused files later job expression is Memory why status whole part last site = no_memory last
 expression_refused files later job expression is _ why _ _ _ _ _ = absurd why
 
@@ -91,10 +93,10 @@ expression_refused files later job expression is _ why _ _ _ _ _ = absurd why
 pub refused_start : (files later : FilesState) (job : Job) (expression : List ℕ)
     → expression_of job ≡ Some expression → ReadsRest files.contents job → (refusal : Refusal)
     → RefusesStart files later expression (limit_of job) refusal → EndsWith files later job refusal
-refused_start files later job expression is rest (BadText code at) why status whole part last site = bad_text is why refl last
+refused_start files later job expression is rest (Bad Expression code at) why status whole part last site = bad_text is why refl last
 refused_start files later job expression is rest (Large most) why status whole part last site =
     large is rest why.1 (subst (λ l. LastLine 3 [] (large_line l) status whole part) why.0 last)
-refused_start files later job expression is rest LostExpression why status whole part last site = lost_expression is why refl last
+refused_start files later job expression is rest (Lost Expression) why status whole part last site = lost_expression is why refl last
 refused_start files later job expression is rest Memory why status whole part last site = no_memory last
 refused_start files later job expression is rest _ why _ _ _ _ _ = absurd why
 
@@ -105,9 +107,9 @@ module _ (files later : FilesState) (expression actions : List ℕ) (limit : ℕ
 
   pub refused_actions : (x : Form) → Starts files.contents expression limit x → (refusal : Refusal)
       → RefusesActions files later actions refusal → EndsWith files later traces refusal
-  refused_actions x starts (BadActions code at) why status whole part last site =
+  refused_actions x starts (Bad Actions code at) why status whole part last site =
       bad_actions starts why refl last
-  refused_actions x starts LostActions why status whole part last site = lost_actions starts why refl last
+  refused_actions x starts (Lost Actions) why status whole part last site = lost_actions starts why refl last
   refused_actions x starts Memory why status whole part last site = no_memory last
   refused_actions x starts _ why _ _ _ _ _ = absurd why
 
@@ -135,8 +137,8 @@ module _ (files later : FilesState) (expression lines : List ℕ) (limit : ℕ) 
 
   pub refused_lines : (x : Form) → Starts files.contents expression limit x → (refusal : Refusal)
       → RefusesLines files later lines refusal → EndsWith files later follows refusal
-  refused_lines x starts LongLines why status whole part last site = long_lines starts why refl last
-  refused_lines x starts LostLines why status whole part last site = lost_lines starts why refl last
+  refused_lines x starts (Bad Lines code at) (longer why) status whole part last site = long_lines starts why refl last
+  refused_lines x starts (Lost Lines) why status whole part last site = lost_lines starts why refl last
   refused_lines x starts Memory why status whole part last site = no_memory last
   refused_lines x starts _ why _ _ _ _ _ = absurd why
 
@@ -160,8 +162,8 @@ module _ (files later : FilesState) (expression journal script : List ℕ) (limi
 
   pub replay_refused : (x : Form) → ReadsForm files.contents expression x → (refusal : Refusal)
       → RefusesScript files later script refusal → EndsWith files later replays refusal
-  replay_refused x reads (BadScript code at) why status whole part last site = bad_script reads why refl last
-  replay_refused x reads LostScript why status whole part last site = lost_script reads why refl last
+  replay_refused x reads (Bad Script code at) why status whole part last site = bad_script reads why refl last
+  replay_refused x reads (Lost Script) why status whole part last site = lost_script reads why refl last
   replay_refused x reads Memory why status whole part last site = no_memory last
   replay_refused x reads _ why _ _ _ _ _ = absurd why
 
@@ -180,6 +182,6 @@ replay_reads files script bytes passed file short same events has = record {
 pub script_refused : (files later : FilesState) (name bytes passed : List ℕ) → HasFile files.contents name bytes
     → length bytes ≤ 67108864 → passed ≡ bytes
     → (refusal : Refusal) → IsBadScript passed refusal → RefusesScript files later name refusal
-script_refused files later name bytes passed file short same (BadScript code at) why =
+script_refused files later name bytes passed file short same (Bad Script code at) why =
     bad_line file short (subst (λ b. IsFirstScriptFault b code at) same why)
 script_refused files later name bytes passed file short same _ why = absurd why

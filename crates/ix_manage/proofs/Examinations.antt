@@ -21,7 +21,8 @@ use Rattle.ix_parse.proofs.Printing.{printed-loosen, printed-star}
 use Rattle.ix_engine.specs.inside.Engine.{EngineState}
 use Rattle.ix_generate.specs.Workload.{examinations}
 use Rattle.ix_manage.specs.declared.refusal.Refusal.{Refusal}
-use Rattle.ix_manage.specs.declared.refusal.Refusal.TheVariants.{BadText, Large, Memory}
+use Rattle.ix_manage.specs.declared.refusal.Refusal.TheVariants.{Bad, Large, Memory}
+use Rattle.ix_manage.specs.declared.refusal.Input.TheVariants.{Expression}
 use Rattle.ix_manage.specs.inside.Refusal.{RefusesForm, RefusesText, RefusesWorkload}
 
 -- the action of a name on a patient and an examination
@@ -121,7 +122,7 @@ no_fault code at faulty = faulty-none examinations code at expression faulty sta
 -- what refuses the text is want of memory
 pub text_refused : (limit : ℕ) (refusal : Refusal) → RefusesText examinations refusal
     → RefusesWorkload limit refusal
-text_refused limit (BadText code at) why = absurd (no_fault code at why)
+text_refused limit (Bad Expression code at) why = absurd (no_fault code at why)
 text_refused limit Memory why = why
 text_refused limit _ why = absurd why
 

@@ -1,12 +1,14 @@
 -- Feeding the lines of a file, so far and to the end.
-use Rattle.std.proofs.Common.{◌≡◌, ℕ, ◌≤◌, List, [], ◌∷◌, ◌++◌, length, None, Result, Ok, Err, refl, sym, ap, subst, ◌∙◌, append_assoc}
+use Rattle.std.proofs.Common.{◌≡◌, ℕ, ◌≤◌, List, [], ◌∷◌, ◌++◌, length, None, Result, Ok, Err, IsErrAnd, refl, sym, ap, subst, ◌∙◌, append_assoc}
 use Rattle.std.specs.Io.KnownBytes.{append_known}
 use Rattle.std.proofs.lemmas.List.{append-nil}
+use Rattle.std.proofs.lemmas.Result.{err_from_is_err_and}
 use Rattle.ix_values.specs.PlainAction.{Word}
 use Rattle.ix_expr.specs.Form.{Form}
 use Rattle.ix_engine.specs.inside.Engine.{EngineState}
 use Rattle.ix_lines.specs.TextLines.{lines_of}
 use Rattle.ix_lines.proofs.LineLists.{lines_of-none}
+use Rattle.ix_outside.specs.Counts.{Rose}
 use Rattle.ix_outside.specs.Sink.{AppendsPart}
 use Rattle.ix_outside.specs.SinkState.{SinkState}
 use Rattle.ix_outside.proofs.Counting.{Rose-earlier}
@@ -17,9 +19,9 @@ use Rattle.ix_follow.specs.Following.{Feeds}
 use Rattle.ix_manage.specs.FollowLines.{Follows, FollowsTo, fed_line, answered, refused, short, ends, lost_answer}
 use Rattle.ix_manage.specs.Puts.{LastLine}
 use Rattle.ix_manage.specs.Trace.{Verdict}
-use Rattle.ix_manage.specs.declared.run.Stop.{Stop}
-use Rattle.ix_manage.specs.declared.run.Stop.TheVariants.{Refused, Words, OtherExpression, Output}
-use Rattle.ix_manage.specs.inside.Following.{FollowsLines, StopsFed, refusal_of}
+use Rattle.ix_manage.specs.declared.early_end.EarlyEnd.{EarlyEnd}
+use Rattle.ix_manage.specs.declared.early_end.EarlyEnd.TheVariants.{Refused, Words, OtherExpression, Output}
+use Rattle.ix_manage.specs.inside.Following.{FollowsLines, PutsFed, StopsFed, follow_end, refusal_of}
 use Rattle.ix_manage.specs.inside.Leaves.{AwaitsLine, StopsAfter}
 use Rattle.ix_manage.specs.inside.Refusal.{refusal_line, refusal_status}
 
@@ -28,6 +30,26 @@ pub feeds_same : {x y : Form} {limit most : ℕ} {history after : Word} {bytes :
     → y ≡ x → most ≡ limit → Feeds y most history bytes answer after → Feeds x limit history bytes answer after
 feeds_same {x = x} {most = most} {history = history} {after = after} {bytes = bytes} {answer = answer} form bound fed =
     subst (λ l. Feeds x l history bytes answer after) bound (subst (λ z. Feeds z most history bytes answer after) form fed)
+
+module _ {T : Type 0} (r : Result T EarlyEnd) (s : EngineState) (bytes : List ℕ) (after : Word) (old new : SinkState) where
+  -- a line was refused, and nothing was put
+  pub fed_refused : (why : FollowFault) → IsErrAnd r (λ e. e ≡ follow_end why)
+      → Feeds s.form s.limit s.history bytes (Err why) after → new.written ≡ old.written
+      → PutsFed s bytes after old new r
+  fed_refused why is fed still =
+      let p = err_from_is_err_and r is in
+      subst (PutsFed s bytes after old new) (sym p.1)
+      (subst (StopsFed s bytes after old new) (sym p.2) (why, fed, refl, still))
+
+  -- the put of a line's answer failed
+  pub fed_unput : (answer : Fed) → IsErrAnd r (λ e. e ≡ Output)
+      → Feeds s.form s.limit s.history bytes (Ok answer) after
+      → AppendsPart old.written (fed_line answer) new.written → Rose old.faults new.faults
+      → PutsFed s bytes after old new r
+  fed_unput answer is fed part rose =
+      let p = err_from_is_err_and r is in
+      subst (PutsFed s bytes after old new) (sym p.1)
+      (subst (StopsFed s bytes after old new) (sym p.2) (answer, fed, part, rose))
 
 -- one line more stands before what is left
 pub fed_step : (all rest next bytes : List ℕ) (front : List (List ℕ)) → lines_of rest ≡ bytes ∷ lines_of next
@@ -67,7 +89,7 @@ module _ (x : Form) (limit : ℕ) (all rest : List ℕ) (front : List (List ℕ)
       pub follow_stops : (s : EngineState) (after : Word) (start was now : SinkState)
           → s.form ≡ x → s.limit ≡ limit → s.history ≡ history
           → was.written ≡ append_known start.written text → start.faults ≤ was.faults
-          → (stop : Stop) → StopsFed s bytes after was now stop
+          → (stop : EarlyEnd) → StopsFed s bytes after was now stop
           → StopsAfter (FollowsLines x limit all) start now stop
       follow_stops s after start was now form most same put_before le (Refused refusal) it =
           let fed = subst (λ (h : Word). Feeds x limit h bytes (Err it.0) after) same (feeds_same form most it.1) in

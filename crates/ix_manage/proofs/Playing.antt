@@ -41,14 +41,15 @@ use Rattle.ix_manage.specs.declared.job.ReplayWords.{ReplayWords}
 use Rattle.ix_manage.specs.declared.refusal.JournalRefusal.{JournalRefusal}
 use Rattle.ix_manage.specs.declared.refusal.JournalRefusal.TheVariants.{Foreign, Damaged, Many, Word, Heavy}
 use Rattle.ix_manage.specs.declared.refusal.Refusal.TheVariants.{Disk, Journal, Large, Memory}
-use Rattle.ix_manage.specs.declared.run.Stop.TheVariants.{Refused}
+use Rattle.ix_manage.specs.declared.early_end.EarlyEnd.TheVariants.{Refused}
 use Rattle.ix_manage.specs.inside.Jobs.{replay_of}
 use Rattle.ix_manage.specs.inside.Leaves.{AwaitsLine, StopsAfter}
 use Rattle.ix_manage.specs.inside.Opening.{EndsUnstarted, IsJobOf, StartsOver}
-use Rattle.ix_manage.specs.inside.Playing.{PlaysOver, stop_of}
+use Rattle.ix_manage.specs.inside.EarlyEnds.{unstarted_end}
+use Rattle.ix_manage.specs.inside.Playing.{PlaysOver}
 use Rattle.ix_manage.specs.inside.Refusal.{journal_words, other_line}
 use Rattle.ix_manage.specs.inside.ReplayProgress.{OnlyUsesDisk, ReplaysOn, disk_alone}
-use Rattle.ix_manage.specs.inside.Turns as turns
+use Rattle.ix_manage.specs.inside.Progress as progress
 use Rattle.ix_manage.proofs.Causes.{replay_ends_earlier}
 use Rattle.ix_manage.proofs.Devices.{disk_calls_then}
 use Rattle.ix_manage.proofs.Opening.{KeepsAlong, on_journal, session_uses}
@@ -132,7 +133,7 @@ module _ (x : Form) (limit : ℕ) (name : List ℕ) (before after : SiteState) (
         → (tree_size x [] ≤ limit) ⊎ ((why ≡ fault.Large limit) ⊎ (why ≡ fault.Memory))
         → (tree_size x [] ≤ limit → Files why)
         → (why ≡ fault.Disk → Rose before.counts.disk after.counts.disk)
-        → StopsAfter May sink sink (stop_of why)
+        → StopsAfter May sink sink (unstarted_end why)
     start_stops (fault.Large l) large kind refuses rose = large_stops l (large l refl)
     start_stops fault.Disk large kind refuses rose = disk_stops (rose refl)
     start_stops fault.Memory large kind refuses rose = nothing_put Memory sink
@@ -239,10 +240,10 @@ module _ (x : Form) (limit : ℕ) (name : List ℕ) (before mid end : SiteState)
 -- the opening that a session played from is the expression's, under the limit
 module _ (x : Form) (limit : ℕ) (m : ManagerState) (fresh : m ≡ started (opening_of x limit m.machine.history m.machine.boot) m.store)
   where
-    pub opening_fresh : turns.opening_of m ≡ opening_of x limit m.machine.history m.machine.boot
-    opening_fresh = ap (λ (s : ManagerState). turns.opening_of s) fresh
+    pub opening_fresh : progress.opening_at m ≡ opening_of x limit m.machine.history m.machine.boot
+    opening_fresh = ap (λ (s : ManagerState). progress.opening_at s) fresh
 
-    pub opening_from : (session : Session) → session.opening ≡ turns.opening_of m → IsFrom x limit session.opening
+    pub opening_from : (session : Session) → session.opening ≡ progress.opening_at m → IsFrom x limit session.opening
     opening_from session is =
         let same = is ∙ opening_fresh in (ap (λ (o : Opening). o.form) same, ap (λ (o : Opening). o.limit) same)
 
@@ -305,7 +306,7 @@ module _ (x : Form) (names : ReplayWords) (script : List ℕ) (before : SiteStat
         → StartsOver x names.limit names.journal.now before mid q m
         → OnlyUsesDisk mid end → (final : MachineState)
         → (status : ℕ) (whole part : List ℕ) (session : Option Session)
-        → ReplaysOn (turns.opening_of m) names.turns script final
+        → ReplaysOn (progress.opening_at m) names.turns script final
         (record { before = disk_alone mid; after = disk_alone end; was = without_sends q; is = without_sends r })
         status whole part session
         → PlaysOver x names script before end r status whole part session

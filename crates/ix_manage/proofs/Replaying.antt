@@ -38,15 +38,15 @@ use Rattle.ix_manage.specs.Ends.{Ended}
 use Rattle.ix_manage.specs.Session.{Session, history_line, replay_text}
 use Rattle.ix_manage.specs.Replay.{AreFirst, LosesReply, ReplayEnds, ends, loses, lost_reply, session_text}
 use Rattle.ix_manage.specs.Session.{IsNoEnd, IsOver, over, out_of_turns, disk_failed, lost_history}
-use Rattle.ix_manage.specs.inside.Leaves.{AwaitsLine, Leaves}
+use Rattle.ix_manage.specs.inside.Leaves.{AwaitsLine, LeavesOutput}
 use Rattle.ix_manage.specs.inside.Refusal.{refusal_line}
 use Rattle.ix_manage.specs.inside.ReplayProgress.{IsAtStart, IsBetween, OnlyPlays, Player, PutsHistory, ReplaysOn, ReplaysScript}
-use Rattle.ix_manage.specs.inside.ReplayProgress.{Stands, TakesTurn, between, told_of}
-use Rattle.ix_manage.specs.inside.Turns.{IsStarted, IsTurn, SavesFrom, Stretch, opening_of}
+use Rattle.ix_manage.specs.inside.ReplayProgress.{HasPlayed, TakesEvent, disk_stretch, told_by}
+use Rattle.ix_manage.specs.inside.Progress.{IsStarted, IsOutcome, SavesFrom, Stretch, opening_at}
 use Rattle.ix_manage.specs.declared.refusal.Refusal.TheVariants.{Disk, Turns}
-use Rattle.ix_manage.specs.declared.run.Stop.{Stop}
-use Rattle.ix_manage.specs.declared.turn.Turn.{Turn}
-use Rattle.ix_manage.specs.declared.turn.Turn.TheVariants.{More, Done, Cut, Failed}
+use Rattle.ix_manage.specs.declared.early_end.EarlyEnd.{EarlyEnd}
+use Rattle.ix_manage.specs.declared.outcome.EventOutcome.{EventOutcome}
+use Rattle.ix_manage.specs.declared.outcome.EventOutcome.TheVariants.{More, Done, Cut, Failed}
 use Rattle.ix_manage.proofs.ScriptFronts.{first_push}
 use Rattle.ix_manage.proofs.Stops.{ended_cut, ended_whole}
 use Rattle.ix_manage.proofs.Tracing.{append_nothing, append_twice}
@@ -161,11 +161,11 @@ loses_one {conn = conn} (lost {reply = reply} {replies = replies} {s = s} part r
 
 -- what a site tells before its manager sends the replies to an event that it just gave
 abbrev told_before : Player → Player → Contents
-told_before was now = told_of (record was { given = now.given })
+told_before was now = told_by (record was { given = now.given })
 
 -- an event that a manager took of a script's site, none of whose puts had failed
 module _ (old new : ManagerState) (was now : Player) (event : Event) (piece : List ℕ) (ending : Ending)
-    (handled : Handles old event piece ending new (told_before was now) (told_of now))
+    (handled : Handles old event piece ending new (told_before was now) (told_by now))
     (fits : FitsEvent event piece) (none_marked : old.marks ≡ unmarked) (open_sink : was.failed ≡ false)
   where
     open_before : get_or old.marks event.conn false ≡ false
@@ -175,9 +175,9 @@ module _ (old new : ManagerState) (was now : Player) (event : Event) (piece : Li
     within = subst (λ n. event.conn < n) (sym (ap length none_marked ∙ length-replicate 64 false)) fits.0
 
     sends : SendsInOrder (λ reply. SendsWhole event.conn (reply_line reply)) (λ reply. SendsPart event.conn (reply_line reply))
-        (all_replies handled.answers) false (told_before was now) handled.sends.marked (told_of now)
+        (all_replies handled.answers) false (told_before was now) handled.sends.marked (told_by now)
     sends = subst (λ m. SendsInOrder (λ reply. SendsWhole event.conn (reply_line reply)) (λ reply. SendsPart event.conn (reply_line reply))
-        (all_replies handled.answers) m (told_before was now) handled.sends.marked (told_of now)) open_before handled.sends.sends
+        (all_replies handled.answers) m (told_before was now) handled.sends.marked (told_by now)) open_before handled.sends.sends
 
     marked_is : handled.sends.marked ≡ now.failed
     marked_is = let told = lost_told sends (ap Some open_sink) in cc
@@ -190,27 +190,27 @@ module _ (old new : ManagerState) (was now : Player) (event : Event) (piece : Li
         ∙ marked_is
 
 -- the script's next event was taken
-pub event_taken : (room : ℕ) (old new : ManagerState) (was between now : Player) (buf passed : List ℕ) (event : Event) (ending : Ending) (turn : Turn) (stretch : Stretch)
+pub event_taken : (room : ℕ) (old new : ManagerState) (was between now : Player) (buf passed : List ℕ) (event : Event) (ending : Ending) (outcome : EventOutcome) (stretch : Stretch)
     → room ≡ 4096 → between.given ≡ was.given ++ given_event event (piece_of event.kind buf) ∷ []
     → between.sink ≡ was.sink → between.failed ≡ was.failed → passed ≡ piece_of event.kind buf
     → FitsBuffer room event → length buf ≡ room
     → IsNextPiece room was.script was.given (given_event event (piece_of event.kind buf))
-    → Handles old event passed ending new (told_of between) (told_of now)
+    → Handles old event passed ending new (told_by between) (told_by now)
     → new.machine.number ≤ old.machine.number + length passed
-    → IsBetween old was → IsTurn now.failed ending event.kind turn
+    → IsBetween old was → IsOutcome now.failed ending event.kind outcome
     → ((conn : ℕ) → get_or old.marks conn false ≡ false → get_or new.marks conn false ≡ true
     → Rose between.sink.faults now.sink.faults)
     → SavesRun ending old new stretch.before stretch.after stretch.was stretch.is
-    → TakesTurn old was new now stretch turn
-event_taken room old new was between now buf passed event ending turn stretch room_is given_is sink_is failed_is passed_is fits long next handled rises ready turn_is rose saves =
+    → TakesEvent old was new now stretch outcome
+event_taken room old new was between now buf passed event ending outcome stretch room_is given_is sink_is failed_is passed_is fits long next handled rises ready outcome_is rose saves =
     let told = given_told handled.sends.sends refl in
     let same : between.given ≡ now.given = cc in
     let piece : List ℕ = piece_of event.kind buf in
     let fits_event : FitsEvent event piece =
     (fits.0, piece_has event.kind event.conn buf (long ∙ room_is) (subst (λ n. KindFits n event.conn event.kind) (sym long) fits.1)) in
-    let its : Handles old event piece ending new (told_before was now) (told_of now) =
-    subst (λ p. Handles old event p ending new (told_before was now) (told_of now)) passed_is
-    (subst (λ c. Handles old event passed ending new c (told_of now))
+    let its : Handles old event piece ending new (told_before was now) (told_by now) =
+    subst (λ p. Handles old event p ending new (told_before was now) (told_by now)) passed_is
+    (subst (λ c. Handles old event passed ending new c (told_by now))
     (λ i. record { given = Some (same i); sends = None; text = SinkState.written (sink_is i); lost = Some (failed_is i) }) handled) in
     record {
       event = event;
@@ -221,7 +221,7 @@ event_taken room old new was between now buf passed event ending turn stretch ro
       fits = fits_event;
       handled = its;
       tickets = subst (λ p. new.machine.number ≤ old.machine.number + length p) passed_is rises;
-      turn_is = turn_is;
+      outcome_is = outcome_is;
       fault = λ one_lost.
           subst (λ (s : SinkState). Rose s.faults now.sink.faults) sink_is
           (rose event.conn
@@ -247,13 +247,13 @@ saves_resting m fresh {store = store} {a = a} {b = b} {p = p} {q = q} saves =
 -- a manager that was just started stands behind what was put before
 pub stands_first : (m : ManagerState) (start : Player) (site : SiteState) (crashes : Crashes) → IsStarted m → IsAtStart start
     → AreLawful site crashes → FitsSite m site crashes
-    → Stands (opening_of m) start.sink.written m start (record { before = site; after = site; was = crashes; is = crashes })
+    → HasPlayed (opening_at m) start.sink.written m start (record { before = site; after = site; was = crashes; is = crashes })
 stands_first m start site crashes fresh begins lawful fits =
     let nothing = sym begins.given in
     let first_ticket : m.machine.number ≡ 1 = ap (λ (s : ManagerState). s.machine.number) fresh in record {
       answers = [];
-      follows = subst (λ given. FollowsRun (opening_of m) given [] m) nothing
-          (subst (λ s. FollowsRun (opening_of m) [] [] s) (sym fresh) (started_follows (opening_of m) m.store));
+      follows = subst (λ given. FollowsRun (opening_at m) given [] m) nothing
+          (subst (λ s. FollowsRun (opening_at m) [] [] s) (sym fresh) (started_follows (opening_at m) m.store));
       marks = ap (λ (s : ManagerState). s.marks) fresh;
       tickets = omega (arith, first_ticket);
       open_sink = begins.open_sink;
@@ -264,7 +264,7 @@ stands_first m start site crashes fresh begins lawful fits =
     }
 
 module _ {opening : Opening} {known : Option (List ℕ)} {m : ManagerState} {now : Player} {stretch : Stretch}
-    (stands : Stands opening known m now stretch) where
+    (stands : HasPlayed opening known m now stretch) where
   -- the store fits what was made of the site
   pub stands_fits : FitsSite m stretch.after stretch.is
   stands_fits = subst (λ x. FitsWith x m.machine m.store stretch.after stretch.is) (sym stands.follows.form_is) stands.saves.fits
@@ -314,10 +314,10 @@ module _ {opening : Opening} {known : Option (List ℕ)} {m : ManagerState} {now
         put = text_behind_line start line_put;
       }
 
-module _ {old new : ManagerState} {was now : Player} {turn : Turn} {a b c : SiteState} {p q r : Crashes}
-    (took : TakesTurn old was new now (record { before = b; after = c; was = q; is = r }) turn)
+module _ {old new : ManagerState} {was now : Player} {outcome : EventOutcome} {a b c : SiteState} {p q r : Crashes}
+    (took : TakesEvent old was new now (record { before = b; after = c; was = q; is = r }) outcome)
     {opening : Opening} {known : Option (List ℕ)}
-    (stands : Stands opening known old was (record { before = a; after = b; was = p; is = q }))
+    (stands : HasPlayed opening known old was (record { before = a; after = b; was = p; is = q }))
     (lawful : AreLawful c r)
   where
     -- from the start on
@@ -353,14 +353,14 @@ module _ {old new : ManagerState} {was now : Player} {turn : Turn} {a b c : Site
         let opened = open_before old new was now took.event took.piece took.ending took.handled took.fits stands.marks stands.open_sink in
         let inside = within old new was now took.event took.piece took.ending took.handled took.fits stands.marks stands.open_sink in
         let mark = mark_is old new was now took.event took.piece took.ending took.handled took.fits stands.marks stands.open_sink in
-        (run_text_told known was.given stands.answers old took.event took.piece took.ending new (told_before was now) (told_of now)
+        (run_text_told known was.given stands.answers old took.event took.piece took.ending new (told_before was now) (told_by now)
         took.handled (run_lengths stands.follows.run) inside opened stands.text).0 (mark ∙ none_lost)
         ∙ ap (λ taken. append_known known (run_text taken answers)) (sym took.given)
 
     -- it may go on
-    pub turn_more : turn ≡ More → OnlyPlays was now → Stands opening known new now stretch
-    turn_more same plays =
-        let is = subst (IsTurn now.failed took.ending took.event.kind) same took.turn_is in
+    pub outcome_more : outcome ≡ More → OnlyPlays was now → HasPlayed opening known new now stretch
+    outcome_more same plays =
+        let is = subst (IsOutcome now.failed took.ending took.event.kind) same took.outcome_is in
         let behind = sym took.given in record {
           answers = answers;
           follows = subst (λ taken. FollowsRun opening taken answers new) behind
@@ -404,9 +404,9 @@ module _ {old new : ManagerState} {was now : Player} {turn : Turn} {a b c : Site
         }
 
         -- the event was the end or brought `stop`
-        pub turn_done : turn ≡ Done → Ended (ReplaysScript opening turns was.script now.given new.machine stretch) 0 start now.sink
-        turn_done same =
-            let is = subst (IsTurn now.failed took.ending took.event.kind) same took.turn_is in
+        pub outcome_done : outcome ≡ Done → Ended (ReplaysScript opening turns was.script now.given new.machine stretch) 0 start now.sink
+        outcome_done same =
+            let is = subst (IsOutcome now.failed took.ending took.event.kind) same took.outcome_is in
             ended_whole start now.sink (session_text played) (Some played) (replays (ends (over (is_over is.1))))
             (told_whole is.0 ∙ ap (λ k. append_known k (run_text now.given answers)) line_put
             ∙ append_twice start.written (history_line opening.history) (run_text now.given answers))
@@ -416,10 +416,10 @@ module _ {old new : ManagerState} {was now : Player} {turn : Turn} {a b c : Site
             is_over (inr stops) = inr stops
 
         -- the disk failed
-        pub turn_failed : turn ≡ Failed
+        pub outcome_failed : outcome ≡ Failed
             → AwaitsLine (ReplaysScript opening turns was.script now.given new.machine stretch) 5 (refusal_line Disk) start now.sink
-        turn_failed same =
-            let is = subst (IsTurn now.failed took.ending took.event.kind) same took.turn_is in record {
+        outcome_failed same =
+            let is = subst (IsOutcome now.failed took.ending took.event.kind) same took.outcome_is in record {
               before = session_text played;
               session = Some played;
               may =
@@ -431,10 +431,10 @@ module _ {old new : ManagerState} {was now : Player} {turn : Turn} {a b c : Site
             }
 
         -- a put failed
-        pub turn_cut : turn ≡ Cut → start.faults ≤ was.sink.faults
+        pub outcome_cut : outcome ≡ Cut → start.faults ≤ was.sink.faults
             → Ended (ReplaysScript opening turns was.script now.given new.machine stretch) 10 start now.sink
-        turn_cut same le =
-            let is : now.failed ≡ true = subst (IsTurn now.failed took.ending took.event.kind) same took.turn_is in
+        outcome_cut same le =
+            let is : now.failed ≡ true = subst (IsOutcome now.failed took.ending took.event.kind) same took.outcome_is in
             let one = loses_one (sends old new was now took.event took.piece took.ending took.handled took.fits stands.marks stands.open_sink) (marked_now ∙ is) in
             let text : List ℕ = replay_text opening.history was.given stands.answers in
             let sent_text : List ℕ = replies_text took.event.conn one.sent_ones in
@@ -447,7 +447,7 @@ module _ {old new : ManagerState} {was now : Player} {turn : Turn} {a b c : Site
             one.part)
             (Rose-earlier _ _ _ le (took.fault is))
 
-pub taken_count : {old new : ManagerState} {was now : Player} {stretch : Stretch} {turn : Turn} → TakesTurn old was new now stretch turn
+pub taken_count : {old new : ManagerState} {was now : Player} {stretch : Stretch} {outcome : EventOutcome} → TakesEvent old was new now stretch outcome
     → length now.given ≡ length was.given + 1
 taken_count {was = was} took = ap length took.given ∙ length_push was.given (given_event took.event took.piece)
 
@@ -456,9 +456,9 @@ pub history_lost : (m : ManagerState) → IsStarted m → (turns : ℕ) (script 
     (site : SiteState) (crashes : Crashes) → AreLawful site crashes → FitsSite m site crashes
     → line ≡ history_line m.machine.history → AppendsPart old.written line new.written
     → Rose old.faults new.faults
-    → Ended (ReplaysOn (opening_of m) turns script m.machine (record { before = site; after = site; was = crashes; is = crashes })) 10 old new
+    → Ended (ReplaysOn (opening_at m) turns script m.machine (record { before = site; after = site; was = crashes; is = crashes })) 10 old new
 history_lost m fresh turns script line old new site crashes lawful fits same part rose =
-    let opening : Opening = opening_of m in
+    let opening : Opening = opening_at m in
     let played : Session = record { opening = opening; taken = []; answers = []; last = m.machine; ending = going } in
     ended_cut old new [] (history_line m.machine.history) (Some played) (
       [],
@@ -505,11 +505,11 @@ replays_on opening turns script passed same taken last stretch status whole part
 -- the sites and the sink at both ends, by other names
 pub leaves_over : {S T : Type 0} (site_state : S → SiteState) (site_crashes : S → Crashes)
     (opening : Opening) (turns : ℕ) (script : List ℕ) (last : MachineState) (start : SinkState)
-    {first first' now end : S} {sink final : SinkState} (r : Result T Stop)
-    → Leaves (ReplaysOn opening turns script last (between site_state site_crashes first now)) start sink r
+    {first first' now end : S} {sink final : SinkState} (r : Result T EarlyEnd)
+    → LeavesOutput (ReplaysOn opening turns script last (disk_stretch site_state site_crashes first now)) start sink r
     → first ≡ first' → now ≡ end → sink ≡ final
-    → Leaves (ReplaysOn opening turns script last (between site_state site_crashes first' end)) start final r
+    → LeavesOutput (ReplaysOn opening turns script last (disk_stretch site_state site_crashes first' end)) start final r
 leaves_over site_state site_crashes opening turns script last start {first' = first'} {now = now} {end = end} {sink = sink} r it firsts lasts sinks =
-    subst (λ s. Leaves (ReplaysOn opening turns script last (between site_state site_crashes first' end)) start s r) sinks
-    (subst (λ s. Leaves (ReplaysOn opening turns script last (between site_state site_crashes first' s)) start sink r) lasts
-    (subst (λ s. Leaves (ReplaysOn opening turns script last (between site_state site_crashes s now)) start sink r) firsts it))
+    subst (λ s. LeavesOutput (ReplaysOn opening turns script last (disk_stretch site_state site_crashes first' end)) start s r) sinks
+    (subst (λ s. LeavesOutput (ReplaysOn opening turns script last (disk_stretch site_state site_crashes first' s)) start sink r) lasts
+    (subst (λ s. LeavesOutput (ReplaysOn opening turns script last (disk_stretch site_state site_crashes s now)) start sink r) firsts it))

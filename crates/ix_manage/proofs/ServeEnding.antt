@@ -40,15 +40,15 @@ use Rattle.ix_manage.specs.Site.{OnlyCalls}
 use Rattle.ix_manage.specs.Session.{Session, history_line, lost_history, over}
 use Rattle.ix_manage.specs.Trace.{ReadsForm}
 use Rattle.ix_manage.specs.declared.job.ServeWords.{ServeWords}
-use Rattle.ix_manage.specs.declared.run.Stop.{Stop}
-use Rattle.ix_manage.specs.declared.run.Stop.TheVariants.{OtherExpression, Output, Refused, Words}
+use Rattle.ix_manage.specs.declared.early_end.EarlyEnd.{EarlyEnd}
+use Rattle.ix_manage.specs.declared.early_end.EarlyEnd.TheVariants.{OtherExpression, Output, Refused, Words}
 use Rattle.ix_manage.specs.inside.Jobs.{serve_of}
-use Rattle.ix_manage.specs.inside.Leaves.{Leaves}
+use Rattle.ix_manage.specs.inside.Leaves.{LeavesOutput}
 use Rattle.ix_manage.specs.inside.Opening.{EndsUnstarted, IsJobOf, StartsOver}
 use Rattle.ix_manage.specs.inside.Playing.{ServesOver}
 use Rattle.ix_manage.specs.inside.ServeProgress.{OnlyServed, SentFor, ServedSession, ServesFrom, ServesOn, ServesTo, served, unheard}
-use Rattle.ix_manage.specs.inside.Turns.{IsStarted, SavesFrom, Stretch}
-use Rattle.ix_manage.specs.inside.Turns as stood
+use Rattle.ix_manage.specs.inside.Progress.{IsStarted, SavesFrom, Stretch}
+use Rattle.ix_manage.specs.inside.Progress as stood
 use Rattle.ix_manage.proofs.Causes.{serve_ends_earlier}
 use Rattle.ix_manage.proofs.Devices.{calls_of_disk, calls_then}
 use Rattle.ix_manage.proofs.Opening.{kept_opened, opened_at, some_is}
@@ -184,11 +184,11 @@ module _ (turns : ℕ) (socket : List ℕ) (old new : ManagerState) (a b c : Sit
     over_all = record { before = a; after = c; was = p; is = r }
 
     abbrev May : ℕ → List ℕ → List ℕ → Option Session → Type 0
-    May = ServesOn (stood.opening_of old) turns socket new.machine over_all
+    May = ServesOn (stood.opening_at old) turns socket new.machine over_all
 
     from_listening : (session : Session)
-        → ServedSession (stood.opening_of old) turns new.machine (record { before = b; after = c; was = q; is = r }) session
-        → ServedSession (stood.opening_of old) turns new.machine over_all session
+        → ServedSession (stood.opening_at old) turns new.machine (record { before = b; after = c; was = q; is = r }) session
+        → ServedSession (stood.opening_at old) turns new.machine over_all session
     from_listening session it = record {
       opening_is = it.opening_is;
       last_is = it.last_is;
@@ -202,18 +202,18 @@ module _ (turns : ℕ) (socket : List ℕ) (old new : ManagerState) (a b c : Sit
     abbrev Mid : Stretch
     Mid = record { before = b; after = c; was = q; is = r }
 
-    wire_of : {T : Type 0} (r' : Result T Stop) (it : ServesTo turns old new Mid r') → ServesFrom socket it.session over_all
+    wire_of : {T : Type 0} (r' : Result T EarlyEnd) (it : ServesTo turns old new Mid r') → ServesFrom socket it.session over_all
     wire_of r' it =
-        serves_from socket a b c p q r heard sends (stood.opening_of old) since it.session it.served.opening_is
+        serves_from socket a b c p q r heard sends (stood.opening_at old) since it.session it.served.opening_is
         new.machine it.served.last_is it.marks it.sent
 
-    line_of : (session : Session) → session.opening ≡ stood.opening_of old
+    line_of : (session : Session) → session.opening ≡ stood.opening_at old
         → between.written ≡ append_known start.written (history_line session.opening.history)
     line_of session is = put ∙ ap (λ (o : Opening). append_known start.written (history_line o.history)) (sym is)
 
-    pub leaves_serving : {T : Type 0} (r' : Result T Stop)
+    pub leaves_serving : {T : Type 0} (r' : Result T EarlyEnd)
         → ServesTo turns old new (record { before = b; after = c; was = q; is = r }) r'
-        → Leaves May start between r'
+        → LeavesOutput May start between r'
     leaves_serving (Ok value) it =
         ended_whole start between (history_line it.session.opening.history) (Some it.session)
         (served (from_listening it.session it.served) (wire_of (Ok value) it) (ends (over it.ends)))
@@ -239,22 +239,22 @@ pub history_lost : (m : ManagerState) → IsStarted m → (turns : ℕ) (socket 
     → ServesSince t m.form (length m.machine.history) m.machine.history (with_heard socket start) [] [] unmarked b q)
     → (old new : SinkState) → line ≡ history_line m.machine.history → AppendsPart old.written line new.written
     → Rose old.faults new.faults
-    → Ended (ServesOn (stood.opening_of m) turns socket m.machine (record { before = a; after = b; was = p; is = q })) 10 old new
+    → Ended (ServesOn (stood.opening_at m) turns socket m.machine (record { before = a; after = b; was = p; is = q })) 10 old new
 history_lost m fresh turns socket line a b p q saves heard sends since old new same part rose =
-    let played : Session = record { opening = stood.opening_of m; taken = []; answers = []; last = m.machine; ending = going } in
+    let played : Session = record { opening = stood.opening_at m; taken = []; answers = []; last = m.machine; ending = going } in
     ended_cut old new [] (history_line m.machine.history) (Some played)
     (served (record {
       opening_is = refl;
       last_is = refl;
       takes = record {
-        run = subst (λ s. Run (stood.opening_of m) [] [] s going) (sym (ap (λ (s : ManagerState). s.machine) fresh)) run_begins;
+        run = subst (λ s. Run (stood.opening_at m) [] [] s going) (sym (ap (λ (s : ManagerState). s.machine) fresh)) run_begins;
         few = omega arith;
         before_the_end = λ before last is. absurd (let long = ap length is in let push = length_push before last in omega (arith, long, push));
       };
       store = m.store;
       saves = saves_begun m fresh saves;
     })
-    (serves_from socket a b b p q q heard sends (stood.opening_of m) since played refl m.machine refl unmarked (record {
+    (serves_from socket a b b p q q heard sends (stood.opening_at m) since played refl m.machine refl unmarked (record {
       given = λ new told. (new, told, sym (append-nil new));
       told = λ some. some;
       since = λ t start serves. serves;
@@ -338,7 +338,7 @@ module _ (x : Form) (names : ServeWords) (before : SiteState) where
 
       -- a run was started, and maybe took events
       pub session_serves : (status : ℕ) (whole part : List ℕ) (session : Option Session)
-          → ServesOn (stood.opening_of m) names.turns names.socket.now final
+          → ServesOn (stood.opening_at m) names.turns names.socket.now final
           (record { before = mid; after = end; was = q; is = r }) status whole part session
           → ServesOver x names before end r status whole part session
       session_serves status whole part session (unheard store contents saves rose last) = λ files now reads. record {

@@ -34,11 +34,11 @@ use Rattle.ix_manager.proofs.SendLemmas.{untold_sends}
 use Rattle.ix_manage.specs.Serve.{ends, wire_failed}
 use Rattle.ix_manage.specs.Session.{IsNoEnd, IsOver, Session, disk_failed, out_of_turns}
 use Rattle.ix_manage.specs.declared.refusal.Refusal.TheVariants.{Disk, Turns, Wire as WireRefusal}
-use Rattle.ix_manage.specs.declared.run.Stop.TheVariants.{Refused}
-use Rattle.ix_manage.specs.declared.turn.Turn.{Turn}
-use Rattle.ix_manage.specs.declared.turn.Turn.TheVariants.{More, Done, Cut, Failed}
-use Rattle.ix_manage.specs.inside.ServeProgress.{SentFor, ServedSession, Serves, ServesTo, ServesTurn, TakesOver, took, unheard}
-use Rattle.ix_manage.specs.inside.Turns.{IsStarted, IsTurn, SavesFrom, Stretch, opening_of}
+use Rattle.ix_manage.specs.declared.early_end.EarlyEnd.TheVariants.{Refused}
+use Rattle.ix_manage.specs.declared.outcome.EventOutcome.{EventOutcome}
+use Rattle.ix_manage.specs.declared.outcome.EventOutcome.TheVariants.{More, Done, Cut, Failed}
+use Rattle.ix_manage.specs.inside.ServeProgress.{SentFor, ServedSession, HasServed, ServesTo, ServesEvent, TakesOver, took, unheard}
+use Rattle.ix_manage.specs.inside.Progress.{IsStarted, IsOutcome, SavesFrom, Stretch, opening_at}
 use Rattle.ix_manage.proofs.Opening.{some_is}
 use Rattle.ix_manage.proofs.Replaying.{few_bytes, given_told, marks_same, new_mark, no_answers, nothing_sent}
 
@@ -118,12 +118,12 @@ sends_before (Some old) now new stays told = (old, refl)
 -- a manager that was just started serves a site without events
 pub serves_first : (m : ManagerState) (site : SiteState) (crashes : Crashes) → IsStarted m
     → AreLawful site crashes → FitsSite m site crashes
-    → Serves (opening_of m) [] m (record { before = site; after = site; was = crashes; is = crashes })
+    → HasServed (opening_at m) [] m (record { before = site; after = site; was = crashes; is = crashes })
 serves_first m site crashes fresh lawful fits =
     let marks : m.marks ≡ unmarked = ap (λ (s : ManagerState). s.marks) fresh in
     let ticket : m.machine.number ≡ 1 = ap (λ (s : ManagerState). s.machine.number) fresh in record {
       answers = [];
-      follows = subst (λ s. FollowsRun (opening_of m) [] [] s) (sym fresh) (started_follows (opening_of m) m.store);
+      follows = subst (λ s. FollowsRun (opening_at m) [] [] s) (sym fresh) (started_follows (opening_at m) m.store);
       tickets = omega (arith, ticket);
       no_end = no_item;
       sent = record {
@@ -140,7 +140,7 @@ serves_first m site crashes fresh lawful fits =
     gone_is old new same = let is : new ≡ old = cc in ap (λ (s : Sends). s.gone) is
 
 module _ {opening : Opening} {taken : List GivenEvent} {m : ManagerState} {a b : SiteState} {p q : Crashes}
-    (serves : Serves opening taken m (record { before = a; after = b; was = p; is = q }))
+    (serves : HasServed opening taken m (record { before = a; after = b; was = p; is = q }))
   where
     -- the store fits what was made of the site
     pub serves_fits : FitsSite m b q
@@ -165,16 +165,16 @@ module _ {opening : Opening} {taken : List GivenEvent} {m : ManagerState} {a b :
       saves = serves.saves;
     }
 
--- a turn that wasn't cut short took an event
-pub taken_over : {old new : ManagerState} {stretch : Stretch} {turn : Turn} → ServesTurn old new stretch turn
-    → (turn ≡ Cut → ⊥) → TakesOver old new stretch turn
+-- where none failed to come, an event was taken
+pub taken_over : {old new : ManagerState} {stretch : Stretch} {outcome : EventOutcome} → ServesEvent old new stretch outcome
+    → (outcome ≡ Cut → ⊥) → TakesOver old new stretch outcome
 taken_over (unheard same contents rose saves since) not = absurd (not refl)
 taken_over (took it) not = it
 
-module _ {old new : ManagerState} {turn : Turn} {a b c : SiteState} {p q r : Crashes}
-    (it : TakesOver old new (record { before = b; after = c; was = q; is = r }) turn)
+module _ {old new : ManagerState} {outcome : EventOutcome} {a b c : SiteState} {p q r : Crashes}
+    (it : TakesOver old new (record { before = b; after = c; was = q; is = r }) outcome)
     {opening : Opening} {taken : List GivenEvent}
-    (serves : Serves opening taken old (record { before = a; after = b; was = p; is = q }))
+    (serves : HasServed opening taken old (record { before = a; after = b; was = p; is = q }))
     (lawful : AreLawful c r)
     (first : a.counts.send ≤ b.counts.send) (second : b.counts.send ≤ c.counts.send)
   where
@@ -256,9 +256,9 @@ module _ {old new : ManagerState} {turn : Turn} {a b c : SiteState} {p q r : Cra
     }
 
     -- it may go on
-    pub serves_more : turn ≡ More → Serves opening longer new stretch
+    pub serves_more : outcome ≡ More → HasServed opening longer new stretch
     serves_more same =
-        let is = subst (IsTurn false it.ending it.event.kind) same it.turn_is in record {
+        let is = subst (IsOutcome false it.ending it.event.kind) same it.outcome_is in record {
           answers = answers;
           follows = taken_follows opening taken serves.answers old it.event it.piece it.handled.answers new it.ending serves.follows it.fits it.handled.takes is.1;
           tickets =
@@ -285,16 +285,16 @@ module _ {old new : ManagerState} {turn : Turn} {a b c : SiteState} {p q r : Cra
       saves = saved;
     }
 
-    module _ {T : Type 0} (turns : ℕ) (few : length longer ≤ turns) (start : ManagerState) (same_opening : opening ≡ opening_of start)
+    module _ {T : Type 0} (turns : ℕ) (few : length longer ≤ turns) (start : ManagerState) (same_opening : opening ≡ opening_at start)
       where
         -- the event was the end or brought `stop`
-        pub turn_done : (value : T) → turn ≡ Done → ServesTo turns start new stretch (Ok value)
-        turn_done value same = record {
+        pub outcome_done : (value : T) → outcome ≡ Done → ServesTo turns start new stretch (Ok value)
+        outcome_done value same = record {
           session = played;
           served = subst (λ o. ServedSession o turns new.machine stretch played) same_opening (served_played turns few);
           marks = new.marks;
           sent = subst (λ o. SentFor o (with_failed it.ending new.machine.history) longer answers new.marks stretch) same_opening sent_now;
-          ends = is_over ((subst (IsTurn false it.ending it.event.kind) same it.turn_is).1);
+          ends = is_over ((subst (IsOutcome false it.ending it.event.kind) same it.outcome_is).1);
         }
           where
             is_over : (it.event.kind ≡ End) ⊎ (it.ending ≡ stopped) → IsOver played
@@ -302,14 +302,14 @@ module _ {old new : ManagerState} {turn : Turn} {a b c : SiteState} {p q r : Cra
             is_over (inr stops) = inr stops
 
         -- the disk failed
-        pub turn_failed : turn ≡ Failed → ServesTo {T = T} turns start new stretch (Err (Refused Disk))
-        turn_failed same = record {
+        pub outcome_failed : outcome ≡ Failed → ServesTo {T = T} turns start new stretch (Err (Refused Disk))
+        outcome_failed same = record {
           session = played;
           served = subst (λ o. ServedSession o turns new.machine stretch played) same_opening (served_played turns few);
           marks = new.marks;
           sent = subst (λ o. SentFor o (with_failed it.ending new.machine.history) longer answers new.marks stretch) same_opening sent_now;
           ends =
-              let is = subst (IsTurn false it.ending it.event.kind) same it.turn_is in
+              let is = subst (IsOutcome false it.ending it.event.kind) same it.outcome_is in
               let P : Ending → Type 0 = λ e. WhereFailed e (Rose a.counts.disk c.counts.disk) in
               let rose = subst P is.1.1 saved.faults in
               λ status whole part last. ends (disk_failed is.1.1 rose last);
@@ -323,18 +323,18 @@ IsCut old new b c q r = (new ≡ old) × (c.contents ≡ b.contents) × Rose b.c
     → ServesSince t old.form least old.machine.history start taken answers old.marks b q
     → ServesSince t old.form least old.machine.history start taken answers old.marks c r)
 
--- a turn that was cut short took no event
+-- where none came, no event was taken
 module _ {old new : ManagerState} {b c : SiteState} {q r : Crashes} where
-  pub cut_unheard : {turn : Turn} → ServesTurn old new (record { before = b; after = c; was = q; is = r }) turn → turn ≡ Cut
+  pub cut_unheard : {outcome : EventOutcome} → ServesEvent old new (record { before = b; after = c; was = q; is = r }) outcome → outcome ≡ Cut
       → IsCut old new b c q r
   cut_unheard (unheard same contents rose saves since) is = (same, contents, rose, saves, since)
   cut_unheard (took it) is =
-      let no : false ≡ true = subst (IsTurn false it.ending it.event.kind) is it.turn_is in absurd (true≢false (sym no))
+      let no : false ≡ true = subst (IsOutcome false it.ending it.event.kind) is it.outcome_is in absurd (true≢false (sym no))
 
 -- where the wire failed, no further event came
 module _ {old new : ManagerState} {a b c : SiteState} {p q r : Crashes}
     {opening : Opening} {taken : List GivenEvent}
-    (serves : Serves opening taken old (record { before = a; after = b; was = p; is = q }))
+    (serves : HasServed opening taken old (record { before = a; after = b; was = p; is = q }))
     (cut : IsCut old new b c q r)
     (lawful : AreLawful c r) (sends : b.counts.send ≤ c.counts.send) (wire : a.counts.wire ≤ b.counts.wire)
   where
@@ -359,9 +359,9 @@ module _ {old new : ManagerState} {a b c : SiteState} {p q r : Crashes}
           (earlier.0, λ start last told told'. earlier.1 start last told (sym (ap (λ (k : Contents). k.sends) contents_are) ∙ told'));
     }
 
-    pub turn_cut : {T : Type 0} (turns : ℕ) → length taken < turns → (start : ManagerState) → opening ≡ opening_of start
+    pub outcome_cut : {T : Type 0} (turns : ℕ) → length taken < turns → (start : ManagerState) → opening ≡ opening_at start
         → ServesTo {T = T} turns start new over_all (Err (Refused WireRefusal))
-    turn_cut turns few start same_opening = record {
+    outcome_cut turns few start same_opening = record {
       session = so_far serves;
       served = subst (λ o. ServedSession o turns new.machine over_all (so_far serves)) same_opening (record {
         opening_is = refl;
@@ -381,8 +381,8 @@ module _ {old new : ManagerState} {a b c : SiteState} {p q r : Crashes}
 
 -- as many events as turns were taken
 pub turns_out : {T : Type 0} {opening : Opening} {taken : List GivenEvent} {m : ManagerState} {a b : SiteState} {p q : Crashes}
-    (serves : Serves opening taken m (record { before = a; after = b; was = p; is = q }))
-    (turns : ℕ) → length taken ≡ turns → (start : ManagerState) → opening ≡ opening_of start
+    (serves : HasServed opening taken m (record { before = a; after = b; was = p; is = q }))
+    (turns : ℕ) → length taken ≡ turns → (start : ManagerState) → opening ≡ opening_at start
     → ServesTo {T = T} turns start m (record { before = a; after = b; was = p; is = q }) (Err (Refused Turns))
 turns_out {taken = taken} {m = m} {a = a} {b = b} {p = p} {q = q} serves turns all start same_opening = record {
   session = so_far serves;

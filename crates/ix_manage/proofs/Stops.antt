@@ -1,21 +1,33 @@
 -- From how a part of a run may end to how the run may, and what a refusal's line makes of it.
-use Rattle.std.proofs.Common.{◌≡◌, ◌≢◌, ℕ, ◌≤◌, List, [], ◌++◌, Option, None, Result, Ok, Err, string_bytes, refl, sym, ◌∙◌, ap, subst, arith}
+use Rattle.std.proofs.Common.{◌≡◌, ◌≢◌, ℕ, ◌≤◌, List, [], ◌++◌, Option, None, Result, Ok, Err, IfErr, IsErrAnd, string_bytes, refl, sym, ◌∙◌, ap, subst, arith}
 use Rattle.std.specs.Io.KnownBytes.{append_known}
 use Rattle.ix_outside.specs.Counts.{Rose}
 use Rattle.ix_outside.specs.Sink.{AppendsPart}
 use Rattle.ix_outside.specs.SinkState.{SinkState}
 use Rattle.ix_outside.proofs.Counting.{Rose-earlier}
 use Rattle.ix_manage.specs.declared.refusal.Refusal.{Refusal}
-use Rattle.ix_manage.specs.declared.refusal.Refusal.TheVariants.{BadText, Large, LostExpression, BadActions, LostActions, BadScript}
-use Rattle.ix_manage.specs.declared.refusal.Refusal.TheVariants.{LostScript, LongLines, LostLines, Unfollowed, Disk, Wire, Journal, Turns, Memory}
-use Rattle.ix_manage.specs.declared.run.Stop.{Stop}
-use Rattle.ix_manage.specs.declared.run.Stop.TheVariants.{Refused, Words, OtherExpression, Output}
+use Rattle.ix_manage.specs.declared.refusal.Refusal.TheVariants.{Bad, Lost, Large, Unfollowed, Disk, Wire, Journal, Turns, Memory}
+use Rattle.ix_manage.specs.declared.early_end.EarlyEnd.{EarlyEnd}
+use Rattle.ix_manage.specs.declared.early_end.EarlyEnd.TheVariants.{Refused, Words, OtherExpression, Output}
 use Rattle.ix_manage.specs.Ends.{Ended}
 use Rattle.ix_manage.specs.Puts.{LastLine, Puts, put, lost}
 use Rattle.ix_manage.specs.Session.{Session}
-use Rattle.ix_manage.specs.inside.Leaves.{AwaitsLine, Finishes, Leaves, PutsLine, cut, written}
+use Rattle.ix_manage.specs.inside.Leaves.{AwaitsLine, Finishes, LeavesOutput, PutsLastLine, StopsAfter, cut, written}
 use Rattle.ix_manage.specs.inside.Refusal.{other_line, refusal_line, refusal_status}
 use Rattle.ix_manage.proofs.Tracing.{append_nothing, append_twice}
+
+-- what a `?` hands on has what holds of the fault that it hands on
+pub handed_on : {T E : Type 0} (r : Result T E) (fault : E) (P : E → Type 0)
+    → IsErrAnd r (λ e. e ≡ fault) → P fault → IfErr r P
+handed_on (Ok x) fault P is it = absurd is
+handed_on (Err e) fault P is it = subst P (sym is) it
+
+-- a run that a `?` ends early leaves the output as one that ended so
+pub ends_early : (May : ℕ → List ℕ → List ℕ → Option Session → Type 0) (old new : SinkState)
+    {T : Type 0} (r : Result T EarlyEnd) (end : EarlyEnd)
+    → IsErrAnd r (λ e. e ≡ end) → StopsAfter May old new end → LeavesOutput May old new r
+ends_early May old new (Ok x) end is it = absurd is
+ends_early May old new (Err e) end is it = subst (StopsAfter May old new) (sym is) it
 
 -- a text was put whole, and nothing in part
 pub puts_whole : (old new : SinkState) (whole : List ℕ) → new.written ≡ append_known old.written whole → Puts whole [] old new
@@ -45,7 +57,7 @@ module _ {Part Whole : ℕ → List ℕ → List ℕ → Option Session → Type
       put = it.put;
     }
 
-    pub leaves_on : {T : Type 0} (r : Result T Stop) → Leaves Part old new r → Leaves Whole old new r
+    pub leaves_on : {T : Type 0} (r : Result T EarlyEnd) → LeavesOutput Part old new r → LeavesOutput Whole old new r
     leaves_on (Ok done) it = ended_on 0 it
     leaves_on (Err (Refused refusal)) it = awaits_on (refusal_status refusal) (refusal_line refusal) it
     leaves_on (Err (Words text)) it = awaits_on 2 (string_bytes text) it
@@ -80,9 +92,9 @@ ended_cut old new whole part session may puts rose = record {
 
 -- the sink at the end, by another name
 pub leaves_same : (May : ℕ → List ℕ → List ℕ → Option Session → Type 0) (start : SinkState)
-    {sink final : SinkState} {T : Type 0} (r : Result T Stop)
-    → Leaves May start sink r → sink ≡ final → Leaves May start final r
-leaves_same May start r it same = subst (λ s. Leaves May start s r) same it
+    {sink final : SinkState} {T : Type 0} (r : Result T EarlyEnd)
+    → LeavesOutput May start sink r → sink ≡ final → LeavesOutput May start final r
+leaves_same May start r it same = subst (λ s. LeavesOutput May start s r) same it
 
 module _ {May : ℕ → List ℕ → List ℕ → Option Session → Type 0} (end : ℕ) (line : List ℕ) where
   -- a refusal before anything was put
@@ -100,7 +112,7 @@ module _ {May : ℕ → List ℕ → List ℕ → Option Session → Type 0} (en
 
   -- its line is put, or its put fails
   line_finishes : (old mid new : SinkState) (status : ℕ) → AwaitsLine May end line old mid → end ≢ 10
-      → old.faults ≤ mid.faults → PutsLine end line mid new status → Ended May status old new
+      → old.faults ≤ mid.faults → PutsLastLine end line mid new status → Ended May status old new
   line_finishes old mid new status it below le (written is) =
       let whole : List ℕ = it.before ++ line in record {
         whole = whole;
@@ -127,15 +139,9 @@ nothing_put refusal = nothing_put_of (refusal_status refusal) (refusal_line refu
 
 -- no refusal has the status of a put that failed
 not_ten : (refusal : Refusal) → refusal_status refusal ≢ 10
-not_ten (BadText code at) = λ same. omega (arith, same)
+not_ten (Bad file code at) = λ same. omega (arith, same)
+not_ten (Lost file) = λ same. omega (arith, same)
 not_ten (Large limit) = λ same. omega (arith, same)
-not_ten LostExpression = λ same. omega (arith, same)
-not_ten (BadActions code at) = λ same. omega (arith, same)
-not_ten LostActions = λ same. omega (arith, same)
-not_ten (BadScript code at) = λ same. omega (arith, same)
-not_ten LostScript = λ same. omega (arith, same)
-not_ten LongLines = λ same. omega (arith, same)
-not_ten LostLines = λ same. omega (arith, same)
 not_ten (Unfollowed code number) = λ same. omega (arith, same)
 not_ten Disk = λ same. omega (arith, same)
 not_ten Wire = λ same. omega (arith, same)
@@ -144,8 +150,8 @@ not_ten Turns = λ same. omega (arith, same)
 not_ten Memory = λ same. omega (arith, same)
 
 -- how a run ends whose last line is put where it stopped, or whose put fails
-pub finish_ends : {May : ℕ → List ℕ → List ℕ → Option Session → Type 0} {T : Type 0} (how : Result T Stop)
-    (old mid new : SinkState) (status : ℕ) → Leaves May old mid how → old.faults ≤ mid.faults
+pub finish_ends : {May : ℕ → List ℕ → List ℕ → Option Session → Type 0} {T : Type 0} (how : Result T EarlyEnd)
+    (old mid new : SinkState) (status : ℕ) → LeavesOutput May old mid how → old.faults ≤ mid.faults
     → Finishes how mid new status → Ended May status old new
 finish_ends {May = May} (Ok done) old mid new status it le is =
     subst (λ s. Ended May status old s) (sym is.1) (subst (λ n. Ended May n old mid) (sym is.0) it)

@@ -1,9 +1,10 @@
 -- A trace so far, and how it goes on.
 use Rattle.std.proofs.Common.{◌≡◌, ℕ, ◌≤◌, List, [], ◌∷◌, ◌++◌, length, map, Option, Some, None, refl, sym, ap, subst}
-use Rattle.std.proofs.Common.{◌∙◌, append_assoc}
+use Rattle.std.proofs.Common.{Result, IsErrAnd, ◌∙◌, append_assoc}
 use Rattle.std.specs.Prelude.{codes}
 use Rattle.std.specs.Io.KnownBytes.{append_known}
 use Rattle.std.proofs.lemmas.List.{append-nil, map-append}
+use Rattle.std.proofs.lemmas.Result.{err_from_is_err_and}
 use Rattle.ix_words.specs.Each.{Each, no_item, item}
 use Rattle.ix_words.proofs.Each.{Each-append, Each-tail}
 use Rattle.ix_values.specs.Faults.{IsActionText}
@@ -11,6 +12,7 @@ use Rattle.ix_values.specs.PlainAction.{PlainAction, Word, text_of}
 use Rattle.ix_values.specs.Texts.{IsAction}
 use Rattle.ix_expr.specs.Form.{Form}
 use Rattle.ix_engine.specs.inside.Engine.{EngineState}
+use Rattle.ix_outside.specs.Counts.{Rose}
 use Rattle.ix_outside.specs.Sink.{AppendsPart}
 use Rattle.ix_outside.specs.SinkState.{SinkState}
 use Rattle.ix_outside.proofs.Counting.{Rose-earlier}
@@ -18,11 +20,12 @@ use Rattle.ix_manage.specs.ActionLines.{HasActions, line}
 use Rattle.ix_lines.specs.TextLines.{lines_of}
 use Rattle.ix_manage.specs.Trace.{Answers, Verdict, answered, short, lost_answer}
 use Rattle.ix_manage.specs.Puts.{LastLine}
-use Rattle.ix_manage.specs.declared.run.Stop.{Stop}
-use Rattle.ix_manage.specs.declared.run.Stop.TheVariants.{Refused, Words, OtherExpression, Output}
+use Rattle.ix_manage.specs.declared.early_end.EarlyEnd.{EarlyEnd}
+use Rattle.ix_manage.specs.declared.early_end.EarlyEnd.TheVariants.{Refused, Words, OtherExpression, Output}
+use Rattle.ix_manage.specs.declared.refusal.Refusal.TheVariants.{Memory}
 use Rattle.ix_manage.specs.inside.Leaves.{AwaitsLine, StopsAfter}
 use Rattle.ix_manage.specs.inside.Refusal.{refusal_line, refusal_status}
-use Rattle.ix_manage.specs.inside.TracesLines.{StopsAnswer, TracesLines}
+use Rattle.ix_manage.specs.inside.TracesLines.{AnswersOne, PutsAnswer, StopsAnswer, TracesLines}
 use Rattle.ix_manage.proofs.Answering.{answers_same}
 use Rattle.ix_lines.proofs.LineLists.{lines_of-none}
 
@@ -147,7 +150,7 @@ module _ (x : Form) (limit : ℕ) (all rest : List ℕ) (front history : Word) (
       → StandBefore all rest front → Each IsActionText (lines_of rest)
       → Answers x limit [] front text history
       → was.written ≡ append_known start.written text → start.faults ≤ was.faults
-      → (stop : Stop) → StopsAnswer engine action was now stop
+      → (stop : EarlyEnd) → StopsAnswer engine action was now stop
       → StopsAfter (TracesLines x limit all) start now stop
   trace_stops engine action next cut start was now form most same cuts valid named so_far good answers put_before le (Refused refusal) is =
       subst (λ r. AwaitsLine (TracesLines x limit all) (refusal_status r) (refusal_line r) start now) (sym is.0)
@@ -170,3 +173,22 @@ module _ (x : Form) (limit : ℕ) (all rest : List ℕ) (front history : Word) (
     puts = subst (λ known. AppendsPart known it.0 now.written) put_before it.3;
     put_failed = λ ten. Rose-earlier _ _ _ le it.4;
   }
+
+-- what an action makes of the output where its line isn't put
+module _ {T : Type 0} (r : Result T EarlyEnd) (engine : EngineState) (action : PlainAction) (after : Word) (old new : SinkState) where
+  -- memory ran out
+  pub answer_short : IsErrAnd r (λ e. e ≡ Refused Memory) → new.written ≡ old.written
+      → PutsAnswer engine action after old new r
+  answer_short is still =
+      let p = err_from_is_err_and r is in
+      subst (PutsAnswer engine action after old new) (sym p.1)
+      (subst (StopsAnswer engine action old new) (sym p.2) (refl, still))
+
+  -- its put failed
+  pub answer_unput : (text : List ℕ) (history : Word) → IsErrAnd r (λ e. e ≡ Output)
+      → AnswersOne engine action text history → AppendsPart old.written text new.written
+      → Rose old.faults new.faults → PutsAnswer engine action after old new r
+  answer_unput text history is answers part rose =
+      let p = err_from_is_err_and r is in
+      subst (PutsAnswer engine action after old new) (sym p.1)
+      (subst (StopsAnswer engine action old new) (sym p.2) (text, history, answers, part, rose))

@@ -14,7 +14,7 @@ use Rattle.ix_generate.specs.History.{granted as more_granted, refused as more_r
 use Rattle.ix_generate.proofs.Draws.{begun_generator, drawn_generator, drawn_then}
 use Rattle.ix_generate.proofs.Draws.{granted_generator}
 use Rattle.ix_manage.specs.Work.{Asked, grant, history_of, next_ask, none, refuse}
-use Rattle.ix_manage.specs.inside.Working.{AsksNext, StandsBehind, granted, refused}
+use Rattle.ix_manage.specs.inside.Working.{AsksNext, HasAsked, granted, refused}
 
 -- an ask that is allowed is granted, and joins the history
 pub allowed_granted : (s : EngineState) (old new : PlainWorkload) (a joined : PlainAction) (after : Word)
@@ -60,7 +60,7 @@ all_counted {seed = seed} (grant {count = count} {granted = asks} before allowed
 all_counted (refuse before not) = omega (arith, all_counted before)
 
 pub begins_behind : (x : Form) (limit seed : ℕ) (history : Word) → history ≡ []
-    → StandsBehind x limit seed 0 0 0 history (begun seed)
+    → HasAsked x limit seed 0 0 0 history (begun seed)
 begins_behind x limit seed history empty = record {
   asks = [];
   asked = none;
@@ -72,7 +72,7 @@ begins_behind x limit seed history empty = record {
 
 module _ (x : Form) (limit seed count granted_so_far refused_so_far : ℕ) (engine : EngineState)
     (workload : PlainWorkload) (form : engine.form ≡ x) (most : engine.limit ≡ limit)
-    (it : StandsBehind x limit seed count granted_so_far refused_so_far engine.history workload)
+    (it : HasAsked x limit seed count granted_so_far refused_so_far engine.history workload)
   where
     abbrev ask : Ask
     ask = next_ask seed count it.asks
@@ -90,7 +90,7 @@ module _ (x : Form) (limit seed count granted_so_far refused_so_far : ℕ) (engi
 
     pub one_granted : (after : Word) (next : PlainWorkload)
         → AsksNext engine workload true after next
-        → StandsBehind x limit seed (suc count) (suc granted_so_far) refused_so_far after next
+        → HasAsked x limit seed (suc count) (suc granted_so_far) refused_so_far after next
     one_granted after next (granted allows) = record {
       asks = it.asks ++ ask ∷ [];
       asked = grant it.asked (subst (λ (T : Type 0). T) allowed_is allows);
@@ -104,7 +104,7 @@ module _ (x : Form) (limit seed count granted_so_far refused_so_far : ℕ) (engi
 
     pub one_refused : (after : Word) (next : PlainWorkload)
         → AsksNext engine workload false after next
-        → StandsBehind x limit seed (suc count) granted_so_far (suc refused_so_far) after next
+        → HasAsked x limit seed (suc count) granted_so_far (suc refused_so_far) after next
     one_refused after next (refused not) = record {
       asks = it.asks;
       asked = refuse it.asked (subst (λ (T : Type 0). ¬ T) allowed_is not);
@@ -116,7 +116,7 @@ module _ (x : Form) (limit seed count granted_so_far refused_so_far : ℕ) (engi
 
     -- the counts by other names
     abbrev Behind : ℕ → ℕ → ℕ → Word → PlainWorkload → Type 0
-    Behind now given denied = StandsBehind x limit seed now given denied
+    Behind now given denied = HasAsked x limit seed now given denied
 
     pub then_granted : (answer : Bool) (after : Word) (next : PlainWorkload) (given denied : ℕ)
         → AsksNext engine workload answer after next → answer ≡ true

@@ -5,11 +5,11 @@ ghost use Rattle.ix_outside.specs.FilesState.{OnlyFaults};
 ghost use Rattle.ix_outside.specs.SinkState.{OnlyPuts};
 ghost use Rattle.ix_manage.specs.BoundLines.{bound_line};
 ghost use Rattle.ix_manage.specs.inside.Bounding.{BoundEnds};
-ghost use Rattle.ix_manage.specs.inside.Leaves.{Leaves};
+ghost use Rattle.ix_manage.specs.inside.Leaves.{LeavesOutput};
 
+use crate::early_end::EarlyEnd;
 use crate::load::load_expression;
 use crate::refusal::append;
-use crate::run::Stop;
 use arrayvec::ArrayVec;
 use itoa::Buffer;
 use ix_bound::Bound;
@@ -23,24 +23,19 @@ pub(crate) fn bound<F: Files, K: Sink>(
     count: u64,
     files: &mut F,
     out: &mut K,
-) -> Result<(), Stop>
+) -> Result<(), EarlyEnd>
     requires { count ≤ most_values }
 
-    ensures leaves { Leaves
+    ensures leaves { LeavesOutput
         (BoundEnds (F.state files.old) (F.state files.new) name.now count)
         (K.state out.old) (K.state out.new) result }
     ensures files { OnlyFaults (F.state files.old) (F.state files.new) }
     ensures puts { OnlyPuts (K.state out.old) (K.state out.new) }
 {
-    let expression = match load_expression(alloc, files, name) {
-        Ok(expression) => expression,
-        Err(refusal) => return Err(Stop::Refused(refusal)),
-    };
+    let expression = load_expression(alloc, files, name)?;
     let line = bound_line(ix_bound::bound(&expression, count as u32));
-    match out.put(&line) {
-        Ok(()) => Ok(()),
-        Err(_) => Err(Stop::Output),
-    }
+    out.put(&line)?;
+    Ok(())
 }
 
 fn bound_line(bound: Bound) -> ArrayVec<u8, 64>

@@ -5,13 +5,14 @@ ghost use Rattle.ix_outside.specs.FilesState.{OnlyFaults};
 ghost use Rattle.ix_outside.specs.SinkState.{OnlyPuts};
 ghost use Rattle.ix_manage.specs.FollowLines.{fed_line};
 ghost use Rattle.ix_manage.specs.Trace.{Verdict};
-ghost use Rattle.ix_manage.specs.inside.Following.{FollowRuns, FollowsLines, PutsFed, refusal_of};
-ghost use Rattle.ix_manage.specs.inside.Leaves.{Leaves};
+ghost use Rattle.ix_manage.specs.inside.Following.{FollowRuns, FollowsLines, PutsFed};
+ghost use Rattle.ix_manage.specs.inside.Following.{follow_end, refusal_of};
+ghost use Rattle.ix_manage.specs.inside.Leaves.{LeavesOutput};
 
+use crate::early_end::EarlyEnd;
 use crate::job::FollowWords;
 use crate::load::load_lines;
 use crate::refusal::{Refusal, append};
-use crate::run::Stop;
 use crate::start::start_follower;
 use arrayvec::ArrayVec;
 use itoa::Buffer;
@@ -26,24 +27,18 @@ pub(crate) fn follow<F: Files, K: Sink>(
     names: FollowWords<'_>,
     files: &mut F,
     out: &mut K,
-) -> Result<(), Stop>
+) -> Result<(), EarlyEnd>
     requires least { 1 ≤ names.limit }
     requires most { names.limit ≤ most_nodes }
 
-    ensures leaves { Leaves
+    ensures leaves { LeavesOutput
         (FollowRuns (F.state files.old) (F.state files.new) names.entry)
         (K.state out.old) (K.state out.new) result }
     ensures files { OnlyFaults (F.state files.old) (F.state files.new) }
     ensures puts { OnlyPuts (K.state out.old) (K.state out.new) }
 {
-    let mut follower = match start_follower(alloc, files, names.expression, names.limit) {
-        Ok(follower) => follower,
-        Err(refusal) => return Err(Stop::Refused(refusal)),
-    };
-    let lines = match load_lines(alloc, files, names.lines) {
-        Ok(lines) => lines,
-        Err(refusal) => return Err(Stop::Refused(refusal)),
-    };
+    let mut follower = start_follower(alloc, files, names.expression, names.limit)?;
+    let lines = load_lines(alloc, files, names.lines)?;
     feed_lines(alloc, &mut follower, &lines, out)
 }
 
@@ -53,26 +48,21 @@ fn feed_lines<K: Sink>(
     follower: &mut Follower,
     lines: &[u8],
     out: &mut K,
-) -> Result<(), Stop>
+) -> Result<(), EarlyEnd>
     requires { follower.old.history ≡ [] }
 
-    ensures leaves { Leaves (FollowsLines follower.old.form follower.old.limit lines.now)
+    ensures leaves { LeavesOutput (FollowsLines follower.old.form follower.old.limit lines.now)
         (K.state out.old) (K.state out.new) result }
     ensures puts { OnlyPuts (K.state out.old) (K.state out.new) }
 {
     let mut rest = lines;
     while !rest.is_empty() {
         let first = first_line(rest);
-        match feed_line(alloc, follower, first.line, out) {
-            Ok(()) => {}
-            Err(stop) => return Err(stop),
-        }
+        feed_line(alloc, follower, first.line, out)?;
         rest = first.rest;
     }
-    match out.put(verdict(follower)) {
-        Ok(()) => Ok(()),
-        Err(_) => Err(Stop::Output),
-    }
+    out.put(verdict(follower))?;
+    Ok(())
 }
 
 fn feed_line<K: Sink>(
@@ -80,20 +70,16 @@ fn feed_line<K: Sink>(
     follower: &mut Follower,
     line: &[u8],
     out: &mut K,
-) -> Result<(), Stop>
+) -> Result<(), EarlyEnd>
     ensures fed { PutsFed follower.old line.now follower.new.history
         (K.state out.old) (K.state out.new) result }
     ensures form { follower.new.form ≡ follower.old.form }
     ensures limit { follower.new.limit ≡ follower.old.limit }
     ensures puts { OnlyPuts (K.state out.old) (K.state out.new) }
 {
-    match follower.feed(alloc, line) {
-        Ok(answer) => match out.put(&fed_line(answer)) {
-            Ok(()) => Ok(()),
-            Err(_) => Err(Stop::Output),
-        },
-        Err(fault) => Err(Stop::Refused(refusal_of(fault))),
-    }
+    let answer = follower.feed(alloc, line)?;
+    out.put(&fed_line(answer))?;
+    Ok(())
 }
 
 fn fed_line(answer: Fed) -> ArrayVec<u8, 64>
@@ -117,6 +103,14 @@ fn fed_line(answer: Fed) -> ArrayVec<u8, 64>
     }
     append(&mut line, b"\n");
     line
+}
+
+impl From<FollowFault> for EarlyEnd {
+    ghost from_gives = { λ fault end. end ≡ follow_end fault };
+
+    fn from(fault: FollowFault) -> EarlyEnd {
+        EarlyEnd::Refused(refusal_of(fault))
+    }
 }
 
 fn refusal_of(fault: FollowFault) -> Refusal

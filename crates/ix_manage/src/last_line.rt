@@ -7,26 +7,26 @@ ghost use Rattle.ix_outside.specs.SinkState.{OnlyPuts};
 ghost use Rattle.ix_manage.specs.inside.Refusal.{other_line};
 ghost use Rattle.ix_manage.specs.inside.Leaves.{Finishes};
 
-use crate::run::Stop;
+use crate::early_end::EarlyEnd;
 use ix_outside::{Failed, Sink};
 
 /// Puts the last line of a run that stopped before it had its answer, and gives the status.
-pub(crate) fn finish<K: Sink>(how: Result<(), Stop>, out: &mut K) -> u8
+pub(crate) fn finish<K: Sink>(how: Result<(), EarlyEnd>, out: &mut K) -> u8
     ensures finishes { Finishes how (K.state out.old) (K.state out.new) result }
     ensures puts { OnlyPuts (K.state out.old) (K.state out.new) }
 {
     match how {
         Ok(()) => 0,
-        Err(Stop::Output) => 10,
-        Err(Stop::Words { text }) => match out.put(text.as_bytes()) {
+        Err(EarlyEnd::Output) => 10,
+        Err(EarlyEnd::Words { text }) => match out.put(text.as_bytes()) {
             Ok(()) => 2,
             Err(_) => 10,
         },
-        Err(Stop::OtherExpression { kept }) => match put_other(&kept, out) {
+        Err(EarlyEnd::OtherExpression { kept }) => match put_other(&kept, out) {
             Ok(()) => 8,
             Err(_) => 10,
         },
-        Err(Stop::Refused(refusal)) => match out.put(&refusal.line()) {
+        Err(EarlyEnd::Refused(refusal)) => match out.put(&refusal.line()) {
             Ok(()) => refusal.status(),
             Err(_) => 10,
         },

@@ -13,6 +13,7 @@ ghost use Rattle.ix_manage.specs.Site.{OnlyCalls};
 
 mod actions;
 mod bound;
+mod early_end;
 mod follow;
 mod history;
 mod job;
@@ -20,16 +21,14 @@ mod last_line;
 pub mod laws;
 mod load;
 mod open;
+mod outcome;
 mod refusal;
 mod replay;
 mod run;
 mod serve;
-mod serving;
 mod simplify;
 mod start;
 mod trace;
-mod turn;
-mod turns;
 mod work;
 
 use ix_outside::{Files, Sink, Site};

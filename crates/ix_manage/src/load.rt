@@ -13,7 +13,7 @@ ghost use Rattle.ix_manage.specs.inside.Refusal.{RefusesLines, RefusesScript, Re
 ghost use Rattle.ix_manage.specs.Trace.{ReadsForm};
 
 use crate::actions::{ActionLines, MOST_BYTES as MOST_ACTIONS_BYTES};
-use crate::refusal::Refusal;
+use crate::refusal::{Input, Refusal};
 use ix_expr::Expression;
 use ix_lines::first_fault;
 use ix_outside::{Files, LoadFault};
@@ -28,7 +28,7 @@ const MOST_BYTES: usize = 16384;
 const MOST_SCRIPT_BYTES: usize = 67_108_864;
 
 /// The most bytes of a file of lines.
-pub(crate) const MOST_LINES_BYTES: usize = 67_108_864;
+const MOST_LINES_BYTES: usize = 67_108_864;
 
 pub(crate) fn load_expression<F: Files>(
     alloc: Global,
@@ -43,8 +43,9 @@ pub(crate) fn load_expression<F: Files>(
 {
     match files.load(alloc, name, MOST_BYTES) {
         Ok(text) => read_expression(alloc, &text),
-        Err(LoadFault::Failed) => Err(Refusal::LostExpression),
-        Err(LoadFault::TooLong) => Err(Refusal::BadText {
+        Err(LoadFault::Failed) => Err(Refusal::Lost(Input::Expression)),
+        Err(LoadFault::TooLong) => Err(Refusal::Bad {
+            file: Input::Expression,
             code: 1,
             at: MOST_BYTES,
         }),
@@ -59,7 +60,11 @@ pub(crate) fn read_expression(alloc: Global, text: &[u8]) -> Result<Expression, 
 {
     match ix_parse::read(alloc, text) {
         Ok(expression) => Ok(expression),
-        Err(TextFault::Bad { code, at }) => Err(Refusal::BadText { code, at }),
+        Err(TextFault::Bad { code, at }) => Err(Refusal::Bad {
+            file: Input::Expression,
+            code,
+            at,
+        }),
         Err(TextFault::Memory) => Err(Refusal::Memory),
     }
 }
@@ -82,13 +87,15 @@ pub(crate) fn load_actions<F: Files>(
     match files.load(alloc, name, MOST_ACTIONS_BYTES) {
         Ok(bytes) => match first_fault::<ActionLines>(&bytes) {
             None => Ok(bytes),
-            Some(fault) => Err(Refusal::BadActions {
+            Some(fault) => Err(Refusal::Bad {
+                file: Input::Actions,
                 code: fault.code,
                 at: fault.at,
             }),
         },
-        Err(LoadFault::Failed) => Err(Refusal::LostActions),
-        Err(LoadFault::TooLong) => Err(Refusal::BadActions {
+        Err(LoadFault::Failed) => Err(Refusal::Lost(Input::Actions)),
+        Err(LoadFault::TooLong) => Err(Refusal::Bad {
+            file: Input::Actions,
             code: 6,
             at: MOST_ACTIONS_BYTES,
         }),
@@ -112,8 +119,9 @@ pub(crate) fn load_script<F: Files>(
 {
     match files.load(alloc, name, MOST_SCRIPT_BYTES) {
         Ok(bytes) => Ok(bytes),
-        Err(LoadFault::Failed) => Err(Refusal::LostScript),
-        Err(LoadFault::TooLong) => Err(Refusal::BadScript {
+        Err(LoadFault::Failed) => Err(Refusal::Lost(Input::Script)),
+        Err(LoadFault::TooLong) => Err(Refusal::Bad {
+            file: Input::Script,
             code: 34,
             at: MOST_SCRIPT_BYTES,
         }),
@@ -137,8 +145,12 @@ pub(crate) fn load_lines<F: Files>(
 {
     match files.load(alloc, name, MOST_LINES_BYTES) {
         Ok(bytes) => Ok(bytes),
-        Err(LoadFault::Failed) => Err(Refusal::LostLines),
-        Err(LoadFault::TooLong) => Err(Refusal::LongLines),
+        Err(LoadFault::Failed) => Err(Refusal::Lost(Input::Lines)),
+        Err(LoadFault::TooLong) => Err(Refusal::Bad {
+            file: Input::Lines,
+            code: 7,
+            at: MOST_LINES_BYTES,
+        }),
         Err(LoadFault::Memory) => Err(Refusal::Memory),
     }
 }
@@ -152,7 +164,8 @@ pub(crate) fn read_script(bytes: &[u8]) -> Result<Script<'_>, Refusal>
 {
     match Script::read(bytes) {
         Ok(script) => Ok(script),
-        Err(fault) => Err(Refusal::BadScript {
+        Err(fault) => Err(Refusal::Bad {
+            file: Input::Script,
             code: fault.code,
             at: fault.at,
         }),

@@ -2,10 +2,10 @@
 ghost use Rattle.std.specs.Prelude.{◌≡◌, ◌≤◌, false, IfOk, IfErr};
 ghost use Rattle.ix_cli.specs.Commands.{most_nodes};
 ghost use Rattle.ix_manage.specs.inside.Opening.{StartsOver, StopsUnstarted};
-ghost use Rattle.ix_manage.specs.inside.Playing.{stop_of};
+ghost use Rattle.ix_manage.specs.inside.EarlyEnds.{unstarted_end};
 
+use crate::early_end::EarlyEnd;
 use crate::refusal::{JournalRefusal, Refusal};
-use crate::run::Stop;
 use ix_expr::Expression;
 use ix_manager::{Manager, StartFault};
 use ix_outside::Site;
@@ -18,7 +18,7 @@ pub(crate) fn open<S: Site>(
     journal: &str,
     expression: Expression,
     limit: usize,
-) -> Result<Manager, Stop>
+) -> Result<Manager, EarlyEnd>
     requires least { 1 ≤ limit }
     requires most { limit ≤ most_nodes }
     requires attached { (S.state site.old).attached ≡ false }
@@ -28,35 +28,30 @@ pub(crate) fn open<S: Site>(
     ensures stops { IfErr result (StopsUnstarted expression limit journal.now
         (S.state site.old) (S.state site.new) (S.crashes site.new)) }
 {
-    match site.attach(journal) {
-        Ok(()) => {}
-        Err(_) => return Err(Stop::Refused(Refusal::Disk)),
-    }
-    match Manager::start(alloc, site, expression, limit) {
-        Ok(manager) => Ok(manager),
-        Err(fault) => Err(start_stop(fault)),
-    }
+    site.attach(journal)?;
+    Ok(Manager::start(alloc, site, expression, limit)?)
 }
 
-/// Why the run ends where no manager was started.
-fn start_stop(fault: StartFault) -> Stop
-    ensures { result ≡ stop_of fault }
-{
-    match fault {
-        StartFault::Large { limit } => Stop::Refused(Refusal::Large { limit }),
-        StartFault::Disk => Stop::Refused(Refusal::Disk),
-        StartFault::Foreign => Stop::Refused(Refusal::Journal(JournalRefusal::Foreign)),
-        StartFault::Other { kept } => Stop::OtherExpression { kept },
-        StartFault::Damaged { at } => Stop::Refused(Refusal::Journal(JournalRefusal::Damaged {
-            at,
-        })),
-        StartFault::Many => Stop::Refused(Refusal::Journal(JournalRefusal::Many)),
-        StartFault::Word { number } => {
-            Stop::Refused(Refusal::Journal(JournalRefusal::Word { number }))
+impl From<StartFault> for EarlyEnd {
+    ghost from_gives = { λ fault end. end ≡ unstarted_end fault };
+
+    fn from(fault: StartFault) -> EarlyEnd {
+        match fault {
+            StartFault::Large { limit } => EarlyEnd::Refused(Refusal::Large { limit }),
+            StartFault::Disk => EarlyEnd::Refused(Refusal::Disk),
+            StartFault::Foreign => EarlyEnd::Refused(Refusal::Journal(JournalRefusal::Foreign)),
+            StartFault::Other { kept } => EarlyEnd::OtherExpression { kept },
+            StartFault::Damaged { at } => {
+                EarlyEnd::Refused(Refusal::Journal(JournalRefusal::Damaged { at }))
+            }
+            StartFault::Many => EarlyEnd::Refused(Refusal::Journal(JournalRefusal::Many)),
+            StartFault::Word { number } => {
+                EarlyEnd::Refused(Refusal::Journal(JournalRefusal::Word { number }))
+            }
+            StartFault::Heavy { number, limit } => {
+                EarlyEnd::Refused(Refusal::Journal(JournalRefusal::Heavy { number, limit }))
+            }
+            StartFault::Memory => EarlyEnd::Refused(Refusal::Memory),
         }
-        StartFault::Heavy { number, limit } => {
-            Stop::Refused(Refusal::Journal(JournalRefusal::Heavy { number, limit }))
-        }
-        StartFault::Memory => Stop::Refused(Refusal::Memory),
     }
 }

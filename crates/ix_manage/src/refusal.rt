@@ -3,33 +3,46 @@ ghost use Rattle.std.specs.Prelude.{◌≡◌, ◌+◌, ◌≤◌, [], ◌∷◌
 ghost use Rattle.arrayvec.specs.ArrayVec.{array_vec_len};
 ghost use Rattle.ix_manage.specs.Journal.{journal_line};
 ghost use Rattle.ix_manage.specs.Trace.{fault_line, large_line};
-ghost use Rattle.ix_manage.specs.inside.Refusal.{journal_words};
+ghost use Rattle.ix_manage.specs.inside.Refusal.{journal_words, lost_line};
 
-use crate::load::MOST_LINES_BYTES;
 use arrayvec::ArrayVec;
 use itoa::Buffer;
+
+/// A file that the words name.
+#[derive(Clone, Copy)]
+pub(crate) enum Input {
+    Expression,
+    Actions,
+    Script,
+    Lines,
+}
+
+impl Input {
+    ghost use Rattle.ix_manage.specs.inside.Refusal.{input_word};
+
+    /// The word by which a refusal's line names it.
+    fn word(self) -> &'static [u8]
+        ensures word { result.now ≡ input_word self }
+        ensures short { length result.now ≤ 10 }
+    {
+        match self {
+            Input::Expression => b"expression",
+            Input::Actions => b"actions",
+            Input::Script => b"script",
+            Input::Lines => b"lines",
+        }
+    }
+}
 
 /// Why a run ends before it has its answer. Each refusal has a line and a status.
 #[derive(Clone, Copy)]
 pub(crate) enum Refusal {
-    /// The expression file has this fault.
-    BadText { code: u8, at: usize },
+    /// The file has this fault.
+    Bad { file: Input, code: u8, at: usize },
+    /// The file couldn't be read.
+    Lost(Input),
     /// The initial tree is above this limit of Size.
     Large { limit: usize },
-    /// The expression file couldn't be read.
-    LostExpression,
-    /// The actions file has this fault.
-    BadActions { code: u8, at: usize },
-    /// The actions file couldn't be read.
-    LostActions,
-    /// The script has this fault.
-    BadScript { code: u8, at: usize },
-    /// The script couldn't be read.
-    LostScript,
-    /// The file of lines is too long.
-    LongLines,
-    /// The file of lines couldn't be read.
-    LostLines,
     /// The entry of this number was refused with this code.
     Unfollowed { code: u8, number: u64 },
     /// A call of the disk failed.
@@ -67,15 +80,9 @@ impl Refusal {
     {
         let mut line = ArrayVec::new();
         match self {
-            Refusal::BadText { code, at } => append_fault(&mut line, b"expression", code, at),
+            Refusal::Bad { file, code, at } => append_fault(&mut line, file.word(), code, at),
+            Refusal::Lost(file) => append_lost(&mut line, file.word()),
             Refusal::Large { limit } => append_large(&mut line, limit),
-            Refusal::LostExpression => append(&mut line, b"refused file expression\n"),
-            Refusal::BadActions { code, at } => append_fault(&mut line, b"actions", code, at),
-            Refusal::LostActions => append(&mut line, b"refused file actions\n"),
-            Refusal::BadScript { code, at } => append_fault(&mut line, b"script", code, at),
-            Refusal::LostScript => append(&mut line, b"refused file script\n"),
-            Refusal::LongLines => append_fault(&mut line, b"lines", 7, MOST_LINES_BYTES),
-            Refusal::LostLines => append(&mut line, b"refused file lines\n"),
             Refusal::Unfollowed { code, number } => {
                 append_fault(&mut line, b"follow", code, number as usize);
             }
@@ -92,10 +99,8 @@ impl Refusal {
         ensures { result ≡ refusal_status self }
     {
         match self {
-            Refusal::BadText { .. } | Refusal::Large { .. } => 3,
-            Refusal::BadActions { .. } | Refusal::BadScript { .. } | Refusal::LongLines => 3,
-            Refusal::LostExpression | Refusal::LostActions => 4,
-            Refusal::LostScript | Refusal::LostLines => 4,
+            Refusal::Bad { .. } | Refusal::Large { .. } => 3,
+            Refusal::Lost(_) => 4,
             Refusal::Unfollowed { .. } => 11,
             Refusal::Disk => 5,
             Refusal::Wire => 6,
@@ -117,6 +122,16 @@ fn append_fault(line: &mut ArrayVec<u8, 64>, file: &[u8], code: u8, at: usize)
     append(line, Buffer::new().format(code).as_bytes());
     append(line, b" at ");
     append(line, Buffer::new().format(at).as_bytes());
+    append(line, b"\n");
+}
+
+fn append_lost(line: &mut ArrayVec<u8, 64>, file: &[u8])
+    requires empty { line.old.items ≡ [] }
+    requires short { length file.now ≤ 10 }
+    ensures { line.new.items ≡ lost_line file.now }
+{
+    append(line, b"refused file ");
+    append(line, file);
     append(line, b"\n");
 }
 

@@ -1,4 +1,4 @@
-//! One replay, up to the last line that a refusal puts.
+//! One run of `replay`, up to the last line that a refusal puts.
 ghost use Rattle.std.specs.Prelude.{◌≡◌, ◌≤◌, List, true, false};
 ghost use Rattle.ix_cli.specs.Commands.{most_nodes, most_turns};
 ghost use Rattle.ix_outside.specs.Contents.{GivenEvent};
@@ -9,17 +9,19 @@ ghost use Rattle.ix_script.specs.Events.{HasEvents};
 ghost use Rattle.ix_manage.specs.Around.{around_of};
 ghost use Rattle.ix_manage.specs.Ends.{JobOver};
 ghost use Rattle.ix_manage.specs.inside.Jobs.{replay_of};
-ghost use Rattle.ix_manage.specs.inside.Leaves.{Leaves};
+ghost use Rattle.ix_manage.specs.inside.Leaves.{LeavesOutput};
 ghost use Rattle.ix_manage.specs.inside.Playing.{PlaysOver};
-ghost use Rattle.ix_manage.specs.inside.ReplayProgress.{OnlyUsesDisk, ReplaysOn, between};
-ghost use Rattle.ix_manage.specs.inside.Turns.{IsStarted, opening_of};
+ghost use Rattle.ix_manage.specs.inside.ReplayProgress.{OnlyUsesDisk, ReplaysOn, disk_stretch};
+ghost use Rattle.ix_manage.specs.inside.Progress.{IsStarted, opening_at};
 
+mod events;
+
+use crate::early_end::EarlyEnd;
 use crate::history::history_line;
 use crate::job::ReplayWords;
 use crate::load::{load_expression, load_script, read_script};
 use crate::open::open;
-use crate::run::Stop;
-use crate::turns::take_events;
+use events::take_events;
 use ix_expr::Expression;
 use ix_manager::Manager;
 use ix_outside::{Files, Sink, Site};
@@ -33,13 +35,13 @@ pub(crate) fn replay<F: Files, S: Site, K: Sink>(
     files: &mut F,
     site: &mut S,
     out: &mut K,
-) -> Result<(), Stop>
+) -> Result<(), EarlyEnd>
     requires least { 1 ≤ names.limit }
     requires most { names.limit ≤ most_nodes }
     requires turns { names.turns ≤ most_turns }
     requires attached { (S.state site.old).attached ≡ false }
 
-    ensures leaves { Leaves
+    ensures leaves { LeavesOutput
         (JobOver
         (around_of (F.state files.old) (F.state files.new) (S.state site.old) (S.state site.new))
         (replay_of names.entry) (S.crashes site.new))
@@ -47,18 +49,9 @@ pub(crate) fn replay<F: Files, S: Site, K: Sink>(
     ensures files { OnlyFaults (F.state files.old) (F.state files.new) }
     ensures puts { OnlyPuts (K.state out.old) (K.state out.new) }
 {
-    let expression = match load_expression(alloc, files, names.expression) {
-        Ok(expression) => expression,
-        Err(refusal) => return Err(Stop::Refused(refusal)),
-    };
-    let bytes = match load_script(alloc, files, names.script) {
-        Ok(bytes) => bytes,
-        Err(refusal) => return Err(Stop::Refused(refusal)),
-    };
-    let script = match read_script(&bytes) {
-        Ok(script) => script,
-        Err(refusal) => return Err(Stop::Refused(refusal)),
-    };
+    let expression = load_expression(alloc, files, names.expression)?;
+    let bytes = load_script(alloc, files, names.script)?;
+    let script = read_script(&bytes)?;
     play(alloc, names, expression, script, site, out)
 }
 
@@ -70,23 +63,21 @@ fn play<S: Site, K: Sink>(
     script: Script<'_>,
     site: &mut S,
     out: &mut K,
-) -> Result<(), Stop>
+) -> Result<(), EarlyEnd>
     requires least { 1 ≤ names.limit }
     requires most { names.limit ≤ most_nodes }
     requires turns { names.turns ≤ most_turns }
     requires events { (events : List GivenEvent) × HasEvents script events }
     requires attached { (S.state site.old).attached ≡ false }
 
-    ensures leaves { Leaves
+    ensures leaves { LeavesOutput
         (PlaysOver expression names.entry script.entry
         (S.state site.old) (S.state site.new) (S.crashes site.new))
         (K.state out.old) (K.state out.new) result }
     ensures puts { OnlyPuts (K.state out.old) (K.state out.new) }
 {
-    match open(alloc, site, names.journal, expression, names.limit) {
-        Ok(mut manager) => run_script(alloc, &mut manager, names.turns, script, site, out),
-        Err(stop) => Err(stop),
-    }
+    let mut manager = open(alloc, site, names.journal, expression, names.limit)?;
+    run_script(alloc, &mut manager, names.turns, script, site, out)
 }
 
 /// Puts the line of the history in front: the manager was just started.
@@ -97,23 +88,20 @@ fn run_script<S: Site, K: Sink>(
     script: Script<'_>,
     site: &mut S,
     out: &mut K,
-) -> Result<(), Stop>
+) -> Result<(), EarlyEnd>
     requires turns { turns ≤ most_turns }
     requires manager { IsStarted manager.old }
     requires attached { (S.state site.old).attached ≡ true }
     requires fits { FitsSite manager.old (S.state site.old) (S.crashes site.old) }
 
-    ensures leaves { Leaves
-        (ReplaysOn (opening_of manager.old) turns script.entry manager.new.machine
-        (between S.state S.crashes site.old site.new))
+    ensures leaves { LeavesOutput
+        (ReplaysOn (opening_at manager.old) turns script.entry manager.new.machine
+        (disk_stretch S.state S.crashes site.old site.new))
         (K.state out.old) (K.state out.new) result }
     ensures site { OnlyUsesDisk (S.state site.old) (S.state site.new) }
     ensures puts { OnlyPuts (K.state out.old) (K.state out.new) }
 {
-    match out.put(&history_line(manager.history())) {
-        Ok(()) => {}
-        Err(_) => return Err(Stop::Output),
-    }
+    out.put(&history_line(manager.history()))?;
     let mut all = ScriptSite::new(script, site, out);
     take_events(alloc, manager, turns, &mut all)
 }

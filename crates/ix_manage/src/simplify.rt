@@ -2,12 +2,11 @@
 ghost use Rattle.std.specs.Prelude.{IfOk};
 ghost use Rattle.ix_outside.specs.FilesState.{OnlyFaults};
 ghost use Rattle.ix_outside.specs.SinkState.{OnlyPuts};
-ghost use Rattle.ix_manage.specs.inside.Leaves.{Leaves};
+ghost use Rattle.ix_manage.specs.inside.Leaves.{LeavesOutput};
 ghost use Rattle.ix_manage.specs.inside.Simplifying.{IsSimpleLine, SimplifyEnds};
 
+use crate::early_end::EarlyEnd;
 use crate::load::load_expression;
-use crate::refusal::Refusal;
-use crate::run::Stop;
 use ix_expr::Expression;
 use ix_outside::{Files, Sink};
 use std::alloc::{AllocError, Global};
@@ -18,25 +17,17 @@ pub(crate) fn simplify<F: Files, K: Sink>(
     name: &str,
     files: &mut F,
     out: &mut K,
-) -> Result<(), Stop>
-    ensures leaves { Leaves
+) -> Result<(), EarlyEnd>
+    ensures leaves { LeavesOutput
         (SimplifyEnds (F.state files.old) (F.state files.new) name.now)
         (K.state out.old) (K.state out.new) result }
     ensures files { OnlyFaults (F.state files.old) (F.state files.new) }
     ensures puts { OnlyPuts (K.state out.old) (K.state out.new) }
 {
-    let expression = match load_expression(alloc, files, name) {
-        Ok(expression) => expression,
-        Err(refusal) => return Err(Stop::Refused(refusal)),
-    };
-    let line = match simple_line(alloc, &expression) {
-        Ok(line) => line,
-        Err(_) => return Err(Stop::Refused(Refusal::Memory)),
-    };
-    match out.put(&line) {
-        Ok(()) => Ok(()),
-        Err(_) => Err(Stop::Output),
-    }
+    let expression = load_expression(alloc, files, name)?;
+    let line = simple_line(alloc, &expression)?;
+    out.put(&line)?;
+    Ok(())
 }
 
 /// The canonical text of what the expression becomes, and a newline.

@@ -36,10 +36,7 @@ pub(crate) fn start<F: Files>(
 
     ensures files { OnlyFaults (F.state files.old) (F.state files.new) }
 {
-    let expression = match load_expression(alloc, files, name) {
-        Ok(expression) => expression,
-        Err(refusal) => return Err(refusal),
-    };
+    let expression = load_expression(alloc, files, name)?;
     engine_of(alloc, expression, limit)
 }
 
@@ -61,10 +58,7 @@ pub(crate) fn start_follower<F: Files>(
 
     ensures files { OnlyFaults (F.state files.old) (F.state files.new) }
 {
-    let expression = match load_expression(alloc, files, name) {
-        Ok(expression) => expression,
-        Err(refusal) => return Err(refusal),
-    };
+    let expression = load_expression(alloc, files, name)?;
     follower_of(alloc, expression, limit)
 }
 
@@ -79,10 +73,8 @@ pub(crate) fn start_workload(alloc: Global, limit: usize) -> Result<Engine, Refu
     ensures history { IfOk result (λ engine. engine.history ≡ []) }
     ensures err { IfErr result (RefusesWorkload limit) }
 {
-    match read_expression(alloc, EXAMINATIONS) {
-        Ok(expression) => engine_of(alloc, expression, limit),
-        Err(refusal) => Err(refusal),
-    }
+    let expression = read_expression(alloc, EXAMINATIONS)?;
+    engine_of(alloc, expression, limit)
 }
 
 fn engine_of(alloc: Global, expression: Expression, limit: usize) -> Result<Engine, Refusal>

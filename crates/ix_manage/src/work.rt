@@ -2,12 +2,12 @@
 ghost use Rattle.std.specs.Prelude.{◌≡◌, ◌≤◌, [], IfOk};
 ghost use Rattle.ix_cli.specs.Commands.{most_asks, most_nodes};
 ghost use Rattle.ix_outside.specs.SinkState.{OnlyPuts};
-ghost use Rattle.ix_manage.specs.inside.Leaves.{Leaves};
+ghost use Rattle.ix_manage.specs.inside.Leaves.{LeavesOutput};
 ghost use Rattle.ix_manage.specs.inside.Working.{AsksNext, IsBounded, Sums, WorkEnds};
 
+use crate::early_end::EarlyEnd;
 use crate::job::WorkWords;
-use crate::refusal::{Refusal, append};
-use crate::run::Stop;
+use crate::refusal::append;
 use crate::start::start_workload;
 use arrayvec::ArrayVec;
 use itoa::Buffer;
@@ -48,26 +48,18 @@ impl Summary {
 }
 
 /// Makes the asks of the workload, and puts the line that sums them up.
-pub(crate) fn work<K: Sink>(alloc: Global, names: WorkWords, out: &mut K) -> Result<(), Stop>
+pub(crate) fn work<K: Sink>(alloc: Global, names: WorkWords, out: &mut K) -> Result<(), EarlyEnd>
     requires least { 1 ≤ names.limit }
     requires most { names.limit ≤ most_nodes }
     requires count { names.count ≤ most_asks }
 
-    ensures leaves { Leaves (WorkEnds names) (K.state out.old) (K.state out.new) result }
+    ensures leaves { LeavesOutput (WorkEnds names) (K.state out.old) (K.state out.new) result }
     ensures puts { OnlyPuts (K.state out.old) (K.state out.new) }
 {
-    let mut engine = match start_workload(alloc, names.limit) {
-        Ok(engine) => engine,
-        Err(refusal) => return Err(Stop::Refused(refusal)),
-    };
-    let summary = match ask_all(alloc, &mut engine, names) {
-        Ok(summary) => summary,
-        Err(_) => return Err(Stop::Refused(Refusal::Memory)),
-    };
-    match out.put(&summary.line()) {
-        Ok(()) => Ok(()),
-        Err(_) => Err(Stop::Output),
-    }
+    let mut engine = start_workload(alloc, names.limit)?;
+    let summary = ask_all(alloc, &mut engine, names)?;
+    out.put(&summary.line())?;
+    Ok(())
 }
 
 /// Makes the asks, of an engine whose history is empty.

@@ -21,8 +21,8 @@ use Rattle.ix_manage.specs.Session.{Session}
 use Rattle.ix_manage.specs.declared.job.FollowWords.{FollowWords}
 use Rattle.ix_manage.specs.declared.refusal.Refusal.{Refusal}
 use Rattle.ix_manage.specs.declared.refusal.Refusal.TheVariants.{Unfollowed, Memory}
-use Rattle.ix_manage.specs.declared.run.Stop.{Stop}
-use Rattle.ix_manage.specs.declared.run.Stop.TheVariants.{Refused, Words, OtherExpression, Output}
+use Rattle.ix_manage.specs.declared.early_end.EarlyEnd.{EarlyEnd}
+use Rattle.ix_manage.specs.declared.early_end.EarlyEnd.TheVariants.{Refused, Words, OtherExpression, Output}
 use Rattle.ix_manage.specs.inside.Jobs.{follow_of}
 
 -- the refusal of a fault
@@ -33,8 +33,12 @@ refusal_of (fault.Full number) = Unfollowed 63 number
 refusal_of (fault.Over number limit) = Unfollowed 64 number
 refusal_of fault.Memory = Memory
 
+-- why the run ends where a line was refused
+abbrev pub follow_end : FollowFault → EarlyEnd
+follow_end why = Refused (refusal_of why)
+
 -- a line was refused, and nothing was put; or the put of its answer failed
-abbrev pub StopsFed : EngineState → List ℕ → Word → SinkState → SinkState → Stop → Type 0
+abbrev pub StopsFed : EngineState → List ℕ → Word → SinkState → SinkState → EarlyEnd → Type 0
 StopsFed s bytes after old new (Refused refusal) =
     (why : FollowFault) × Feeds s.form s.limit s.history bytes (Err why) after
     × (refusal ≡ refusal_of why) × (new.written ≡ old.written)
@@ -46,7 +50,7 @@ StopsFed s bytes after old new Output =
 
 -- a line was fed, and its answer put, or it stopped there
 abbrev pub PutsFed : {T : Type 0} → EngineState → List ℕ → Word → SinkState → SinkState
-    → Result T Stop → Type 0
+    → Result T EarlyEnd → Type 0
 PutsFed s bytes after old new (Ok done) =
     (answer : Fed) × Feeds s.form s.limit s.history bytes (Ok answer) after
     × (new.written ≡ append_known old.written (fed_line answer))

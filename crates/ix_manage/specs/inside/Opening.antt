@@ -24,7 +24,7 @@ use Rattle.ix_manage.specs.Ends.{JobEnds, ReadsRest}
 use Rattle.ix_manage.specs.Journal.{OnJournal}
 use Rattle.ix_manage.specs.Session.{Session}
 use Rattle.ix_manage.specs.Trace.{ReadsForm}
-use Rattle.ix_manage.specs.declared.run.Stop.{Stop}
+use Rattle.ix_manage.specs.declared.early_end.EarlyEnd.{EarlyEnd}
 use Rattle.ix_manage.specs.inside.Leaves.{StopsAfter}
 
 -- a job is of a file that stands for the expression, under the limit, and keeps this journal; what
@@ -49,7 +49,7 @@ pub record EndsUnstarted (x : Form) (limit : ℕ) (journal : List ℕ) (before a
   pub only : OnlyDisk before after
 
 -- nothing was put, and a run stops so
-abbrev pub StopsUnstarted : Form → ℕ → List ℕ → SiteState → SiteState → Crashes → Stop → Type 0
+abbrev pub StopsUnstarted : Form → ℕ → List ℕ → SiteState → SiteState → Crashes → EarlyEnd → Type 0
 StopsUnstarted x limit journal before after is stop =
     (sink : SinkState) → StopsAfter (EndsUnstarted x limit journal before after is) sink sink stop
 

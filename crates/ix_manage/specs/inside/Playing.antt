@@ -5,8 +5,6 @@ use Rattle.ix_outside.specs.Contents.{GivenEvent}
 use Rattle.ix_outside.specs.Crashes.{Crashes}
 use Rattle.ix_outside.specs.FilesState.{FilesState}
 use Rattle.ix_outside.specs.SiteState.{SiteState}
-use Rattle.ix_manager.specs.declared.faults.StartFault.{StartFault}
-use Rattle.ix_manager.specs.declared.faults.StartFault.TheVariants as fault
 use Rattle.ix_script.specs.Events.{HasEvents}
 use Rattle.ix_manage.specs.Around.{around_of}
 use Rattle.ix_manage.specs.Ends.{JobEnds, JobOver}
@@ -16,23 +14,7 @@ use Rattle.ix_manage.specs.Trace.{ReadsForm}
 use Rattle.ix_manage.specs.declared.job.ReplayWords.{ReplayWords}
 use Rattle.ix_manage.specs.declared.job.ServeWords.{ServeWords}
 use Rattle.ix_manage.specs.declared.job.TraceWords.{TraceWords}
-use Rattle.ix_manage.specs.declared.refusal.Refusal.TheVariants.{Disk, Large, Memory, Journal}
-use Rattle.ix_manage.specs.declared.refusal.JournalRefusal.TheVariants.{Foreign, Damaged, Many, Word, Heavy}
-use Rattle.ix_manage.specs.declared.run.Stop.{Stop}
-use Rattle.ix_manage.specs.declared.run.Stop.TheVariants.{Refused, OtherExpression}
 use Rattle.ix_manage.specs.inside.Jobs.{replay_of, serve_of, trace_of}
-
--- why the run ends where no manager was started
-abbrev pub stop_of : StartFault → Stop
-stop_of (fault.Large limit) = Refused (Large limit)
-stop_of fault.Disk = Refused Disk
-stop_of fault.Foreign = Refused (Journal Foreign)
-stop_of (fault.Other kept) = OtherExpression kept
-stop_of (fault.Damaged at) = Refused (Journal (Damaged at))
-stop_of fault.Many = Refused (Journal Many)
-stop_of (fault.Word number) = Refused (Journal (Word number))
-stop_of (fault.Heavy number limit) = Refused (Journal (Heavy number limit))
-stop_of fault.Memory = Refused Memory
 
 -- how a trace may end, whatever the site, which it leaves as it is
 abbrev pub TraceEnds : FilesState → FilesState → TraceWords

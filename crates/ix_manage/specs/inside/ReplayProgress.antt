@@ -28,18 +28,18 @@ use Rattle.ix_script.specs.inside.WithoutSends.{without_sends}
 use Rattle.ix_script.specs.declared.site.ScriptSite.{ScriptSite}
 use Rattle.ix_manage.specs.Session.{IsNoEnd, Session, history_line}
 use Rattle.ix_manage.specs.Replay.{AreFirst, Plays, ReplayEnds}
-use Rattle.ix_manage.specs.declared.run.Stop.{Stop}
-use Rattle.ix_manage.specs.declared.turn.Turn.{Turn}
-use Rattle.ix_manage.specs.inside.Turns.{IsTurn, SavesFrom, Stretch, opening_of}
-use Rattle.ix_manage.specs.inside.Leaves.{Leaves}
+use Rattle.ix_manage.specs.declared.early_end.EarlyEnd.{EarlyEnd}
+use Rattle.ix_manage.specs.declared.outcome.EventOutcome.{EventOutcome}
+use Rattle.ix_manage.specs.inside.Progress.{IsOutcome, SavesFrom, Stretch, opening_at}
+use Rattle.ix_manage.specs.inside.Leaves.{LeavesOutput}
 
 -- a site's disk alone: nothing is told of its connections
 abbrev pub disk_alone : SiteState → SiteState
 disk_alone site = record site { contents = nothing_told }
 
 -- between two states of a site
-abbrev pub between : {S : Type 0} → (S → SiteState) → (S → Crashes) → S → S → Stretch
-between site_state site_crashes old new = record {
+abbrev pub disk_stretch : {S : Type 0} → (S → SiteState) → (S → Crashes) → S → S → Stretch
+disk_stretch site_state site_crashes old new = record {
   before = disk_alone (site_state old);
   after = disk_alone (site_state new);
   was = without_sends (site_crashes old);
@@ -70,8 +70,8 @@ player site_state sink_state it = record {
 }
 
 -- what it tells
-abbrev pub told_of : Player → Contents
-told_of player = record {
+abbrev pub told_by : Player → Contents
+told_by player = record {
   given = Some player.given;
   sends = None;
   text = player.sink.written;
@@ -103,8 +103,8 @@ pub record IsBetween (m : ManagerState) (player : Player) : Type 0 where
   pub open_sink : player.failed ≡ false
 
 -- the manager took the script's next event, its replies were put, and the journal kept its history
-pub record TakesTurn (old : ManagerState) (was : Player) (new : ManagerState) (now : Player)
-    (stretch : Stretch) (turn : Turn) : Type 0 where
+pub record TakesEvent (old : ManagerState) (was : Player) (new : ManagerState) (now : Player)
+    (stretch : Stretch) (outcome : EventOutcome) : Type 0 where
   pub event : Event
   pub piece : List ℕ
   pub ending : Ending
@@ -112,15 +112,15 @@ pub record TakesTurn (old : ManagerState) (was : Player) (new : ManagerState) (n
   pub next : IsNextPiece 4096 was.script was.given (given_event event piece)
   pub fits : FitsEvent event piece
   pub handled : Handles old event piece ending new
-      (told_of (record was { given = now.given })) (told_of now)
+      (told_by (record was { given = now.given })) (told_by now)
   pub tickets : new.machine.number ≤ old.machine.number + length piece
-  pub turn_is : IsTurn now.failed ending event.kind turn
+  pub outcome_is : IsOutcome now.failed ending event.kind outcome
   pub fault : now.failed ≡ true → Rose was.sink.faults now.sink.faults
   pub saves : SavesRun ending old new stretch.before stretch.after stretch.was stretch.is
 
 -- a manager that took the events given so far, none of them the end, and put its replies behind what
 -- was known before; it may go on
-pub record Stands (opening : Opening) (known : Option (List ℕ)) (m : ManagerState) (player : Player)
+pub record HasPlayed (opening : Opening) (known : Option (List ℕ)) (m : ManagerState) (player : Player)
     (stretch : Stretch) : Type 0 where
   pub answers : List (List (List Reply))
   pub follows : FollowsRun opening player.given answers m
@@ -160,8 +160,8 @@ pub record PutsHistory (history : PlainHistory) (old new : SinkState) : Type 0 w
 
 -- how taking the events of a script leaves the sink, where the line of the history was put before
 abbrev pub TakesEvents : {T : Type 0} → ℕ → ManagerState → Player → ManagerState → Player → Stretch
-    → Result T Stop → Type 0
+    → Result T EarlyEnd → Type 0
 TakesEvents turns old was new now stretch result =
     (start : SinkState) → PutsHistory old.machine.history start was.sink
-    → Leaves (ReplaysScript (opening_of old) turns was.script now.given new.machine stretch)
+    → LeavesOutput (ReplaysScript (opening_at old) turns was.script now.given new.machine stretch)
     start now.sink result

@@ -23,12 +23,12 @@ use Rattle.ix_manage.specs.Puts.{LastLine}
 use Rattle.ix_manage.specs.Serve.{ServeEnds, with_heard}
 use Rattle.ix_manage.specs.Session.{IsNoEnd, IsOver, Session, Takes, history_line}
 use Rattle.ix_manage.specs.Site.{OnlyCalls}
-use Rattle.ix_manage.specs.declared.run.Stop.{Stop}
-use Rattle.ix_manage.specs.declared.run.Stop.TheVariants.{Refused, Words, OtherExpression, Output}
-use Rattle.ix_manage.specs.declared.turn.Turn.{Turn}
-use Rattle.ix_manage.specs.declared.turn.Turn.TheVariants.{Cut}
+use Rattle.ix_manage.specs.declared.early_end.EarlyEnd.{EarlyEnd}
+use Rattle.ix_manage.specs.declared.early_end.EarlyEnd.TheVariants.{Refused, Words, OtherExpression, Output}
+use Rattle.ix_manage.specs.declared.outcome.EventOutcome.{EventOutcome}
+use Rattle.ix_manage.specs.declared.outcome.EventOutcome.TheVariants.{Cut}
 use Rattle.ix_manage.specs.inside.Refusal.{refusal_line, refusal_status}
-use Rattle.ix_manage.specs.inside.Turns.{IsTurn, SavesFrom, Stretch, opening_of}
+use Rattle.ix_manage.specs.inside.Progress.{IsOutcome, SavesFrom, Stretch, opening_at}
 
 -- nothing was attached since; what was stays so, but that the disk may be told no more
 pub record OnlyServed (old new : SiteState) : Type 0 where
@@ -53,7 +53,7 @@ pub record SentFor (opening : Opening) (history : PlainHistory) (taken : List Gi
       → stretch.after.contents.sends ≡ Some new → new.gone ≡ old.gone)
 
 -- a manager that took these events of a site, none of them the end, and sent its replies; it may go on
-pub record Serves (opening : Opening) (taken : List GivenEvent) (m : ManagerState)
+pub record HasServed (opening : Opening) (taken : List GivenEvent) (m : ManagerState)
     (stretch : Stretch) : Type 0 where
   pub answers : List (List (List Reply))
   pub follows : FollowsRun opening taken answers m
@@ -63,7 +63,7 @@ pub record Serves (opening : Opening) (taken : List GivenEvent) (m : ManagerStat
   pub saves : SavesFrom opening going m.machine m.store stretch
 
 -- the manager took an event of the site, its replies were sent, and the journal kept its history
-pub record TakesOver (old new : ManagerState) (stretch : Stretch) (turn : Turn) : Type 0 where
+pub record TakesOver (old new : ManagerState) (stretch : Stretch) (outcome : EventOutcome) : Type 0 where
   pub event : Event
   pub piece : List ℕ
   pub ending : Ending
@@ -75,7 +75,7 @@ pub record TakesOver (old new : ManagerState) (stretch : Stretch) (turn : Turn) 
       → get_or old.marks conn false ≡ false → get_or new.marks conn false ≡ true
       → Rose stretch.before.counts.send stretch.after.counts.send
   pub tickets : new.machine.number ≤ old.machine.number + length piece
-  pub turn_is : IsTurn false ending event.kind turn
+  pub outcome_is : IsOutcome false ending event.kind outcome
   pub saves : SavesRun ending old new stretch.before stretch.after stretch.was stretch.is
   pub since : (t : ℕ) (least : ℕ) (start : Sends) (taken : List GivenEvent)
       (answers : List (List (List Reply)))
@@ -86,7 +86,7 @@ pub record TakesOver (old new : ManagerState) (stretch : Stretch) (turn : Turn) 
       stretch.after stretch.is
 
 -- an event was taken, or none came since the wire failed
-pub data ServesTurn (old new : ManagerState) (stretch : Stretch) : Turn → Type 0 where
+pub data ServesEvent (old new : ManagerState) (stretch : Stretch) : EventOutcome → Type 0 where
   unheard : new ≡ old → stretch.after.contents ≡ stretch.before.contents
       → Rose stretch.before.counts.wire stretch.after.counts.wire
       → SavesRun going old new stretch.before stretch.after stretch.was stretch.is
@@ -96,8 +96,8 @@ pub data ServesTurn (old new : ManagerState) (stretch : Stretch) : Turn → Type
       stretch.before stretch.was
       → ServesSince t old.form least old.machine.history start taken answers old.marks
       stretch.after stretch.is)
-      → ServesTurn old new stretch Cut
-  took : {turn : Turn} → TakesOver old new stretch turn → ServesTurn old new stretch turn
+      → ServesEvent old new stretch Cut
+  took : {outcome : EventOutcome} → TakesOver old new stretch outcome → ServesEvent old new stretch outcome
 
 -- a session from the opening that ended in this state, and whose history the journal keeps
 pub record ServedSession (opening : Opening) (turns : ℕ) (last : MachineState) (stretch : Stretch)
@@ -109,7 +109,7 @@ pub record ServedSession (opening : Opening) (turns : ℕ) (last : MachineState)
   pub saves : SavesFrom opening session.ending last store stretch
 
 -- how a session ends by the answer of the loop that took its events
-abbrev pub EndsTo : {T : Type 0} → ℕ → Counts → Counts → Session → Result T Stop → Type 0
+abbrev pub EndsTo : {T : Type 0} → ℕ → Counts → Counts → Session → Result T EarlyEnd → Type 0
 EndsTo turns before after session (Ok done) = IsOver session
 EndsTo turns before after session (Err (Refused refusal)) = (status : ℕ) (whole part : List ℕ)
     → LastLine (refusal_status refusal) (history_line session.opening.history)
@@ -121,11 +121,11 @@ EndsTo turns before after session (Err Output) = ⊥
 
 -- events were taken from the start on, until the session ended so
 pub record ServesTo {T : Type 0} (turns : ℕ) (old new : ManagerState) (stretch : Stretch)
-    (result : Result T Stop) : Type 0 where
+    (result : Result T EarlyEnd) : Type 0 where
   pub session : Session
-  pub served : ServedSession (opening_of old) turns new.machine stretch session
+  pub served : ServedSession (opening_at old) turns new.machine stretch session
   pub marks : List Bool
-  pub sent : SentFor (opening_of old) (with_failed session.ending new.machine.history)
+  pub sent : SentFor (opening_at old) (with_failed session.ending new.machine.history)
       session.taken session.answers marks stretch
   pub ends : EndsTo turns stretch.before.counts stretch.after.counts session result
 

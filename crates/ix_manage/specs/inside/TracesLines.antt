@@ -11,8 +11,8 @@ use Rattle.ix_manage.specs.ActionLines.{HasActions}
 use Rattle.ix_manage.specs.Session.{Session}
 use Rattle.ix_manage.specs.Trace.{Answers, Traces}
 use Rattle.ix_manage.specs.declared.refusal.Refusal.TheVariants.{Memory}
-use Rattle.ix_manage.specs.declared.run.Stop.{Stop}
-use Rattle.ix_manage.specs.declared.run.Stop.TheVariants.{Refused, Words, OtherExpression, Output}
+use Rattle.ix_manage.specs.declared.early_end.EarlyEnd.{EarlyEnd}
+use Rattle.ix_manage.specs.declared.early_end.EarlyEnd.TheVariants.{Refused, Words, OtherExpression, Output}
 
 -- what `trace` may put for a form, a limit and the bytes of an actions file, by the status
 pub record TracesLines (x : Form) (limit : ℕ) (bytes : List ℕ) (status : ℕ) (whole part : List ℕ) (session : Option Session) : Type 0 where
@@ -27,7 +27,7 @@ AnswersOne engine action text after =
     Answers engine.form engine.limit engine.history (action ∷ []) text after
 
 -- memory ran out, and nothing was put; or the put of an action's line failed
-abbrev pub StopsAnswer : EngineState → PlainAction → SinkState → SinkState → Stop → Type 0
+abbrev pub StopsAnswer : EngineState → PlainAction → SinkState → SinkState → EarlyEnd → Type 0
 StopsAnswer engine action old new (Refused refusal) =
     (refusal ≡ Memory) × (new.written ≡ old.written)
 StopsAnswer engine action old new (Words text) = ⊥
@@ -38,7 +38,7 @@ StopsAnswer engine action old new Output =
 
 -- an action's line was put, or it stopped there
 abbrev pub PutsAnswer : {T : Type 0} → EngineState → PlainAction → Word → SinkState → SinkState
-    → Result T Stop → Type 0
+    → Result T EarlyEnd → Type 0
 PutsAnswer engine action after old new (Ok done) =
     (text : List ℕ) × AnswersOne engine action text after
     × (new.written ≡ append_known old.written text)

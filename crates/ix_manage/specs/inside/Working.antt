@@ -28,7 +28,7 @@ pub data AsksNext (engine : EngineState) (workload : PlainWorkload)
       → AsksNext engine workload false engine.history (behind_draw workload)
 
 -- a workload and its history behind so many asks of a seed, of which so many were granted and refused
-pub record StandsBehind (x : Form) (limit seed count granted refused : ℕ) (history : Word)
+pub record HasAsked (x : Form) (limit seed count granted refused : ℕ) (history : Word)
     (workload : PlainWorkload) : Type 0 where
   pub asks : List Ask
   pub asked : Asked x limit seed count asks refused

@@ -3,36 +3,40 @@ use Rattle.ix_outside.specs.Sink.{AppendsPart}
 use Rattle.ix_cli.specs.Words.{bound}
 use Rattle.ix_manage.specs.Ends.{bounded}
 use Rattle.ix_manage.specs.Puts.{LastLine, put, lost}
+use Rattle.ix_manage.specs.declared.early_end.EarlyEnd.TheVariants.{Output, Refused}
 use Rattle.ix_manage.proofs.Ending.{expression_refused}
-use Rattle.ix_manage.proofs.Stops.{ended_cut, ended_whole, nothing_put}
+use Rattle.ix_manage.proofs.Stops.{ended_cut, ended_whole, ends_early, nothing_put}
 use Rattle.ix_manage.proofs.Tracing.{append_nothing}
 use Rattle.ix_manage.proofs.bound.bound.Goals as goal
 
 -- no expression is read
-pub returns-in-Err-clause-leaves : goal.returns-in-Err-clause-leaves
-returns-in-Err-clause-leaves g c =
+pub returns-in_err-expression-clause-leaves : goal.returns-in_err-expression-clause-leaves
+returns-in_err-expression-clause-leaves g c =
     let files = g.F.Files.state c.args.files.now in
     let name = c.args.name.now in
-    nothing_put c.in-Err.refusal (g.K.Sink.state c.args.out.now)
+    let refusal = c.in_err-expression.field-0.0 in
+    ends_early _ _ _ c.from_residual.result (Refused refusal) c.from_residual.ensures.1
+    (nothing_put refusal (g.K.Sink.state c.args.out.now)
     (expression_refused files (g.F.Files.state c.load_expression.new.files) (bound name c.args.count) name refl
-    c.in-Err.refusal c.in-Err.ensures.err)
-
--- the line is put
-pub returns-in-Ok-put-clause-leaves : goal.returns-in-Ok-put-clause-leaves
-returns-in-Ok-put-clause-leaves g c =
-    let line = c.deref.result.now in
-    ended_whole (g.K.Sink.state c.args.out.now) (g.K.Sink.state c.put.new.self) line None
-    (λ site. bounded c.bound.result c.in-Ok.ensures.ok c.bound.ensures
-    (subst (λ l. LastLine 0 [] l 0 line []) (c.deref.ensures.0 ∙ c.bound_line-line.ensures) put))
-    c.in-Ok-put.ensures.whole
+    refusal c.in_err-expression.ensures.err))
 
 -- its put fails
+pub returns-in_err-put-clause-leaves : goal.returns-in_err-put-clause-leaves
+returns-in_err-put-clause-leaves g c =
+    let line = c.deref.result.now in
+    ends_early _ _ _ c.from_residual-in_err-put.result Output c.from_residual-in_err-put.ensures.1
+    (ended_cut (g.K.Sink.state c.args.out.now) (g.K.Sink.state c.put.new.self) [] line None
+    (λ site. bounded c.bound.result c.in_ok-expression.ensures.ok c.bound.ensures
+    (subst (λ l. LastLine 0 [] l 10 [] line) (c.deref.ensures.0 ∙ c.bound_line-line.ensures) lost))
+    (subst (λ known. AppendsPart known line (g.K.Sink.state c.put.new.self).written)
+    (append_nothing (g.K.Sink.state c.args.out.now).written) c.in_err-put.ensures.part)
+    c.in_err-put.ensures.failed)
+
+-- the line is put
 pub returns-clause-leaves : goal.returns-clause-leaves
 returns-clause-leaves g c =
     let line = c.deref.result.now in
-    ended_cut (g.K.Sink.state c.args.out.now) (g.K.Sink.state c.put.new.self) [] line None
-    (λ site. bounded c.bound.result c.in-Ok.ensures.ok c.bound.ensures
-    (subst (λ l. LastLine 0 [] l 10 [] line) (c.deref.ensures.0 ∙ c.bound_line-line.ensures) lost))
-    (subst (λ known. AppendsPart known line (g.K.Sink.state c.put.new.self).written)
-    (append_nothing (g.K.Sink.state c.args.out.now).written) c.in-Err-put.ensures.part)
-    c.in-Err-put.ensures.failed
+    ended_whole (g.K.Sink.state c.args.out.now) (g.K.Sink.state c.put.new.self) line None
+    (λ site. bounded c.bound.result c.in_ok-expression.ensures.ok c.bound.ensures
+    (subst (λ l. LastLine 0 [] l 0 line []) (c.deref.ensures.0 ∙ c.bound_line-line.ensures) put))
+    c.in_ok-put.ensures.whole

@@ -1,7 +1,7 @@
 use Rattle.std.proofs.Common.{Err, sym, ◌∙◌, ap, subst}
 use Rattle.std.specs.Io.KnownBytes.{append_known}
 use Rattle.ix_outside.specs.Sink.{AppendsPart}
-use Rattle.ix_manage.specs.inside.Leaves.{Finishes, PutsLine, cut, written}
+use Rattle.ix_manage.specs.inside.Leaves.{Finishes, PutsLastLine, cut, written}
 use Rattle.ix_manage.specs.inside.Refusal.{other_line, refusal_line, refusal_status}
 use Rattle.ix_manage.proofs.last_line.finish.Goals as goal
 
@@ -45,7 +45,7 @@ returns-in-Ok-put-2-clause-finishes g c =
     let new = g.K.Sink.state c.put-in-Err-Refused.new.self in
     let refusal = c.in-Err-Refused.refusal in
     subst (λ how. Finishes how old new c.status.result) (sym (c.in-Err-Refused.is ∙ ap Err c.in-Err-Refused.field-0-is))
-    (subst (PutsLine (refusal_status refusal) (refusal_line refusal) old new) (sym c.status.ensures)
+    (subst (PutsLastLine (refusal_status refusal) (refusal_line refusal) old new) (sym c.status.ensures)
     (written (c.in-Ok-put-2.ensures.whole
     ∙ ap (append_known old.written) (c.deref-in-Err-Refused.ensures.0 ∙ c.line.ensures))))
 

@@ -18,7 +18,7 @@ use Rattle.ix_manage.proofs.run.run_job.Goals as goal
 pub returns-in-Trace-clause-leaves : goal.returns-in-Trace-clause-leaves
 returns-in-Trace-clause-leaves g c =
     let files = g.F.Files.state c.args.files.now in
-    let later = g.F.Files.state c.run_trace.new.files in
+    let later = g.F.Files.state c.trace.new.files in
     let site = g.S.Site.state c.args.site.now in
     let crashes = g.S.Site.crashes c.args.site.now in
     let limit = c.in-Trace.nodes in
@@ -35,8 +35,8 @@ returns-in-Trace-clause-leaves g c =
       journal = λ expression journal of_expression has_journal. absurd (none-some journal has_journal);
       wire = λ socket same. absurd (none-some socket same);
     }) in
-    leaves_on ends (g.K.Sink.state c.args.out.now) (g.K.Sink.state c.run_trace.new.out)
-    c.run_trace.result c.run_trace.ensures.leaves
+    leaves_on ends (g.K.Sink.state c.args.out.now) (g.K.Sink.state c.trace.new.out)
+    c.trace.result c.trace.ensures.leaves
 
 pub returns-in-Work-clause-leaves : goal.returns-in-Work-clause-leaves
 returns-in-Work-clause-leaves g c =

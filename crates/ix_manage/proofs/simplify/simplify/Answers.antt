@@ -4,43 +4,48 @@ use Rattle.ix_cli.specs.Words.{simplify}
 use Rattle.ix_manage.specs.Ends.{no_memory, simplified}
 use Rattle.ix_manage.specs.Puts.{LastLine, put, lost}
 use Rattle.ix_manage.specs.declared.refusal.Refusal.TheVariants.{Memory}
+use Rattle.ix_manage.specs.declared.early_end.EarlyEnd.TheVariants.{Output, Refused}
 use Rattle.ix_manage.proofs.Ending.{expression_refused}
-use Rattle.ix_manage.proofs.Stops.{ended_cut, ended_whole, nothing_put}
+use Rattle.ix_manage.proofs.Stops.{ended_cut, ended_whole, ends_early, nothing_put}
 use Rattle.ix_manage.proofs.Tracing.{append_nothing}
 use Rattle.ix_manage.proofs.simplify.simplify.Goals as goal
 
 -- no expression is read
-pub returns-in-Err-clause-leaves : goal.returns-in-Err-clause-leaves
-returns-in-Err-clause-leaves g c =
+pub returns-in_err-expression-clause-leaves : goal.returns-in_err-expression-clause-leaves
+returns-in_err-expression-clause-leaves g c =
     let files = g.F.Files.state c.args.files.now in
     let name = c.args.name.now in
-    nothing_put c.in-Err.refusal (g.K.Sink.state c.args.out.now)
+    let refusal = c.in_err-expression.field-0.0 in
+    ends_early _ _ _ c.from_residual.result (Refused refusal) c.from_residual.ensures.1
+    (nothing_put refusal (g.K.Sink.state c.args.out.now)
     (expression_refused files (g.F.Files.state c.load_expression.new.files) (simplify name) name refl
-    c.in-Err.refusal c.in-Err.ensures.err)
+    refusal c.in_err-expression.ensures.err))
 
 -- memory runs out
-pub returns-in-Err-simple_line-clause-leaves : goal.returns-in-Err-simple_line-clause-leaves
-returns-in-Err-simple_line-clause-leaves g c =
-    nothing_put Memory (g.K.Sink.state c.args.out.now) (λ status whole part last site. no_memory last)
-
--- the line is put
-pub returns-in-Ok-put-clause-leaves : goal.returns-in-Ok-put-clause-leaves
-returns-in-Ok-put-clause-leaves g c =
-    let line = c.deref.result.now in
-    let simple = c.in-Ok-simple_line.ensures in
-    ended_whole (g.K.Sink.state c.args.out.now) (g.K.Sink.state c.put.new.self) line None
-    (λ site. simplified simple.result c.in-Ok.ensures.ok simple.becomes
-    (subst (λ l. LastLine 0 [] l 0 line []) (c.deref.ensures.value ∙ simple.same) put))
-    c.in-Ok-put.ensures.whole
+pub returns-in_err-line-clause-leaves : goal.returns-in_err-line-clause-leaves
+returns-in_err-line-clause-leaves g c =
+    ends_early _ _ _ c.from_residual-in_err-line.result (Refused Memory) c.from_residual-in_err-line.ensures.1
+    (nothing_put Memory (g.K.Sink.state c.args.out.now) (λ status whole part last site. no_memory last))
 
 -- its put fails
+pub returns-in_err-put-clause-leaves : goal.returns-in_err-put-clause-leaves
+returns-in_err-put-clause-leaves g c =
+    let line = c.deref.result.now in
+    let simple = c.in_ok-line.ensures in
+    ends_early _ _ _ c.from_residual-in_err-put.result Output c.from_residual-in_err-put.ensures.1
+    (ended_cut (g.K.Sink.state c.args.out.now) (g.K.Sink.state c.put.new.self) [] line None
+    (λ site. simplified simple.result c.in_ok-expression.ensures.ok simple.becomes
+    (subst (λ l. LastLine 0 [] l 10 [] line) (c.deref.ensures.value ∙ simple.same) lost))
+    (subst (λ known. AppendsPart known line (g.K.Sink.state c.put.new.self).written)
+    (append_nothing (g.K.Sink.state c.args.out.now).written) c.in_err-put.ensures.part)
+    c.in_err-put.ensures.failed)
+
+-- the line is put
 pub returns-clause-leaves : goal.returns-clause-leaves
 returns-clause-leaves g c =
     let line = c.deref.result.now in
-    let simple = c.in-Ok-simple_line.ensures in
-    ended_cut (g.K.Sink.state c.args.out.now) (g.K.Sink.state c.put.new.self) [] line None
-    (λ site. simplified simple.result c.in-Ok.ensures.ok simple.becomes
-    (subst (λ l. LastLine 0 [] l 10 [] line) (c.deref.ensures.value ∙ simple.same) lost))
-    (subst (λ known. AppendsPart known line (g.K.Sink.state c.put.new.self).written)
-    (append_nothing (g.K.Sink.state c.args.out.now).written) c.in-Err-put.ensures.part)
-    c.in-Err-put.ensures.failed
+    let simple = c.in_ok-line.ensures in
+    ended_whole (g.K.Sink.state c.args.out.now) (g.K.Sink.state c.put.new.self) line None
+    (λ site. simplified simple.result c.in_ok-expression.ensures.ok simple.becomes
+    (subst (λ l. LastLine 0 [] l 0 line []) (c.deref.ensures.value ∙ simple.same) put))
+    c.in_ok-put.ensures.whole

@@ -1,5 +1,5 @@
 use Rattle.std.proofs.Common.{◌≡◌, ◌∙◌, arith, refl, subst, sym}
-use Rattle.ix_manage.specs.inside.Working.{StandsBehind}
+use Rattle.ix_manage.specs.inside.Working.{HasAsked}
 use Rattle.ix_manage.proofs.Working.{all_counted, begins_behind, then_granted, then_refused}
 use Rattle.ix_manage.proofs.work.ask_all.Goals as goal
 use Rattle.ix_manage.proofs.work.ask_all.Goals.{then-branch, else-branch}
@@ -8,7 +8,7 @@ pub loop-ask-init : goal.loop-ask-init
 loop-ask-init c =
     let engine = c.args.engine.now in
     let names = c.args.names in (
-      subst (StandsBehind engine.form names.limit names.seed 0 0 0 engine.history)
+      subst (HasAsked engine.form names.limit names.seed 0 0 0 engine.history)
           (sym c.new-workload.ensures)
           (begins_behind engine.form names.limit names.seed engine.history c.requires.empty),
       refl,

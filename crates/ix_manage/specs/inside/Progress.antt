@@ -1,4 +1,4 @@
--- A run as far as it went: what it started from, what an event's turn is, and what its journal keeps.
+-- A run as far as it went: what it started from, what an event makes of it, what its journal keeps.
 use Rattle.std.specs.Prelude.{◌≡◌, ◌≢◌, ◌⊎◌, Bool, true, false}
 use Rattle.ix_journal.specs.History.{Spent}
 use Rattle.ix_outside.specs.Crashes.{Crashes}
@@ -10,17 +10,17 @@ use Rattle.ix_manager.specs.Handled.{ManagerState, started}
 use Rattle.ix_manager.specs.Machine.{MachineState, start_of}
 use Rattle.ix_manager.specs.Runs.{Ending, Opening, going, stopped, failed}
 use Rattle.ix_manager.specs.inside.Saving.{Saves}
-use Rattle.ix_manage.specs.declared.turn.Turn.{Turn}
-use Rattle.ix_manage.specs.declared.turn.Turn.TheVariants.{More, Done, Cut, Failed}
+use Rattle.ix_manage.specs.declared.outcome.EventOutcome.{EventOutcome}
+use Rattle.ix_manage.specs.declared.outcome.EventOutcome.TheVariants.{More, Done, Cut, Failed}
 
 -- what a manager's run would start from as the manager stands
-abbrev pub opening_of : ManagerState → Opening
-opening_of m =
+abbrev pub opening_at : ManagerState → Opening
+opening_at m =
     record { form = m.form; limit = m.limit; history = m.machine.history; boot = m.machine.boot }
 
 -- the manager was just started
 abbrev pub IsStarted : ManagerState → Type 0
-IsStarted m = m ≡ started (opening_of m) m.store
+IsStarted m = m ≡ started (opening_at m) m.store
 
 -- a stretch of calls of a site: the site before and after it, and what a crash may leave
 pub record Stretch : Type 1 where
@@ -38,13 +38,13 @@ stretch_of site_state site_crashes old new = record {
   is = site_crashes new;
 }
 
--- what an event's turn is: a put failed; or none did, and the disk failed, or the event was the end
--- or brought `stop`; or else the run may go on
-abbrev pub IsTurn : Bool → Ending → EventKind → Turn → Type 0
-IsTurn lost ending kind More = (lost ≡ false) × (ending ≡ going) × (kind ≢ End)
-IsTurn lost ending kind Done = (lost ≡ false) × ((kind ≡ End) ⊎ (ending ≡ stopped))
-IsTurn lost ending kind Cut = lost ≡ true
-IsTurn lost ending kind Failed = (lost ≡ false) × ((spent : Spent) × (ending ≡ failed spent))
+-- what became of a run by an event: a put failed; or none did, and the disk failed, or the event was
+-- the end or brought `stop`; or else the run may go on
+abbrev pub IsOutcome : Bool → Ending → EventKind → EventOutcome → Type 0
+IsOutcome lost ending kind More = (lost ≡ false) × (ending ≡ going) × (kind ≢ End)
+IsOutcome lost ending kind Done = (lost ≡ false) × ((kind ≡ End) ⊎ (ending ≡ stopped))
+IsOutcome lost ending kind Cut = lost ≡ true
+IsOutcome lost ending kind Failed = (lost ≡ false) × ((spent : Spent) × (ending ≡ failed spent))
 
 -- over a stretch of calls the journal kept the history of a run that started from the opening, and
 -- goes on or ended so in this state

@@ -4,12 +4,12 @@ use Rattle.ix_manager.specs.inside.Saving.{SavesRun}
 use Rattle.ix_manager.proofs.AcknowledgedLemmas.{more_untold}
 use Rattle.ix_script.specs.inside.Site.{ScriptSiteState, playing}
 use Rattle.ix_script.specs.inside.WithoutSends.{without_sends}
-use Rattle.ix_manage.specs.inside.ReplayProgress.{FitsDisk, OnlyUsesDisk, between, disk_alone, player}
-use Rattle.ix_manage.specs.inside.Turns.{IsTurn}
+use Rattle.ix_manage.specs.inside.ReplayProgress.{FitsDisk, OnlyUsesDisk, disk_stretch, disk_alone, player}
+use Rattle.ix_manage.specs.inside.Progress.{IsOutcome}
 use Rattle.ix_manage.proofs.Devices.{holds_same, site_used}
 use Rattle.ix_manage.proofs.Journaling.{event_saves, fits_again, ok_fits, passes_again}
 use Rattle.ix_manage.proofs.Replaying.{event_taken}
-use Rattle.ix_manage.proofs.turns.take_event.Goals as goal
+use Rattle.ix_manage.proofs.replay.events.take_event.Goals as goal
 
 pub handle-go-requires-clause-fits : goal.handle-go-requires-clause-fits
 handle-go-requires-clause-fits g c =
@@ -18,8 +18,8 @@ handle-go-requires-clause-fits g c =
     (sym (ap (λ (s : ScriptSiteState _ _). s.site) c.next_event-event.ensures.rest))
     c.requires.fits)
 
-pub returns-clause-turn : goal.returns-clause-turn
-returns-clause-turn g c =
+pub returns-clause-outcome : goal.returns-clause-outcome
+returns-clause-outcome g c =
     let next = c.next_event-event in
     let go = c.handle-go in
     let over = go.ensures.handles in
@@ -36,14 +36,14 @@ returns-clause-turn g c =
     event_taken (length c.args.buffer.now) c.args.manager.now go.new.self
     (player g.S.Site.state g.K.Sink.state c.args.site.now)
     (player g.S.Site.state g.K.Sink.state next.new.self) now
-    next.new.buf c.piece.result.now next.result over.ending c.turn_of.result
-    (between g.S.Site.state g.S.Site.crashes (playing c.args.site.now).site last)
+    next.new.buf c.piece.result.now next.result over.ending c.outcome_of.result
+    (disk_stretch g.S.Site.state g.S.Site.crashes (playing c.args.site.now).site last)
     c.requires.buffer next.ensures.given
     (ap (λ (s : ScriptSiteState _ _). g.K.Sink.state s.sink) next.ensures.rest)
     (ap (λ (s : ScriptSiteState _ _). s.sink_failed) next.ensures.rest) c.piece.ensures next.ensures.fits next.auto.buf next.ensures.next
     over.handles go.ensures.tickets c.requires.between
-    (subst (λ failed. IsTurn failed over.ending next.result.kind c.turn_of.result)
-    c.sink_failed.ensures (c.turn_of.ensures over.ending over.answered))
+    (subst (λ failed. IsOutcome failed over.ending next.result.kind c.outcome_of.result)
+    c.sink_failed.ensures (c.outcome_of.ensures over.ending over.answered))
     go.ensures.marks
     (subst (λ s. SavesRun over.ending c.args.manager.now go.new.self
     (disk_alone (g.S.Site.state s)) (disk_alone (g.S.Site.state last))

@@ -7,7 +7,7 @@ use Rattle.ix_outside.specs.SinkState.{OnlyPuts}
 use Rattle.ix_lines.specs.TextLines.{lines_of}
 use Rattle.ix_manage.specs.Trace.{Answers}
 use Rattle.ix_manage.proofs.Tracing.{StandBefore}
-use Rattle.ix_manage.proofs.trace.trace.Given as goal
+use Rattle.ix_manage.proofs.trace.trace_lines.Given as goal
 
 -- the actions before what is left are answered, and their answers put
 abbrev pub invariant-loop-rest : goal.invariant-loop-rest

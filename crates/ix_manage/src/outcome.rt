@@ -5,9 +5,9 @@ ghost use Rattle.ix_outside.specs.Event.{KindFits};
 ghost use Rattle.ix_outside.specs.declared.event.EventKind.TheVariants.{End};
 ghost use Rattle.ix_manager.specs.Runs.{Ending};
 ghost use Rattle.ix_manager.specs.inside.OverSite.{EndsBy};
-ghost use Rattle.ix_manage.specs.inside.Turns.{IsTurn};
+ghost use Rattle.ix_manage.specs.inside.Progress.{IsOutcome};
 
-use ix_manager::{Go, Stop as Halt};
+use ix_manager::{Go, Stop};
 use ix_outside::EventKind;
 
 /// The most bytes of an event.
@@ -15,7 +15,7 @@ pub(crate) const EVENT_ROOM: usize = 4096;
 
 /// What became of a run by an event.
 #[derive(Clone, Copy)]
-pub(crate) enum Turn {
+pub(crate) enum EventOutcome {
     /// It may go on.
     More,
     /// The event was the end or brought `stop`.
@@ -27,16 +27,22 @@ pub(crate) enum Turn {
 }
 
 /// `failed` says whether a put failed.
-pub(crate) fn turn_of(failed: bool, go: Result<Go, Halt>, kind: EventKind) -> Turn
-    ensures { (ending : Ending) → EndsBy go ending → IsTurn failed ending kind result }
+pub(crate) fn outcome_of(failed: bool, go: Result<Go, Stop>, kind: EventKind) -> EventOutcome
+    ensures { (ending : Ending) → EndsBy go ending → IsOutcome failed ending kind result }
 {
     if failed {
-        return Turn::Cut;
+        return EventOutcome::Cut;
     }
     match go {
-        Ok(Go::Stopped) => Turn::Done,
-        Ok(Go::More) => { if is_end(kind) { Turn::Done } else { Turn::More } }
-        Err(Halt::Disk) => Turn::Failed,
+        Ok(Go::Stopped) => EventOutcome::Done,
+        Ok(Go::More) => {
+            if is_end(kind) {
+                EventOutcome::Done
+            } else {
+                EventOutcome::More
+            }
+        }
+        Err(Stop::Disk) => EventOutcome::Failed,
     }
 }
 

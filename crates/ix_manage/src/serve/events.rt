@@ -2,12 +2,12 @@
 ghost use Rattle.std.specs.Prelude.{◌≡◌, ◌^◌, ◌<◌, ◌≤◌, true, false, length};
 ghost use Rattle.ix_cli.specs.Commands.{most_turns};
 ghost use Rattle.ix_manager.specs.inside.OverSite.{FitsSite};
-ghost use Rattle.ix_manage.specs.inside.ServeProgress.{OnlyServed, ServesTo, ServesTurn};
-ghost use Rattle.ix_manage.specs.inside.Turns.{IsStarted, stretch_of};
+ghost use Rattle.ix_manage.specs.inside.ServeProgress.{OnlyServed, ServesTo, ServesEvent};
+ghost use Rattle.ix_manage.specs.inside.Progress.{IsStarted, stretch_of};
 
+use crate::early_end::EarlyEnd;
+use crate::outcome::{EVENT_ROOM, EventOutcome, outcome_of, piece};
 use crate::refusal::Refusal;
-use crate::run::Stop;
-use crate::turn::{EVENT_ROOM, Turn, piece, turn_of};
 use ix_manager::Manager;
 use ix_outside::Site;
 use std::alloc::Global;
@@ -18,7 +18,7 @@ pub(crate) fn serve_events<S: Site>(
     manager: &mut Manager,
     turns: u64,
     site: &mut S,
-) -> Result<(), Stop>
+) -> Result<(), EarlyEnd>
     requires turns { turns ≤ most_turns }
     requires manager { IsStarted manager.old }
     requires attached { (S.state site.old).attached ≡ true }
@@ -31,13 +31,13 @@ pub(crate) fn serve_events<S: Site>(
     let mut buffer = [0; EVENT_ROOM];
     for _turn in 0..turns {
         match serve_event(alloc, manager, &mut buffer, site) {
-            Turn::More => {}
-            Turn::Done => return Ok(()),
-            Turn::Cut => return Err(Stop::Refused(Refusal::Wire)),
-            Turn::Failed => return Err(Stop::Refused(Refusal::Disk)),
+            EventOutcome::More => {}
+            EventOutcome::Done => return Ok(()),
+            EventOutcome::Cut => return Err(EarlyEnd::Refused(Refusal::Wire)),
+            EventOutcome::Failed => return Err(EarlyEnd::Refused(Refusal::Disk)),
         }
     }
-    Err(Stop::Refused(Refusal::Turns))
+    Err(EarlyEnd::Refused(Refusal::Turns))
 }
 
 fn serve_event<S: Site>(
@@ -45,21 +45,21 @@ fn serve_event<S: Site>(
     manager: &mut Manager,
     buffer: &mut [u8],
     site: &mut S,
-) -> Turn
+) -> EventOutcome
     requires buffer { length buffer.old ≡ EVENT_ROOM }
     requires going { manager.old.ended ≡ false }
     requires tickets { manager.old.machine.number < 2 ^ 63 }
     requires attached { (S.state site.old).attached ≡ true }
     requires fits { FitsSite manager.old (S.state site.old) (S.crashes site.old) }
 
-    ensures turn { ServesTurn manager.old manager.new
+    ensures outcome { ServesEvent manager.old manager.new
         (stretch_of S.state S.crashes site.old site.new) result }
     ensures site { OnlyServed (S.state site.old) (S.state site.new) }
 {
     let event = match site.next(buffer) {
         Ok(event) => event,
-        Err(_) => return Turn::Cut,
+        Err(_) => return EventOutcome::Cut,
     };
     let go = manager.handle(alloc, event, piece(event.kind, buffer), site);
-    turn_of(false, go, event.kind)
+    outcome_of(false, go, event.kind)
 }

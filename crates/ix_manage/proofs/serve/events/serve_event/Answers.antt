@@ -10,11 +10,11 @@ use Rattle.ix_manage.proofs.Devices.{served_event, served_then, served_wire}
 use Rattle.ix_manage.proofs.Journaling.{event_saves, told_before}
 use Rattle.ix_manage.proofs.Replaying.{piece_has}
 use Rattle.ix_manage.proofs.ServeLemmas.{next_only, wire_saves}
-use Rattle.ix_manage.proofs.serving.serve_event.Goals as goal
+use Rattle.ix_manage.proofs.serve.events.serve_event.Goals as goal
 
 -- no event came
-pub returns-in-Err-clause-turn : goal.returns-in-Err-clause-turn
-returns-in-Err-clause-turn g c =
+pub returns-in-Err-clause-outcome : goal.returns-in-Err-clause-outcome
+returns-in-Err-clause-outcome g c =
     let m = c.args.manager.now in
     let a = g.S.Site.state c.args.site.now in
     let b = g.S.Site.state c.next.new.self in
@@ -46,8 +46,8 @@ handle-go-requires-clause-fits g c =
     (next_only a b p q told.rest told.now told.call (ap (λ (k : Contents). k.sends) told.contents))
     c.requires.fits
 
-pub returns-clause-turn : goal.returns-clause-turn
-returns-clause-turn g c =
+pub returns-clause-outcome : goal.returns-clause-outcome
+returns-clause-outcome g c =
     let m = c.args.manager.now in
     let a = g.S.Site.state c.args.site.now in
     let b = g.S.Site.state c.next.new.self in
@@ -80,7 +80,7 @@ returns-clause-turn g c =
       handled = over.handles;
       marked = λ conn opened marked. subst (λ n. Rose n d.counts.send) told.rest.send (go.ensures.marks conn opened marked);
       tickets = go.ensures.tickets;
-      turn_is = c.turn_of.ensures over.ending over.answered;
+      outcome_is = c.outcome_of.ensures over.ending over.answered;
       saves = saves_join over.ending m.form m.machine m.machine go.new.self.machine m.store go.new.self.store
           a b d p q r (g.met.S.Site.lawful go.new.site)
           (wire_saves m.form m.machine m.store a b p q lawful lawful'
