@@ -6,7 +6,6 @@ use Rattle.std.proofs.lemmas.List.{length_push, length-replicate, get_or-replica
 use Rattle.ix_words.specs.Each.{Each, no_item, item}
 use Rattle.ix_words.proofs.Each.{Each-append, Each-left}
 use Rattle.ix_expr.specs.Form.{Form}
-use Rattle.ix_journal.specs.History.{PlainHistory}
 use Rattle.ix_outside.specs.Contents.{Contents, GivenEvent, Sends, SendsPart, SendsWhole, SentBytes, with_pair}
 use Rattle.ix_outside.specs.Counts.{Rose}
 use Rattle.ix_outside.specs.Crashes.{Crashes, AreLawful, IsSentByThen, LeavesTheSame, OneCall}

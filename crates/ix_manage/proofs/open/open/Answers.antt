@@ -10,8 +10,6 @@ use Rattle.ix_manage.specs.declared.early_end.EarlyEnd.TheVariants.{Refused}
 use Rattle.ix_manage.specs.declared.refusal.Refusal.TheVariants.{Disk}
 use Rattle.ix_manage.specs.inside.EarlyEnds.{unstarted_end}
 use Rattle.ix_manage.specs.Journal.{UsesJournal}
-use Rattle.ix_manage.specs.inside.Leaves.{StopsAfter}
-use Rattle.ix_manage.specs.inside.Opening.{EndsUnstarted}
 use Rattle.ix_manage.proofs.Devices.{disk_calls_then}
 use Rattle.ix_manage.proofs.Opening.{left_at, none_opened, of_journal, on_journal, some_is, start_keeps, start_uses}
 use Rattle.ix_manage.proofs.Playing.{disk_stops, fault_kind, start_stops, started_small}
