@@ -5,24 +5,25 @@ use Rattle.ix_values.specs.declared.tickets.Ticket.{Ticket}
 use Rattle.ix_lease.specs.declared.Slot.TheVariants.{Held}
 use Rattle.ix_lines.specs.Items.{line, too_long}
 use Rattle.ix_watch.specs.inside.Watches.{changes_of}
-use Rattle.ix_proto.specs.Requests.{PlainRequest, IsRequest, request_words, ask, confirm, cancel, outcome, may, watch, drop_watch, poll, status, log, stop}
+use Rattle.ix_proto.specs.Requests.{PlainRequest, IsRequest, request_words, confirm, poll, stop}
 use Rattle.ix_proto.specs.inside.Lends.{Lends, Reads}
 use Rattle.ix_proto.specs.RequestFaults.{IsRequestFault}
 use Rattle.ix_lines.specs.Words.{words_of}
 use Rattle.ix_proto.specs.declared.reply.Reply.{Reply}
 use Rattle.ix_proto.specs.declared.reply.Reply.TheVariants as reply
 use Rattle.ix_proto.specs.declared.request.Request.{Request}
-use Rattle.ix_proto.specs.declared.request.Request.TheVariants.{Ask, Confirm, Cancel, Outcome, May, Watch, Drop, Poll, Status, Log, Stop}
+use Rattle.ix_proto.specs.declared.request.Request.TheVariants.{Confirm, Poll, Stop}
 use Rattle.ix_manager.specs.declared.faults.Go.{Go}
-use Rattle.ix_manager.specs.Machine.{MachineState, Step, polled}
+use Rattle.ix_manager.specs.declared.faults.Go.TheVariants.{More, Stopped}
+use Rattle.ix_manager.specs.Machine.{MachineState, Step, polled, stopping}
 use Rattle.ix_manager.specs.Refusals.{disk}
-use Rattle.ix_manager.specs.Runs.{Ending, going, failed, ending_of, ItemStep, requested, refused, over_long, disk_failed}
+use Rattle.ix_manager.specs.Runs.{Ending, going, stopped, failed, ending_of, ItemStep, requested, refused, over_long, disk_failed}
 use Rattle.ix_manager.specs.declared.machine.Answer.TheVariants as answer
 use Rattle.ix_manager.specs.inside.OverSite.{ending_after}
 use Rattle.ix_manager.specs.inside.Core.{Core, MachineAnswers, TellsPoll}
 use Rattle.ix_manager.specs.inside.Does.{Does}
 use Rattle.ix_manager.proofs.HistoryLemmas.{number_rises, step_reserves}
-use Rattle.ix_manager.specs.inside.WireState.{WireState, SendsAll, AnswersItem, AnswersRequest, request_ending, poll_replies}
+use Rattle.ix_manager.specs.inside.WireState.{WireState, SendsAll, AnswersItem, AnswersRequest, poll_replies}
 
 -- a request that lends a poll's name lends no other request's texts
 pub lends_poll : (request : Request) (name : List ℕ) (plain : PlainRequest) → Lends request (poll name) → Lends request plain → plain ≡ poll name
@@ -30,30 +31,16 @@ lends_poll (Poll bytes) name (poll other) h k = ap poll (sym k ∙ h)
 lends_poll (Poll bytes) name _ h k = absurd k
 lends_poll _ name _ h k = absurd h
 
--- `stop` alone lends the request that ends the run
-pub lends_ending : (request : Request) (plain : PlainRequest) → Lends request plain → request_ending request ≡ ending_of plain
-lends_ending Stop stop h = refl
-lends_ending Stop _ h = absurd h
-lends_ending (Ask text number) (ask action lease) h = refl
-lends_ending (Ask text number) _ h = absurd h
-lends_ending (Confirm number) (confirm ticket) h = refl
-lends_ending (Confirm number) _ h = absurd h
-lends_ending (Cancel number) (cancel ticket) h = refl
-lends_ending (Cancel number) _ h = absurd h
-lends_ending (Outcome number) (outcome ticket) h = refl
-lends_ending (Outcome number) _ h = absurd h
-lends_ending (May text) (may action) h = refl
-lends_ending (May text) _ h = absurd h
-lends_ending (Watch bytes text) (watch name action) h = refl
-lends_ending (Watch bytes text) _ h = absurd h
-lends_ending (Drop bytes text) (drop_watch name action) h = refl
-lends_ending (Drop bytes text) _ h = absurd h
-lends_ending (Poll bytes) (poll name) h = refl
-lends_ending (Poll bytes) _ h = absurd h
-lends_ending Status status h = refl
-lends_ending Status _ h = absurd h
-lends_ending (Log number) (log place) h = refl
-lends_ending (Log number) _ h = absurd h
+-- a request that lends `stop` lends no other request's texts
+pub lends_stop : (request : Request) (plain : PlainRequest) → Lends request stop → Lends request plain → plain ≡ stop
+lends_stop Stop stop h k = refl
+lends_stop Stop _ h k = absurd k
+lends_stop _ _ h k = absurd h
+
+-- behind each other request the run goes on
+pub lends_going : (request : Request) (plain : PlainRequest) → ¬ Lends request stop → Lends request plain → ending_of plain ≡ going
+lends_going request stop none lends = absurd (none lends)
+lends_going request _ none lends = refl
 
 -- a poll that was told is the machine's step
 pub poll_step : (old between new : Core) (name : List ℕ) (plain : PlainRequest)
@@ -71,40 +58,58 @@ poll_step old between new name plain state form limit tells is =
 -- each line of a request that lends so makes the step that ends so
 pub line_steps : (old new : Core) (request : Request) (go : Go) (replies : List Reply)
     → ((plain : PlainRequest) → IsRequest plain → Lends request plain → Step old.form old.limit old.state plain replies new.state)
-    → ending_after go ≡ request_ending request
+    → ((plain : PlainRequest) → Lends request plain → ending_of plain ≡ ending_after go)
     → (plain : PlainRequest) → IsRequest plain → Lends request plain → (bytes : List ℕ) → words_of bytes ≡ request_words plain
     → ItemStep old.form old.limit old.state (line bytes) replies new.state (ending_after go)
 line_steps old new request go replies steps ends plain valid lends bytes same =
-    let is : ending_of plain ≡ ending_after go = sym (ends ∙ lends_ending request plain lends) in
-    subst (λ e. ItemStep old.form old.limit old.state (line bytes) replies new.state e) is
+    subst (λ e. ItemStep old.form old.limit old.state (line bytes) replies new.state e) (ends plain lends)
     (requested plain valid same (steps plain valid lends))
 
--- a request is answered by one reply
-abbrev pub one_answered : (conn : ℕ) (request : Request) (go : Go) (reply : Reply) (old new : Core)
+-- a request is answered by one reply, and the run goes on
+abbrev pub one_answered : (conn : ℕ) (request : Request) (reply : Reply) (old new : Core)
     (before after : WireState)
-    → MachineAnswers old request (answer.One reply) new → ending_after go ≡ request_ending request
+    → MachineAnswers old request (answer.One reply) new
     → SendsAll conn (reply ∷ []) before after → new.form ≡ old.form → new.limit ≡ old.limit → new.state.number ≤ old.state.number + 1
-    → AnswersRequest conn request (ending_after go) old new before after
-one_answered conn request go reply old new before after answers ends sends form limit number = record {
+    → AnswersRequest conn request going old new before after
+one_answered conn request reply old new before after answers sends form limit number = record {
   replies = reply ∷ [];
-  step = line_steps old new request go (reply ∷ []) answers.0 ends;
+  step = line_steps old new request More (reply ∷ []) answers.0 (λ plain lent. lends_going request plain answers.1 lent);
   sends = sends;
   form = form;
   limit = limit;
   number = number;
 }
 
+-- `stop` is answered, and ends the run
+abbrev pub stop_answered : (conn : ℕ) (request : Request) (old new : Core)
+    (before after : WireState)
+    → MachineAnswers old request answer.Stop new → SendsAll conn (reply.Stopping ∷ []) before after
+    → AnswersRequest conn request stopped old new before after
+stop_answered conn request old new before after answers sends = record {
+  replies = reply.Stopping ∷ [];
+  step = line_steps old new request Stopped (reply.Stopping ∷ [])
+      (λ plain valid lent. subst (λ (p : PlainRequest). Step old.form old.limit old.state p (reply.Stopping ∷ []) new.state)
+      (sym (lends_stop request plain answers.0 lent))
+      (subst (λ (core : Core). Step old.form old.limit old.state stop (reply.Stopping ∷ []) core.state) (sym answers.1) stopping))
+      (λ plain lent. ap ending_of (lends_stop request plain answers.0 lent));
+  sends = sends;
+  form = ap (λ (core : Core). core.form) answers.1;
+  limit = ap (λ (core : Core). core.limit) answers.1;
+  number = let n : new.state.number ≡ old.state.number = ap (λ (core : Core). core.state.number) answers.1 in omega (arith, n);
+}
+
 -- a poll is answered
-abbrev pub poll_answered : (conn : ℕ) (request : Request) (go : Go) (name : List ℕ)
+abbrev pub poll_answered : (conn : ℕ) (request : Request) (name : List ℕ)
     (old between new : Core) (before after : WireState)
-    → Lends request (poll name) → ending_after go ≡ request_ending request
+    → Lends request (poll name)
     → between.state ≡ old.state → between.form ≡ old.form → between.limit ≡ old.limit
     → TellsPoll between name new → SendsAll conn (poll_replies (changes_of name between.noted)) before after
-    → AnswersRequest conn request (ending_after go) old new before after
-poll_answered conn request go name old between new before after lends ends state form limit tells sends = record {
+    → AnswersRequest conn request going old new before after
+poll_answered conn request name old between new before after lends state form limit tells sends = record {
   replies = poll_replies (changes_of name between.noted);
-  step = line_steps old new request go (poll_replies (changes_of name between.noted))
-      (λ plain valid lent. poll_step old between new name plain state form limit tells (lends_poll request name plain lends lent)) ends;
+  step = line_steps old new request More (poll_replies (changes_of name between.noted))
+      (λ plain valid lent. poll_step old between new name plain state form limit tells (lends_poll request name plain lends lent))
+      (λ plain lent. ap ending_of (lends_poll request name plain lends lent));
   sends = sends;
   form = tells.form ∙ form;
   limit = tells.limit ∙ limit;

@@ -4,7 +4,7 @@ use Rattle.ix_expr.specs.Form.{Form}
 use Rattle.ix_proto.specs.Requests.{PlainRequest, confirm}
 use Rattle.ix_proto.specs.declared.reply.Reply.{Reply}
 use Rattle.ix_manager.specs.declared.machine.Answer.{Answer}
-use Rattle.ix_manager.specs.declared.machine.Answer.TheVariants.{One, Poll, Confirm}
+use Rattle.ix_manager.specs.declared.machine.Answer.TheVariants.{One, Poll, Confirm, Stop}
 use Rattle.ix_manager.specs.Machine.{MachineState, Step, confirmed}
 use Rattle.ix_manager.specs.inside.Core.{Core, TellsPoll}
 use Rattle.ix_manager.specs.inside.Does.{Does, PollAnswers, MayReserve}
@@ -54,6 +54,7 @@ pub poll_reserves : (old new : Core) (name : List ℕ) (answer : Answer) → Pol
 poll_reserves old new name (One one) answers = step_reserves answers.step
 poll_reserves old new name (Poll told) answers = stays_reserves answers.1.state
 poll_reserves old new name (Confirm ticket) answers = absurd answers
+poll_reserves old new name Stop answers = absurd answers
 
 pub told_reserves : (old between new : Core) (name : List ℕ) → TellsPoll between name new → between.state ≡ old.state
     → MayReserve old.state new.state
@@ -75,3 +76,4 @@ pub poll_history : (old new : Core) (name : List ℕ) (answer : Answer) → Poll
 poll_history old new name (One one) answers = does_history old new (request.poll name) one tt answers
 poll_history old new name (Poll told) answers = ap (λ (s : MachineState). s.history) answers.1.state
 poll_history old new name (Confirm ticket) answers = absurd answers
+poll_history old new name Stop answers = absurd answers

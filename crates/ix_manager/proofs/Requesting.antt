@@ -3,7 +3,7 @@ use Rattle.std.proofs.Common.{◌≡◌, ℕ, List, Bor, ◌∙◌, subst}
 use Rattle.ix_values.specs.PlainAction.{PlainAction, text_of}
 use Rattle.ix_values.specs.Texts.{IsAction}
 use Rattle.ix_values.proofs.TextsApart.{texts_apart}
-use Rattle.ix_proto.specs.Requests.{PlainRequest, ask, may, watch, drop_watch, stop, IsRequest}
+use Rattle.ix_proto.specs.Requests.{PlainRequest, ask, may, watch, drop_watch, IsRequest}
 use Rattle.ix_proto.specs.inside.Lends.{Lends}
 use Rattle.ix_proto.specs.declared.request.Request.{Request}
 use Rattle.ix_proto.specs.declared.request.Request.TheVariants as lent
@@ -37,7 +37,3 @@ module _ (P : PlainRequest → Type 0) where
       subst (λ (k : List ℕ). P (drop_watch k b)) (e ∙ lends.0)
       (subst (λ (c : PlainAction). P (drop_watch n c)) (same_action text.now a b va ta valid.1 lends.1) p)
   drop_is name text n a e va ta p _ valid lends = elim lends [ ]
-
-  pub stop_is : P stop → OfEach lent.Stop P
-  stop_is p stop valid lends = p
-  stop_is p _ valid lends = elim lends [ ]

@@ -4,11 +4,10 @@ ghost use Rattle.std.specs.Prelude.{◌≡◌, ◌+◌, ◌-◌, ◌^◌, ◌<�
 ghost use Rattle.ix_lines.specs.Items.{line as line_item};
 ghost use Rattle.ix_lines.specs.Feeding.{completes, holds_after};
 ghost use Rattle.ix_lines.specs.inside.FeedAnswers.{told_item};
-ghost use Rattle.ix_manager.specs.inside.OverSite.{ending_after};
 ghost use Rattle.ix_manager.specs.inside.Clean.{IsClean};
 ghost use Rattle.ix_manager.specs.inside.Saving.{FitsJournal};
 ghost use Rattle.ix_manager.specs.inside.WireState.{wired, RequestOver, ItemOver, AnswersFed};
-ghost use Rattle.ix_manager.specs.inside.WireState.{ItemsOver, IsPlain, request_ending};
+ghost use Rattle.ix_manager.specs.inside.WireState.{ItemsOver, IsPlain};
 ghost use Rattle.ix_manager.specs.inside.TakenItems.{TakesItem};
 ghost use Rattle.ix_proto.specs.declared.request.Request.TheVariants.{Confirm};
 
@@ -19,7 +18,7 @@ use crate::sending::{send_changes, send_reply};
 use crate::{Go, Stop};
 use ix_lines::{FedKind, Lines};
 use ix_outside::Site;
-use ix_proto::Request;
+use ix_proto::{Reply, Request};
 use ix_values::Ticket;
 use std::alloc::Global;
 
@@ -181,24 +180,18 @@ fn answer_request<S: Site>(
     match journaled.machine.answer(alloc, request) {
         Answer::One(reply) => {
             send_reply(site, conn, gone, &reply);
-            Ok(go_behind(request))
+            Ok(Go::More)
         }
         Answer::Poll(name) => {
             send_changes(site, conn, gone, &journaled.machine, &name);
             journaled.machine.tell(&name);
-            Ok(go_behind(request))
+            Ok(Go::More)
         }
         Answer::Confirm(ticket) => answer_confirm(journaled, conn, gone, ticket, site),
-    }
-}
-
-fn go_behind(request: &Request<'_>) -> Go
-    ensures { ending_after result ≡ request_ending request.now }
-{
-    if let Request::Stop = request {
-        Go::Stopped
-    } else {
-        Go::More
+        Answer::Stop => {
+            send_reply(site, conn, gone, &Reply::Stopping);
+            Ok(Go::Stopped)
+        }
     }
 }
 

@@ -28,6 +28,8 @@ pub(crate) enum Answer {
     Poll(Name),
     /// The confirm of this ticket is to be answered.
     Confirm(Ticket),
+    /// The run ends, and that is to be told.
+    Stop,
 }
 
 #[derive(Drop)]
@@ -140,7 +142,7 @@ impl Machine {
             Request::Poll(name) => self.poll(alloc, Name::of_text(name)),
             Request::Status => Answer::One(self.status()),
             Request::Log(number) => Answer::One(self.log(number)),
-            Request::Stop => Answer::One(Reply::Stopping),
+            Request::Stop => Answer::Stop,
         }
     }
 

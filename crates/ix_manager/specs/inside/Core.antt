@@ -4,7 +4,7 @@ use Rattle.ix_words.specs.Each.{Each}
 use Rattle.ix_values.specs.PlainAction.{PlainAction}
 use Rattle.ix_expr.specs.Form.{Form}
 use Rattle.ix_watch.specs.inside.Watches.{PlainWatch, changes_of}
-use Rattle.ix_proto.specs.Requests.{PlainRequest, IsRequest, confirm, poll}
+use Rattle.ix_proto.specs.Requests.{PlainRequest, IsRequest, confirm, poll, stop}
 use Rattle.ix_proto.specs.inside.Lends.{Lends}
 use Rattle.ix_proto.specs.inside.ReplyTexts.{CanBeTold}
 use Rattle.ix_proto.specs.declared.reply.Reply.{Reply}
@@ -35,14 +35,17 @@ IsRefreshed core name =
 abbrev pub change_replies : List (PlainAction × Bool) → List Reply
 change_replies changes = map (λ (change : PlainAction × Bool). reply.Change change.1 change.0) changes
 
--- the machine's answer to a request: one reply, with its step; or a poll is to be told, of which nothing is told yet; or a
--- confirm is to be answered, by which nothing changed yet
+-- The machine's answer to a request: one reply, with its step, and the run goes on; or a poll is to
+-- be told, of which nothing is told yet; or a confirm is to be answered, by which nothing changed
+-- yet; or the run ends, by which nothing changes.
 abbrev pub MachineAnswers : Core → Request → Answer → Core → Type 0
 MachineAnswers old request (answer.One one) new =
     ((plain : PlainRequest) → IsRequest plain → Lends request plain → Step old.form old.limit old.state plain (one ∷ []) new.state)
+    × (¬ Lends request stop)
     × CanBeTold one
 MachineAnswers old request (answer.Poll name) new = Lends request (poll name) × (new.state ≡ old.state) × IsRefreshed new name
 MachineAnswers old request (answer.Confirm ticket) new = Lends request (confirm ticket) × (new ≡ old)
+MachineAnswers old request answer.Stop new = Lends request stop × (new ≡ old)
 
 -- a poll of a name was told
 pub record TellsPoll (old : Core) (name : List ℕ) (new : Core) : Type 0 where

@@ -45,6 +45,7 @@ abbrev pub PollAnswers : Core → List ℕ → Answer → Core → Type 0
 PollAnswers old name (answer.One one) new = Does old (poll name) one new
 PollAnswers old name (answer.Poll told) new = (told ≡ name) × Refreshes old name new
 PollAnswers old name (answer.Confirm ticket) new = ⊥
+PollAnswers old name answer.Stop new = ⊥
 
 -- of each watch of this name it is noted whether its action is permitted
 abbrev pub IsNoted : EngineState → List ℕ → List PlainWatch → Type 0

@@ -13,9 +13,8 @@ use Rattle.ix_proto.specs.declared.reply.Reply.TheVariants as reply
 use Rattle.ix_proto.specs.Requests.{PlainRequest, IsRequest, request_words}
 use Rattle.ix_proto.specs.inside.Lends.{Lends}
 use Rattle.ix_proto.specs.declared.request.Request.{Request}
-use Rattle.ix_proto.specs.declared.request.Request.TheVariants as asked
 use Rattle.ix_manager.specs.declared.faults.Go.{Go}
-use Rattle.ix_manager.specs.Runs.{Ending, going, stopped, ItemStep, Steps}
+use Rattle.ix_manager.specs.Runs.{Ending, going, ItemStep, Steps}
 use Rattle.ix_manager.specs.Wire.{SendsInOrder, reply_line, all_replies}
 use Rattle.ix_manager.specs.declared.faults.Stop.{Stop}
 use Rattle.ix_manager.specs.declared.journaled.Journaled.{Journaled}
@@ -124,8 +123,3 @@ pub record ItemsOver (conn : ℕ) (items : List Item) (result : Result Go Stop) 
   pub acknowledges : Acknowledges old.machine.form (length old.machine.state.history)
       (with_failed ending new.machine.state.history) (all_replies answers.answers) before.site
       after.site is
-
--- `stop` ends the run
-abbrev pub request_ending : Request → Ending
-request_ending asked.Stop = stopped
-request_ending _ = going

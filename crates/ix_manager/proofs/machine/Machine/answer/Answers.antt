@@ -1,11 +1,11 @@
-use Rattle.std.proofs.Common.{[], ◌∷◌, sym, subst}
-use Rattle.ix_proto.specs.Requests.{PlainRequest}
+use Rattle.std.proofs.Common.{[], ◌∷◌, refl, sym, subst}
+use Rattle.ix_proto.specs.Requests.{PlainRequest, stop}
+use Rattle.ix_proto.specs.inside.Lends.{Lends}
 use Rattle.ix_proto.specs.declared.request.Request.{Request}
 use Rattle.ix_proto.specs.declared.reply.Reply.{Reply}
-use Rattle.ix_proto.specs.declared.reply.Reply.TheVariants.{Stopping}
-use Rattle.ix_manager.specs.Machine.{Step, stopping}
+use Rattle.ix_manager.specs.Machine.{Step}
 use Rattle.ix_manager.specs.inside.Core.{Core}
-use Rattle.ix_manager.proofs.Requesting.{OfEach, ask_is, may_is, watch_is, drop_is, stop_is}
+use Rattle.ix_manager.proofs.Requesting.{OfEach, ask_is, may_is, watch_is, drop_is}
 use Rattle.ix_manager.proofs.HistoryLemmas.{does_history, poll_history, step_reserves, poll_reserves}
 use Rattle.ix_manager.proofs.machine.Machine.answer.Goals as goal
 
@@ -13,11 +13,16 @@ use Rattle.ix_manager.proofs.machine.Machine.answer.Goals as goal
 abbrev StepsTo : Core → Reply → Core → PlainRequest → Type 0
 StepsTo old one new plain = Step old.form old.limit old.state plain (one ∷ []) new.state
 
+-- a request that isn't `stop`
+abbrev EndsNoRun : Request → Type 0
+EndsNoRun request = ¬ Lends request stop
+
 pub returns-in-Ask-clause-answers : goal.returns-in-Ask-clause-answers
 returns-in-Ask-clause-answers c =
     let P = StepsTo c.args.self.now c.ask.result c.ask.new.self in (
       subst (λ (r : Request). OfEach r P) (sym c.in-Ask.is)
           (ask_is P c.in-Ask.action c.in-Ask.lease c.of_text.result c.of_text.ensures.valid c.of_text.ensures.same c.ask.ensures.step),
+      subst EndsNoRun (sym c.in-Ask.is) (λ h. h),
       c.ask.ensures.told,
     )
 
@@ -27,6 +32,7 @@ returns-in-May-clause-answers c =
     let read = c.of_text-in-May in (
       subst (λ (r : Request). OfEach r P) (sym c.in-May.is)
           (may_is P c.in-May.action read.result read.ensures.valid read.ensures.same c.may.ensures.step),
+      subst EndsNoRun (sym c.in-May.is) (λ h. h),
       c.may.ensures.told,
     )
 
@@ -36,6 +42,7 @@ returns-in-Watch-clause-answers c =
     let read = c.of_text-in-Watch-2 in (
       subst (λ (r : Request). OfEach r P) (sym c.in-Watch.is)
           (watch_is P c.in-Watch.name c.in-Watch.action c.of_text-in-Watch.result read.result c.of_text-in-Watch.ensures read.ensures.valid read.ensures.same c.watch.ensures.step),
+      subst EndsNoRun (sym c.in-Watch.is) (λ h. h),
       c.watch.ensures.told,
     )
 
@@ -45,15 +52,12 @@ returns-in-Drop-clause-answers c =
     let read = c.of_text-in-Drop-2 in (
       subst (λ (r : Request). OfEach r P) (sym c.in-Drop.is)
           (drop_is P c.in-Drop.name c.in-Drop.action c.of_text-in-Drop.result read.result c.of_text-in-Drop.ensures read.ensures.valid read.ensures.same c.drop_watch.ensures.step),
+      subst EndsNoRun (sym c.in-Drop.is) (λ h. h),
       c.drop_watch.ensures.told,
     )
 
 pub returns-in-Stop-clause-answers : goal.returns-in-Stop-clause-answers
-returns-in-Stop-clause-answers c =
-    let P = StepsTo c.args.self.now Stopping c.args.self.now in (
-      subst (λ (r : Request). OfEach r P) (sym c.in-Stop.is) (stop_is P stopping),
-      tt,
-    )
+returns-in-Stop-clause-answers c = (subst (λ (r : Request). Lends r stop) (sym c.in-Stop.is) tt, refl)
 
 -- none of these changes the history
 pub returns-in-Ask-clause-history : goal.returns-in-Ask-clause-history
