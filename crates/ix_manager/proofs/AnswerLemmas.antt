@@ -70,9 +70,8 @@ abbrev pub one_answered : (conn : ℕ) (request : Request) (reply : Reply) (old 
     (before after : WireState)
     → MachineAnswers old request (answer.One reply) new
     → SendsAll conn (reply ∷ []) before after → new.form ≡ old.form → new.limit ≡ old.limit → new.state.number ≤ old.state.number + 1
-    → AnswersRequest conn request going old new before after
+    → AnswersRequest conn request going (reply ∷ []) old new before after
 one_answered conn request reply old new before after answers sends form limit number = record {
-  replies = reply ∷ [];
   step = line_steps old new request More (reply ∷ []) answers.0 (λ plain lent. lends_going request plain answers.1 lent);
   sends = sends;
   form = form;
@@ -84,9 +83,8 @@ one_answered conn request reply old new before after answers sends form limit nu
 abbrev pub stop_answered : (conn : ℕ) (request : Request) (old new : Core)
     (before after : WireState)
     → MachineAnswers old request answer.Stop new → SendsAll conn (reply.Stopping ∷ []) before after
-    → AnswersRequest conn request stopped old new before after
+    → AnswersRequest conn request stopped (reply.Stopping ∷ []) old new before after
 stop_answered conn request old new before after answers sends = record {
-  replies = reply.Stopping ∷ [];
   step = line_steps old new request Stopped (reply.Stopping ∷ [])
       (λ plain valid lent. subst (λ (p : PlainRequest). Step old.form old.limit old.state p (reply.Stopping ∷ []) new.state)
       (sym (lends_stop request plain answers.0 lent))
@@ -104,9 +102,8 @@ abbrev pub poll_answered : (conn : ℕ) (request : Request) (name : List ℕ)
     → Lends request (poll name)
     → between.state ≡ old.state → between.form ≡ old.form → between.limit ≡ old.limit
     → TellsPoll between name new → SendsAll conn (poll_replies (changes_of name between.noted)) before after
-    → AnswersRequest conn request going old new before after
+    → AnswersRequest conn request going (poll_replies (changes_of name between.noted)) old new before after
 poll_answered conn request name old between new before after lends state form limit tells sends = record {
-  replies = poll_replies (changes_of name between.noted);
   step = line_steps old new request More (poll_replies (changes_of name between.noted))
       (λ plain valid lent. poll_step old between new name plain state form limit tells (lends_poll request name plain lends lent))
       (λ plain lent. ap ending_of (lends_poll request name plain lends lent));
@@ -128,9 +125,8 @@ lends_confirm ticket P p _ lends = absurd lends
 abbrev pub confirm_answered : (conn : ℕ) (ticket : Ticket) (reply : Reply) (old new : Core)
     (before after : WireState)
     → Does old (confirm ticket) reply new → SendsAll conn (reply ∷ []) before after
-    → AnswersRequest conn (Confirm ticket) going old new before after
+    → AnswersRequest conn (Confirm ticket) going (reply ∷ []) old new before after
 confirm_answered conn ticket reply old new before after does sends = record {
-  replies = reply ∷ [];
   step = λ plain valid lends.
       lends_confirm ticket (λ plain. IsRequest plain → (bytes : List ℕ) → words_of bytes ≡ request_words plain
       → ItemStep old.form old.limit old.state (line bytes) (reply ∷ []) new.state going)
@@ -146,9 +142,8 @@ abbrev pub confirm_failed : (conn : ℕ) (ticket : Ticket) (a : PlainAction) (de
     (old new : Core) (before after : WireState)
     → old.state.slot ≡ Held ticket a deadline → old.state.moment < deadline → new ≡ old → reply ≡ disk
     → SendsAll conn (reply ∷ []) before after
-    → AnswersRequest conn (Confirm ticket) (failed (Some ticket, a)) old new before after
+    → AnswersRequest conn (Confirm ticket) (failed (Some ticket, a)) (disk ∷ []) old new before after
 confirm_failed conn ticket a deadline reply old new before after held open_still same is sends = record {
-  replies = disk ∷ [];
   step = λ plain valid lends.
       lends_confirm ticket (λ plain. IsRequest plain → (bytes : List ℕ) → words_of bytes ≡ request_words plain
       → ItemStep old.form old.limit old.state (line bytes) (disk ∷ []) new.state (failed (Some ticket, a)))
@@ -161,12 +156,11 @@ confirm_failed conn ticket a deadline reply old new before after held open_still
 }
 
 -- a line that is a request is answered
-abbrev pub line_answered : (conn : ℕ) (bytes : List ℕ) (request : Request) (ending : Ending)
+abbrev pub line_answered : (conn : ℕ) (bytes : List ℕ) (request : Request) (ending : Ending) (replies : List Reply)
     (old new : Core) (before after : WireState)
-    → Reads (words_of bytes) request → AnswersRequest conn request ending old new before after
-    → AnswersItem conn (line bytes) ending old new before after
-line_answered conn bytes request ending old new before after reads answers = record {
-  replies = answers.replies;
+    → Reads (words_of bytes) request → AnswersRequest conn request ending replies old new before after
+    → AnswersItem conn (line bytes) ending replies old new before after
+line_answered conn bytes request ending replies old new before after reads answers = record {
   step = answers.step reads.plain reads.valid reads.lends bytes reads.same;
   sends = answers.sends;
   form = answers.form;
@@ -178,9 +172,8 @@ line_answered conn bytes request ending old new before after reads answers = rec
 abbrev pub line_refused : (conn : ℕ) (bytes : List ℕ) (code : ℕ) (told : Reply) (core : Core)
     (before after : WireState)
     → IsRequestFault (words_of bytes) code → told ≡ reply.Refused code 0 → SendsAll conn (told ∷ []) before after
-    → AnswersItem conn (line bytes) going core core before after
+    → AnswersItem conn (line bytes) going (reply.Refused code 0 ∷ []) core core before after
 line_refused conn bytes code told core before after fault is sends = record {
-  replies = reply.Refused code 0 ∷ [];
   step = refused fault;
   sends = subst (λ r. SendsAll conn (r ∷ []) before after) is sends;
   form = refl;
@@ -190,9 +183,8 @@ line_refused conn bytes code told core before after fault is sends = record {
 
 -- a line that is too long is refused
 abbrev pub long_line_refused : (conn : ℕ) (told : Reply) (core : Core) (before after : WireState)
-    → told ≡ reply.Refused 10 0 → SendsAll conn (told ∷ []) before after → AnswersItem conn too_long going core core before after
+    → told ≡ reply.Refused 10 0 → SendsAll conn (told ∷ []) before after → AnswersItem conn too_long going (reply.Refused 10 0 ∷ []) core core before after
 long_line_refused conn told core before after is sends = record {
-  replies = reply.Refused 10 0 ∷ [];
   step = over_long;
   sends = subst (λ r. SendsAll conn (r ∷ []) before after) is sends;
   form = refl;

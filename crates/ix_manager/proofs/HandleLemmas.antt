@@ -13,17 +13,20 @@ use Rattle.ix_outside.specs.declared.event.EventKind.TheVariants.{Bytes, Closed,
 use Rattle.ix_manager.specs.Runs.{Ending, going, Steps, none, raised}
 use Rattle.ix_manager.specs.Wire.{done, marks_after, all_replies}
 use Rattle.ix_manager.specs.Handled.{ManagerState, Handles, held_at, completed_by, held_after}
+use Rattle.ix_manager.specs.Images.{with_failed}
 use Rattle.ix_manager.specs.Machine.{MachineState}
+use Rattle.ix_proto.specs.declared.reply.Reply.{Reply}
 use Rattle.ix_manager.specs.inside.Acknowledging.{Acknowledges}
 use Rattle.ix_manager.specs.inside.Does.{MayReserve}
-use Rattle.ix_manager.specs.inside.WireState.{WireState, wired}
+use Rattle.ix_manager.specs.inside.WireState.{WireState, wired, SendsAll}
 use Rattle.ix_manager.specs.declared.faults.Go.{Go}
 use Rattle.ix_manager.specs.declared.faults.Go.TheVariants.{More, Stopped}
 use Rattle.ix_manager.specs.declared.faults.Stop.{Stop}
 use Rattle.ix_manager.specs.declared.faults.Stop.TheVariants.{Disk}
+use Rattle.ix_manager.specs.inside.Over.{OverRun}
 use Rattle.ix_manager.specs.inside.OverSite.{FitsWith, FitsSite, EndsBy, HandlesOver}
 use Rattle.ix_manager.specs.inside.Saving.{UnlessFailed, WhereFailed}
-use Rattle.ix_manager.specs.inside.TakenItems.{TakesBytes, BytesOver}
+use Rattle.ix_manager.specs.inside.TakenItems.{TakesBytes}
 use Rattle.ix_manager.proofs.AcknowledgeSteps.{saves_acknowledges}
 use Rattle.ix_manager.proofs.SavingLemmas.{saves_none, saves_same, saves_reserved, fits_reserved}
 use Rattle.ix_manager.proofs.SendSteps.{nothing_sent}
@@ -34,11 +37,11 @@ at_moment moment old = record old { machine = raised moment old.machine }
 
 -- bytes came
 abbrev pub bytes_handled : (old new : ManagerState) (event : Event) (n : ℕ) (bytes : List ℕ)
-    (ending : Ending) (before after : WireState)
+    (ending : Ending) (replies : List Reply) (before after : WireState)
     → event.kind ≡ Bytes n → before.gone ≡ get_or old.marks event.conn false
-    → TakesBytes event.conn bytes ending (at_moment event.moment old) new before after
+    → TakesBytes event.conn bytes ending replies (at_moment event.moment old) new before after
     → Handles old event bytes ending new before.site.contents after.site.contents
-bytes_handled old new event n bytes ending before after is gone taken =
+bytes_handled old new event n bytes ending replies before after is gone taken =
     let held = held_at event.conn old.lines in
     record {
       answers = taken.answers;
@@ -51,7 +54,9 @@ bytes_handled old new event n bytes ending before after is gone taken =
       };
       sends = record {
         marked = taken.marked;
-        sends = rw (← gone) taken.sends.order;
+        sends =
+            let sent = subst (λ rs. SendsAll event.conn rs before (record after { gone = taken.marked })) taken.all taken.sends in
+            rw (← gone) sent.order;
         marks = taken.marks ∙ ap (λ kind. marks_after kind event.conn taken.marked old.marks) (sym is);
       };
     }
@@ -130,9 +135,9 @@ fits_along (Err Disk) P Q to p = tt
 
 module _ (old between new : ManagerState) (event : Event) (n : ℕ) (bytes : List ℕ) (result : Result Go Stop)
     (before after : WireState) (p q : Crashes) (is : event.kind ≡ Bytes n) (same : between ≡ at_moment event.moment old)
-    (taken : BytesOver event.conn bytes result between new before after p q) where
-  over : BytesOver event.conn bytes result (at_moment event.moment old) new before after p q
-  over = subst (λ (m : ManagerState). BytesOver event.conn bytes result m new before after p q) same
+    (taken : OverRun (TakesBytes event.conn bytes) result between new before after p q) where
+  over : OverRun (TakesBytes event.conn bytes) result (at_moment event.moment old) new before after p q
+  over = subst (λ (m : ManagerState). OverRun (TakesBytes event.conn bytes) result m new before after p q) same
       taken
 
   -- bytes came, over a site
@@ -140,12 +145,14 @@ module _ (old between new : ManagerState) (event : Event) (n : ℕ) (bytes : Lis
   bytes_over gone_between = record {
     ending = over.ending;
     answered = over.answered;
-    handles = bytes_handled old new event n bytes over.ending before after is
-        (gone_between ∙ ap (λ (m : ManagerState). get_or m.marks event.conn false) same) over.takes;
+    handles = bytes_handled old new event n bytes over.ending over.replies before after is
+        (gone_between ∙ ap (λ (m : ManagerState). get_or m.marks event.conn false) same) over.made;
     keeps = over.saves.keeps;
     boots = over.saves.boots;
     ends = over.saves.ends;
-    acknowledges = over.acknowledges;
+    acknowledges = subst (λ rs. Acknowledges old.form (length old.machine.history)
+        (with_failed over.ending new.machine.history) rs before.site after.site q) over.made.all
+        over.acknowledges;
     sends = over.saves.sends;
   }
 
@@ -154,7 +161,7 @@ module _ (old between new : ManagerState) (event : Event) (n : ℕ) (bytes : Lis
 
   pub bytes_fit : OnOk result (FitsSite new after.site q)
   bytes_fit =
-      let form : new.form ≡ old.form = over.takes.form in
+      let form : new.form ≡ old.form = over.made.form in
       fits_along result (FitsWith old.form new.machine new.store after.site q) _ (λ fits. subst (λ x. FitsWith x new.machine new.store after.site q) (sym form) fits)
       (fits_where result over.ending _ over.answered over.saves.fits)
 

@@ -36,9 +36,10 @@ use Rattle.ix_manager.specs.declared.faults.Stop.TheVariants.{Disk}
 use Rattle.ix_manager.specs.declared.journaled.Journaled.{Journaled}
 use Rattle.ix_manager.specs.inside.Core.{Core}
 use Rattle.ix_manager.specs.inside.Does.{Does, MayReserve}
+use Rattle.ix_manager.specs.inside.Over.{OverJournal}
 use Rattle.ix_manager.specs.inside.OverSite.{ending_after}
 use Rattle.ix_manager.specs.inside.Saving.{FitsJournal, OnlySends, Saves, SavesJournal, Finds, Commits, ConfirmsOver}
-use Rattle.ix_manager.specs.inside.WireState.{WireState, wired, SendsAll, AnswersRequest, RequestOver, ItemOver}
+use Rattle.ix_manager.specs.inside.WireState.{WireState, wired, SendsAll, AnswersRequest, AnswersItem}
 use Rattle.ix_manager.proofs.AcknowledgedLemmas.{TellsNoConfirm}
 use Rattle.ix_manager.proofs.AcknowledgeSteps.{saves_acknowledges, confirm_acknowledges}
 use Rattle.ix_manager.proofs.AnswerLemmas.{confirm_answered, confirm_failed, line_answered, line_refused, long_line_refused}
@@ -131,11 +132,12 @@ module _ (conn : ℕ) (ticket : Ticket) (old new : Journaled) (was_gone gone : B
   -- a confirm's reply is sent
   pub confirm_over : (one : Reply) → ConfirmsOver ticket (Ok one) old new a b p q
       → SendsAll conn (one ∷ []) (wired was_gone b) (wired gone c)
-      → RequestOver conn (Confirm ticket) (Ok More) old new (wired was_gone a) (wired gone c) p r
+      → OverJournal (AnswersRequest conn (Confirm ticket)) (Ok More) old new (wired was_gone a) (wired gone c) p r
   confirm_over one over sends = record {
     ending = going;
+    replies = one ∷ [];
     answered = refl;
-    answers = confirm_answered conn ticket one old.machine new.machine (wired was_gone a) (wired gone c) over.confirms.0
+    made = confirm_answered conn ticket one old.machine new.machine (wired was_gone a) (wired gone c) over.confirms.0
         (sends-append conn [] (one ∷ []) (wired was_gone a) (wired was_gone b) (wired gone c) (disk_sent conn was_gone a b p q over.calls) sends);
     saves = saves_sends going old.machine.form old.machine.state new.machine.state (kept new.store) a b c p q r between lawful
         (subst (λ e. SavesJournal e old new a b p q) over.confirms.1 over.saves) only;
@@ -146,7 +148,7 @@ module _ (conn : ℕ) (ticket : Ticket) (old new : Journaled) (was_gone gone : B
   -- that the disk failed is sent
   pub failure_over : (stop : Stop) (one : Reply) → ConfirmsOver ticket (Err stop) old new a b p q → one ≡ disk
       → SendsAll conn (one ∷ []) (wired was_gone b) (wired gone c)
-      → RequestOver conn (Confirm ticket) (Err stop) old new (wired was_gone a) (wired gone c) p r
+      → OverJournal (AnswersRequest conn (Confirm ticket)) (Err stop) old new (wired was_gone a) (wired gone c) p r
   failure_over Disk one over is sends =
       let facts = over.confirms in
       let before = wired was_gone a in
@@ -163,8 +165,9 @@ module _ (conn : ℕ) (ticket : Ticket) (old new : Journaled) (was_gone gone : B
       (subst (λ e. SavesJournal e old new a b p q) facts.5 over.saves) only in
       record {
         ending = failed (Some ticket, facts.0);
+        replies = disk ∷ [];
         answered = ((Some ticket, facts.0), refl);
-        answers = answers;
+        made = answers;
         saves = saves;
         acknowledges = saves_acknowledges (failed (Some ticket, facts.0)) x h w (kept new.store) conn (disk ∷ [])
             before after p r lawful saves answers.sends (item tt no_item);
@@ -175,11 +178,12 @@ pub request_over : (conn : ℕ) (request : Request) (go : Go) (old new : Journal
     → AreLawful before.site p → AreLawful after.site q → FitsJournal old before.site p
     → new.machine.state.history ≡ old.machine.state.history → MayReserve old.machine.state new.machine.state
     → kept new.store ≡ kept old.store
-    → (answers : AnswersRequest conn request (ending_after go) old.machine new.machine before after)
+    → (replies : List Reply)
+    → AnswersRequest conn request (ending_after go) replies old.machine new.machine before after
     → OnlySends before.site after.site p q
-    → Each TellsNoConfirm answers.replies
-    → RequestOver conn request (Ok go) old new before after p q
-request_over conn request go old new before after p q lawful lawful' fits same reserves store answers
+    → Each TellsNoConfirm replies
+    → OverJournal (AnswersRequest conn request) (Ok go) old new before after p q
+request_over conn request go old new before after p q lawful lawful' fits same reserves store replies answers
     only none =
     let x = old.machine.form in
     let h = old.machine.state in
@@ -190,21 +194,23 @@ request_over conn request go old new before after p q lawful lawful' fits same r
     reserves only) in
     record {
       ending = ending_after go;
+      replies = replies;
       answered = refl;
-      answers = answers;
+      made = answers;
       saves = saves;
       acknowledges = saves_acknowledges (ending_after go) x h w (kept new.store) conn
-          answers.replies before after p q lawful' saves answers.sends none;
+          replies before after p q lawful' saves answers.sends none;
     }
 
 -- a line that is a request
 pub line_over : (conn : ℕ) (bytes : List ℕ) (request : Request) (result : Result Go Stop) (old new : Journaled) (before after : WireState) (p q : Crashes)
-    → Reads (words_of bytes) request → RequestOver conn request result old new before after p q
-    → ItemOver conn (line bytes) result old new before after p q
+    → Reads (words_of bytes) request → OverJournal (AnswersRequest conn request) result old new before after p q
+    → OverJournal (AnswersItem conn (line bytes)) result old new before after p q
 line_over conn bytes request result old new before after p q reads over = record {
   ending = over.ending;
+  replies = over.replies;
   answered = over.answered;
-  answers = line_answered conn bytes request over.ending old.machine new.machine before after reads over.answers;
+  made = line_answered conn bytes request over.ending over.replies old.machine new.machine before after reads over.made;
   saves = over.saves;
   acknowledges = over.acknowledges;
 }
@@ -213,7 +219,7 @@ line_over conn bytes request result old new before after p q reads over = record
 pub fault_over : (conn : ℕ) (bytes : List ℕ) (code : ℕ) (told : Reply) (j : Journaled) (before after : WireState) (p q : Crashes)
     → AreLawful before.site p → AreLawful after.site q → FitsJournal j before.site p → OnlySends before.site after.site p q
     → IsRequestFault (words_of bytes) code → told ≡ reply.Refused code 0 → SendsAll conn (told ∷ []) before after
-    → ItemOver conn (line bytes) (Ok More) j j before after p q
+    → OverJournal (AnswersItem conn (line bytes)) (Ok More) j j before after p q
 fault_over conn bytes code told j before after p q lawful lawful' fits only fault is sends =
     let x = j.machine.form in
     let h = j.machine.state in
@@ -223,10 +229,11 @@ fault_over conn bytes code told j before after p q lawful lawful' fits only faul
     (reserves_none h) only in
     record {
       ending = going;
+      replies = reply.Refused code 0 ∷ [];
       answered = refl;
-      answers = answers;
+      made = answers;
       saves = saves;
-      acknowledges = saves_acknowledges going x h h (kept j.store) conn answers.replies before after
+      acknowledges = saves_acknowledges going x h h (kept j.store) conn (reply.Refused code 0 ∷ []) before after
           p q lawful' saves answers.sends (item tt no_item);
     }
 
@@ -234,7 +241,7 @@ fault_over conn bytes code told j before after p q lawful lawful' fits only faul
 pub long_over : (conn : ℕ) (told : Reply) (j : Journaled) (before after : WireState) (p q : Crashes)
     → AreLawful before.site p → AreLawful after.site q → FitsJournal j before.site p → OnlySends before.site after.site p q
     → told ≡ reply.Refused 10 0 → SendsAll conn (told ∷ []) before after
-    → ItemOver conn too_long (Ok More) j j before after p q
+    → OverJournal (AnswersItem conn too_long) (Ok More) j j before after p q
 long_over conn told j before after p q lawful lawful' fits only is sends =
     let x = j.machine.form in
     let h = j.machine.state in
@@ -244,10 +251,11 @@ long_over conn told j before after p q lawful lawful' fits only is sends =
     (reserves_none h) only in
     record {
       ending = going;
+      replies = reply.Refused 10 0 ∷ [];
       answered = refl;
-      answers = answers;
+      made = answers;
       saves = saves;
-      acknowledges = saves_acknowledges going x h h (kept j.store) conn answers.replies before after
+      acknowledges = saves_acknowledges going x h h (kept j.store) conn (reply.Refused 10 0 ∷ []) before after
           p q lawful' saves answers.sends (item tt no_item);
     }
 
@@ -258,8 +266,8 @@ is_confirm _ ticket P lends p = absurd lends
 
 -- a request that is a confirm
 pub confirm_request : (conn : ℕ) (request : Request) (ticket : Ticket) (result : Result Go Stop) (old mid new : Journaled) (before after : WireState) (p q : Crashes)
-    → Lends request (confirm ticket) → mid ≡ old → RequestOver conn (Confirm ticket) result mid new before after p q
-    → RequestOver conn request result old new before after p q
+    → Lends request (confirm ticket) → mid ≡ old → OverJournal (AnswersRequest conn (Confirm ticket)) result mid new before after p q
+    → OverJournal (AnswersRequest conn request) result old new before after p q
 confirm_request conn request ticket result old mid new before after p q lends same over =
-    is_confirm request ticket (λ r. RequestOver conn r result old new before after p q) lends
-    (subst (λ (j : Journaled). RequestOver conn (Confirm ticket) result j new before after p q) same over)
+    is_confirm request ticket (λ r. OverJournal (AnswersRequest conn r) result old new before after p q) lends
+    (subst (λ (j : Journaled). OverJournal (AnswersRequest conn (Confirm ticket)) result j new before after p q) same over)

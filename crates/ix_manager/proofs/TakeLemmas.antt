@@ -28,11 +28,11 @@ use Rattle.ix_manager.specs.Images.{with_failed}
 use Rattle.ix_manager.specs.inside.Acknowledging.{Acknowledges}
 use Rattle.ix_manager.specs.inside.OverSite.{ending_after, EndsBy, FitsWith}
 use Rattle.ix_manager.specs.inside.Saving.{FitsJournal, Saves, SavesJournal}
-use Rattle.ix_manager.specs.inside.TakenItems.{TakesOne, TakesNone, BytesOver}
+use Rattle.ix_manager.specs.inside.TakenItems.{TakesOne, TakesNone, TakesBytes}
 use Rattle.ix_manager.specs.inside.Core.{Core}
 use Rattle.ix_manager.specs.inside.Clean.{IsClean, AreClean}
 use Rattle.ix_manager.specs.inside.WireState.{WireState, wired, SendsAll, AnswersItem, AnswersItems}
-use Rattle.ix_manager.specs.inside.WireState.{ItemsOver}
+use Rattle.ix_manager.specs.inside.Over.{OverJournal, OverRun}
 use Rattle.ix_manager.proofs.SavingLemmas.{saves_none, saves_join}
 use Rattle.ix_manager.proofs.AcknowledgeSteps.{saves_acknowledges, acknowledges_join}
 use Rattle.ix_manager.proofs.SendSteps.{nothing_sent, sends-append}
@@ -110,17 +110,18 @@ progress_sends conn answers replies before here there first then_sent =
 abbrev pub progress_goes_on : (conn : ℕ) (all : List Item) (first : Core) (before : WireState)
     (item : Item) (items : List Item) (now : Core) (here : WireState) (next : Core)
     (there : WireState)
-    → Progress conn all first before (item ∷ items) now here → AnswersItem conn item going now next here there
+    → Progress conn all first before (item ∷ items) now here → (replies : List Reply)
+    → AnswersItem conn item going replies now next here there
     → Progress conn all first before items next there
-progress_goes_on conn all first before item items now here next there progress answers = record {
-  answers = progress.answers ++ answers.replies ∷ [];
+progress_goes_on conn all first before item items now here next there progress replies answers = record {
+  answers = progress.answers ++ replies ∷ [];
   steps = λ later after ending steps.
-      subst (λ replies. Steps first.form first.limit first.state all replies after ending)
-      (sym (append_assoc progress.answers (answers.replies ∷ []) later))
-      (progress.steps (answers.replies ∷ later) after ending
+      subst (λ rs. Steps first.form first.limit first.state all rs after ending)
+      (sym (append_assoc progress.answers (replies ∷ []) later))
+      (progress.steps (replies ∷ later) after ending
       (more (step_of_first now.form first.form now.limit first.limit progress.form progress.limit
-      now.state item answers.replies next.state going answers.step) steps));
-  sends = progress_sends conn progress.answers answers.replies before here there progress.sends
+      now.state item replies next.state going answers.step) steps));
+  sends = progress_sends conn progress.answers replies before here there progress.sends
       answers.sends;
   form = answers.form ∙ progress.form;
   limit = answers.limit ∙ progress.limit;
@@ -130,13 +131,16 @@ abbrev pub progress_stops : (conn : ℕ) (all : List Item) (first : Core) (befor
     (item : Item) (items : List Item) (now : Core) (here : WireState) (next : Core)
     (there : WireState)
     (ending : Ending) → ending ≢ going
-    → Progress conn all first before (item ∷ items) now here → AnswersItem conn item ending now next here there
-    → AnswersItems conn all ending first next before there
-progress_stops conn all first before item items now here next there ending ends progress answers = record {
-  answers = progress.answers ++ answers.replies ∷ [];
-  steps = progress.steps (answers.replies ∷ []) next.state ending
-      (last (step_of_first now.form first.form now.limit first.limit progress.form progress.limit now.state item answers.replies next.state ending answers.step) ends);
-  sends = progress_sends conn progress.answers answers.replies before here there progress.sends
+    → (replies : List Reply)
+    → AnswersItem conn item ending replies now next here there
+    → (progress : Progress conn all first before (item ∷ items) now here)
+    → AnswersItems conn all ending (all_replies (progress.answers ++ replies ∷ [])) first next before there
+progress_stops conn all first before item items now here next there ending ends replies answers progress = record {
+  answers = progress.answers ++ replies ∷ [];
+  all = refl;
+  steps = progress.steps (replies ∷ []) next.state ending
+      (last (step_of_first now.form first.form now.limit first.limit progress.form progress.limit now.state item replies next.state ending answers.step) ends);
+  sends = progress_sends conn progress.answers replies before here there progress.sends
       answers.sends;
   form = answers.form ∙ progress.form;
   limit = answers.limit ∙ progress.limit;
@@ -144,10 +148,12 @@ progress_stops conn all first before item items now here next there ending ends 
 
 abbrev pub progress_ends : (conn : ℕ) (all : List Item) (first : Core) (before : WireState)
     (now : Core) (here : WireState) (next : Core) (there : WireState)
-    → Progress conn all first before [] now here → next ≡ now → SendsAll conn [] here there
-    → AnswersItems conn all going first next before there
+    → (progress : Progress conn all first before [] now here) → next ≡ now
+    → SendsAll conn [] here there
+    → AnswersItems conn all going (all_replies progress.answers) first next before there
 progress_ends conn all first before now here next there progress same nothing = record {
   answers = progress.answers;
+  all = refl;
   steps = subst (λ (core : Core). Steps first.form first.limit first.state all progress.answers
       core.state going) (sym same)
       (subst (λ replies. Steps first.form first.limit first.state all replies now.state going)
@@ -259,11 +265,12 @@ reach_item_acknowledges ending conn all items first now next before here there p
 -- an item is answered that ends so
 record ItemGoes (conn : ℕ) (item : Item) (ending : Ending) (now next : Journaled)
     (here there : WireState) (q r : Crashes) : Type 0 where
-  pub answers : AnswersItem conn item ending now.machine next.machine here there
+  pub replies : List Reply
+  pub made : AnswersItem conn item ending replies now.machine next.machine here there
   pub saves : SavesJournal ending now next here.site there.site q r
   pub acknowledges : Acknowledges now.machine.form (length now.machine.state.history)
       (with_failed ending next.machine.state.history)
-      answers.replies here.site there.site r
+      replies here.site there.site r
 
 -- one item more was answered
 reach_goes_on : (conn : ℕ) (all : List Item) (first : Journaled) (before : WireState) (p : Crashes)
@@ -276,12 +283,12 @@ reach_goes_on : (conn : ℕ) (all : List Item) (first : Journaled) (before : Wir
 reach_goes_on conn all first before p item others now here next there q r lawful_here lawful reach
     goes = record {
       progress = progress_goes_on conn all first.machine before item others now.machine here
-          next.machine there reach.progress goes.answers;
+          next.machine there reach.progress goes.replies goes.made;
       saves = saves_of_first going conn all (item ∷ others) first now next before here there p q r
           lawful reach goes.saves;
       acknowledges = reach_item_acknowledges going conn all (item ∷ others) first now next before here
-          there p q r lawful_here reach goes.answers.replies
-          goes.saves goes.answers.sends goes.acknowledges;
+          there p q r lawful_here reach goes.replies
+          goes.saves goes.made.sends goes.acknowledges;
     }
 
 -- the journal fits where the items so far were answered
@@ -310,7 +317,7 @@ module _ (conn : ℕ) (all : List Item) (first : Journaled) (before : WireState)
       let is : over.ending ≡ going = over.answered ∙ ap ending_after goes in
       let goes_on : ItemGoes conn one.item going now next here there q r =
       subst (λ e. ItemGoes conn one.item e now next here there q r) is
-      (record { answers = over.answers; saves = over.saves; acknowledges = over.acknowledges }) in
+      (record { replies = over.replies; made = over.made; saves = over.saves; acknowledges = over.acknowledges }) in
       let others = completes (holds_after held (take used piece)) rest in
       let begun : Reaches conn all first before p (one.item ∷ others) now here q =
       subst (λ its. Reaches conn all first before p its now here q)
@@ -326,7 +333,7 @@ module _ (conn : ℕ) (all : List Item) (first : Journaled) (before : WireState)
       → AreLawful here.site q → AreLawful there.site r
       → Reaches conn all first before p (completes held piece) now here q
       → TakesOne conn held piece used result after_it now next here there q r
-      → ItemsOver conn all result first next before there p r
+      → OverJournal (AnswersItems conn all) result first next before there p r
   taken_stops used result ends lawful_here lawful reach one =
       let rest = drop used piece in
       let over = one.answers in
@@ -336,23 +343,24 @@ module _ (conn : ℕ) (all : List Item) (first : Journaled) (before : WireState)
       (items_behind held piece one.item used one.feeds) reach in
       record {
         ending = over.ending;
+        replies = all_replies (begun.progress.answers ++ over.replies ∷ []);
         answered = over.answered;
-        answers = progress_stops conn all first.machine before one.item others now.machine here
+        made = progress_stops conn all first.machine before one.item others now.machine here
             next.machine there
-            over.ending (ends_run result over.ending ends over.answered) begun.progress
-            over.answers;
+            over.ending (ends_run result over.ending ends over.answered) over.replies over.made
+            begun.progress;
         saves = saves_of_first over.ending conn all (one.item ∷ others) first now next before here
             there p q r lawful begun over.saves;
         acknowledges = reach_item_acknowledges over.ending conn all (one.item ∷ others) first now
-            next before here there p q r lawful_here begun over.answers.replies
-            over.saves over.answers.sends over.acknowledges;
+            next before here there p q r lawful_here begun over.replies
+            over.saves over.made.sends over.acknowledges;
       }
 
   -- the piece was taken to its end
   pub taken_ends : AreLawful here.site q → AreLawful there.site r
       → Reaches conn all first before p (completes held piece) now here q
       → TakesNone held piece after_it now next here there q r
-      → ItemsOver conn all (Ok More) first next before there p r
+      → OverJournal (AnswersItems conn all) (Ok More) first next before there p r
   taken_ends lawful_here lawful reach none_taken =
       let rests = none_taken.rests in
       let left : Reaches conn all first before p [] now here q =
@@ -366,8 +374,9 @@ module _ (conn : ℕ) (all : List Item) (first : Journaled) (before : WireState)
       let w = next.machine.state in
       record {
         ending = going;
+        replies = so_far;
         answered = refl;
-        answers = progress_ends conn all first.machine before now.machine here next.machine there
+        made = progress_ends conn all first.machine before now.machine here next.machine there
             left.progress rests.machine nothing;
         saves = saves_of_first going conn all [] first now next before here there p q r lawful left
             rests.saves;
@@ -398,7 +407,7 @@ module _ (conn : ℕ) (all : List Item) (first : Journaled) (before : WireState)
       let some = takes_a_byte held piece one.item used one.feeds clean in
       let rest : length (take (length piece - used) (drop used piece)) ≡ length piece - used =
       ap length (take_rest piece used) ∙ length-drop used piece in
-      rw rest (omega (arith, some, one.feeds.within, one.answers.answers.number))
+      rw rest (omega (arith, some, one.feeds.within, one.answers.made.number))
 
   -- the rest of a piece is shorter
   pub taken_shorter : (used : ℕ) (result : Result Go Stop) → TakesOne conn held piece used result after_it now next here there q r → IsClean held
@@ -454,26 +463,28 @@ pub bytes_taken : (conn : ℕ) (bytes : List ℕ) (result : Result Go Stop) (j n
     (lines : List UnfinishedLine) (marks : List Bool)
     (was ended : Bool) (behind : UnfinishedLine) (gone : Bool) (a b : SiteState) (p q : Crashes)
     → ended ≡ ended_by result → (result ≡ Ok More → behind ≡ holds_after (held_at conn lines) bytes)
-    → ItemsOver conn (completes (held_at conn lines) bytes) result j next
+    → OverJournal (AnswersItems conn (completes (held_at conn lines) bytes)) result j next
     (wired (get_or marks conn false) a) (wired gone b) p q
-    → BytesOver conn bytes result (managed j lines marks was)
+    → OverRun (TakesBytes conn bytes) result (managed j lines marks was)
     (managed next (set lines conn behind) (set marks conn gone) ended)
     (wired (get_or marks conn false) a) (wired false b) p q
 bytes_taken conn bytes result j next lines marks was ended behind gone a b p q ends holds over =
     record {
       ending = over.ending;
+      replies = over.replies;
       answered = over.answered;
-      takes = record {
-        answers = over.answers.answers;
+      made = record {
+        answers = over.made.answers;
+        all = over.made.all;
         marked = gone;
-        steps = over.answers.steps;
-        sends = over.answers.sends;
+        steps = over.made.steps;
+        sends = over.made.sends;
         lines = λ goes. ap (set lines conn)
             (holds (goes_on_after result over.ending over.answered goes));
         marks = refl;
         ended = ends ∙ ended_as result over.ending over.answered;
-        form = over.answers.form;
-        limit = over.answers.limit;
+        form = over.made.form;
+        limit = over.made.limit;
       };
       saves = over.saves;
       acknowledges = over.acknowledges;

@@ -3,6 +3,7 @@ pub mod Acknowledging
 pub mod Clean
 pub mod Core
 pub mod Does
+pub mod Over
 pub mod OverSite
 pub mod Ready
 pub mod Refused

@@ -6,9 +6,10 @@ ghost use Rattle.ix_lines.specs.Feeding.{completes, holds_after};
 ghost use Rattle.ix_lines.specs.inside.FeedAnswers.{told_item};
 ghost use Rattle.ix_manager.specs.inside.Clean.{IsClean};
 ghost use Rattle.ix_manager.specs.inside.Saving.{FitsJournal};
-ghost use Rattle.ix_manager.specs.inside.WireState.{wired, RequestOver, ItemOver, AnswersFed};
-ghost use Rattle.ix_manager.specs.inside.WireState.{ItemsOver, IsPlain};
-ghost use Rattle.ix_manager.specs.inside.TakenItems.{TakesItem};
+ghost use Rattle.ix_manager.specs.inside.Over.{OverJournal};
+ghost use Rattle.ix_manager.specs.inside.WireState.{wired, IsPlain};
+ghost use Rattle.ix_manager.specs.inside.WireState.{AnswersRequest, AnswersItem, AnswersItems};
+ghost use Rattle.ix_manager.specs.inside.TakenItems.{AnswersFed, TakesItem};
 ghost use Rattle.ix_proto.specs.declared.request.Request.TheVariants.{Confirm};
 
 use crate::journaled::Journaled;
@@ -52,7 +53,8 @@ pub(crate) fn take_piece<S: Site>(
     requires attached { (S.state site.old).attached ≡ true }
     requires fits { FitsJournal journaled.old (S.state site.old) (S.crashes site.old) }
 
-    ensures answers { ItemsOver piece.entry.conn (completes lines.old piece.entry.bytes.now) result
+    ensures answers { OverJournal
+        (AnswersItems piece.entry.conn (completes lines.old piece.entry.bytes.now)) result
         journaled.old journaled.new
         (wired gone.old (S.state site.old)) (wired gone.new (S.state site.new))
         (S.crashes site.old) (S.crashes site.new) }
@@ -143,7 +145,7 @@ fn answer_line<S: Site>(
     requires tickets { journaled.old.machine.state.number < 2 ^ 64 - 1 }
     requires attached { (S.state site.old).attached ≡ true }
     requires fits { FitsJournal journaled.old (S.state site.old) (S.crashes site.old) }
-    ensures { ItemOver conn (line_item line.now) result journaled.old journaled.new
+    ensures { OverJournal (AnswersItem conn (line_item line.now)) result journaled.old journaled.new
         (wired gone.old (S.state site.old)) (wired gone.new (S.state site.new))
         (S.crashes site.old) (S.crashes site.new) }
 {
@@ -173,7 +175,7 @@ fn answer_request<S: Site>(
     requires plain { IsPlain request.now }
     requires attached { (S.state site.old).attached ≡ true }
     requires fits { FitsJournal journaled.old (S.state site.old) (S.crashes site.old) }
-    ensures { RequestOver conn request.now result journaled.old journaled.new
+    ensures { OverJournal (AnswersRequest conn request.now) result journaled.old journaled.new
         (wired gone.old (S.state site.old)) (wired gone.new (S.state site.new))
         (S.crashes site.old) (S.crashes site.new) }
 {
@@ -205,7 +207,7 @@ fn answer_confirm<S: Site>(
 ) -> Result<Go, Stop>
     requires attached { (S.state site.old).attached ≡ true }
     requires fits { FitsJournal journaled.old (S.state site.old) (S.crashes site.old) }
-    ensures { RequestOver conn (Confirm ticket) result journaled.old journaled.new
+    ensures { OverJournal (AnswersRequest conn (Confirm ticket)) result journaled.old journaled.new
         (wired gone.old (S.state site.old)) (wired gone.new (S.state site.new))
         (S.crashes site.old) (S.crashes site.new) }
 {

@@ -23,7 +23,8 @@ ghost use Rattle.ix_manager.specs.Runs.{opening_of};
 ghost use Rattle.ix_manager.specs.inside.OverSite.{FitsSite, HandlesOver, OnlyServes};
 ghost use Rattle.ix_manager.specs.inside.StartFaults.{start_fault_of, open_fault_of};
 ghost use Rattle.ix_manager.specs.inside.StartFaults.{record_fault_of};
-ghost use Rattle.ix_manager.specs.inside.TakenItems.{BytesOver};
+ghost use Rattle.ix_manager.specs.inside.Over.{OverRun};
+ghost use Rattle.ix_manager.specs.inside.TakenItems.{TakesBytes};
 ghost use Rattle.ix_manager.specs.inside.WireState.{wired};
 
 use crate::answering::{Piece, take_piece};
@@ -216,7 +217,7 @@ impl Manager {
         requires tickets { self.old.machine.number + length bytes.now < 2 ^ 64 - 1 }
         requires attached { (S.state site.old).attached ≡ true }
         requires fits { FitsSite self.old (S.state site.old) (S.crashes site.old) }
-        ensures takes { BytesOver conn bytes.now result self.old self.new
+        ensures takes { OverRun (TakesBytes conn bytes.now) result self.old self.new
             (wired (get_or self.old.marks conn false) (S.state site.old))
             (wired false (S.state site.new)) (S.crashes site.old) (S.crashes site.new) }
         ensures tickets { self.new.machine.number ≤ self.old.machine.number + length bytes.now }

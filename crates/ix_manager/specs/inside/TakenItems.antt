@@ -1,5 +1,5 @@
 -- What taking one item of a piece makes, and what taking all bytes of an event makes.
-use Rattle.std.specs.Prelude.{◌≡◌, ℕ, Bool, List, [], length, take, set}
+use Rattle.std.specs.Prelude.{◌≡◌, ℕ, Bool, List, [], take, set}
 use Rattle.std.specs.Prelude.{Option, Some, None, Result, Ok, Err}
 use Rattle.ix_lines.specs.Items.{Item}
 use Rattle.ix_lines.specs.Feeding.{UnfinishedLine, Feeds, completes, holds_after}
@@ -12,11 +12,18 @@ use Rattle.ix_manager.specs.declared.journaled.Journaled.{Journaled}
 use Rattle.ix_manager.specs.Runs.{Ending, going, Steps}
 use Rattle.ix_manager.specs.Wire.{all_replies}
 use Rattle.ix_manager.specs.Handled.{ManagerState, held_at, has_ended}
-use Rattle.ix_manager.specs.Images.{with_failed}
-use Rattle.ix_manager.specs.inside.Acknowledging.{Acknowledges}
-use Rattle.ix_manager.specs.inside.OverSite.{EndsBy}
-use Rattle.ix_manager.specs.inside.Saving.{SavesRun}
-use Rattle.ix_manager.specs.inside.WireState.{WireState, SendsAll, ItemOver, Rests}
+use Rattle.ix_manager.specs.inside.Over.{OverJournal, Rests}
+use Rattle.ix_manager.specs.inside.WireState.{WireState, SendsAll, AnswersItem}
+
+-- where something was fed, it is answered; else all is as before
+abbrev pub AnswersFed : ℕ → Option Item → Result (Option Go) Stop → Journaled → Journaled
+    → WireState → WireState → Crashes → Crashes → Type 0
+AnswersFed conn (Some item) (Ok (Some go)) old new before after was is =
+    OverJournal (AnswersItem conn item) (Ok go) old new before after was is
+AnswersFed conn (Some item) (Err stop) old new before after was is =
+    OverJournal (AnswersItem conn item) (Err stop) old new before after was is
+AnswersFed conn None (Ok None) old new before after was is = Rests old new before after was is
+AnswersFed _ _ _ _ _ _ _ _ _ = ⊥
 
 -- the first item of a piece is taken and answered
 pub record TakesOne (conn : ℕ) (held : UnfinishedLine) (piece : List ℕ) (used : ℕ)
@@ -25,7 +32,7 @@ pub record TakesOne (conn : ℕ) (held : UnfinishedLine) (piece : List ℕ) (use
   pub item : Item
   pub feeds : Feeds held piece (Some item) used
   pub held_is : after_it ≡ holds_after held (take used piece)
-  pub answers : ItemOver conn item result old new before after was is
+  pub answers : OverJournal (AnswersItem conn item) result old new before after was is
 
 -- the piece is taken to its end, and completes nothing
 pub record TakesNone (held : UnfinishedLine) (piece : List ℕ) (after_it : UnfinishedLine)
@@ -45,23 +52,15 @@ TakesItem conn held piece (Err stop) after_it old new before after was is =
     (used : ℕ) × TakesOne conn held piece used (Err stop) after_it old new before after was is
 
 -- bytes of a connection are taken, and their replies are sent; the connection is then marked or not
-pub record TakesBytes (conn : ℕ) (bytes : List ℕ) (ending : Ending) (old new : ManagerState) (before after : WireState) : Type 0 where
+pub record TakesBytes (conn : ℕ) (bytes : List ℕ) (ending : Ending) (replies : List Reply)
+    (old new : ManagerState) (before after : WireState) : Type 0 where
   pub answers : List (List Reply)
+  pub all : replies ≡ all_replies answers
   pub marked : Bool
   pub steps : Steps old.form old.limit old.machine (completes (held_at conn old.lines) bytes) answers new.machine ending
-  pub sends : SendsAll conn (all_replies answers) before (record after { gone = marked })
+  pub sends : SendsAll conn replies before (record after { gone = marked })
   pub lines : ending ≡ going → new.lines ≡ set old.lines conn (holds_after (held_at conn old.lines) bytes)
   pub marks : new.marks ≡ set old.marks conn marked
   pub ended : new.ended ≡ has_ended ending
   pub form : new.form ≡ old.form
   pub limit : new.limit ≡ old.limit
-
--- bytes of a connection are taken over a site
-pub record BytesOver (conn : ℕ) (bytes : List ℕ) (result : Result Go Stop) (old new : ManagerState)
-    (before after : WireState) (was is : Crashes) : Type 0 where
-  pub ending : Ending
-  pub answered : EndsBy result ending
-  pub takes : TakesBytes conn bytes ending old new before after
-  pub saves : SavesRun ending old new before.site after.site was is
-  pub acknowledges : Acknowledges old.form (length old.machine.history)
-      (with_failed ending new.machine.history) (all_replies takes.answers) before.site after.site is

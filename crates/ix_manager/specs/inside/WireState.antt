@@ -1,27 +1,19 @@
 -- A connection while replies are sent on it, and what an item's replies make of it.
 use Rattle.std.specs.Prelude.{◌≡◌, ℕ, ◌+◌, ◌≤◌, Bool, true, false, List, ◌∷◌, length}
-use Rattle.std.specs.Prelude.{Option, Some, None, Result, Ok, Err}
 use Rattle.ix_values.specs.PlainAction.{PlainAction}
 use Rattle.ix_lines.specs.Items.{Item, line}
 use Rattle.ix_lines.specs.Words.{words_of}
 use Rattle.ix_outside.specs.Contents.{SendsWhole, SendsPart}
 use Rattle.ix_outside.specs.Counts.{Rose}
-use Rattle.ix_outside.specs.Crashes.{Crashes}
 use Rattle.ix_outside.specs.SiteState.{SiteState}
 use Rattle.ix_proto.specs.declared.reply.Reply.{Reply}
 use Rattle.ix_proto.specs.declared.reply.Reply.TheVariants as reply
 use Rattle.ix_proto.specs.Requests.{PlainRequest, IsRequest, request_words}
 use Rattle.ix_proto.specs.inside.Lends.{Lends}
 use Rattle.ix_proto.specs.declared.request.Request.{Request}
-use Rattle.ix_manager.specs.declared.faults.Go.{Go}
-use Rattle.ix_manager.specs.Runs.{Ending, going, ItemStep, Steps}
+use Rattle.ix_manager.specs.Runs.{Ending, ItemStep, Steps}
 use Rattle.ix_manager.specs.Wire.{SendsInOrder, reply_line, all_replies}
-use Rattle.ix_manager.specs.declared.faults.Stop.{Stop}
-use Rattle.ix_manager.specs.declared.journaled.Journaled.{Journaled}
-use Rattle.ix_manager.specs.inside.OverSite.{EndsBy, OnlyServes}
-use Rattle.ix_manager.specs.inside.Saving.{SavesJournal}
-use Rattle.ix_manager.specs.Images.{with_failed}
-use Rattle.ix_manager.specs.inside.Acknowledging.{Acknowledges}
+use Rattle.ix_manager.specs.inside.OverSite.{OnlyServes}
 use Rattle.ix_manager.specs.inside.Core.{Core, change_replies}
 
 -- whether the connection is marked as gone, and the site
@@ -49,9 +41,8 @@ abbrev pub IsPlain : Request → Type 0
 IsPlain request = (plain : PlainRequest) × IsRequest plain × Lends request plain
 
 -- each line of a request whose texts are lent makes its step, and the replies are sent
-pub record AnswersRequest (conn : ℕ) (request : Request) (ending : Ending) (old new : Core)
-    (before after : WireState) : Type 0 where
-  pub replies : List Reply
+pub record AnswersRequest (conn : ℕ) (request : Request) (ending : Ending) (replies : List Reply)
+    (old new : Core) (before after : WireState) : Type 0 where
   pub step : (plain : PlainRequest) → IsRequest plain → Lends request plain
       → (bytes : List ℕ) → words_of bytes ≡ request_words plain
       → ItemStep old.form old.limit old.state (line bytes) replies new.state ending
@@ -60,66 +51,21 @@ pub record AnswersRequest (conn : ℕ) (request : Request) (ending : Ending) (ol
   pub limit : new.limit ≡ old.limit
   pub number : new.state.number ≤ old.state.number + 1
 
--- a request is answered over a site
-pub record RequestOver (conn : ℕ) (request : Request) (result : Result Go Stop)
-    (old new : Journaled) (before after : WireState) (was is : Crashes) : Type 0 where
-  pub ending : Ending
-  pub answered : EndsBy result ending
-  pub answers : AnswersRequest conn request ending old.machine new.machine before after
-  pub saves : SavesJournal ending old new before.site after.site was is
-  pub acknowledges : Acknowledges old.machine.form (length old.machine.state.history)
-      (with_failed ending new.machine.state.history) answers.replies before.site after.site is
-
 -- an item is answered by the machine, and the replies are sent
-pub record AnswersItem (conn : ℕ) (item : Item) (ending : Ending) (old new : Core) (before after : WireState) : Type 0 where
-  pub replies : List Reply
+pub record AnswersItem (conn : ℕ) (item : Item) (ending : Ending) (replies : List Reply)
+    (old new : Core) (before after : WireState) : Type 0 where
   pub step : ItemStep old.form old.limit old.state item replies new.state ending
   pub sends : SendsAll conn replies before after
   pub form : new.form ≡ old.form
   pub limit : new.limit ≡ old.limit
   pub number : new.state.number ≤ old.state.number + 1
 
--- an item is answered over a site
-pub record ItemOver (conn : ℕ) (item : Item) (result : Result Go Stop) (old new : Journaled)
-    (before after : WireState) (was is : Crashes) : Type 0 where
-  pub ending : Ending
-  pub answered : EndsBy result ending
-  pub answers : AnswersItem conn item ending old.machine new.machine before after
-  pub saves : SavesJournal ending old new before.site after.site was is
-  pub acknowledges : Acknowledges old.machine.form (length old.machine.state.history)
-      (with_failed ending new.machine.state.history) answers.replies before.site after.site is
-
--- nothing happened
-pub record Rests (old new : Journaled) (before after : WireState) (was is : Crashes) : Type 0 where
-  pub machine : new.machine ≡ old.machine
-  pub wire : after ≡ before
-  pub saves : SavesJournal going old new before.site after.site was is
-
--- where something was fed, it is answered; else all is as before
-abbrev pub AnswersFed : ℕ → Option Item → Result (Option Go) Stop → Journaled → Journaled
-    → WireState → WireState → Crashes → Crashes → Type 0
-AnswersFed conn (Some item) (Ok (Some go)) old new before after was is =
-    ItemOver conn item (Ok go) old new before after was is
-AnswersFed conn (Some item) (Err stop) old new before after was is =
-    ItemOver conn item (Err stop) old new before after was is
-AnswersFed conn None (Ok None) old new before after was is = Rests old new before after was is
-AnswersFed _ _ _ _ _ _ _ _ _ = ⊥
-
 -- items are answered in order, and the replies are sent
-pub record AnswersItems (conn : ℕ) (items : List Item) (ending : Ending) (old new : Core) (before after : WireState) : Type 0 where
+pub record AnswersItems (conn : ℕ) (items : List Item) (ending : Ending) (replies : List Reply)
+    (old new : Core) (before after : WireState) : Type 0 where
   pub answers : List (List Reply)
+  pub all : replies ≡ all_replies answers
   pub steps : Steps old.form old.limit old.state items answers new.state ending
-  pub sends : SendsAll conn (all_replies answers) before after
+  pub sends : SendsAll conn replies before after
   pub form : new.form ≡ old.form
   pub limit : new.limit ≡ old.limit
-
--- items are answered in order over a site
-pub record ItemsOver (conn : ℕ) (items : List Item) (result : Result Go Stop) (old new : Journaled)
-    (before after : WireState) (was is : Crashes) : Type 0 where
-  pub ending : Ending
-  pub answered : EndsBy result ending
-  pub answers : AnswersItems conn items ending old.machine new.machine before after
-  pub saves : SavesJournal ending old new before.site after.site was is
-  pub acknowledges : Acknowledges old.machine.form (length old.machine.state.history)
-      (with_failed ending new.machine.state.history) (all_replies answers.answers) before.site
-      after.site is

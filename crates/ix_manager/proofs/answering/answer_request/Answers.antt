@@ -19,8 +19,8 @@ returns-in-One g c =
     let before = wired c.args.gone.now (g.S.Site.state a) in
     let after = wired c.send_reply.new.gone (g.S.Site.state b) in
     let old = c.args.journaled.now.machine in
-    request_over c.args.conn c.args.request.now More c.args.journaled.now _ before after (g.S.Site.crashes a) (g.S.Site.crashes b)
-    (g.met.S.Site.lawful a) (g.met.S.Site.lawful b) c.requires.fits c.answer.ensures.history c.answer.ensures.tickets refl
+    request_over c.args.conn c.args.request.now More c.args.journaled.now (record c.args.journaled.now { machine = c.answer.new.self }) before after (g.S.Site.crashes a) (g.S.Site.crashes b)
+    (g.met.S.Site.lawful a) (g.met.S.Site.lawful b) c.requires.fits c.answer.ensures.history c.answer.ensures.tickets refl _
     (one_answered c.args.conn c.args.request.now c.in-One.reply old c.answer.new.self before after
     c.in-One.ensures.answers c.send_reply.ensures.sends c.answer.ensures.form c.answer.ensures.limit
     (number_rises c.answer.ensures.tickets))
@@ -38,10 +38,10 @@ returns-in-Poll g c =
     let after = wired c.send_changes.new.gone (g.S.Site.state b) in
     let old = c.args.journaled.now.machine in
     let polls = c.in-Poll.ensures.answers in
-    request_over c.args.conn c.args.request.now More c.args.journaled.now _ before after (g.S.Site.crashes a) (g.S.Site.crashes b)
+    request_over c.args.conn c.args.request.now More c.args.journaled.now (record c.args.journaled.now { machine = c.tell.new.self }) before after (g.S.Site.crashes a) (g.S.Site.crashes b)
     (g.met.S.Site.lawful a) (g.met.S.Site.lawful b) c.requires.fits
     (ap (λ (s : MachineState). s.history) c.tell.ensures.rest ∙ c.answer.ensures.history)
-    (told_reserves old c.answer.new.self c.tell.new.self c.in-Poll.name c.tell.ensures polls.1) refl
+    (told_reserves old c.answer.new.self c.tell.new.self c.in-Poll.name c.tell.ensures polls.1) refl _
     (poll_answered c.args.conn c.args.request.now c.in-Poll.name old c.answer.new.self c.tell.new.self before after
     polls.0 polls.1 c.answer.ensures.form c.answer.ensures.limit c.tell.ensures c.send_changes.ensures.sends)
     c.send_changes.ensures.only (item tt
@@ -65,8 +65,8 @@ returns-in-Stop g c =
     let before = wired c.args.gone.now (g.S.Site.state a) in
     let after = wired c.send_reply-in-Stop.new.gone (g.S.Site.state b) in
     let old = c.args.journaled.now.machine in
-    request_over c.args.conn c.args.request.now Stopped c.args.journaled.now _ before after (g.S.Site.crashes a) (g.S.Site.crashes b)
-    (g.met.S.Site.lawful a) (g.met.S.Site.lawful b) c.requires.fits c.answer.ensures.history c.answer.ensures.tickets refl
+    request_over c.args.conn c.args.request.now Stopped c.args.journaled.now (record c.args.journaled.now { machine = c.answer.new.self }) before after (g.S.Site.crashes a) (g.S.Site.crashes b)
+    (g.met.S.Site.lawful a) (g.met.S.Site.lawful b) c.requires.fits c.answer.ensures.history c.answer.ensures.tickets refl _
     (stop_answered c.args.conn c.args.request.now old c.answer.new.self before after
     c.in-Stop.ensures.answers c.send_reply-in-Stop.ensures.sends)
     c.send_reply-in-Stop.ensures.only (item tt no_item)

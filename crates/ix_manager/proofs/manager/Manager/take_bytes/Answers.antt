@@ -3,8 +3,9 @@ use Rattle.std.proofs.Common.{ap, sym, subst}
 use Rattle.ix_lines.specs.Feeding.{UnfinishedLine, unfinished, completes, holds_after}
 use Rattle.ix_manager.specs.Handled.{ManagerState, held_at}
 use Rattle.ix_manager.specs.declared.faults.Go.TheVariants.{More}
-use Rattle.ix_manager.specs.inside.TakenItems.{BytesOver}
-use Rattle.ix_manager.specs.inside.WireState.{wired, ItemsOver}
+use Rattle.ix_manager.specs.inside.TakenItems.{TakesBytes}
+use Rattle.ix_manager.specs.inside.WireState.{wired, AnswersItems}
+use Rattle.ix_manager.specs.inside.Over.{OverJournal, OverRun}
 use Rattle.ix_manager.proofs.TakeLemmas.{managed, ended_by, bytes_taken, get_or_any}
 use Rattle.ix_manager.proofs.manager.Manager.take_bytes.Goals as goal
 use Rattle.ix_manager.proofs.manager.Manager.take_bytes.Goals.{in-Ok-More, in-Ok-Stopped}
@@ -29,11 +30,11 @@ returns-clause-takes g c =
     let is : held ≡ held_at conn lines =
     c.index_mut-lines.ensures.value ∙ ap (λ (n : ℕ). get_or lines n held) c.from-index.ensures
     ∙ get_or_any lines conn held (unfinished []) within in
-    let over : ItemsOver conn (completes (held_at conn lines) bytes) result i.journaled
+    let over : OverJournal (AnswersItems conn (completes (held_at conn lines) bytes)) result i.journaled
     next.journaled (wired (get_or i.marks conn false) a) (wired next.gone b) p q =
-    subst (λ (h : UnfinishedLine). ItemsOver conn (completes h bytes) result i.journaled
+    subst (λ (h : UnfinishedLine). OverJournal (AnswersItems conn (completes h bytes)) result i.journaled
     next.journaled (wired (get_or i.marks conn false) a) (wired next.gone b) p q) is
-    (subst (λ (n : ℕ). ItemsOver conn (completes held bytes) result i.journaled next.journaled
+    (subst (λ (n : ℕ). OverJournal (AnswersItems conn (completes held bytes)) result i.journaled next.journaled
     (wired (get_or i.marks n false) a) (wired next.gone b) p q)
     c.from-index.ensures c.take_piece-outcome.ensures.answers) in
     let holds : result ≡ Ok More → next.lines ≡ holds_after (held_at conn lines) bytes =
@@ -46,7 +47,7 @@ returns-clause-takes g c =
     ] in
     let taken = bytes_taken conn bytes result i.journaled next.journaled lines i.marks i.ended
     c.match-outcome.self next.lines next.gone a b p q ends holds over in
-    let at : ManagerState → ℕ → Type 0 = λ m n. BytesOver conn bytes result m
+    let at : ManagerState → ℕ → Type 0 = λ m n. OverRun (TakesBytes conn bytes) result m
     (managed next.journaled (set lines n next.lines) (set i.marks n next.gone) c.match-outcome.self)
     (wired (get_or m.marks conn false) a) (wired false b) p q in
     subst (λ (m : ManagerState). at m index) c.self.view_is
