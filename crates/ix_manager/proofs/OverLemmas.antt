@@ -70,7 +70,7 @@ pub refused_over : (ticket : Ticket) (one : Reply) (j : Journaled) (site : SiteS
 refused_over ticket one j site crashes lawful fits does = record {
   ending = going;
   confirms = (does, refl);
-  saves = saves_none j.machine.form j.machine.state (kept j.store) site crashes lawful fits;
+  saves = saves_none j.machine.form j.machine.state (kept j.store) site crashes lawful fits.fits;
   calls = DiskCalls-none site crashes lawful;
 }
 
@@ -100,12 +100,12 @@ module _ (ticket : Ticket) (action : PlainAction) (old new : Journaled) (before 
         confirms = (does, refl);
         saves = saves_same going x s (record s { history = s.history ++ (Some ticket, action) ∷ []; slot = Free })
             new.machine.state (kept new.store) before after was is state
-            (appended_saves x s marks fits.tickets.boot ticket action (kept new.store) before after was is lawful calls
-            (images (canonical_text x) s.history fits.fits) (record {
+            (appended_saves x s marks fits.fits.tickets.boot ticket action (kept new.store) before after was is lawful calls
+            (images (canonical_text x) s.history fits.fits.fits) (record {
               works = works;
-              fits = appended (canonical_text x) s.history fits.fits;
+              fits = appended (canonical_text x) s.history fits.fits.fits;
               tickets = spent_on marks (kept new.store).marks s (s.history ++ (Some ticket, action) ∷ []) ticket action
-                  facts.0 facts.1 spent fits.tickets;
+                  facts.0 facts.1 spent fits.fits.tickets;
             }));
         calls = calls;
       }
@@ -122,8 +122,8 @@ module _ (ticket : Ticket) (action : PlainAction) (old new : Journaled) (before 
         confirms = (action, facts.0, facts.1, facts.2, same, refl);
         saves = saves_same (failed (Some ticket, action)) x s s new.machine.state (kept new.store) before after was is
             (ap (λ (core : Core). core.state) same)
-            (failed_saves x s (kept old.store).marks fits.tickets.boot ticket action (kept new.store) before after was is
-            lawful calls (images (canonical_text x) s.history fits.fits) rose);
+            (failed_saves x s (kept old.store).marks fits.fits.tickets.boot ticket action (kept new.store) before after was is
+            lawful calls (images (canonical_text x) s.history fits.fits.fits) rose);
         calls = calls;
       }
 
@@ -190,7 +190,7 @@ request_over conn request go old new before after p q lawful lawful' fits same r
     let w = new.machine.state in
     let saves : SavesJournal (ending_after go) old new before.site after.site p q =
     subst (λ s. Saves (ending_after go) x h w s before.site after.site p q) (sym store)
-    (answered_saves go x h w (kept old.store) before.site after.site p q lawful lawful' fits same
+    (answered_saves go x h w (kept old.store) before.site after.site p q lawful lawful' fits.fits same
     reserves only) in
     record {
       ending = ending_after go;
@@ -225,7 +225,7 @@ fault_over conn bytes code told j before after p q lawful lawful' fits only faul
     let h = j.machine.state in
     let answers = line_refused conn bytes code told j.machine before after fault is sends in
     let saves : SavesJournal going j j before.site after.site p q =
-    answered_saves More x h h (kept j.store) before.site after.site p q lawful lawful' fits refl
+    answered_saves More x h h (kept j.store) before.site after.site p q lawful lawful' fits.fits refl
     (reserves_none h) only in
     record {
       ending = going;
@@ -247,7 +247,7 @@ long_over conn told j before after p q lawful lawful' fits only is sends =
     let h = j.machine.state in
     let answers = long_line_refused conn told j.machine before after is sends in
     let saves : SavesJournal going j j before.site after.site p q =
-    answered_saves More x h h (kept j.store) before.site after.site p q lawful lawful' fits refl
+    answered_saves More x h h (kept j.store) before.site after.site p q lawful lawful' fits.fits refl
     (reserves_none h) only in
     record {
       ending = going;

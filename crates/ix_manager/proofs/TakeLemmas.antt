@@ -194,7 +194,7 @@ pub reach_begins : (conn : ℕ) (items : List Item) (j : Journaled) (w : WireSta
 reach_begins conn items j w p lawful fits =
     let x = j.machine.form in
     let h = j.machine.state in
-    let saves = saves_none x h (kept j.store) w.site p lawful fits in
+    let saves = saves_none x h (kept j.store) w.site p lawful fits.fits in
     record {
       progress = progress_begins conn items j.machine w;
       saves = saves;
@@ -293,15 +293,13 @@ reach_goes_on conn all first before p item others now here next there q r lawful
 
 -- the journal fits where the items so far were answered
 pub reach_fits : (conn : ℕ) (all items : List Item) (first now : Journaled) (before here : WireState) (p q : Crashes)
-    → Reaches conn all first before p items now here q → FitsJournal now here.site q
-reach_fits conn all items first now before here p q reach =
-    subst (λ x. FitsWith x now.machine.state (kept now.store) here.site q) (sym reach.progress.form) reach.saves.fits
-
--- and the file is attached still
-pub reach_attached : (conn : ℕ) (all items : List Item) (first now : Journaled) (before here : WireState) (p q : Crashes)
-    → Reaches conn all first before p items now here q → before.site.attached ≡ true → here.site.attached ≡ true
-reach_attached conn all items first now before here p q reach was =
-    reach.progress.sends.site.attached ∙ was
+    → FitsJournal first before.site p → Reaches conn all first before p items now here q
+    → FitsJournal now here.site q
+reach_fits conn all items first now before here p q fits reach = record {
+  attached = reach.progress.sends.site.attached ∙ fits.attached;
+  fits = subst (λ x. FitsWith x now.machine.state (kept now.store) here.site q)
+      (sym reach.progress.form) reach.saves.fits;
+}
 
 module _ (conn : ℕ) (all : List Item) (first : Journaled) (before : WireState) (p : Crashes)
     (held : UnfinishedLine) (piece : List ℕ) (after_it : UnfinishedLine)

@@ -1,6 +1,6 @@
 //! Answers what a connection's bytes complete.
 
-ghost use Rattle.std.specs.Prelude.{◌≡◌, ◌+◌, ◌-◌, ◌^◌, ◌<◌, ◌≤◌, true, length, Ok};
+ghost use Rattle.std.specs.Prelude.{◌≡◌, ◌+◌, ◌-◌, ◌^◌, ◌<◌, ◌≤◌, length, Ok};
 ghost use Rattle.ix_lines.specs.Items.{line as line_item};
 ghost use Rattle.ix_lines.specs.Feeding.{completes, holds_after};
 ghost use Rattle.ix_lines.specs.inside.FeedAnswers.{told_item};
@@ -50,7 +50,6 @@ pub(crate) fn take_piece<S: Site>(
 ) -> Result<Go, Stop>
     requires clean { IsClean lines.old }
     requires tickets { journaled.old.machine.state.number + length piece.bytes.now < 2 ^ 64 - 1 }
-    requires attached { (S.state site.old).attached ≡ true }
     requires fits { FitsJournal journaled.old (S.state site.old) (S.crashes site.old) }
 
     ensures answers { OverJournal
@@ -90,7 +89,6 @@ fn take_item<S: Site>(
     site: &mut S,
 ) -> Result<Option<Taken>, Stop>
     requires tickets { journaled.old.machine.state.number < 2 ^ 64 - 1 }
-    requires attached { (S.state site.old).attached ≡ true }
     requires fits { FitsJournal journaled.old (S.state site.old) (S.crashes site.old) }
     ensures { TakesItem piece.entry.conn lines.old piece.entry.bytes.now result lines.new
         journaled.old journaled.new
@@ -115,7 +113,6 @@ fn answer_fed<S: Site>(
     site: &mut S,
 ) -> Result<Option<Go>, Stop>
     requires tickets { journaled.old.machine.state.number < 2 ^ 64 - 1 }
-    requires attached { (S.state site.old).attached ≡ true }
     requires fits { FitsJournal journaled.old (S.state site.old) (S.crashes site.old) }
     ensures { AnswersFed conn (told_item kind.entry) result journaled.old journaled.new
         (wired gone.old (S.state site.old)) (wired gone.new (S.state site.new))
@@ -143,7 +140,6 @@ fn answer_line<S: Site>(
     site: &mut S,
 ) -> Result<Go, Stop>
     requires tickets { journaled.old.machine.state.number < 2 ^ 64 - 1 }
-    requires attached { (S.state site.old).attached ≡ true }
     requires fits { FitsJournal journaled.old (S.state site.old) (S.crashes site.old) }
     ensures { OverJournal (AnswersItem conn (line_item line.now)) result journaled.old journaled.new
         (wired gone.old (S.state site.old)) (wired gone.new (S.state site.new))
@@ -173,7 +169,6 @@ fn answer_request<S: Site>(
 ) -> Result<Go, Stop>
     requires tickets { journaled.old.machine.state.number < 2 ^ 64 - 1 }
     requires plain { IsPlain request.now }
-    requires attached { (S.state site.old).attached ≡ true }
     requires fits { FitsJournal journaled.old (S.state site.old) (S.crashes site.old) }
     ensures { OverJournal (AnswersRequest conn request.now) result journaled.old journaled.new
         (wired gone.old (S.state site.old)) (wired gone.new (S.state site.new))
@@ -205,7 +200,6 @@ fn answer_confirm<S: Site>(
     ticket: Ticket,
     site: &mut S,
 ) -> Result<Go, Stop>
-    requires attached { (S.state site.old).attached ≡ true }
     requires fits { FitsJournal journaled.old (S.state site.old) (S.crashes site.old) }
     ensures { OverJournal (AnswersRequest conn (Confirm ticket)) result journaled.old journaled.new
         (wired gone.old (S.state site.old)) (wired gone.new (S.state site.new))

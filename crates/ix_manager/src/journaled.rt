@@ -1,6 +1,5 @@
 //! The machine beside its journal.
 
-ghost use Rattle.std.specs.Prelude.{◌≡◌, true};
 ghost use Rattle.ix_manager.specs.inside.Saving.{FitsJournal, ConfirmsOver};
 
 use crate::Stop;
@@ -24,7 +23,6 @@ impl Journaled {
     /// and the action are appended to the journal, and then to the history. Where the disk fails,
     /// the history and the reservation stay. Takes no memory.
     pub(crate) fn confirm<S: Site>(&mut self, ticket: Ticket, site: &mut S) -> Result<Reply, Stop>
-        requires attached { (S.state site.old).attached ≡ true }
         requires fits { FitsJournal self.old (S.state site.old) (S.crashes site.old) }
         ensures { ConfirmsOver ticket result self.old self.new (S.state site.old) (S.state site.new)
             (S.crashes site.old) (S.crashes site.new) }

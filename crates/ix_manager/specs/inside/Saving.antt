@@ -1,6 +1,6 @@
 -- What calls on a site make of the journal, and of what a crash may leave.
 use Rattle.std.specs.Prelude.{◌≡◌, ◌⊎◌, ℕ, ◌<◌, ◌≤◌, List, ◌++◌, length}
-use Rattle.std.specs.Prelude.{None, Some, IsSome, Result, Ok, Err, ⊤}
+use Rattle.std.specs.Prelude.{true, None, Some, IsSome, Result, Ok, Err, ⊤}
 use Rattle.ix_values.specs.PlainAction.{PlainAction}
 use Rattle.ix_values.specs.declared.tickets.Ticket.{Ticket}
 use Rattle.ix_journal.specs.History.{PlainHistory}
@@ -30,10 +30,10 @@ use Rattle.ix_manager.specs.inside.Core.{Core}
 use Rattle.ix_manager.specs.inside.Does.{Does}
 use Rattle.ix_manager.specs.inside.OverSite.{FitsWith}
 
--- the journal fits the site with the machine
-abbrev pub FitsJournal : Journaled → SiteState → Crashes → Type 0
-FitsJournal j site crashes =
-    FitsWith j.machine.form j.machine.state (kept j.store) site crashes
+-- the journal is attached, and fits the site with the machine
+pub record FitsJournal (j : Journaled) (site : SiteState) (crashes : Crashes) : Type 0 where
+  pub attached : site.attached ≡ true
+  pub fits : FitsWith j.machine.form j.machine.state (kept j.store) site crashes
 
 -- unless a confirm failed, this holds
 abbrev pub UnlessFailed : Ending → Type 0 → Type 0

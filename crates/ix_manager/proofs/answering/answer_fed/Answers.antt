@@ -22,5 +22,5 @@ returns-in-More g c =
     rw c.in-More.is (record {
       machine = refl;
       wire = refl;
-      saves = saves_none j.machine.form j.machine.state (kept j.store) (g.S.Site.state a) (g.S.Site.crashes a) (g.met.S.Site.lawful a) c.requires.fits;
+      saves = saves_none j.machine.form j.machine.state (kept j.store) (g.S.Site.state a) (g.S.Site.crashes a) (g.met.S.Site.lawful a) c.requires.fits.fits;
     })

@@ -5,7 +5,7 @@ use Rattle.ix_manager.specs.declared.faults.Go.TheVariants.{Stopped}
 use Rattle.ix_manager.specs.inside.Clean.{IsClean}
 use Rattle.ix_manager.specs.inside.TakenItems.{TakesOne, TakesItem}
 use Rattle.ix_manager.specs.inside.WireState.{wired}
-use Rattle.ix_manager.proofs.TakeLemmas.{reach_begins, reach_attached, reach_fits, taken_goes_on, taken_stops, taken_ends, taken_holds, taken_clean, taken_tickets, clean_after}
+use Rattle.ix_manager.proofs.TakeLemmas.{reach_begins, reach_fits, taken_goes_on, taken_stops, taken_ends, taken_holds, taken_clean, taken_tickets, clean_after}
 use Rattle.ix_manager.proofs.answering.take_piece.Goals as goal
 
 -- all items are left
@@ -20,19 +20,13 @@ items-init g c =
       omega arith,
     )
 
-pub take_item-requires-clause-attached : goal.take_item-requires-clause-attached
-take_item-requires-clause-attached g c =
-    let start = wired c.args.gone.now (g.S.Site.state c.args.site.now) in
-    let here = wired c.items.gone (g.S.Site.state c.items.site) in
-    reach_attached c.args.piece.conn (completes c.args.lines.now c.args.piece.bytes.now) (completes c.items.lines c.items.rest.now)
-    c.args.journaled.now c.items.journaled start here (g.S.Site.crashes c.args.site.now) (g.S.Site.crashes c.items.site) c.items.invariant.0 c.requires.attached
-
 pub take_item-requires-clause-fits : goal.take_item-requires-clause-fits
 take_item-requires-clause-fits g c =
     let start = wired c.args.gone.now (g.S.Site.state c.args.site.now) in
     let here = wired c.items.gone (g.S.Site.state c.items.site) in
     reach_fits c.args.piece.conn (completes c.args.lines.now c.args.piece.bytes.now) (completes c.items.lines c.items.rest.now)
-    c.args.journaled.now c.items.journaled start here (g.S.Site.crashes c.args.site.now) (g.S.Site.crashes c.items.site) c.items.invariant.0
+    c.args.journaled.now c.items.journaled start here (g.S.Site.crashes c.args.site.now) (g.S.Site.crashes c.items.site)
+    c.requires.fits c.items.invariant.0
 
 -- `stop` was taken
 pub returns-in-Stopped-clause-answers : goal.returns-in-Stopped-clause-answers

@@ -1,4 +1,4 @@
-use Rattle.std.proofs.Common.{sym, subst}
+use Rattle.std.proofs.Common.{sym, subst, ◌∙◌}
 use Rattle.std.specs.List.{zip}
 use Rattle.ix_expr.specs.CanonicalText.{canonical_text}
 use Rattle.ix_store.specs.inside.KeptBy.{kept}
@@ -21,7 +21,10 @@ returns-clause-fits g c =
     let site = c.boot.new.site in
     let history = zip c.args.tickets.items c.args.engine.history in
     let ok = c.in_ok-boot.ensures in
-    subst (λ (core : Core). FitsWith core.form core.state (kept c.boot.new.self) (g.S.Site.state site) (g.S.Site.crashes site))
-    (sym c.new-machine.ensures)
-    (begun_fits c.args.engine.form history (kept c.args.store) (kept c.boot.new.self) c.in_ok-boot.boot (g.S.Site.state site)
-    (g.S.Site.crashes site) ok.works (ok.fits (canonical_text c.args.engine.form) history c.requires.fits) ok.number ok.booted)
+    record {
+      attached = c.boot.ensures.calls.attached ∙ c.requires.attached;
+      fits = subst (λ (core : Core). FitsWith core.form core.state (kept c.boot.new.self) (g.S.Site.state site) (g.S.Site.crashes site))
+          (sym c.new-machine.ensures)
+          (begun_fits c.args.engine.form history (kept c.args.store) (kept c.boot.new.self) c.in_ok-boot.boot (g.S.Site.state site)
+          (g.S.Site.crashes site) ok.works (ok.fits (canonical_text c.args.engine.form) history c.requires.fits) ok.number ok.booted);
+    }

@@ -3,6 +3,7 @@ use Rattle.std.proofs.Common.{ap, sym, subst}
 use Rattle.ix_lines.specs.Feeding.{UnfinishedLine, unfinished, completes, holds_after}
 use Rattle.ix_manager.specs.Handled.{ManagerState, held_at}
 use Rattle.ix_manager.specs.declared.faults.Go.TheVariants.{More}
+use Rattle.ix_manager.specs.inside.OverSite.{FitsWith}
 use Rattle.ix_manager.specs.inside.TakenItems.{TakesBytes}
 use Rattle.ix_manager.specs.inside.WireState.{wired, AnswersItems}
 use Rattle.ix_manager.specs.inside.Over.{OverJournal, OverRun}
@@ -10,6 +11,15 @@ use Rattle.ix_manager.proofs.TakeLemmas.{managed, ended_by, bytes_taken, get_or_
 use Rattle.ix_manager.proofs.manager.Manager.take_bytes.Goals as goal
 use Rattle.ix_manager.proofs.manager.Manager.take_bytes.Goals.{in-Ok-More, in-Ok-Stopped}
 use Rattle.ix_manager.proofs.manager.Manager.take_bytes.Goals.{in-Ok-Stopped-2}
+
+-- the file is attached
+pub take_piece-outcome-requires-clause-fits : goal.take_piece-outcome-requires-clause-fits
+take_piece-outcome-requires-clause-fits g c = record {
+  attached = c.requires.attached;
+  fits = subst (λ (m : ManagerState). FitsWith m.form m.machine m.store
+      (g.S.Site.state c.args.site.now) (g.S.Site.crashes c.args.site.now)) (sym c.self.view_is)
+      c.requires.fits;
+}
 
 pub returns-clause-takes : goal.returns-clause-takes
 returns-clause-takes g c =
