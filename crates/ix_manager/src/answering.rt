@@ -3,13 +3,12 @@
 ghost use Rattle.std.specs.Prelude.{◌≡◌, ◌+◌, ◌-◌, ◌^◌, ◌<◌, ◌≤◌, length, Ok};
 ghost use Rattle.ix_lines.specs.Items.{line as line_item};
 ghost use Rattle.ix_lines.specs.Feeding.{completes, holds_after};
-ghost use Rattle.ix_lines.specs.inside.FeedAnswers.{told_item};
 ghost use Rattle.ix_manager.specs.inside.Clean.{IsClean};
 ghost use Rattle.ix_manager.specs.inside.Saving.{FitsJournal};
 ghost use Rattle.ix_manager.specs.inside.Over.{OverJournal};
 ghost use Rattle.ix_manager.specs.inside.WireState.{wired, IsPlain};
 ghost use Rattle.ix_manager.specs.inside.WireState.{AnswersRequest, AnswersItem, AnswersItems};
-ghost use Rattle.ix_manager.specs.inside.TakenItems.{AnswersFed, TakesItem};
+ghost use Rattle.ix_manager.specs.inside.TakenItems.{TakesItem};
 ghost use Rattle.ix_proto.specs.declared.request.Request.TheVariants.{Confirm};
 
 use crate::journaled::Journaled;
@@ -97,35 +96,16 @@ fn take_item<S: Site>(
 {
     let fed = lines.feed(piece.bytes);
     let used = fed.used;
-    match answer_fed(alloc, journaled, piece.conn, gone, fed.kind, site) {
-        Ok(Some(go)) => Ok(Some(Taken { used, go })),
-        Ok(None) => Ok(None),
-        Err(stop) => Err(stop),
-    }
-}
-
-fn answer_fed<S: Site>(
-    alloc: Global,
-    journaled: &mut Journaled,
-    conn: u8,
-    gone: &mut bool,
-    kind: FedKind<'_>,
-    site: &mut S,
-) -> Result<Option<Go>, Stop>
-    requires tickets { journaled.old.machine.state.number < 2 ^ 64 - 1 }
-    requires fits { FitsJournal journaled.old (S.state site.old) (S.crashes site.old) }
-    ensures { AnswersFed conn (told_item kind.entry) result journaled.old journaled.new
-        (wired gone.old (S.state site.old)) (wired gone.new (S.state site.new))
-        (S.crashes site.old) (S.crashes site.new) }
-{
-    match kind {
-        FedKind::Line(line) => match answer_line(alloc, journaled, conn, gone, line, site) {
-            Ok(go) => Ok(Some(go)),
-            Err(stop) => Err(stop),
-        },
+    match fed.kind {
+        FedKind::Line(line) => {
+            match answer_line(alloc, journaled, piece.conn, gone, line, site) {
+                Ok(go) => Ok(Some(Taken { used, go })),
+                Err(stop) => Err(stop),
+            }
+        }
         FedKind::TooLong => {
-            send_reply(site, conn, gone, &refused(Refusal::LineTooLong));
-            Ok(Some(Go::More))
+            send_reply(site, piece.conn, gone, &refused(Refusal::LineTooLong));
+            Ok(Some(Taken { used, go: Go::More }))
         }
         FedKind::More => Ok(None),
     }

@@ -15,16 +15,6 @@ use Rattle.ix_manager.specs.Handled.{ManagerState, held_at, has_ended}
 use Rattle.ix_manager.specs.inside.Over.{OverJournal, Rests}
 use Rattle.ix_manager.specs.inside.WireState.{WireState, SendsAll, AnswersItem}
 
--- where something was fed, it is answered; else all is as before
-abbrev pub AnswersFed : ℕ → Option Item → Result (Option Go) Stop → Journaled → Journaled
-    → WireState → WireState → Crashes → Crashes → Type 0
-AnswersFed conn (Some item) (Ok (Some go)) old new before after was is =
-    OverJournal (AnswersItem conn item) (Ok go) old new before after was is
-AnswersFed conn (Some item) (Err stop) old new before after was is =
-    OverJournal (AnswersItem conn item) (Err stop) old new before after was is
-AnswersFed conn None (Ok None) old new before after was is = Rests old new before after was is
-AnswersFed _ _ _ _ _ _ _ _ _ = ⊥
-
 -- the first item of a piece is taken and answered
 pub record TakesOne (conn : ℕ) (held : UnfinishedLine) (piece : List ℕ) (used : ℕ)
     (result : Result Go Stop) (after_it : UnfinishedLine) (old new : Journaled)
