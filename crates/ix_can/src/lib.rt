@@ -10,5 +10,6 @@ mod values;
 
 pub use completion::{completes, is_final};
 pub use first::can_first;
-pub use next::{can, goes_on};
+pub use next::{Met, can, goes_on, meets};
+pub use plain_tests::in_alphabet;
 pub use values::{state_at, state_of};

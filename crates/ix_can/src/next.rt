@@ -1,7 +1,7 @@
 //! Whether an action may come next, from the tree of the word before it.
 
 ghost use Rattle.std.specs.Prelude.{◌≡◌, ◌↔◌, true, false, ◌∷◌, ◌++◌, ◌&&◌, ◌||◌, [], None, Some};
-ghost use Rattle.std.specs.Prelude.{map, length, nat_lt, IsTrue};
+ghost use Rattle.std.specs.Prelude.{map, length, nat_lt, not, IsTrue};
 ghost use Rattle.std.specs.List.{list_all, list_any};
 ghost use Rattle.ix_words.specs.Each.{Each};
 ghost use Rattle.ix_values.specs.PlainAction.{Word};
@@ -228,11 +228,20 @@ fn some_limited_bag_goes_on(number: u8, y: &Expr, env: &Env, bags: &[Bag], actio
 
 /// How an action meets one side of `@`.
 #[derive(Clone, Copy)]
-struct Met {
+pub struct Met {
     /// Whether it is in the side's alphabet.
-    inside: bool,
+    pub inside: bool,
     /// Whether the side goes on with it.
-    goes_on: bool,
+    pub goes_on: bool,
+}
+
+impl Met {
+    /// Whether the side has the action in its alphabet and doesn't go on with it.
+    pub fn refuses(self) -> bool
+        ensures { result ≡ (self.inside && not self.goes_on) }
+    {
+        self.inside && !self.goes_on
+    }
 }
 
 /// Each side that has the action in its alphabet must go on, and one of them must have it. Each is
@@ -245,20 +254,21 @@ fn coupled_go_on(y: &Expr, z: &Expr, env: &Env, left: &Knot, right: &Knot, actio
         (couple_of left.now right.now) action.now }
 {
     let left = meets(y, env, left, action);
-    if left.inside && !left.goes_on {
+    if left.refuses() {
         return false;
     }
     let right = meets(z, env, right, action);
-    if right.inside && !right.goes_on {
+    if right.refuses() {
         return false;
     }
     left.inside || right.inside
 }
 
-/// Of `all` no other value's state is looked at than the action's own, so it is asked first whether
-/// it goes on: where it does, the action is in its alphabet.
+/// How the action meets a side of `@`. Of `all` no other value's state is looked at than the
+/// action's own, so it is asked first whether it goes on: where it does, the action is in its
+/// alphabet.
 #[cycle(goes_on)]
-fn meets(y: &Expr, env: &Env, state: &Knot, action: &Action) -> Met
+pub fn meets(y: &Expr, env: &Env, state: &Knot, action: &Action) -> Met
     requires { CanAsk (form_of y.now) env.now state.now }
     ensures inside { result.inside ≡ in_alphabet (form_of y.now) env.now action.now }
     ensures goes_on { result.goes_on ≡ may (form_of y.now) env.now state.now action.now }

@@ -16,7 +16,7 @@ pub(crate) fn is_match(atom: &Atom, env: &Env, action: &Action) -> bool
 }
 
 /// Whether the action is in the alphabet of the expression.
-pub(crate) fn in_alphabet(expr: &Expr, env: &Env, action: &Action) -> bool
+pub fn in_alphabet(expr: &Expr, env: &Env, action: &Action) -> bool
     requires { Fits (form_of expr.now) env.now }
     ensures { result ≡ in_alphabet (form_of expr.now) env.now action.now }
 {

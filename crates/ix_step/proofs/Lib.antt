@@ -15,6 +15,7 @@ pub mod OwnEntries
 pub mod SeenValues
 pub mod MovedIs
 pub mod Pruning
+pub mod TwoSides
 pub mod Overs
 pub mod LimitedBags
 pub mod Exits

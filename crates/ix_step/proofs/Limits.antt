@@ -1,5 +1,5 @@
 -- What is made within a limit: what is above it, and the tree after an action.
-use Rattle.std.proofs.Common.{IsTrue, ◌↔◌, ◌≡◌, ℕ, ◌<◌, ◌≤◌, Bool, true, false, not, refl, sym, ap, ◌∙◌, true≢false, arith, if◌then◌else◌}
+use Rattle.std.proofs.Common.{IsTrue, ◌↔◌, ◌≡◌, ℕ, ◌<◌, ◌≤◌, Bool, true, false, not, refl, ap, ◌∙◌, true≢false, arith}
 use Rattle.ix_values.specs.PlainAction.{PlainAction}
 use Rattle.ix_expr.specs.Form.{Form}
 use Rattle.ix_expr.specs.Environment.{Environment}
@@ -8,7 +8,7 @@ use Rattle.ix_tree.specs.Plain.{Plain, dead}
 use Rattle.ix_tree.specs.Size.{size_of}
 use Rattle.ix_can.specs.Nodes.{is_dead}
 use Rattle.ix_can.specs.Tests.{in_alphabet}
-use Rattle.ix_can.specs.inside.May.{may, moves_within}
+use Rattle.ix_can.specs.inside.May.{may}
 use Rattle.ix_can.specs.inside.Moved.{moved, moved_inside}
 use Rattle.ix_can.proofs.Lists.{one_test, iff_trans, iff_sym}
 use Rattle.ix_can.proofs.Testing.{alphabet_says}
@@ -34,19 +34,7 @@ moved_is_dead x e t a h = dead_is (moved x e t a) (dead_here (is_dead (moved x e
 pub same_alphabet : (b : Bool) (x : Form) (e : Environment) (a : PlainAction) → IsTrue b ↔ InAlphabet x e a → b ≡ in_alphabet x e a
 same_alphabet b x e a h = one_test b (in_alphabet x e a) (iff_trans h (iff_sym (alphabet_says x e a)))
 
--- where the action comes next if it is in the alphabet, the moved tree is dead exactly where it isn't
 module _ (x : Form) (e : Environment) (t : Plain) (a : PlainAction) where
-  pub moved_unless_dead : moves_within (in_alphabet x e a) (may x e t a) ≡ true → moved_inside (in_alphabet x e a) (moved x e t a) t ≡ (if is_dead (moved x e t a) then t else moved x e t a)
-  moved_unless_dead h = one (in_alphabet x e a) refl h
-    where
-      lives : (b : Bool) → not b ≡ true → b ≡ false
-      lives false k = refl
-      lives true k = absurd (true≢false (sym k))
-
-      one : (i : Bool) → in_alphabet x e a ≡ i → moves_within i (may x e t a) ≡ true → moved_inside i (moved x e t a) t ≡ (if is_dead (moved x e t a) then t else moved x e t a)
-      one true i k = ap (λ d. if d then t else moved x e t a) (sym (lives (is_dead (moved x e t a)) (moved_live x e t a ∙ k)))
-      one false i k = ap (λ d. if d then t else moved x e t a) (sym (ap is_dead (moved_is_dead x e t a (outside_next a x e t i))))
-
   -- a dead tree isn't above the limit
   pub inside_over : (limit : ℕ) → 1 ≤ limit → limit < size_of (moved x e t a) → limit < size_of (moved_inside (in_alphabet x e a) (moved x e t a) t)
   inside_over limit least lt = one (in_alphabet x e a) refl

@@ -1,14 +1,13 @@
 -- What is asked before a tree is moved, and nodes above the limit, which are live.
-use Rattle.std.proofs.Common.{◌≡◌, ℕ, ◌<◌, ◌≤◌, ◌==◌, Bool, true, false, ◌&&◌, ◌||◌, List, [], ◌∷◌, map, length, refl, sym, ap, ◌∙◌, subst, true≢false, arith, ne_eqb}
+use Rattle.std.proofs.Common.{◌≡◌, ℕ, ◌<◌, ◌≤◌, ◌==◌, Bool, true, false, ◌&&◌, List, [], ◌∷◌, map, length, refl, sym, ap, ◌∙◌, subst, true≢false, arith, ne_eqb}
 use Rattle.ix_values.specs.PlainAction.{PlainAction}
 use Rattle.ix_expr.specs.Form.{Form, atom, and, couple, every, sync}
 use Rattle.ix_expr.specs.Environment.{Environment}
-use Rattle.ix_tree.specs.Plain.{Plain, none, listed, items_of, and as and_of, couple as couple_of}
+use Rattle.ix_tree.specs.Plain.{Plain, none, listed, items_of, and as and_of}
 use Rattle.ix_tree.specs.Size.{size_of}
 use Rattle.ix_can.specs.Nodes.{dead_if}
-use Rattle.ix_can.specs.Tests.{in_alphabet}
 use Rattle.ix_can.specs.Ways.{is_empty}
-use Rattle.ix_can.specs.inside.May.{moves_within, may}
+use Rattle.ix_can.specs.inside.May.{may}
 use Rattle.ix_step.specs.inside.Pruned.{passes, is_none}
 
 -- What is asked
@@ -50,19 +49,6 @@ module _ (y z : Form) (e : Environment) (a : PlainAction) (t u : Plain) where
 
   pub and_second_may : may (and y z) e (and_of t u) a ≡ true → may z e u a ≡ true
   and_second_may h = both_second (may y e t a) (may z e u a) h
-
-  couple_may : may (couple y z) e (couple_of t u) a ≡ true → (moves_within (in_alphabet y e a) (may y e t a) && moves_within (in_alphabet z e a) (may z e u a)) ≡ true
-  couple_may h =
-      both_second (in_alphabet y e a || in_alphabet z e a) (moves_within (in_alphabet y e a) (may y e t a) && moves_within (in_alphabet z e a) (may z e u a)) h
-
-  -- of `@` each that has the action in its alphabet
-  pub couple_first_may : may (couple y z) e (couple_of t u) a ≡ true → moves_within (in_alphabet y e a) (may y e t a) ≡ true
-  couple_first_may h =
-      both_first (moves_within (in_alphabet y e a) (may y e t a)) (moves_within (in_alphabet z e a) (may z e u a)) (couple_may h)
-
-  pub couple_second_may : may (couple y z) e (couple_of t u) a ≡ true → moves_within (in_alphabet z e a) (may z e u a) ≡ true
-  couple_second_may h =
-      both_second (moves_within (in_alphabet y e a) (may y e t a)) (moves_within (in_alphabet z e a) (may z e u a)) (couple_may h)
 
 -- Empty lists of parts
 

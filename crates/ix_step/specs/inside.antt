@@ -8,6 +8,7 @@ pub mod MapsAfter
 pub mod Moves
 pub mod ParallelMoves
 pub mod Ready
+pub mod Sides
 pub mod ValueTrees
 pub mod MovedNode
 pub mod Pruned

@@ -21,10 +21,11 @@ ghost use Rattle.ix_step.specs.inside.Ready.{Ready};
 
 use crate::beginning::advance_again;
 use crate::bodies::Body;
+use crate::coupling::advance_couple;
 use crate::fault::Unbuilt;
 use crate::maps::advance_all;
 use crate::nodes::{
-    bounded, dead_knot, done_knot, settled_within, sized_if_live, unless_done, within_if_live,
+    dead_knot, done_knot, settled_within, sized_if_live, unless_done, within_if_live,
 };
 use crate::one_step::Step;
 use crate::parallel::{advance_par, advance_par_star, advance_times};
@@ -32,20 +33,23 @@ use crate::quantifiers::{advance_any, advance_every, advance_sync};
 use crate::sets::{put_first, put_open};
 use ix_alts::AltSet;
 use ix_can::{completes, goes_on};
-use ix_expr::{Expr, contains};
+use ix_expr::Expr;
 use ix_tree::{Knot, Node};
 
 /// The moved tree, dead where the action may not come next.
 ///
 /// That is asked before the parts are moved only of an atom and of the forms of which each part
-/// must move: there a part may be above the limit while another is dead. A node of any other form
-/// is dead exactly where none of its moved parts is live.
+/// must move: there a part may be above the limit while another is dead. Of `@` it is enough to ask
+/// one side. A node of any other form is dead exactly where none of its moved parts is live.
 #[cycle(advance)]
 pub(crate) fn advance(step: Step, expr: &Expr, tree: &Knot) -> Result<Knot, Unbuilt>
     requires { Ready (form_of expr.now) step.env.now tree.now }
     ensures { Makes step.entry.limit (moved (form_of expr.now) step.entry.env.now tree.now
         step.entry.action.now) result }
 {
+    if let (Expr::Couple(y, z), Node::Couple(left, right)) = (expr, tree.node()) {
+        return advance_couple(step, y, z, left, right);
+    }
     if !passes(step, expr, tree) {
         return dead_knot(step);
     }
@@ -108,9 +112,7 @@ fn advance_node(step: Step, expr: &Expr, tree: &Knot) -> Result<Knot, Unbuilt>
             settled_within(step, Node::And(left, right))
         }
         (Expr::Couple(y, z), Node::Couple(left, right)) => {
-            let left = advance_inside(step, y, left)?;
-            let right = advance_inside(step, z, right)?;
-            settled_within(step, Node::Couple(left, right))
+            advance_couple(step, y, z, left, right)
         }
         (Expr::Any(parameter, expr), Node::Any(common, entries)) => {
             advance_any(step, Body { parameter, expr }, common, entries)
@@ -127,47 +129,6 @@ fn advance_node(step: Step, expr: &Expr, tree: &Knot) -> Result<Knot, Unbuilt>
         (Expr::Times(number, y), Node::Times(bags)) => advance_times(step, *number, y, bags),
         _ => dead_knot(step),
     }
-}
-
-/// The moved tree where the action is in the alphabet, else the tree as it was. Of `all`, which
-/// moves no other value's state than the action's own, the alphabet isn't asked: where the action
-/// isn't in it, the moved tree is dead.
-#[cycle(advance)]
-pub(crate) fn advance_inside(step: Step, expr: &Expr, tree: &Knot) -> Result<Knot, Unbuilt>
-    requires ready { Ready (form_of expr.now) step.env.now tree.now }
-    requires may { moves_within (in_alphabet (form_of expr.now) step.env.now step.action.now)
-        (may (form_of expr.now) step.env.now tree.now step.action.now) ≡ true }
-    ensures { Makes step.entry.limit (moved_inside (in_alphabet (form_of expr.now)
-        step.entry.env.now step.entry.action.now) (moved (form_of expr.now) step.entry.env.now
-        tree.now step.entry.action.now) tree.now) result }
-{
-    if is_all(step, expr, tree) {
-        let moved = advance_asked(step, expr, tree)?;
-        return unless_dead(step, moved, tree);
-    }
-    if contains(expr, step.env, step.action) {
-        return advance_asked(step, expr, tree);
-    }
-    bounded(tree.share()?, step.limit)
-}
-
-/// Whether it is `all`, of which it isn't asked whether the action may come next.
-fn is_all(step: Step, expr: &Expr, tree: &Knot) -> bool
-    ensures { IsTrue result → passes (form_of expr.now) step.entry.env.now tree.now
-        step.entry.action.now ≡ true }
-{
-    matches!(expr, Expr::All(_, _))
-}
-
-/// The moved tree, or the tree as it was in place of a dead one.
-fn unless_dead(step: Step, moved: Knot, tree: &Knot) -> Result<Knot, Unbuilt>
-    requires { size_of moved ≤ step.limit }
-    ensures { Makes step.entry.limit (if is_dead moved then tree.now else moved) result }
-{
-    if moved.is_dead() {
-        return bounded(tree.share()?, step.limit);
-    }
-    Ok(moved)
 }
 
 /// Beside the moved alternatives for z stands one more where the first part is final: z may begin.

@@ -1,7 +1,7 @@
 //! The two calls: the tree of the empty word, and the step to the tree of a word with one more
 //! action.
 
-ghost use Rattle.std.specs.Prelude.{◌≡◌, ◌≤◌, ◌++◌, ◌∷◌, [], true};
+ghost use Rattle.std.specs.Prelude.{◌≡◌, ◌≤◌, ◌++◌, ◌∷◌, []};
 ghost use Rattle.ix_values.specs.PlainAction.{Word};
 ghost use Rattle.ix_expr.specs.Environment.{Environment};
 ghost use Rattle.ix_expr.specs.FormFaults.{Fits};
@@ -9,7 +9,6 @@ ghost use Rattle.ix_expr.specs.inside.FormOf.{form_of};
 ghost use Rattle.ix_tree.specs.Plain.{Plain};
 ghost use Rattle.ix_tree.specs.Size.{size_of};
 ghost use Rattle.ix_can.specs.Laws.{IsProper};
-ghost use Rattle.ix_can.specs.inside.May.{may};
 ghost use Rattle.ix_can.specs.inside.Moved.{moved};
 ghost use Rattle.ix_can.specs.TreeOf.{tree_of};
 ghost use Rattle.ix_step.specs.inside.Builds.{Builds, IsAbove};
@@ -17,7 +16,7 @@ ghost use Rattle.ix_step.specs.inside.Limits.{most_size};
 ghost use Rattle.ix_step.specs.inside.Makes.{Makes, IsOver};
 ghost use Rattle.ix_step.specs.inside.Ready.{Ready};
 
-use crate::advance::advance_asked;
+use crate::advance::advance;
 use crate::fault::{BuildFault, Unbuilt};
 use crate::first::first_tree;
 use crate::nodes::bounded;
@@ -41,7 +40,7 @@ pub fn initial(alloc: Global, expr: &Expr, limit: usize) -> Result<Tree, BuildFa
 }
 
 /// The tree of the word with one more action, if its Size is at most the limit, and else `Over`.
-/// `tree` is that of the word before, and the action is one that may come next.
+/// `tree` is that of the word before. The tree is dead where the action may not come next.
 pub fn step(
     alloc: Global,
     tree: &Tree,
@@ -52,7 +51,6 @@ pub fn step(
 ) -> Result<Tree, BuildFault>
     requires fits { Fits (form_of expr.now) env.now }
     requires proper { IsProper (form_of expr.now) tree.now }
-    requires may { may (form_of expr.now) env.now tree.now action.now ≡ true }
     requires limit { limit ≤ 1000000 }
     requires size { size_of tree.now ≤ 1000000 }
     ensures by_tree { Builds limit (moved (form_of expr.now) env.now tree.now action.now) result }
@@ -82,19 +80,20 @@ fn moved_within(
     limit: usize,
 ) -> Result<Knot, Unbuilt>
     requires ready { Ready (form_of expr.now) env.now tree.now }
-    requires may { may (form_of expr.now) env.now tree.now action.now ≡ true }
     requires limit { limit ≤ most_size }
     ensures { Makes limit (moved (form_of expr.now) env.now tree.now action.now) result }
 {
     let dead = Knot::new(alloc, Node::Dead)?;
+    let done = Knot::new(alloc, Node::Done)?;
     let step = Step {
         action,
         env,
         alloc,
         limit: at_least_one(limit),
         dead: &dead,
+        done: &done,
     };
-    let moved = advance_asked(step, expr, tree)?;
+    let moved = advance(step, expr, tree)?;
     bounded(moved, limit)
 }
 

@@ -7,6 +7,7 @@ mod bags;
 mod beginning;
 mod bodies;
 mod calls;
+mod coupling;
 mod entries;
 mod fault;
 mod first;

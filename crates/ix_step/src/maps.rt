@@ -137,6 +137,7 @@ fn advance_owner(
         alloc: step.alloc,
         limit: larger(step.limit, first.size()),
         dead: step.dead,
+        done: step.done,
     };
     advance(inside, body.expr, or_first(&state.entries, first, value))
 }

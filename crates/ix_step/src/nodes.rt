@@ -18,15 +18,6 @@ use ix_tree::{Knot, Node, Pair};
 use ix_values::Value;
 use std::alloc::AllocError;
 
-/// The knot of the node, whose Size is added up from what its parts keep.
-pub(crate) fn within(step: Step, node: Node) -> Result<Knot, Unbuilt>
-    requires { size_of (plain_node node) ≤ 2 ^ 32 }
-    ensures { Makes step.entry.limit (plain_node node) result }
-{
-    let size = node.size();
-    sized(step, node, size)
-}
-
 /// The knot of the node, whose Size is known.
 #[inline]
 fn sized(step: Step, node: Node, size: usize) -> Result<Knot, Unbuilt>
@@ -67,7 +58,7 @@ fn settled_sized(step: Step, node: Node, size: usize) -> Result<Knot, Unbuilt>
 pub(crate) fn done_knot(step: Step) -> Result<Knot, Unbuilt>
     ensures { Makes step.entry.limit done result }
 {
-    within(step, Node::Done)
+    Ok(step.done.share()?)
 }
 
 /// The dead tree in place of one that is done, and else the tree itself.

@@ -51,6 +51,7 @@ pub(crate) fn advance_par(step: Step, y: &Expr, z: &Expr, pairs: &[Pair]) -> Res
         alloc: step.alloc,
         limit: larger(step.limit, 65),
         dead: step.dead,
+        done: step.done,
     };
     let set = advance_pairs(wide, y, z, pairs)?;
     let size = 1 + set.total();
@@ -113,6 +114,7 @@ pub(crate) fn advance_times(step: Step, number: u8, y: &Expr, bags: &[Bag]) -> R
         alloc: step.alloc,
         limit: larger(step.limit, usize::from(number) + 1),
         dead: step.dead,
+        done: step.done,
     };
     let runs = Runs {
         expr: y,

@@ -20,11 +20,12 @@ ghost use Rattle.ix_step.specs.inside.ValueTrees.{ReadyInside, part_may, EachMay
 ghost use Rattle.ix_step.specs.inside.ValueTrees.{common_after, entries_after, MakesEntries};
 ghost use Rattle.ix_step.specs.inside.ValueTrees.{MakesParts, MakesOwn};
 
-use crate::advance::{advance, advance_asked, advance_inside};
+use crate::advance::{advance, advance_asked};
 use crate::bodies::{Body, Reach};
+use crate::coupling::advance_side;
 use crate::entries::{put_tree, touched_values};
 use crate::fault::Unbuilt;
-use crate::nodes::{settled_within, within_if_live};
+use crate::nodes::{bounded, settled_within, within_if_live};
 use crate::one_step::{Step, larger};
 use ix_can::state_at;
 use ix_entries::put;
@@ -118,6 +119,7 @@ pub(crate) fn advance_any(
         alloc: step.alloc,
         limit: larger(step.limit, room),
         dead: step.dead,
+        done: step.done,
     };
     let (common, entries) = advance_values(wide, body, Reach::All, common, entries)?;
     within_if_live(step, Node::Any(common, entries))
@@ -235,10 +237,11 @@ fn advance_at(
         alloc: step.alloc,
         limit: step.limit,
         dead: step.dead,
+        done: step.done,
     };
     match reach {
         Reach::All => advance(inside, body.expr, state),
         Reach::Must => advance_asked(inside, body.expr, state),
-        Reach::OwnAlphabet => advance_inside(inside, body.expr, state),
+        Reach::OwnAlphabet => bounded(advance_side(inside, body.expr, state)?.tree, step.limit),
     }
 }

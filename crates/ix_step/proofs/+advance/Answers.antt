@@ -1,5 +1,5 @@
 -- The parts of a step: what each asks of the next, and what it makes.
-use Rattle.std.proofs.Common.{if◌then◌else◌, ◌||◌, ◌+◌, ◌-◌, ◌<◌, ◌≡◌, ◌≤◌, true, refl, sym, ap, ◌∙◌, subst, arith, [], ◌∷◌, ◌++◌, map, length, flat_map, take, drop, get_or, Some, None, true≢false}
+use Rattle.std.proofs.Common.{◌||◌, ◌+◌, ◌-◌, ◌<◌, ◌≡◌, ◌≤◌, true, refl, sym, ap, ◌∙◌, subst, arith, [], ◌∷◌, ◌++◌, map, length, flat_map, take, drop, get_or, Some, None, true≢false}
 use Rattle.std.specs.List.{list_any, remove}
 use Rattle.std.specs.Map.{keys_of}
 use Rattle.std.proofs.lemmas.List.{length-map}
@@ -11,7 +11,7 @@ use Rattle.ix_expr.specs.inside.FormOf.{form_of}
 use Rattle.ix_expr.specs.Environment.{bind}
 use Rattle.ix_expr.specs.FormFaults.{Fits}
 use Rattle.ix_expr.specs.Form.{opt, seq, or, and, couple, any, every, sync}
-use Rattle.ix_tree.specs.Plain.{dead, listed, items_of, seq as seq_of, star as star_of, par as par_of, par_star as par_star_of, any as any_of, every as every_of, sync as sync_of, all as all_of}
+use Rattle.ix_tree.specs.Plain.{dead, listed, items_of, couple as couple_of, seq as seq_of, star as star_of, par as par_of, par_star as par_star_of, any as any_of, every as every_of, sync as sync_of, all as all_of}
 use Rattle.ix_tree.specs.PlainOf.{plain_pair, plain_bag, plain_map, plain_entry, plain_entries}
 use Rattle.ix_tree.specs.inside.PlainNode.{plain_node}
 use Rattle.ix_tree.specs.Order.{first_part, tree_cmp}
@@ -19,7 +19,7 @@ use Rattle.ix_tree.specs.Size.{size_of}
 use Rattle.ix_tree.specs.contracts.order.KnotPartialEq.TheImpl.{ghosts as tree_ghosts}
 use Rattle.ix_tree.proofs.Alternatives.{weight_of-list}
 use Rattle.ix_tree.proofs.PlainLists.{items_of-listed}
-use Rattle.ix_can.specs.Nodes.{is_dead, is_done, unless_done, settled, settled_times, set_of}
+use Rattle.ix_can.specs.Nodes.{is_done, unless_done, settled, settled_times, set_of}
 use Rattle.ix_can.specs.Laws.{IsProper, IsRising}
 use Rattle.ix_can.specs.Tests.{in_alphabet}
 use Rattle.ix_can.specs.inside.May.{may, moves_within, tree_at}
@@ -35,7 +35,7 @@ use Rattle.ix_step.specs.inside.ParallelMoves.{pairs_of, pair_moves, pick_move, 
 use Rattle.ix_step.specs.inside.Pruned.{pruned}
 use Rattle.ix_step.specs.inside.Ready.{Ready}
 use Rattle.ix_step.specs.declared.bodies.Reach.TheVariants.{OwnAlphabet}
-use Rattle.ix_step.specs.inside.ValueTrees.{part_may, common_after, tree_after, touched, TakesIn}
+use Rattle.ix_step.specs.inside.ValueTrees.{part_may, moved_part, common_after, tree_after, touched, TakesIn}
 use Rattle.ix_step.proofs.Arms.{asked, opt_ready, or_first, or_second, and_first, and_second, couple_first, couple_second, seq_first, seq_rest, second_small, star_begins, star_rest}
 use Rattle.ix_step.proofs.Beginnings.{initial_is}
 use Rattle.ix_step.proofs.BagsPut.{length-picks, get-picks}
@@ -44,17 +44,18 @@ use Rattle.ix_step.proofs.Exits.{exit_over}
 use Rattle.ix_step.proofs.Gathered.{open_over, any_more, size_all, any_of_set, tree_weights}
 use Rattle.ix_step.proofs.Gathering.{each_at, image_at, lot_over, lots_more, lots_end, set_is, front_of_set, open_in_set, bag_over, left_over, right_over, first_over, made_set, picks_size, bag_put}
 use Rattle.ix_step.proofs.LimitedBags.{some_bag, limited_over, limited_first_over}
-use Rattle.ix_step.proofs.Limits.{moved_is_dead, same_alphabet, moved_unless_dead, inside_over}
+use Rattle.ix_step.proofs.Limits.{moved_is_dead, same_alphabet, inside_over}
 use Rattle.ix_step.proofs.Measure.{form_size}
 use Rattle.ix_step.proofs.MovedIs.{moved_is, begun_dead, begun_or}
 use Rattle.ix_step.proofs.Overs.{unless_over, seq_over, star_over, par_over, entries_count, any_above, every_above, sync_above}
 use Rattle.ix_step.proofs.ParallelArms.{pairs_ready, pairs_small, bags_ready, run_begins, times_ready, times_begins}
-use Rattle.ix_step.proofs.Pruning.{passed, refused, same_passes, and_first_may, and_second_may, couple_first_may, couple_second_may, no_items, some_items, list_over}
+use Rattle.ix_step.proofs.Pruning.{passed, refused, same_passes, and_first_may, and_second_may, no_items, some_items, list_over}
 use Rattle.ix_step.proofs.Repeats.{run_adds_none}
 use Rattle.ix_step.proofs.Quantifying.{any_ready, every_ready, sync_ready, any_each, every_common, every_each, sync_common, sync_each, value_ready, entries_touched, value_moves, at_ready}
 use Rattle.ix_step.proofs.Mapping.{begin_small, begin_ready, all_held, map_keys, start_ready, owner_made, dead_owner, copy_proper}
 use Rattle.ix_step.proofs.OwnEntries.{GivesAll, common_stays, before_own, one_given, all_given, one_more_size}
 use Rattle.ix_step.proofs.SameTrees.{same_trees}
+use Rattle.ix_step.proofs.TwoSides.{right_refuses, left_refuses, neither_has, both_moved, left_above, right_above, met_moves, met_stops, side_moves, side_stops, none_inside, some_inside, told_outside, told_inside, as_it_was}
 use Rattle.ix_step.proofs.SeenValues.{item_among, entries_are}
 use Rattle.ix_can.proofs.Keys.{entries_ascend}
 use Rattle.ix_can.proofs.UnseenValues.{unseen_dead}
@@ -104,48 +105,6 @@ beginning::advance_whole-returns t c =
     subst (λ p. Makes c.args.step.limit p c.advance.result)
     (ap (λ p. moved x c.args.step.env.now p c.args.step.action.now) (c.in_ok-tree.ensures ∙ sym (initial_is x []))) c.advance.ensures
 
-pub advance::advance_inside-advance_asked-requires : goal.advance::advance_inside-advance_asked-requires
-advance::advance_inside-advance_asked-requires t c =
-    (omega arith, (c.requires.ready, c.is_all.ensures c.if-is_all.true))
-
-pub advance::advance_inside-unless_dead-requires : goal.advance::advance_inside-unless_dead-requires
-advance::advance_inside-unless_dead-requires t c =
-    subst (λ x. size_of x ≤ c.args.step.limit) (sym c.in_ok-moved.ensures.0) c.in_ok-moved.ensures.1
-
-pub advance::advance_inside-returns-in_err-moved : goal.advance::advance_inside-returns-in_err-moved
-advance::advance_inside-returns-in_err-moved t c =
-    exit_over _ c.from_residual.result _ c.from_residual.ensures.1 c.in_err-moved.ensures
-    (inside_over (form_of c.args.expr.now) c.args.step.env.now c.args.tree.now c.args.step.action.now c.args.step.limit c.args.step.positive)
-
-pub advance::advance_inside-returns-then-is_all : goal.advance::advance_inside-returns-then-is_all
-advance::advance_inside-returns-then-is_all t c =
-    let x = form_of c.args.expr.now in
-    let whole = ap (λ m. if is_dead m then c.args.tree.now else m) c.in_ok-moved.ensures.0
-    ∙ sym (moved_unless_dead x c.args.step.env.now c.args.tree.now c.args.step.action.now c.requires.may) in
-    subst (λ m. Makes c.args.step.limit m c.unless_dead.result) whole c.unless_dead.ensures
-
-pub advance::advance_inside-advance_asked-requires-then-contains : goal.advance::advance_inside-advance_asked-requires-then-contains
-advance::advance_inside-advance_asked-requires-then-contains t c =
-    let x = form_of c.args.expr.now in
-    let inside = sym (same_alphabet c.contains.result x c.args.step.env.now c.args.step.action.now c.contains.ensures) ∙ c.if-contains.true in
-    let may_come = subst (λ i. moves_within i (may x c.args.step.env.now c.args.tree.now c.args.step.action.now) ≡ true) inside c.requires.may in (
-      omega arith,
-      (c.requires.ready, passed x c.args.step.env.now c.args.tree.now c.args.step.action.now may_come),
-    )
-
-pub advance::advance_inside-returns-then-contains : goal.advance::advance_inside-returns-then-contains
-advance::advance_inside-returns-then-contains t c =
-    let x = form_of c.args.expr.now in
-    let inside = sym (same_alphabet c.contains.result x c.args.step.env.now c.args.step.action.now c.contains.ensures) ∙ c.if-contains.true in
-    subst (λ i. Makes c.args.step.limit (moved_inside i (moved x c.args.step.env.now c.args.tree.now c.args.step.action.now) c.args.tree.now) c.advance_asked-then-contains.result) (sym inside) c.advance_asked-then-contains.ensures
-
-pub advance::advance_inside-returns : goal.advance::advance_inside-returns
-advance::advance_inside-returns t c =
-    let x = form_of c.args.expr.now in
-    let outside = sym (same_alphabet c.contains.result x c.args.step.env.now c.args.step.action.now c.contains.ensures) ∙ c.if-contains.false in
-    subst (λ i. Makes c.args.step.limit (moved_inside i (moved x c.args.step.env.now c.args.tree.now c.args.step.action.now) c.args.tree.now) c.bounded.result) (sym outside)
-    (subst (λ t. Makes c.args.step.limit t c.bounded.result) c.in_ok-share.ensures c.bounded.ensures)
-
 pub advance::advance_node-advance-requires : goal.advance::advance_node-advance-requires
 advance::advance_node-advance-requires t c =
     let is : form_of c.args.expr.now ≡ opt (form_of c.deref.result.now) = ap form_of c.in-Opt-Opt.is-0 ∙ ap (λ v. opt (form_of v)) (sym c.deref.ensures) in
@@ -193,30 +152,6 @@ advance::advance_node-advance_asked-requires-in-And-And t c =
         and_second (asked is refl tree c.requires.ready),
         passed (form_of c.deref-in-And-And-2.result.now) c.args.step.env.now c.in-And-And.right c.args.step.action.now
             (and_second_may (form_of c.in-And-And.y.value) (form_of c.deref-in-And-And-2.result.now) c.args.step.env.now c.args.step.action.now c.in-And-And.left c.in-And-And.right (same_passes c.args.step.env.now c.args.step.action.now is tree c.requires.passes)),
-      ),
-    )
-
-pub advance::advance_node-advance_inside-requires : goal.advance::advance_node-advance_inside-requires
-advance::advance_node-advance_inside-requires t c =
-    let is : form_of c.args.expr.now ≡ couple (form_of c.deref-in-Couple-Couple.result.now) (form_of c.in-Couple-Couple.z.value) = ap form_of c.in-Couple-Couple.is-0 ∙ ap (λ v. couple (form_of v) (form_of c.in-Couple-Couple.z.value)) (sym c.deref-in-Couple-Couple.ensures) in
-    let tree = sym c.node.ensures ∙ ap plain_node c.in-Couple-Couple.is-1 in
-    let size = ap form_size is in (
-      omega (arith, size),
-      (
-        couple_first (asked is refl tree c.requires.ready),
-        couple_first_may (form_of c.deref-in-Couple-Couple.result.now) (form_of c.in-Couple-Couple.z.value) c.args.step.env.now c.args.step.action.now c.in-Couple-Couple.left c.in-Couple-Couple.right (same_passes c.args.step.env.now c.args.step.action.now is tree c.requires.passes),
-      ),
-    )
-
-pub advance::advance_node-advance_inside-requires-in-Couple-Couple : goal.advance::advance_node-advance_inside-requires-in-Couple-Couple
-advance::advance_node-advance_inside-requires-in-Couple-Couple t c =
-    let is : form_of c.args.expr.now ≡ couple (form_of c.in-Couple-Couple.y.value) (form_of c.deref-in-Couple-Couple-2.result.now) = ap form_of c.in-Couple-Couple.is-0 ∙ ap (λ v. couple (form_of c.in-Couple-Couple.y.value) (form_of v)) (sym c.deref-in-Couple-Couple-2.ensures) in
-    let tree = sym c.node.ensures ∙ ap plain_node c.in-Couple-Couple.is-1 in
-    let size = ap form_size is in (
-      omega (arith, size),
-      (
-        couple_second (asked is refl tree c.requires.ready),
-        couple_second_may (form_of c.in-Couple-Couple.y.value) (form_of c.deref-in-Couple-Couple-2.result.now) c.args.step.env.now c.args.step.action.now c.in-Couple-Couple.left c.in-Couple-Couple.right (same_passes c.args.step.env.now c.args.step.action.now is tree c.requires.passes),
       ),
     )
 
@@ -460,6 +395,7 @@ parallel::advance_par-advance_pairs-requires t c =
 pub parallel::advance_par-invariant_of-wide : goal.parallel::advance_par-invariant_of-wide
 parallel::advance_par-invariant_of-wide t c = record {
   ends = c.args.step.ends;
+  completes = c.args.step.completes;
   positive = omega (arith, c.larger.ensures.second);
   bounded = c.larger.ensures.bound 2000010 c.args.step.bounded (omega arith);
 }
@@ -519,6 +455,7 @@ parallel::advance_par_star-returns t c =
 pub parallel::advance_times-invariant_of-wide : goal.parallel::advance_times-invariant_of-wide
 parallel::advance_times-invariant_of-wide t c = record {
   ends = c.args.step.ends;
+  completes = c.args.step.completes;
   positive = omega (arith, c.args.step.positive, c.larger.ensures.first);
   bounded = c.larger.ensures.bound 2000010 c.args.step.bounded (omega arith);
 }
@@ -768,6 +705,7 @@ quantifiers::advance_values-advance_at-requires t c =
 pub quantifiers::advance_any-invariant_of-wide : goal.quantifiers::advance_any-invariant_of-wide
 quantifiers::advance_any-invariant_of-wide t c = record {
   ends = c.args.step.ends;
+  completes = c.args.step.completes;
   positive = omega (arith, c.larger.ensures.first, c.args.step.positive);
   bounded = c.larger.ensures.bound 2000010 c.args.step.bounded (omega (arith, entries_count c.args.entries.now, c.requires.small, c.values.ensures.valid.few, ap length c.values.ensures.value));
 }
@@ -998,10 +936,139 @@ quantifiers::advance_at-advance_asked-requires t c =
       (at_ready c.args.value c.bind.new.self c.bind.ensures c.requires.fits c.requires.proper c.requires.small, passed y c.bind.new.self c.args.state.now c.args.step.action.now (ap (λ f. may y f c.args.state.now c.args.step.action.now) c.bind.ensures ∙ must)),
     )
 
-pub quantifiers::advance_at-advance_inside-requires : goal.quantifiers::advance_at-advance_inside-requires
-quantifiers::advance_at-advance_inside-requires t c =
-    let y = form_of c.args.body.expr.now in
-    let must = subst (λ r. part_may r y (bind c.args.body.parameter.now c.args.value c.args.step.env.now) c.args.step.action.now c.args.state.now ≡ true) c.in-OwnAlphabet.is c.requires.may in (
-      omega arith,
-      (at_ready c.args.value c.bind.new.self c.bind.ensures c.requires.fits c.requires.proper c.requires.small, ap (λ f. moves_within (in_alphabet y f c.args.step.action.now) (may y f c.args.state.now c.args.step.action.now)) c.bind.ensures ∙ must),
+-- `@`
+
+pub advance::advance-advance_couple-requires : goal.advance::advance-advance_couple-requires
+advance::advance-advance_couple-requires t c =
+    let is : form_of c.args.expr.now ≡ couple (form_of c.deref.result.now) (form_of c.deref-in-Couple-Couple.result.now) = ap form_of c.in-Couple-Couple.is-0 ∙ ap (λ v. couple (form_of v) (form_of c.in-Couple-Couple.z.value)) (sym c.deref.ensures) ∙ ap (λ v. couple (form_of c.deref.result.now) (form_of v)) (sym c.deref-in-Couple-Couple.ensures) in
+    let ready = asked is refl (sym c.node.ensures ∙ ap plain_node c.in-Couple-Couple.is-1) c.requires in
+    let size = ap form_size is in (
+      omega (arith, size),
+      (couple_first ready, couple_second ready),
     )
+
+pub advance::advance_node-advance_couple-requires : goal.advance::advance_node-advance_couple-requires
+advance::advance_node-advance_couple-requires t c =
+    let is : form_of c.args.expr.now ≡ couple (form_of c.deref-in-Couple-Couple.result.now) (form_of c.deref-in-Couple-Couple-2.result.now) = ap form_of c.in-Couple-Couple.is-0 ∙ ap (λ v. couple (form_of v) (form_of c.in-Couple-Couple.z.value)) (sym c.deref-in-Couple-Couple.ensures) ∙ ap (λ v. couple (form_of c.deref-in-Couple-Couple.result.now) (form_of v)) (sym c.deref-in-Couple-Couple-2.ensures) in
+    let ready = asked is refl (sym c.node.ensures ∙ ap plain_node c.in-Couple-Couple.is-1) c.requires.ready in
+    let size = ap form_size is in (
+      omega (arith, size),
+      (couple_first ready, couple_second ready),
+    )
+
+pub coupling::advance_couple-returns-then-refuses : goal.coupling::advance_couple-returns-then-refuses
+coupling::advance_couple-returns-then-refuses t c =
+    let z = form_of c.args.z.now in
+    let e = c.args.step.env.now in
+    let a = c.args.step.action.now in
+    let stops = met_stops z e a c.args.right.now c.meets-met.result.inside c.meets-met.result.goes_on c.meets-met.ensures.inside c.meets-met.ensures.goes_on (sym c.refuses.ensures ∙ c.if-refuses.true) in
+    subst (λ x. Makes c.args.step.limit x c.dead_knot.result)
+    (sym (right_refuses (form_of c.args.y.now) z e a c.args.left.now c.args.right.now stops)) c.dead_knot.ensures
+
+pub coupling::advance_couple-returns-in_err-left : goal.coupling::advance_couple-returns-in_err-left
+coupling::advance_couple-returns-in_err-left t c =
+    let z = form_of c.args.z.now in
+    let e = c.args.step.env.now in
+    let a = c.args.step.action.now in
+    let right = met_moves z e a c.args.right.now c.meets-met.result.inside c.meets-met.result.goes_on c.meets-met.ensures.inside c.meets-met.ensures.goes_on (sym c.refuses.ensures ∙ c.if-refuses.false) in
+    exit_over _ c.from_residual.result _ c.from_residual.ensures.1 c.in_err-left.ensures (λ lt.
+    left_above (form_of c.args.y.now) z e a c.args.left.now c.args.right.now c.args.step.limit c.args.step.positive right lt)
+
+pub coupling::advance_couple-returns-then-refuses-2 : goal.coupling::advance_couple-returns-then-refuses-2
+coupling::advance_couple-returns-then-refuses-2 t c =
+    let y = form_of c.args.y.now in
+    let e = c.args.step.env.now in
+    let a = c.args.step.action.now in
+    let stops = side_stops y e a c.args.left.now c.in_ok-left.left.inside c.in_ok-left.left.tree c.in_ok-left.ensures.0 c.in_ok-left.ensures.1 (sym c.refuses-2.ensures ∙ c.if-refuses-2.true) in
+    subst (λ x. Makes c.args.step.limit x c.dead_knot-then-refuses-2.result)
+    (sym (left_refuses y (form_of c.args.z.now) e a c.args.left.now c.args.right.now stops)) c.dead_knot-then-refuses-2.ensures
+
+pub coupling::advance_couple-returns-then-is_foreign : goal.coupling::advance_couple-returns-then-is_foreign
+coupling::advance_couple-returns-then-is_foreign t c =
+    let y = form_of c.args.y.now in
+    let z = form_of c.args.z.now in
+    let e = c.args.step.env.now in
+    let a = c.args.step.action.now in
+    let none = none_inside (in_alphabet y e a) (in_alphabet z e a) c.in_ok-left.left.inside c.meets-met.result.inside c.in_ok-left.ensures.0 c.meets-met.ensures.inside (sym c.is_foreign.ensures ∙ c.if-is_foreign.true) in
+    subst (λ x. Makes c.args.step.limit x c.dead_knot-then-is_foreign.result)
+    (sym (neither_has y z e a c.args.left.now c.args.right.now none)) c.dead_knot-then-is_foreign.ensures
+
+pub coupling::advance_couple-returns-in_err-right : goal.coupling::advance_couple-returns-in_err-right
+coupling::advance_couple-returns-in_err-right t c =
+    let y = form_of c.args.y.now in
+    let z = form_of c.args.z.now in
+    let e = c.args.step.env.now in
+    let a = c.args.step.action.now in
+    let right = met_moves z e a c.args.right.now c.meets-met.result.inside c.meets-met.result.goes_on c.meets-met.ensures.inside c.meets-met.ensures.goes_on (sym c.refuses.ensures ∙ c.if-refuses.false) in
+    let left = side_moves y e a c.args.left.now c.in_ok-left.left.inside c.in_ok-left.left.tree c.in_ok-left.ensures.0 c.in_ok-left.ensures.1 (sym c.refuses-2.ensures ∙ c.if-refuses-2.false) in
+    let some = some_inside (in_alphabet y e a) (in_alphabet z e a) c.in_ok-left.left.inside c.meets-met.result.inside c.in_ok-left.ensures.0 c.meets-met.ensures.inside (sym c.is_foreign.ensures ∙ c.if-is_foreign.false) in
+    exit_over _ c.from_residual-in_err-right.result _ c.from_residual-in_err-right.ensures.1 c.in_err-right.ensures (λ lt.
+    right_above y z e a c.args.left.now c.args.right.now c.args.step.limit c.args.step.positive some left right
+    (subst (λ i. c.args.step.limit < size_of (moved_inside i (moved z e c.args.right.now a) c.args.right.now)) c.meets-met.ensures.inside lt))
+
+pub coupling::advance_couple-advance_met-requires : goal.coupling::advance_couple-advance_met-requires
+coupling::advance_couple-advance_met-requires t c =
+    let z = form_of c.args.z.now in
+    let e = c.args.step.env.now in
+    let a = c.args.step.action.now in
+    let right = met_moves z e a c.args.right.now c.meets-met.result.inside c.meets-met.result.goes_on c.meets-met.ensures.inside c.meets-met.ensures.goes_on (sym c.refuses.ensures ∙ c.if-refuses.false) in (
+      omega arith,
+      (c.requires.second, ap (λ i. moves_within i (may z e c.args.right.now a)) c.meets-met.ensures.inside ∙ right),
+    )
+
+pub coupling::advance_couple-returns : goal.coupling::advance_couple-returns
+coupling::advance_couple-returns t c =
+    let y = form_of c.args.y.now in
+    let z = form_of c.args.z.now in
+    let e = c.args.step.env.now in
+    let a = c.args.step.action.now in
+    let right = met_moves z e a c.args.right.now c.meets-met.result.inside c.meets-met.result.goes_on c.meets-met.ensures.inside c.meets-met.ensures.goes_on (sym c.refuses.ensures ∙ c.if-refuses.false) in
+    let left = side_moves y e a c.args.left.now c.in_ok-left.left.inside c.in_ok-left.left.tree c.in_ok-left.ensures.0 c.in_ok-left.ensures.1 (sym c.refuses-2.ensures ∙ c.if-refuses-2.false) in
+    let some = some_inside (in_alphabet y e a) (in_alphabet z e a) c.in_ok-left.left.inside c.meets-met.result.inside c.in_ok-left.ensures.0 c.meets-met.ensures.inside (sym c.is_foreign.ensures ∙ c.if-is_foreign.false) in
+    let second = c.in_ok-right.ensures.0 ∙ ap (λ i. moved_inside i (moved z e c.args.right.now a) c.args.right.now) c.meets-met.ensures.inside in
+    subst (λ x. Makes c.args.step.limit x c.settled_within.result)
+    (ap (λ v. settled (couple_of v c.in_ok-right.right)) c.in_ok-left.ensures.1
+    ∙ ap (λ v. settled (couple_of (moved_inside (in_alphabet y e a) (moved y e c.args.left.now a) c.args.left.now) v)) second
+    ∙ sym (both_moved y z e a c.args.left.now c.args.right.now some left right)) c.settled_within.ensures
+
+pub coupling::advance_side-returns-then-not-in_alphabet : goal.coupling::advance_side-returns-then-not-in_alphabet
+coupling::advance_side-returns-then-not-in_alphabet t c =
+    let x = form_of c.args.expr.now in
+    let e = c.args.step.env.now in
+    let a = c.args.step.action.now in
+    let outside = sym c.in_alphabet.ensures ∙ c.if-not-in_alphabet.true in
+    as_it_was c.args.step.limit (in_alphabet x e a) (moved x e c.args.tree.now a) c.args.tree.now c.unmoved.result outside c.requires.small c.unmoved.ensures
+
+pub coupling::advance_side-returns-then-is_outside : goal.coupling::advance_side-returns-then-is_outside
+coupling::advance_side-returns-then-is_outside t c =
+    let x = form_of c.args.expr.now in
+    let e = c.args.step.env.now in
+    let a = c.args.step.action.now in
+    let outside = told_outside x e a c.args.tree.now c.in_ok-moved.moved (sym c.is_outside.ensures ∙ c.if-is_outside.true) in
+    as_it_was c.args.step.limit (in_alphabet x e a) (moved x e c.args.tree.now a) c.args.tree.now c.unmoved-then-is_outside.result outside c.requires.small c.unmoved-then-is_outside.ensures
+
+pub coupling::advance_side-returns : goal.coupling::advance_side-returns
+coupling::advance_side-returns t c =
+    let x = form_of c.args.expr.now in
+    let e = c.args.step.env.now in
+    let a = c.args.step.action.now in
+    let inside = told_inside x e a c.args.tree.now c.in_ok-moved.moved c.in_ok-moved.ensures.0 (sym c.is_outside.ensures ∙ c.if-is_outside.false) in
+    let size = ap size_of c.in_ok-moved.ensures.0 in (
+      sym inside,
+      c.in_ok-moved.ensures.0 ∙ ap (λ i. moved_inside i (moved x e c.args.tree.now a) c.args.tree.now) (sym inside),
+      omega (arith, size, c.in_ok-moved.ensures.1, c.args.step.bounded),
+    )
+
+pub quantifiers::advance_at-advance_side-requires : goal.quantifiers::advance_at-advance_side-requires
+quantifiers::advance_at-advance_side-requires t c =
+    (omega arith, at_ready c.args.value c.bind.new.self c.bind.ensures c.requires.fits c.requires.proper c.requires.small)
+
+pub quantifiers::advance_at-returns-in_err-advance_side-in-OwnAlphabet : goal.quantifiers::advance_at-returns-in_err-advance_side-in-OwnAlphabet
+quantifiers::advance_at-returns-in_err-advance_side-in-OwnAlphabet t c =
+    let y = form_of c.args.body.expr.now in
+    let e = bind c.args.body.parameter.now c.args.value c.args.step.env.now in
+    let a = c.args.step.action.now in
+    exit_over _ c.from_residual.result _ c.from_residual.ensures.1 (c.in_err-advance_side-in-OwnAlphabet).ensures (λ lt.
+    subst (λ r. c.args.step.limit < size_of (moved_part r y e a c.args.state.now)) (sym c.in-OwnAlphabet.is)
+    (inside_over y e c.args.state.now a c.args.step.limit c.args.step.positive
+    (subst (λ f. c.args.step.limit < size_of (moved y f c.args.state.now a)) c.bind.ensures lt)))

@@ -28,8 +28,14 @@ decreases-advance::advance_asked l = 8 * form_size (form_of l.expr.now) + 1
 abbrev pub decreases-advance::advance_node : goal.decreases-advance::advance_node
 decreases-advance::advance_node l = 8 * form_size (form_of l.expr.now)
 
-abbrev pub decreases-advance::advance_inside : goal.decreases-advance::advance_inside
-decreases-advance::advance_inside l = 8 * form_size (form_of l.expr.now) + 2
+abbrev pub decreases-coupling::advance_couple : goal.decreases-coupling::advance_couple
+decreases-coupling::advance_couple l = 8 * form_size (form_of l.y.now) + 8 * form_size (form_of l.z.now) + 4
+
+abbrev pub decreases-coupling::advance_met : goal.decreases-coupling::advance_met
+decreases-coupling::advance_met l = 8 * form_size (form_of l.expr.now) + 2
+
+abbrev pub decreases-coupling::advance_side : goal.decreases-coupling::advance_side
+decreases-coupling::advance_side l = 8 * form_size (form_of l.expr.now) + 3
 
 abbrev pub decreases-advance::advance_seq : goal.decreases-advance::advance_seq
 decreases-advance::advance_seq l = 8 * form_size (form_of l.y.now) + 8 * form_size (form_of l.z.now) + 4
@@ -111,10 +117,10 @@ abbrev pub decreases-parallel::advance_pick : goal.decreases-parallel::advance_p
 decreases-parallel::advance_pick l = 8 * form_size (form_of l.runs.expr.now) + 3
 
 abbrev pub decreases-quantifiers::advance_values : goal.decreases-quantifiers::advance_values
-decreases-quantifiers::advance_values l = 8 * form_size (form_of l.body.expr.now) + 5
+decreases-quantifiers::advance_values l = 8 * form_size (form_of l.body.expr.now) + 6
 
 abbrev pub decreases-quantifiers::advance_entries : goal.decreases-quantifiers::advance_entries
-decreases-quantifiers::advance_entries l = 8 * form_size (form_of l.body.expr.now) + 4
+decreases-quantifiers::advance_entries l = 8 * form_size (form_of l.body.expr.now) + 5
 
 abbrev pub invariant-quantifiers::advance_entries-loop-value : goal.invariant-quantifiers::advance_entries-loop-value
 invariant-quantifiers::advance_entries-loop-value l = record {
@@ -124,16 +130,16 @@ invariant-quantifiers::advance_entries-loop-value l = record {
 }
 
 abbrev pub decreases-quantifiers::advance_any : goal.decreases-quantifiers::advance_any
-decreases-quantifiers::advance_any l = 8 * form_size (form_of l.body.expr.now) + 6
+decreases-quantifiers::advance_any l = 8 * form_size (form_of l.body.expr.now) + 7
 
 abbrev pub decreases-quantifiers::advance_every : goal.decreases-quantifiers::advance_every
-decreases-quantifiers::advance_every l = 8 * form_size (form_of l.body.expr.now) + 6
+decreases-quantifiers::advance_every l = 8 * form_size (form_of l.body.expr.now) + 7
 
 abbrev pub decreases-quantifiers::advance_sync : goal.decreases-quantifiers::advance_sync
-decreases-quantifiers::advance_sync l = 8 * form_size (form_of l.body.expr.now) + 6
+decreases-quantifiers::advance_sync l = 8 * form_size (form_of l.body.expr.now) + 7
 
 abbrev pub decreases-quantifiers::advance_own : goal.decreases-quantifiers::advance_own
-decreases-quantifiers::advance_own l = 8 * form_size (form_of l.body.expr.now) + 4
+decreases-quantifiers::advance_own l = 8 * form_size (form_of l.body.expr.now) + 5
 
 abbrev pub invariant-quantifiers::advance_own-loop-value : goal.invariant-quantifiers::advance_own-loop-value
 invariant-quantifiers::advance_own-loop-value l = record {
@@ -143,7 +149,7 @@ invariant-quantifiers::advance_own-loop-value l = record {
 }
 
 abbrev pub decreases-quantifiers::advance_at : goal.decreases-quantifiers::advance_at
-decreases-quantifiers::advance_at l = 8 * form_size (form_of l.body.expr.now) + 3
+decreases-quantifiers::advance_at l = 8 * form_size (form_of l.body.expr.now) + 4
 
 abbrev pub decreases-maps::advance_all : goal.decreases-maps::advance_all
 decreases-maps::advance_all l = 8 * form_size (form_of l.body.expr.now) + 6
