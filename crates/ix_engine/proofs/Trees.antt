@@ -19,3 +19,7 @@ tree_proper x w t e = subst (IsProper x) (sym e) (proper x [] w)
 -- the tree of a partial word is live
 pub partial_live : (x : Form) (w : Word) (t : Plain) → Fits x [] → t ≡ tree_of x [] w → IsPartial x [] w → is_dead t ≡ false
 partial_live x w t fits e p = subst (λ s. is_dead s ≡ false) (sym e) ((tree_tells x (fits_name x [] fits) [] w).partial.1 p)
+
+-- and a word whose tree is live is partial
+pub live_partial : (x : Form) (w : Word) (t : Plain) → Fits x [] → t ≡ tree_of x [] w → is_dead t ≡ false → IsPartial x [] w
+live_partial x w t fits e live = (tree_tells x (fits_name x [] fits) [] w).partial.0 (subst (λ s. is_dead s ≡ false) e live)

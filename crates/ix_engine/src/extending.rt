@@ -41,14 +41,14 @@ pub(crate) fn extend(
         → Extends (form_of expr.now) limit history action.now result }
 {
     let env = Env::new();
-    if !can(tree, expr, &env, action) {
-        return Err(PrepareFault::NotPartial);
-    }
-    if actions == MOST_ACTIONS {
+    if actions == MOST_ACTIONS && can(tree, expr, &env, action) {
         return Err(PrepareFault::Full);
     }
     match step(alloc, tree, expr, &env, action, limit) {
-        Ok(tree) => Ok(tree),
+        Ok(next) if next.is_dead() => Err(PrepareFault::NotPartial),
+        Ok(next) => Ok(next),
+        // A tree that isn't built may be dead, and then nothing else is told.
+        Err(_) if !can(tree, expr, &env, action) => Err(PrepareFault::NotPartial),
         Err(BuildFault::Over { limit }) => Err(PrepareFault::Over { limit }),
         Err(BuildFault::Memory) => Err(PrepareFault::Memory),
     }
