@@ -57,6 +57,7 @@ fn a_client_asks_and_gets_its_reply(rt: HostRuntime) -> Result<(), Fail> {
     let mut buf = [0; 64];
     assert_eq!(rt; next_kind(&mut site, &mut buf), Some(EventKind::Bytes(7)));
     assert!(rt; &buf[..7] == b"status\n".as_slice());
+    assert!(rt; site.send(1, b"yes\n").is_err());
     assert!(rt; site.send(0, b"no\n").is_ok());
     let mut reply = [0; 3];
     client.read_exact(&mut reply)?;
@@ -94,8 +95,10 @@ fn a_file_keeps_what_is_written_and_is_attached_once(rt: HostRuntime) -> Result<
     let folder = new_folder(&rt, "journal")?;
     let journal = format!(in rt.alloc(); "{folder}/journal")?;
     let mut site = RealSite::new(&rt);
+    assert!(rt; site.attach("/dev/null").is_err());
     assert!(rt; site.attach(&journal).is_ok());
-    assert!(rt; site.write_at(0, b"abcdef").is_ok());
+    assert!(rt; site.write_at(0, b"abc").is_ok());
+    assert!(rt; site.write_at(3, b"def").is_ok());
     assert!(rt; site.cut(5).is_ok());
     assert!(rt; site.sync().is_ok());
     assert!(rt; site.length() == Ok(5));
