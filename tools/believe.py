@@ -200,18 +200,31 @@ def sources():
     return [Source(path) for path in paths if os.path.basename(path) != "tests.rt"]
 
 
+def functions_named(text):
+    """The functions of our crates that a program names, in a use or by their path: pairs of a crate and a name."""
+    named = set(re.findall(r"\b(ix_\w+)::([a-z]\w*)", text))
+    for crate, items in re.findall(r"\buse (ix_\w+)::\{([^}]*)\}", text):
+        named |= {(crate, name) for name in re.findall(r"\b[a-z]\w*", items)}
+    return sorted(named)
+
+
 def top_calls(files):
     """The claims of the programs: what each main calls of our crates, and the traits that these calls range over."""
     calls, traits = [], []
     for program in files:
         if not program.path.endswith("/src/main.rt"):
             continue
-        for crate, name in re.findall(r"(?m)^use (ix_\w+)::([a-z]\w*);", program.text):
+        for crate, name in functions_named(program.text):
             at_home = [(file, file.item("fn", name)) for file in files if file.path.startswith("crates/%s/" % crate)]
             calls += [pair for pair in at_home if pair[1]]
-    for _, call in calls:
-        for trait in re.findall(r"\b[A-Z]\w*: ([A-Z]\w*)", call.partition("(")[0]):
-            traits += [(file, file.item("trait", trait)) for file in files if file.item("trait", trait)]
+    ahead, seen = [call for _, call in calls], set()
+    while ahead:
+        # A bound stands anywhere in a signature, and that of a trait in its head.
+        for name in set(re.findall(r"\b[A-Z]\w*", ahead.pop())) - seen:
+            seen.add(name)
+            found = [(file, file.item("trait", name)) for file in files if file.item("trait", name)]
+            traits += found
+            ahead += [trait.partition("{")[0] for _, trait in found]
     return calls, traits
 
 

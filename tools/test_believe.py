@@ -17,6 +17,15 @@ CLAUSE = "    ensures puts {"
 COUNTS = "crates/ix_outside/specs/Counts.antt"
 INSIDE = "crates/ix_manage/specs/inside/Fooling.antt"
 
+def other(call, program="use ix_fooling::other;\nfn main() {}\n"):
+    """Another program, whose call or a trait of it has a clause on what isn't to be believed."""
+    return [
+        (INSIDE, "", "-- Fools.\nabbrev pub hidden : Type 0\nhidden = Type 0\n"),
+        ("crates/ix_other/src/main.rt", "", program),
+        ("crates/ix_fooling/src/lib.rt", "", "ghost use Rattle.ix_manage.specs.inside.Fooling.{hidden};\n"
+         "pub trait Fools {\n    fn fool(&self)\n        ensures { hidden };\n}\n" + call)]
+
+
 WAYS = {
     "a clause cites a lemma of proofs": (
         [(CALL, FIRST_USE, FIRST_USE + "ghost use Rattle.ix_manage.proofs.Fooling.{hides};\n"),
@@ -46,6 +55,21 @@ WAYS = {
          ("crates/ix_other/src/main.rt", "", "use ix_fooling::other;\nfn main() {}\n"),
          ("crates/ix_fooling/src/lib.rt", "", "ghost use Rattle.ix_manage.specs.inside.Fooling.{hidden};\n"
           "pub fn other() -> u8\n    ensures { hidden }\n{\n    0\n}\n")],
+        "a claim reaches hidden"),
+    "a new program's call is named in braces": (
+        other("pub fn other() -> u8\n    ensures { hidden }\n{\n    0\n}\n", "use ix_fooling::{other};\nfn main() {}\n"),
+        "a claim reaches hidden"),
+    "a new program's call is named by its path": (
+        other("pub fn other() -> u8\n    ensures { hidden }\n{\n    0\n}\n", "fn main() { ix_fooling::other(); }\n"),
+        "a claim reaches hidden"),
+    "a bound stands behind a plus": (
+        other("pub fn other<S: Drop + Fools>(s: &S) -> u8\n{\n    0\n}\n"), "a claim reaches hidden"),
+    "a bound stands in a where": (
+        other("pub fn other<S>(s: &S) -> u8\nwhere\n    S: Fools,\n{\n    0\n}\n"), "a claim reaches hidden"),
+    "a bound stands at a parameter": (
+        other("pub fn other(s: &impl Fools) -> u8\n{\n    0\n}\n"), "a claim reaches hidden"),
+    "a bound has a bound": (
+        other("pub trait Above: Fools {\n}\npub fn other<S: Above>(s: &S) -> u8\n{\n    0\n}\n"),
         "a claim reaches hidden"),
     "a clause says less under its old name": (
         [(CALL, "result ≡ 5\n", "result ≡ 55\n")], "its lists aren't those of the claims"),
