@@ -186,9 +186,10 @@ class Source:
         self.text = re.sub(r"ghost use [^;]*;", "", text)
 
     def item(self, kind, name):
-        """The text of a public function up to its body, or of a whole public trait; empty where it has none."""
-        found = re.search(r"(?ms)^pub %s %s\b.*?^(?:%s)" % (kind, name, r"\{" if kind == "fn" else r"\}"), self.text)
-        return found.group(0) if found else ""
+        """The text of the public functions of this name up to their bodies, those of types too, or of a whole public trait;
+        empty where it has none."""
+        found = re.finditer(r"(?ms)^( *)pub %s %s\b.*?^\1%s" % (kind, name, r"\{" if kind == "fn" else r"\}"), self.text)
+        return "\n".join(text.group(0) for text in found)
 
     def laws(self):
         """The public functions whose body is empty, or holds only calls without arguments: those of laws below."""
@@ -201,11 +202,13 @@ def sources():
 
 
 def functions_named(text):
-    """The functions of our crates that a program names, in a use or by their path: pairs of a crate and a name."""
-    named = set(re.findall(r"\b(ix_\w+)::([a-z]\w*)", text))
+    """The functions of our crates that a program names, in a use, by their path or by a type that it uses: pairs of a crate
+    and a name."""
+    used = set(re.findall(r"\b(ix_\w+)::(\w+)", text))
     for crate, items in re.findall(r"\buse (ix_\w+)::\{([^}]*)\}", text):
-        named |= {(crate, name) for name in re.findall(r"\b[a-z]\w*", items)}
-    return sorted(named)
+        used |= {(crate, name) for name in re.findall(r"\b[A-Za-z]\w*", items)}
+    methods = {(crate, method) for crate, name in used for method in re.findall(r"\b%s::([a-z]\w*)" % name, text)}
+    return sorted({(crate, name) for crate, name in used if name[0].islower()} | methods)
 
 
 def top_calls(files):

@@ -62,6 +62,10 @@ WAYS = {
     "a new program's call is named by its path": (
         other("pub fn other() -> u8\n    ensures { hidden }\n{\n    0\n}\n", "fn main() { ix_fooling::other(); }\n"),
         "a claim reaches hidden"),
+    "a new program's call is one of a type": (
+        other("pub struct Other;\nimpl Other {\n    pub fn other() -> u8\n        ensures { hidden }\n    {\n        0\n    }\n}\n",
+              "use ix_fooling::{Other, Second};\nfn main() { Other::other(); }\n"),
+        "a claim reaches hidden"),
     "a bound stands behind a plus": (
         other("pub fn other<S: Drop + Fools>(s: &S) -> u8\n{\n    0\n}\n"), "a claim reaches hidden"),
     "a bound stands in a where": (
