@@ -43,6 +43,19 @@ def page(folder, name):
         return sock.makefile().read()
 
 
+def connect(sock, path):
+    """Connects within the socket's time limit. One with a limit is refused at once where the queue of connections is
+    full, and tries again after a pause."""
+    end = time.monotonic() + sock.gettimeout()
+    while True:
+        try:
+            return sock.connect(path)
+        except BlockingIOError:
+            if time.monotonic() >= end:
+                raise
+            time.sleep(0.01)
+
+
 class Client:
     """A connection that sends bytes and reads whole replies."""
 
@@ -50,7 +63,7 @@ class Client:
         self.sock = socket.socket(socket.AF_UNIX)
         self.sock.settimeout(timeout)
         try:
-            self.sock.connect(path)
+            connect(self.sock, path)
         except OSError:
             self.sock.close()
             raise
