@@ -10,7 +10,7 @@ mod tree;
 mod weight;
 
 pub use node::{Bag, Knot, Map, Node, Pair};
-pub use share::{push_shared, share_entries, share_knots};
+pub use share::{push_shared, push_shared_entries, share_entries, share_knots};
 pub use tree::Tree;
 
 #[cfg(test)]

@@ -29,6 +29,24 @@ pub fn share_knots(alloc: Global, knots: &[Knot]) -> Result<Vec<Knot>, AllocErro
     Ok(shared)
 }
 
+/// Appends the same values with equal knots of the same nodes, in the same order. There is room for
+/// them, so none is asked for. After an error the first few of them may have been appended.
+pub fn push_shared_entries(
+    shared: &mut Vec<(Value, Knot)>,
+    entries: &[(Value, Knot)],
+) -> Result<(), AllocError>
+    requires room { vec_len shared.old + length entries.now ≤ vec_capacity shared.old }
+    ensures items { OnOk result (shared.new.items ≡ shared.old.items ++ entries.now) }
+    ensures len { OnOk result (vec_len shared.new ≡ vec_len shared.old + length entries.now) }
+    ensures capacity { vec_capacity shared.new ≡ vec_capacity shared.old }
+{
+    for entry in entries {
+        let knot = entry.1.share()?;
+        shared.push_reserved((entry.0, knot));
+    }
+    Ok(())
+}
+
 /// The same values with equal knots of the same nodes, in the same order, and room for one more.
 pub fn share_entries(
     alloc: Global,
@@ -37,9 +55,6 @@ pub fn share_entries(
     ensures { IfOk result (λ v. v.items ≡ entries.now) }
 {
     let mut shared = Vec::with_capacity(alloc, entries.len().saturating_add(1))?;
-    for entry in entries {
-        let knot = entry.1.share()?;
-        shared.push_reserved((entry.0, knot));
-    }
+    push_shared_entries(&mut shared, entries)?;
     Ok(shared)
 }
