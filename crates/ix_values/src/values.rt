@@ -92,7 +92,9 @@ impl PartialEq for Value {
         ensures value { result ≡ text_eq self.now other.now }
         ensures same { IsTrue result ↔ (self.now ≡ other.now) }
     {
-        self.bytes() == other.bytes()
+        // Behind a text are zeros, so texts of one length are equal where the arrays are. Comparing
+        // those takes no loop and no call.
+        self.len == other.len && self.bytes == other.bytes
     }
 }
 
