@@ -34,11 +34,11 @@ parameter_is p (Param q) h = ap (λ r. Param r) ((text_eq-decides p q).0 h)
 pair_is : (p v : List ℕ) (argument : Arg) (u : List ℕ) → is_pair p v (argument, u) ≡ true
     → Param p ≡ argument × v ≡ u
 pair_is p v argument u h =
-    let k = both (text_eq u v) (is_parameter p argument) h in
-    (parameter_is p argument k.1, sym ((text_eq-decides u v).0 k.0))
+    let k = both (is_parameter p argument) (text_eq u v) h in
+    (parameter_is p argument k.0, sym ((text_eq-decides u v).0 k.1))
 
 is_found : (p v : List ℕ) → is_pair p v (Param p, v) ≡ true
-is_found p v = both_true ((text_eq-decides v v).1 refl) ((text_eq-decides p p).1 refl)
+is_found p v = both_true ((text_eq-decides p p).1 refl) ((text_eq-decides v v).1 refl)
 
 pub pair_member : (p v : List ℕ) (pairs : List Pair)
     → list_any (is_pair p v) pairs ≡ true → Member (Param p, v) pairs

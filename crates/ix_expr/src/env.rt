@@ -1,6 +1,6 @@
 //! Environments: what parameters stand for.
 
-ghost use Rattle.std.specs.Prelude.{◌≡◌, ◌<◌, false, [], ◌∷◌, length};
+ghost use Rattle.std.specs.Prelude.{◌≡◌, ◌<◌, ◌↔◌, IsTrue, Some, false, [], ◌∷◌, length};
 ghost use Rattle.ix_expr.specs.Environment.{bind, value_in};
 ghost use Rattle.ix_expr.specs.FormFaults.{binders_of, is_bound};
 
@@ -69,17 +69,29 @@ impl Env {
         self.count += 1;
     }
 
-    /// The value of the parameter `name`, or None where it is outside or isn't there.
-    pub(crate) fn value(&self, name: &Name) -> Option<Value>
-        ensures { result ≡ value_in self.now name.now }
+    /// Whether the parameter `name` stands for `value`. Of two entries of it the newer counts; one
+    /// that has none is outside.
+    pub(crate) fn gives(&self, name: &Name, value: &Value) -> bool
+        ensures { IsTrue result ↔ (value_in self.now name.now ≡ Some value.now) }
     {
-        let mut value = None;
-        for entry in &self.entries[..self.count as usize] {
-            if entry.0 == *name {
-                value = entry.1;
+        let entries = &self.entries[..self.count as usize];
+        for index in (0..entries.len()).rev() {
+            let (parameter, given) = &entries[index];
+            if parameter == name {
+                return equals(given, value);
             }
         }
-        value
+        false
+    }
+}
+
+/// Whether what is given is this value. Outside equals no value.
+fn equals(given: &Option<Value>, value: &Value) -> bool
+    ensures { IsTrue result ↔ (given.now ≡ Some value.now) }
+{
+    match given {
+        Some(own) => own == value,
+        None => false,
     }
 }
 

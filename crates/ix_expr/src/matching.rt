@@ -38,6 +38,6 @@ fn has_value(arg: &Arg, env: &Env, value: &Value) -> bool
 {
     match arg {
         Arg::Fixed(own) => own == value,
-        Arg::Param(name) => env.value(name) == Some(*value),
+        Arg::Param(name) => env.gives(name, value),
     }
 }

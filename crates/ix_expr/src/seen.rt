@@ -47,5 +47,5 @@ fn has_pair(args: &[Arg], values: &[Value], parameter: &Name, value: &Value) -> 
 {
     args.iter()
         .zip(values)
-        .any(|(arg, own)| own == value && is_parameter(arg, parameter))
+        .any(|(arg, own)| is_parameter(arg, parameter) && own == value)
 }

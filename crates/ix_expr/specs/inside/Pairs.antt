@@ -6,4 +6,4 @@ use Rattle.ix_expr.specs.FormFaults.{is_parameter}
 
 -- whether the pair is the parameter p beside the value v
 abbrev pub is_pair : List ℕ → List ℕ → Arg × List ℕ → Bool
-is_pair p v pair = text_eq pair.1 v && is_parameter p pair.0
+is_pair p v pair = is_parameter p pair.0 && text_eq pair.1 v
