@@ -4,6 +4,7 @@ ghost use Rattle.std.specs.Prelude.{◌≡◌, ◌≤◌, ◌↔◌, IsTrue, len
 ghost use Rattle.std.specs.List.{list_all};
 ghost use Rattle.ix_values.specs.Bytes as spec;
 ghost use Rattle.ix_values.specs.inside.Padding.{padded};
+ghost use Rattle.ix_values.specs.Texts as texts;
 ghost use Rattle.ix_values.specs.Texts.{IsName, IsValue};
 
 /// Whether `byte` is an ASCII letter, an ASCII digit or `_`.
@@ -30,8 +31,15 @@ pub(crate) fn is_value(text: &[u8]) -> bool
 pub(crate) fn is_name(text: &[u8]) -> bool
     ensures { IsTrue result ↔ IsName text.now }
 {
+    begins_with_letter(text) && is_value(text)
+}
+
+/// Whether the first byte of `text` is there and is a letter.
+pub(crate) fn begins_with_letter(text: &[u8]) -> bool
+    ensures { result ≡ texts.begins_with_letter text.now }
+{
     match text.first() {
-        Some(first) => first.is_ascii_alphabetic() && is_value(text),
+        Some(first) => first.is_ascii_alphabetic(),
         None => false,
     }
 }

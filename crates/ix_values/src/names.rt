@@ -44,10 +44,7 @@ impl Name {
             (λ name. (name ≡ text.now) × IsName text.now) }
     {
         if is_name(text) {
-            Some(Name {
-                bytes: zero_padded(text),
-                len: text.len() as u8,
-            })
+            Some(Name::of_text(text))
         } else {
             None
         }
@@ -58,9 +55,9 @@ impl Name {
         requires { IsName text.now }
         ensures { result ≡ text.now }
     {
-        match Name::read(text) {
-            Some(name) => name,
-            None => unreachable!(),
+        Name {
+            bytes: zero_padded(text),
+            len: text.len() as u8,
         }
     }
 

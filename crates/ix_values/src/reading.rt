@@ -7,10 +7,11 @@ ghost use Rattle.ix_values.specs.Laws.{ActionTextsHaveOneFault};
 ghost use Rattle.ix_values.specs.PlainAction.{text_of};
 ghost use Rattle.ix_values.specs.inside.Causes.{code_of};
 ghost use Rattle.ix_values.specs.inside.FirstWord as spec;
-ghost use Rattle.ix_values.specs.Texts.{IsAction, IsName, IsValue, begins_with_letter};
+ghost use Rattle.ix_values.specs.Texts as texts;
+ghost use Rattle.ix_values.specs.Texts.{IsAction, IsName, IsValue};
 
 use crate::actions::Action;
-use crate::bytes::is_word_byte;
+use crate::bytes::{begins_with_letter, is_word_byte};
 use crate::faults::{ActionFault, Cause, fault};
 use crate::names::Name;
 use crate::values::Value;
@@ -99,10 +100,13 @@ fn end(text: &[u8], at: usize, action: Action) -> Result<Action, ActionFault>
 /// The name that `text` begins with, or None where its first byte is no letter.
 fn read_name(text: &[u8]) -> Option<Name>
     ensures { MatchOption result
-        (begins_with_letter text.now ≡ false)
+        (texts.begins_with_letter text.now ≡ false)
         (λ name. (name ≡ spec.first_word text.now) × IsName name) }
 {
-    Name::read(&text[..word_length(text)])
+    if !begins_with_letter(text) {
+        return None;
+    }
+    Some(Name::of_text(&text[..word_length(text)]))
 }
 
 /// The value that `text` begins with, or None where its first byte is no word byte.
@@ -111,7 +115,11 @@ fn read_value(text: &[u8]) -> Option<Value>
         (spec.word_length text.now ≡ 0)
         (λ value. (value ≡ spec.first_word text.now) × IsValue value) }
 {
-    Value::read(&text[..word_length(text)])
+    let length = word_length(text);
+    if length == 0 {
+        return None;
+    }
+    Some(Value::of_text(&text[..length]))
 }
 
 /// How many word bytes `text` begins with, at most 32.

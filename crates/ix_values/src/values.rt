@@ -44,10 +44,7 @@ impl Value {
             (λ value. (value ≡ text.now) × IsValue text.now) }
     {
         if is_value(text) {
-            Some(Value {
-                bytes: zero_padded(text),
-                len: text.len() as u8,
-            })
+            Some(Value::of_text(text))
         } else {
             None
         }
@@ -68,9 +65,9 @@ impl Value {
         requires { IsValue text.now }
         ensures { result ≡ text.now }
     {
-        match Value::read(text) {
-            Some(value) => value,
-            None => unreachable!(),
+        Value {
+            bytes: zero_padded(text),
+            len: text.len() as u8,
         }
     }
 
