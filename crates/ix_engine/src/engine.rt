@@ -9,7 +9,7 @@ ghost use Rattle.ix_step.specs.inside.Limits.{most_size};
 ghost use Rattle.ix_engine.specs.inside.Engine.{Allows, Permits, Follows, extended};
 ghost use Rattle.ix_engine.specs.inside.Extending.{AreAllowed, StopsAt};
 
-use crate::extending::{MOST_ACTIONS, extend};
+use crate::extending::{MOST_ACTIONS, Rules, extend};
 use crate::{Next, PrepareFault, ResumeFault};
 use ix_can::{can, is_final};
 use ix_expr::{Env, Expression};
@@ -24,6 +24,7 @@ use std::marker::Model;
 #[derive(Drop)]
 pub struct Engine {
     expression: Expression,
+    env: Env,
     history: Vec<Action>,
     tree: Tree,
     limit: usize,
@@ -50,11 +51,13 @@ impl Model for Engine {
       spare = vec_capacity s.history - vec_len s.history;
     } };
 
-    // The tree is that of the history, and both are within their limits.
+    // The tree is that of the history, both are within their limits, and the environment has no
+    // parameter in it.
     ghost invariant = { λ s. (s.tree ≡ tree_of s.expression [] s.history.items)
         × (length s.history.items ≤ 1000000)
         × (size_of s.tree ≤ s.limit)
-        × (s.limit ≤ 1000000) };
+        × (s.limit ≤ 1000000)
+        × (s.env ≡ []) };
 }
 
 impl Engine {
@@ -74,6 +77,7 @@ impl Engine {
         match initial(alloc, expression.expr(), limit) {
             Ok(tree) => Ok(Engine {
                 expression,
+                env: Env::new(),
                 history: Vec::new(alloc),
                 tree,
                 limit,
@@ -95,12 +99,18 @@ impl Engine {
     {
         let Engine {
             expression,
+            env,
             history: _,
             mut tree,
             limit,
         } = self;
         for (index, action) in actions.iter().enumerate() {
-            match extend(alloc, expression.expr(), &tree, index, action, limit) {
+            let rules = Rules {
+                expr: expression.expr(),
+                env: &env,
+                limit,
+            };
+            match extend(alloc, rules, &tree, index, action) {
                 Ok(next) => tree = next,
                 Err(why) => {
                     let number = index as u64 + 1;
@@ -110,6 +120,7 @@ impl Engine {
         }
         Ok(Engine {
             expression,
+            env,
             history: actions,
             tree,
             limit,
@@ -120,7 +131,7 @@ impl Engine {
     pub fn may(&self, action: &Action) -> bool
         ensures { IsTrue result ↔ Permits self.now action.now }
     {
-        can(&self.tree, self.expression.expr(), &Env::new(), action)
+        can(&self.tree, self.expression.expr(), &self.env, action)
     }
 
     /// Whether the history is a complete word.
@@ -173,7 +184,12 @@ impl Engine {
     {
         let expr = self.expression.expr();
         let actions = self.history.len();
-        match extend(alloc, expr, &self.tree, actions, action, self.limit) {
+        let rules = Rules {
+            expr,
+            env: &self.env,
+            limit: self.limit,
+        };
+        match extend(alloc, rules, &self.tree, actions, action) {
             Ok(tree) => Ok(Next {
                 action: *action,
                 tree,

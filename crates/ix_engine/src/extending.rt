@@ -21,34 +21,45 @@ use std::alloc::Global;
 /// The most actions of a history.
 pub(crate) const MOST_ACTIONS: usize = 1_000_000;
 
+/// What the trees of a history are built by.
+#[derive(Clone, Copy)]
+pub(crate) struct Rules<'a> {
+    /// The expression.
+    pub(crate) expr: &'a Expr,
+    /// The environment with no parameter in it. It is made once, because it takes time to make.
+    pub(crate) env: &'a Env,
+    /// The most that the Size of a tree may be.
+    pub(crate) limit: usize,
+}
+
 /// The tree of a history with one more action behind it, where `tree` is that of the history, which
 /// has so many actions.
 pub(crate) fn extend(
     alloc: Global,
-    expr: &Expr,
+    rules: Rules<'_>,
     tree: &Tree,
     actions: usize,
     action: &Action,
-    limit: usize,
 ) -> Result<Tree, PrepareFault>
-    requires fits { Fits (form_of expr.now) [] }
-    requires proper { IsProper (form_of expr.now) tree.now }
+    requires empty { rules.env.now ≡ [] }
+    requires fits { Fits (form_of rules.expr.now) [] }
+    requires proper { IsProper (form_of rules.expr.now) tree.now }
     requires size { size_of tree.now ≤ most_size }
     requires actions { actions ≤ MOST_ACTIONS }
-    requires limit { limit ≤ most_size }
-    ensures { (history : Word) → tree.now ≡ tree_of (form_of expr.now) [] history
+    requires limit { rules.limit ≤ most_size }
+    ensures { (history : Word) → tree.now ≡ tree_of (form_of rules.entry.expr.now) [] history
         → actions ≡ length history
-        → Extends (form_of expr.now) limit history action.now result }
+        → Extends (form_of rules.entry.expr.now) rules.entry.limit history action.now result }
 {
-    let env = Env::new();
-    if actions == MOST_ACTIONS && can(tree, expr, &env, action) {
+    let Rules { expr, env, limit } = rules;
+    if actions == MOST_ACTIONS && can(tree, expr, env, action) {
         return Err(PrepareFault::Full);
     }
-    match step(alloc, tree, expr, &env, action, limit) {
+    match step(alloc, tree, expr, env, action, limit) {
         Ok(next) if next.is_dead() => Err(PrepareFault::NotPartial),
         Ok(next) => Ok(next),
         // A tree that isn't built may be dead, and then nothing else is told.
-        Err(_) if !can(tree, expr, &env, action) => Err(PrepareFault::NotPartial),
+        Err(_) if !can(tree, expr, env, action) => Err(PrepareFault::NotPartial),
         Err(BuildFault::Over { limit }) => Err(PrepareFault::Over { limit }),
         Err(BuildFault::Memory) => Err(PrepareFault::Memory),
     }

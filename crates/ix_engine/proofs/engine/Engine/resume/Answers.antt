@@ -94,4 +94,5 @@ invariant_of-result c =
       subst (λ (w : Word). length w ≤ 1000000) whole (few c.args.self.form c.args.self.limit _ c.loop-index.invariant.1),
       subst (λ l. size_of c.loop-index.tree ≤ l) (sym limit) size,
       c.self.invariant.3,
+      c.self.invariant.4,
     )
