@@ -90,7 +90,7 @@ impl PartialEq for Value {
         ensures same { IsTrue result ↔ (self.now ≡ other.now) }
     {
         // Behind a text are zeros, so texts of one length are equal where the arrays are. Comparing
-        // those takes no loop and no call.
+        // those takes no loop.
         self.len == other.len && self.bytes == other.bytes
     }
 }
