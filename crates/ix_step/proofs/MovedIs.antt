@@ -21,6 +21,8 @@ use Rattle.ix_can.proofs.MovesShared.{moved_live, first_may}
 use Rattle.ix_can.proofs.MovesTell.{each_step}
 use Rattle.ix_can.proofs.Nodes.{never_dead, same_is, same_from}
 use Rattle.ix_can.proofs.Spent.{Kind, is_the_dead, is_the_done, stays_open, kind, dead_is, open_live, open_not_done, final_done, any_ended}
+use Rattle.ix_can.specs.Tests.{accepts_empty}
+use Rattle.ix_step.specs.inside.BegunSequence.{begun_seq}
 use Rattle.ix_step.specs.inside.Initial.{initial_tree}
 use Rattle.ix_step.specs.inside.MapsAfter.{maps_after, map_after, begun_tree, with_tree}
 use Rattle.ix_step.specs.inside.MovedNode.{moved_node}
@@ -470,3 +472,32 @@ begun_or y z e a f =
     ∙ moved_is (or y z) e (or_of (initial_tree y) (initial_tree z)) a f refl
     ∙ ap (λ t. pruned (or_of (moved y e t a) (moved z e (initial_tree z) a))) (sym (initial_is y []))
     ∙ ap (λ t. pruned (or_of (begun y e a) (moved z e t a))) (sym (initial_is z []))
+
+-- of a sequence it is made of those of both parts
+module _ (z : Form) (e : Environment) (a : PlainAction) where
+  second_ends : (b : Bool) → some_ends z e a (items_of (listed (when b (initial_tree z ∷ [])))) ≡ is_done (begun_again b z e a)
+  second_ends true = or_false (is_done (moved z e (initial_tree z) a)) ∙ ap (λ t. is_done (moved z e t a)) (sym (initial_is z []))
+  second_ends false = refl
+
+  second_opens : (b : Bool) (xs : List Plain) → open_moves z e a (items_of (listed (when b (initial_tree z ∷ [])))) ++ xs ≡ if_open (begun_again b z e a) ++ xs
+  second_opens true xs =
+      append_assoc (if_open (moved z e (initial_tree z) a)) [] xs
+      ∙ ap (λ t. if_open (moved z e t a) ++ xs) (sym (initial_is z []))
+  second_opens false xs = refl
+
+pub begun_seq_is : (y z : Form) (e : Environment) (a : PlainAction) → Fits (seq y z) e → begun (seq y z) e a ≡ begun_seq y z e a
+begun_seq_is y z e a f =
+    ap (λ t. moved (seq y z) e t a) (initial_is (seq y z) [])
+    ∙ moved_is (seq y z) e (initial_tree (seq y z)) a f refl
+    ∙ ap (λ t. pruned (seq_of (unless_done (moved y e t a)) (some_ends z e a second) (set_of (open_moves z e a second ++ when (is_final y (moved y e t a)) (initial_tree z ∷ []))))) (sym (initial_is y []))
+    ∙ ap (λ b. pruned (seq_of (unless_done first) b (set_of (open_moves z e a second ++ begins)))) (second_ends z e a (accepts_empty y))
+    ∙ ap (λ l. pruned (seq_of (unless_done first) (is_done (begun_again (accepts_empty y) z e a)) (set_of l))) (second_opens z e a (accepts_empty y) begins)
+  where
+    second : List Plain
+    second = items_of (listed (when (accepts_empty y) (initial_tree z ∷ [])))
+
+    first : Plain
+    first = begun y e a
+
+    begins : List Plain
+    begins = when (is_final y first) (initial_tree z ∷ [])

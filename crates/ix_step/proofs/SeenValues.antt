@@ -1,12 +1,15 @@
 -- A value of the action that the body doesn't see, and that has no entry, moves as outside does.
 use Rattle.std.proofs.Common.{◌≡◌, ◌⊎◌, inl, inr, ℕ, ◌+◌, ◌<◌, length, true, false, not, List, [], ◌∷◌, ◌++◌, map, take, get_or, Some, None, sym, subst, ap, ◌∙◌, true≢false}
+use Rattle.std.specs.List.{list_any}
 use Rattle.std.specs.Map.{keys_of}
 use Rattle.std.proofs.lemmas.List.{take_more}
 use Rattle.ix_words.specs.Canon.{when}
 use Rattle.ix_words.specs.Each.{Member, here}
 use Rattle.ix_words.proofs.Each.{Each-members, Member-left, Member-right, Member-either}
 use Rattle.ix_words.proofs.Canon.{Member-cases, when-Member, flat_map-Member, canon-same}
+use Rattle.ix_values.specs.Order.{text_eq}
 use Rattle.ix_values.specs.PlainAction.{PlainAction}
+use Rattle.ix_values.specs.lemmas.Order.{text_eq-decides}
 use Rattle.ix_expr.specs.Form.{Form}
 use Rattle.ix_expr.specs.Environment.{Environment, bind}
 use Rattle.ix_expr.specs.Laws.{AtomsAgreeAt}
@@ -19,7 +22,7 @@ use Rattle.ix_can.specs.Nodes.{same_tree}
 use Rattle.ix_can.specs.TreeOf.{entries_of}
 use Rattle.ix_can.specs.inside.May.{tree_at}
 use Rattle.ix_can.specs.inside.Moved.{moved_inside}
-use Rattle.ix_can.proofs.Lists.{itself, when_not}
+use Rattle.ix_can.proofs.Lists.{itself, when_not, any_says}
 use Rattle.ix_can.proofs.MovesAlike.{atoms_alphabet, moved_alike}
 use Rattle.ix_can.proofs.Nodes.{same_from, entry_is}
 use Rattle.ix_step.specs.declared.bodies.Reach.{Reach}
@@ -63,6 +66,19 @@ module _ (y : Form) (p : List ℕ) (a : PlainAction) where
     kept = λ u m. m;
     seen = λ u m. inr (elim (Member-cases m) [ inl same ↦ subst (λ w. ¬ Sees y p w a) (sym same) n | inr none ↦ elim none [ ] ]);
   }
+
+  -- nor is one put in again that is there
+  pub there_already : (v : List ℕ) (values : List (List ℕ)) → list_any (λ u. text_eq u v) values ≡ true → AddsSeen y p a (v ∷ []) values values
+  there_already v values passes = record {
+    within = λ u m. inl m;
+    kept = λ u m. m;
+    seen = λ u m. inl (elim (Member-cases m) [ inl same ↦ subst (λ w. Member w values) (sym same) among | inr none ↦ elim none [ ] ]);
+  }
+    where
+      among : Member v values
+      among =
+          let some = (any_says (λ u. text_eq u v) values).0 passes in
+          subst (λ w. Member w values) ((text_eq-decides some.which v).0 some.passes) some.among
 
   pub come_last : (v : List ℕ) (values : List (List ℕ)) → AddsSeen y p a (v ∷ []) values (values ++ v ∷ [])
   come_last v values = record {

@@ -1,4 +1,5 @@
 -- What contracts between crates and private ones cite, and no claim of the program or law reaches.
+pub mod BegunSequence
 pub mod Builds
 pub mod Makes
 pub mod EnterTrees

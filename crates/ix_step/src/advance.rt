@@ -25,12 +25,13 @@ use crate::coupling::advance_couple;
 use crate::fault::Unbuilt;
 use crate::maps::advance_all;
 use crate::nodes::{
-    dead_knot, done_knot, settled_within, sized_if_live, unless_done, within_if_live,
+    dead_knot, done_knot, is_ended, or_within, settled_within, sized_if_live, within_if_live,
 };
 use crate::one_step::Step;
 use crate::parallel::{advance_par, advance_par_star, advance_times};
 use crate::quantifiers::{advance_any, advance_every, advance_sync};
-use crate::sets::{put_first, put_open};
+use crate::sequences::sequence_of;
+use crate::sets::put_open;
 use ix_alts::AltSet;
 use ix_can::{completes, goes_on};
 use ix_expr::Expr;
@@ -47,6 +48,9 @@ pub(crate) fn advance(step: Step, expr: &Expr, tree: &Knot) -> Result<Knot, Unbu
     ensures { Makes step.entry.limit (moved (form_of expr.now) step.entry.env.now tree.now
         step.entry.action.now) result }
 {
+    if is_ended(tree) {
+        return dead_knot(step);
+    }
     if let (Expr::Couple(y, z), Node::Couple(left, right)) = (expr, tree.node()) {
         return advance_couple(step, y, z, left, right);
     }
@@ -104,7 +108,7 @@ fn advance_node(step: Step, expr: &Expr, tree: &Knot) -> Result<Knot, Unbuilt>
         (Expr::Or(y, z), Node::Or(left, right)) => {
             let left = advance(step, y, left)?;
             let right = advance(step, z, right)?;
-            within_if_live(step, Node::Or(left, right))
+            or_within(step, left, right)
         }
         (Expr::And(y, z), Node::And(left, right)) => {
             let left = advance_asked(step, y, left)?;
@@ -144,11 +148,8 @@ fn advance_seq(step: Step, y: &Expr, z: &Expr, first: &Knot, rest: &[Knot]) -> R
         result }
 {
     let first = advance(step, y, first)?;
-    let (mut set, ended) = advance_each(step, z, rest)?;
-    put_first(step.alloc, &mut set, completes(y, &first), z)?;
-    let left = unless_done(step, first)?;
-    let size = 1 + left.size() + set.total();
-    sized_if_live(step, Node::Seq(left, ended, set.into_items()), size)
+    let (rest, ended) = advance_each(step, z, rest)?;
+    sequence_of(step, y, z, first, rest, ended)
 }
 
 /// Beside the moved alternatives stands one more: the run that begins with the action. The flag

@@ -8,17 +8,21 @@ ghost use Rattle.ix_can.specs.inside.May.{may_first};
 ghost use Rattle.ix_step.specs.inside.Initial.{initial_tree};
 ghost use Rattle.ix_step.specs.inside.Makes.{Makes};
 ghost use Rattle.ix_step.specs.inside.Moves.{begun, begun_again};
+ghost use Rattle.ix_step.specs.inside.BegunSequence.{begun_seq};
 ghost use Rattle.ix_step.specs.inside.Pruned.{pruned};
 ghost use Rattle.ix_step.specs.inside.Ready.{Ready};
 
 use crate::advance::advance;
 use crate::fault::Unbuilt;
-use crate::first::first_tree;
-use crate::nodes::{dead_knot, within_if_live};
+use crate::first::{first_shared, is_complete};
+use crate::nodes::{dead_knot, or_within};
 use crate::one_step::Step;
+use crate::sequences::sequence_of;
+use crate::sets::put_open;
+use ix_alts::AltSet;
 use ix_can::can_first;
 use ix_expr::Expr;
-use ix_tree::{Knot, Node};
+use ix_tree::Knot;
 
 /// The tree of a run that begins with the action, dead where no further run may begin.
 #[cycle(advance)]
@@ -34,7 +38,8 @@ pub(crate) fn advance_again(step: Step, expr: &Expr, again: bool) -> Result<Knot
 }
 
 /// The tree of the one action, dead where it may not come first. Of a choice no more of the tree of
-/// the empty word is built than the sides with which the action may begin.
+/// the empty word is built than the sides with which the action may begin, and of a sequence its
+/// second part alone.
 #[cycle(advance)]
 fn advance_first(step: Step, expr: &Expr) -> Result<Knot, Unbuilt>
     requires { Ready (form_of expr.now) step.env.now (initial_tree (form_of expr.now)) }
@@ -57,10 +62,26 @@ fn advance_either(step: Step, y: &Expr, z: &Expr) -> Result<Knot, Unbuilt>
 {
     let left = advance_first(step, y)?;
     let right = advance_first(step, z)?;
-    within_if_live(step, Node::Or(left, right))
+    or_within(step, left, right)
 }
 
-/// The tree of the empty word, built whole and moved, unless the action is refused.
+/// The second part may begin with the action where the first one may be empty.
+#[cycle(advance)]
+fn advance_first_seq(step: Step, y: &Expr, z: &Expr) -> Result<Knot, Unbuilt>
+    requires first { Ready (form_of y.now) step.env.now (initial_tree (form_of y.now)) }
+    requires second { Ready (form_of z.now) step.env.now (initial_tree (form_of z.now)) }
+    ensures { Makes step.entry.limit (begun_seq (form_of y.now) (form_of z.now) step.entry.env.now
+        step.entry.action.now) result }
+{
+    let first = advance_first(step, y)?;
+    let second = advance_again(step, z, is_complete(y))?;
+    let ended = second.is_done();
+    let mut rest = AltSet::new(step.alloc, step.limit);
+    put_open(&mut rest, second)?;
+    sequence_of(step, y, z, first, rest, ended)
+}
+
+/// The tree of the one action of another form, unless the action is refused.
 #[cycle(advance)]
 fn advance_whole(step: Step, expr: &Expr) -> Result<Knot, Unbuilt>
     requires { Ready (form_of expr.now) step.env.now (initial_tree (form_of expr.now)) }
@@ -70,7 +91,20 @@ fn advance_whole(step: Step, expr: &Expr) -> Result<Knot, Unbuilt>
     if is_refused(step, expr) {
         return dead_knot(step);
     }
-    let tree = first_tree(step.alloc, expr)?;
+    match expr {
+        Expr::Seq(y, z) => advance_first_seq(step, y, z),
+        _ => advance_built(step, expr),
+    }
+}
+
+/// The tree of the empty word, built whole and moved.
+#[cycle(advance)]
+fn advance_built(step: Step, expr: &Expr) -> Result<Knot, Unbuilt>
+    requires { Ready (form_of expr.now) step.env.now (initial_tree (form_of expr.now)) }
+    ensures { Makes step.entry.limit (begun (form_of expr.now) step.entry.env.now
+        step.entry.action.now) result }
+{
+    let tree = first_shared(step, expr)?;
     advance(step, expr, &tree)
 }
 

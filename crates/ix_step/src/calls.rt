@@ -19,12 +19,13 @@ ghost use Rattle.ix_step.specs.inside.Ready.{Ready};
 use crate::advance::advance;
 use crate::fault::{BuildFault, Unbuilt};
 use crate::first::first_tree;
+use crate::leaves::LeafTrees;
 use crate::nodes::bounded;
 use crate::one_step::Step;
 use ix_expr::{Env, Expr};
-use ix_tree::{Knot, Node, Tree};
+use ix_tree::{Knot, Tree};
 use ix_values::Action;
-use std::alloc::Global;
+use std::alloc::{AllocError, Global};
 
 /// The tree of the empty word, if its Size is at most the limit, and else `Over`. It is the same
 /// under every environment that the expression fits.
@@ -57,9 +58,9 @@ pub fn step(
     ensures by_word { (w : Word) → tree.now ≡ tree_of (form_of expr.now) env.now w
         → Builds limit (tree_of (form_of expr.now) env.now (w ++ action.now ∷ [])) result }
 {
-    match moved_within(alloc, tree.knot(), expr, env, action, limit) {
-        Ok(knot) => Ok(Tree::of(knot)),
-        Err(unbuilt) => Err(told(unbuilt, limit)),
+    match LeafTrees::new(alloc) {
+        Ok(leaves) => leaves.step(tree, expr, env, action, limit),
+        Err(AllocError) => Err(BuildFault::Memory),
     }
 }
 
@@ -71,8 +72,8 @@ fn first_within(alloc: Global, expr: &Expr, limit: usize) -> Result<Knot, Unbuil
     bounded(tree, limit)
 }
 
-fn moved_within(
-    alloc: Global,
+pub(crate) fn moved_within(
+    leaves: &LeafTrees,
     tree: &Knot,
     expr: &Expr,
     env: &Env,
@@ -83,15 +84,12 @@ fn moved_within(
     requires limit { limit ≤ most_size }
     ensures { Makes limit (moved (form_of expr.now) env.now tree.now action.now) result }
 {
-    let dead = Knot::new(alloc, Node::Dead)?;
-    let done = Knot::new(alloc, Node::Done)?;
     let step = Step {
         action,
         env,
-        alloc,
+        alloc: leaves.alloc(),
         limit: at_least_one(limit),
-        dead: &dead,
-        done: &done,
+        leaves,
     };
     let moved = advance(step, expr, tree)?;
     bounded(moved, limit)
@@ -108,7 +106,7 @@ fn at_least_one(limit: usize) -> usize
     if limit == 0 { 1 } else { limit }
 }
 
-fn told(unbuilt: Unbuilt, limit: usize) -> BuildFault
+pub(crate) fn told(unbuilt: Unbuilt, limit: usize) -> BuildFault
     ensures { (x : Plain) → IsOver limit x unbuilt → IsAbove limit x result }
 {
     match unbuilt {

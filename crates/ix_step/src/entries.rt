@@ -53,8 +53,8 @@ pub(crate) fn put_tree(
     Ok(total + 1 + size)
 }
 
-/// The values that have entries, and those of the action that the body sees. A value may come
-/// twice. Every other value moves as outside does.
+/// The values that have entries, and those of the action that the body sees. Every other value moves
+/// as outside does.
 pub(crate) fn touched_values(
     alloc: Global,
     body: Body,
@@ -101,6 +101,9 @@ fn push_if_seen(
         (value.now ∷ []) values.old.items values.new.items) }
 {
     if !sees(body.expr, body.parameter, value, action) {
+        return Ok(());
+    }
+    if values.as_slice().contains(value) {
         return Ok(());
     }
     values.push(*value)?;

@@ -10,6 +10,7 @@ ghost use Rattle.ix_can.specs.Tests.{accepts_empty as accepts};
 ghost use Rattle.ix_step.specs.inside.Initial.{initial_tree};
 ghost use Rattle.ix_step.specs.inside.Limits.{most_size};
 
+use crate::one_step::Step;
 use ix_expr::{Expr, accepts_empty};
 use ix_tree::{Bag, Knot, Map, Node, Pair};
 use std::alloc::{AllocError, Global};
@@ -54,6 +55,17 @@ pub(crate) fn first_tree(alloc: Global, expr: &Expr) -> Result<Knot, AllocError>
     }
 }
 
+/// The tree of the empty word, which of an atom is shared.
+pub(crate) fn first_shared(step: Step, expr: &Expr) -> Result<Knot, AllocError>
+    requires { size_of (initial_tree (form_of expr.now)) ≤ most_size }
+    ensures { IfOk result (λ t. t ≡ initial_tree (form_of expr.now)) }
+{
+    match expr {
+        Expr::Atom(_) => step.leaves.start.share(),
+        _ => first_tree(step.alloc, expr),
+    }
+}
+
 /// Where the empty word is complete in y, z may begin.
 #[cycle(first)]
 fn first_seq(alloc: Global, y: &Expr, z: &Expr) -> Result<Knot, AllocError>
@@ -73,7 +85,8 @@ fn first_seq(alloc: Global, y: &Expr, z: &Expr) -> Result<Knot, AllocError>
     Knot::new(alloc, Node::Seq(first, false, rest))
 }
 
-fn is_complete(expr: &Expr) -> bool
+/// Whether the empty word is complete.
+pub(crate) fn is_complete(expr: &Expr) -> bool
     ensures { result ≡ accepts (form_of expr.now) }
 {
     accepts_empty(expr)

@@ -11,13 +11,16 @@ mod coupling;
 mod entries;
 mod fault;
 mod first;
+mod leaves;
 mod maps;
 mod nodes;
 mod one_step;
 mod pairs;
 mod parallel;
 mod quantifiers;
+mod sequences;
 mod sets;
 
 pub use calls::{initial, step};
 pub use fault::BuildFault;
+pub use leaves::LeafTrees;

@@ -136,8 +136,7 @@ fn advance_owner(
         env: &env,
         alloc: step.alloc,
         limit: larger(step.limit, first.size()),
-        dead: step.dead,
-        done: step.done,
+        leaves: step.leaves,
     };
     advance(inside, body.expr, or_first(&state.entries, first, value))
 }

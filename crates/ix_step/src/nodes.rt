@@ -1,14 +1,15 @@
 //! The making of nodes within a limit.
 
-ghost use Rattle.std.specs.Prelude.{◌≡◌, ◌≤◌, ◌^◌, ◌&&◌, not, map, IfOk};
+ghost use Rattle.std.specs.Prelude.{◌≡◌, ◌≤◌, ◌^◌, ◌&&◌, not, true, map, IfOk};
 ghost use Rattle.std.specs.List.{list_all};
 ghost use Rattle.ix_tree.specs.Order.{first_part};
-ghost use Rattle.ix_tree.specs.Plain.{dead, done, is_done, listed, items_of};
+ghost use Rattle.ix_tree.specs.Plain.{dead, done, is_done, listed, items_of, or as or_of};
 ghost use Rattle.ix_tree.specs.PlainOf.{plain_pair, plain_entries};
 ghost use Rattle.ix_tree.specs.inside.PlainNode.{plain_node};
 ghost use Rattle.ix_tree.specs.Size.{size_of};
 ghost use Rattle.ix_can.specs.Nodes.{is_ended, is_spent, only_pair_done, settled, unless_done};
 ghost use Rattle.ix_can.specs.Ways.{is_empty};
+ghost use Rattle.ix_step.specs.inside.Limits.{most_limit};
 ghost use Rattle.ix_step.specs.inside.Makes.{Makes};
 ghost use Rattle.ix_step.specs.inside.Pruned.{has_died, is_none, pruned};
 
@@ -37,20 +38,10 @@ pub(crate) fn settled_within(step: Step, node: Node) -> Result<Knot, Unbuilt>
     requires { size_of (plain_node node) ≤ 2 ^ 32 }
     ensures { Makes step.entry.limit (settled (plain_node node)) result }
 {
-    let size = node.size();
-    settled_sized(step, node, size)
-}
-
-/// The knot of the node, whose Size is known, or the tree that is done where the node is spent.
-/// That is asked first: the Size of a spent node doesn't count.
-fn settled_sized(step: Step, node: Node, size: usize) -> Result<Knot, Unbuilt>
-    requires size { size ≡ size_of (plain_node node) }
-    requires most { size ≤ 2 ^ 32 }
-    ensures { Makes step.entry.limit (settled (plain_node node)) result }
-{
     if is_spent(&node) {
         return done_knot(step);
     }
+    let size = node.size();
     sized(step, node, size)
 }
 
@@ -58,7 +49,7 @@ fn settled_sized(step: Step, node: Node, size: usize) -> Result<Knot, Unbuilt>
 pub(crate) fn done_knot(step: Step) -> Result<Knot, Unbuilt>
     ensures { Makes step.entry.limit done result }
 {
-    Ok(step.done.share()?)
+    Ok(step.leaves.done.share()?)
 }
 
 /// The dead tree in place of one that is done, and else the tree itself.
@@ -66,7 +57,7 @@ pub(crate) fn unless_done(step: Step, tree: Knot) -> Result<Knot, AllocError>
     ensures { IfOk result (λ t. t ≡ unless_done tree) }
 {
     if tree.is_done() {
-        return step.dead.share();
+        return step.leaves.dead.share();
     }
     Ok(tree)
 }
@@ -75,7 +66,7 @@ pub(crate) fn unless_done(step: Step, tree: Knot) -> Result<Knot, AllocError>
 pub(crate) fn dead_knot(step: Step) -> Result<Knot, Unbuilt>
     ensures { Makes step.entry.limit dead result }
 {
-    Ok(step.dead.share()?)
+    Ok(step.leaves.dead.share()?)
 }
 
 /// The knot of the node or, where none of its parts is live, the dead one, or the one that is done
@@ -89,7 +80,8 @@ pub(crate) fn within_if_live(step: Step, node: Node) -> Result<Knot, Unbuilt>
 }
 
 /// The knot of the node, whose Size is known, or, where none of its parts is live, the dead one, or
-/// the one that is done where the node is spent.
+/// the one that is done where the node is spent. Both are asked first: the Size of such a node
+/// doesn't count.
 pub(crate) fn sized_if_live(step: Step, node: Node, size: usize) -> Result<Knot, Unbuilt>
     requires size { size ≡ size_of (plain_node node) }
     requires most { size ≤ 2 ^ 32 }
@@ -98,7 +90,36 @@ pub(crate) fn sized_if_live(step: Step, node: Node, size: usize) -> Result<Knot,
     if has_died(&node) {
         return dead_knot(step);
     }
-    settled_sized(step, node, size)
+    if is_spent(&node) {
+        return done_knot(step);
+    }
+    sized(step, node, size)
+}
+
+/// The knot of `y | z` from both of its states, the dead one where both are dead, or the one that
+/// is done where no action moves either.
+pub(crate) fn or_within(step: Step, left: Knot, right: Knot) -> Result<Knot, Unbuilt>
+    requires first { size_of left ≤ most_limit }
+    requires second { size_of right ≤ most_limit }
+    ensures { Makes step.entry.limit (pruned (or_of left right)) result }
+{
+    if is_ended(&left) && is_ended(&right) {
+        return ended_or(step, &left, &right);
+    }
+    let size = 1 + left.size() + right.size();
+    sized(step, Node::Or(left, right), size)
+}
+
+/// What `y | z` becomes where no action moves either of its states.
+fn ended_or(step: Step, left: &Knot, right: &Knot) -> Result<Knot, Unbuilt>
+    requires first { is_ended left.now ≡ true }
+    requires second { is_ended right.now ≡ true }
+    ensures { Makes step.entry.limit (pruned (or_of left.now right.now)) result }
+{
+    if left.is_dead() && right.is_dead() {
+        return dead_knot(step);
+    }
+    done_knot(step)
 }
 
 /// Whether no part of the node is live, where it is enough that one is.

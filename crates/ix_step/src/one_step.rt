@@ -1,26 +1,22 @@
 //! What each part of a step needs.
 
-ghost use Rattle.std.specs.Prelude.{◌≡◌, ℕ, ◌≤◌};
-ghost use Rattle.ix_tree.specs.Plain.{dead as dead_tree, done as done_tree};
+ghost use Rattle.std.specs.Prelude.{ℕ, ◌≤◌};
 ghost use Rattle.ix_step.specs.inside.Limits.{most_limit};
 
+use crate::leaves::LeafTrees;
 use ix_expr::Env;
-use ix_tree::Knot;
 use ix_values::Action;
 use std::alloc::Global;
 
 /// The action that comes, the values of the parameters, the largest Size of what is built, and the
-/// dead tree and the one that is done, which all such parts share.
+/// trees without parts, which all that is built shares.
 #[derive(Clone, Copy)]
 pub(crate) struct Step<'a> {
     pub(crate) action: &'a Action,
     pub(crate) env: &'a Env,
     pub(crate) alloc: Global,
     pub(crate) limit: usize,
-    pub(crate) dead: &'a Knot,
-    pub(crate) done: &'a Knot,
-    ghost ends: { dead.now ≡ dead_tree },
-    ghost completes: { done.now ≡ done_tree },
+    pub(crate) leaves: &'a LeafTrees,
     ghost positive: { 1 ≤ limit },
     ghost bounded: { limit ≤ most_limit },
 }

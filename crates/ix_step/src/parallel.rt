@@ -50,8 +50,7 @@ pub(crate) fn advance_par(step: Step, y: &Expr, z: &Expr, pairs: &[Pair]) -> Res
         env: step.env,
         alloc: step.alloc,
         limit: larger(step.limit, 65),
-        dead: step.dead,
-        done: step.done,
+        leaves: step.leaves,
     };
     let set = advance_pairs(wide, y, z, pairs)?;
     let size = 1 + set.total();
@@ -113,8 +112,7 @@ pub(crate) fn advance_times(step: Step, number: u8, y: &Expr, bags: &[Bag]) -> R
         env: step.env,
         alloc: step.alloc,
         limit: larger(step.limit, usize::from(number) + 1),
-        dead: step.dead,
-        done: step.done,
+        leaves: step.leaves,
     };
     let runs = Runs {
         expr: y,

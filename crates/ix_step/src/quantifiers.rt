@@ -25,7 +25,7 @@ use crate::bodies::{Body, Reach};
 use crate::coupling::advance_side;
 use crate::entries::{put_tree, touched_values};
 use crate::fault::Unbuilt;
-use crate::nodes::{bounded, settled_within, within_if_live};
+use crate::nodes::{bounded, dead_knot, is_ended, settled_within, within_if_live};
 use crate::one_step::{Step, larger};
 use ix_can::state_at;
 use ix_entries::put;
@@ -118,8 +118,7 @@ pub(crate) fn advance_any(
         env: step.env,
         alloc: step.alloc,
         limit: larger(step.limit, room),
-        dead: step.dead,
-        done: step.done,
+        leaves: step.leaves,
     };
     let (common, entries) = advance_values(wide, body, Reach::All, common, entries)?;
     within_if_live(step, Node::Any(common, entries))
@@ -229,6 +228,9 @@ fn advance_at(
         step.entry.env.now) step.entry.action.now state.now)
         result }
 {
+    if matches!(reach, Reach::All) && is_ended(state) {
+        return dead_knot(step);
+    }
     let mut env = *step.env;
     env.bind(*body.parameter, value);
     let inside = Step {
@@ -236,8 +238,7 @@ fn advance_at(
         env: &env,
         alloc: step.alloc,
         limit: step.limit,
-        dead: step.dead,
-        done: step.done,
+        leaves: step.leaves,
     };
     match reach {
         Reach::All => advance(inside, body.expr, state),

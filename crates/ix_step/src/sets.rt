@@ -12,12 +12,12 @@ ghost use Rattle.ix_step.specs.inside.Makes.{Gathers, Puts};
 ghost use Rattle.ix_step.specs.inside.Moves.{if_open};
 
 use crate::fault::Unbuilt;
-use crate::first::first_tree;
+use crate::first::first_shared;
 use crate::nodes::is_ended;
+use crate::one_step::Step;
 use ix_alts::{AltFault, AltSet, Weight};
 use ix_expr::Expr;
 use ix_tree::Knot;
-use std::alloc::Global;
 
 pub(crate) fn put<T: Ord + Weight + Drop>(set: &mut AltSet<T>, item: T) -> Result<(), Unbuilt>
     requires { T.weight item ≤ 2 ^ 32 }
@@ -47,7 +47,7 @@ pub(crate) fn put_open(set: &mut AltSet<Knot>, tree: Knot) -> Result<(), Unbuilt
 
 /// Where it begins, the tree of the empty word is one more alternative.
 pub(crate) fn put_first(
-    alloc: Global,
+    step: Step,
     set: &mut AltSet<Knot>,
     begins: bool,
     expr: &Expr,
@@ -62,5 +62,5 @@ pub(crate) fn put_first(
     if !begins {
         return Ok(());
     }
-    put(set, first_tree(alloc, expr)?)
+    put(set, first_shared(step, expr)?)
 }

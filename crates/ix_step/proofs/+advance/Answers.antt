@@ -21,7 +21,7 @@ use Rattle.ix_tree.proofs.Alternatives.{weight_of-list}
 use Rattle.ix_tree.proofs.PlainLists.{items_of-listed}
 use Rattle.ix_can.specs.Nodes.{is_done, unless_done, settled, settled_times, set_of}
 use Rattle.ix_can.specs.Laws.{IsProper, IsRising}
-use Rattle.ix_can.specs.Tests.{in_alphabet}
+use Rattle.ix_can.specs.Tests.{in_alphabet, accepts_empty}
 use Rattle.ix_can.specs.inside.May.{may, moves_within, tree_at}
 use Rattle.ix_can.specs.TreeOf.{is_final}
 use Rattle.ix_can.proofs.Lists.{any_from}
@@ -36,7 +36,9 @@ use Rattle.ix_step.specs.inside.Pruned.{pruned}
 use Rattle.ix_step.specs.inside.Ready.{Ready}
 use Rattle.ix_step.specs.declared.bodies.Reach.TheVariants.{OwnAlphabet}
 use Rattle.ix_step.specs.inside.ValueTrees.{part_may, moved_part, common_after, tree_after, touched, TakesIn}
-use Rattle.ix_step.proofs.Arms.{asked, opt_ready, or_first, or_second, and_first, and_second, couple_first, couple_second, seq_first, seq_rest, second_small, star_begins, star_rest}
+use Rattle.ix_can.proofs.Spent.{may_ended}
+use Rattle.ix_expr.proofs.Parts.{fits-operands}
+use Rattle.ix_step.proofs.Arms.{first_ready, asked, opt_ready, or_first, or_second, and_first, and_second, couple_first, couple_second, seq_first, seq_rest, second_small, star_begins, star_rest}
 use Rattle.ix_step.proofs.Beginnings.{initial_is}
 use Rattle.ix_step.proofs.BagsPut.{length-picks, get-picks}
 use Rattle.ix_step.proofs.EntriesPut.{nothing_proper, nothing_held, after_put, upto_size, value_size, keys_ascend}
@@ -46,7 +48,7 @@ use Rattle.ix_step.proofs.Gathering.{each_at, image_at, lot_over, lots_more, lot
 use Rattle.ix_step.proofs.LimitedBags.{some_bag, limited_over, limited_first_over}
 use Rattle.ix_step.proofs.Limits.{moved_is_dead, same_alphabet, inside_over}
 use Rattle.ix_step.proofs.Measure.{form_size}
-use Rattle.ix_step.proofs.MovedIs.{moved_is, begun_dead, begun_or}
+use Rattle.ix_step.proofs.MovedIs.{moved_is, begun_dead, begun_or, begun_seq_is}
 use Rattle.ix_step.proofs.Overs.{unless_over, seq_over, star_over, par_over, entries_count, any_above, every_above, sync_above}
 use Rattle.ix_step.proofs.ParallelArms.{pairs_ready, pairs_small, bags_ready, run_begins, times_ready, times_begins}
 use Rattle.ix_step.proofs.Pruning.{passed, refused, same_passes, and_first_may, and_second_may, no_items, some_items, list_over}
@@ -60,11 +62,19 @@ use Rattle.ix_step.proofs.SeenValues.{item_among, entries_are}
 use Rattle.ix_can.proofs.Keys.{entries_ascend}
 use Rattle.ix_can.proofs.UnseenValues.{unseen_dead}
 use Rattle.ix_step.proofs.+advance.Goals as goal
+use Rattle.ix_step.proofs.+advance.Goals.{quantifiers::advance_at-in-All, quantifiers::advance_at-in_default}
 
 pub advance::advance-returns-then-not-passes : goal.advance::advance-returns-then-not-passes
 advance::advance-returns-then-not-passes t c =
     let x = form_of c.args.expr.now in
     let may_not = refused x c.args.step.env.now c.args.tree.now c.args.step.action.now (sym c.passes.ensures ∙ c.if-not-passes.true) in
+    subst (λ x. Makes c.args.step.limit x c.dead_knot-then-not-passes.result)
+    (sym (moved_is_dead x c.args.step.env.now c.args.tree.now c.args.step.action.now may_not)) c.dead_knot-then-not-passes.ensures
+
+pub advance::advance-returns-then-is_ended : goal.advance::advance-returns-then-is_ended
+advance::advance-returns-then-is_ended t c =
+    let x = form_of c.args.expr.now in
+    let may_not = may_ended x c.args.step.env.now c.args.tree.now c.args.step.action.now (sym c.is_ended.ensures ∙ c.if-is_ended.true) in
     subst (λ x. Makes c.args.step.limit x c.dead_knot.result)
     (sym (moved_is_dead x c.args.step.env.now c.args.tree.now c.args.step.action.now may_not)) c.dead_knot.ensures
 
@@ -99,8 +109,53 @@ beginning::advance_whole-returns-then-is_refused t c =
     subst (λ p. Makes c.args.step.limit p c.dead_knot.result)
     (sym (begun_dead (form_of c.args.expr.now) c.args.step.env.now c.args.step.action.now c.requires.fits (c.is_refused.ensures c.if-is_refused.true))) c.dead_knot.ensures
 
-pub beginning::advance_whole-returns : goal.beginning::advance_whole-returns
-beginning::advance_whole-returns t c =
+pub beginning::advance_whole-advance_first_seq-requires : goal.beginning::advance_whole-advance_first_seq-requires
+beginning::advance_whole-advance_first_seq-requires t c =
+    let is : form_of c.args.expr.now ≡ seq (form_of c.deref.result.now) (form_of c.deref-in-Seq.result.now) = ap form_of c.in-Seq.is ∙ ap (λ v. seq (form_of v) (form_of c.in-Seq.z.value)) (sym c.deref.ensures) ∙ ap (λ v. seq (form_of c.deref.result.now) (form_of v)) (sym c.deref-in-Seq.ensures) in
+    let size = ap form_size is in
+    let fits = fits-operands (seq (form_of c.deref.result.now) (form_of c.deref-in-Seq.result.now)) c.args.step.env.now (subst (λ x. Fits x c.args.step.env.now) is c.requires.fits) in (
+      omega (arith, size),
+      (first_ready fits.0, first_ready fits.1),
+    )
+
+pub beginning::advance_whole-returns-in-Seq : goal.beginning::advance_whole-returns-in-Seq
+beginning::advance_whole-returns-in-Seq t c =
+    let is : form_of c.args.expr.now ≡ seq (form_of c.deref.result.now) (form_of c.deref-in-Seq.result.now) = ap form_of c.in-Seq.is ∙ ap (λ v. seq (form_of v) (form_of c.in-Seq.z.value)) (sym c.deref.ensures) ∙ ap (λ v. seq (form_of c.deref.result.now) (form_of v)) (sym c.deref-in-Seq.ensures) in
+    subst (λ p. Makes c.args.step.limit p c.advance_first_seq.result)
+    (sym (begun_seq_is (form_of c.deref.result.now) (form_of c.deref-in-Seq.result.now) c.args.step.env.now c.args.step.action.now (subst (λ x. Fits x c.args.step.env.now) is c.requires.fits))
+    ∙ ap (λ x. begun x c.args.step.env.now c.args.step.action.now) (sym is)) c.advance_first_seq.ensures
+
+pub beginning::advance_first_seq-advance_first-requires : goal.beginning::advance_first_seq-advance_first-requires
+beginning::advance_first_seq-advance_first-requires t c =
+    (omega arith, c.requires.first)
+
+pub beginning::advance_first_seq-advance_again-requires : goal.beginning::advance_first_seq-advance_again-requires
+beginning::advance_first_seq-advance_again-requires t c =
+    (omega arith, c.requires.second)
+
+pub beginning::advance_first_seq-returns-in_err-first : goal.beginning::advance_first_seq-returns-in_err-first
+beginning::advance_first_seq-returns-in_err-first t c =
+    let y = form_of c.args.y.now in
+    let z = form_of c.args.z.now in
+    let first = begun y c.args.step.env.now c.args.step.action.now in
+    let second = begun_again (accepts_empty y) z c.args.step.env.now c.args.step.action.now in
+    exit_over _ c.from_residual.result _ c.from_residual.ensures.1 c.in_err-first.ensures (λ lt.
+    seq_over c.args.step.limit c.args.step.positive (unless_done first) (is_done second) (canon tree_cmp (if_open second ++ when (is_final y first) (initial_tree z ∷ []))) (omega (arith, unless_over c.args.step.limit c.args.step.positive first lt)))
+
+pub beginning::advance_first_seq-returns-in_err-second : goal.beginning::advance_first_seq-returns-in_err-second
+beginning::advance_first_seq-returns-in_err-second t c =
+    let y = form_of c.args.y.now in
+    let z = form_of c.args.z.now in
+    let first = begun y c.args.step.env.now c.args.step.action.now in
+    let second = begun_again (accepts_empty y) z c.args.step.env.now c.args.step.action.now in
+    let begins = when (is_final y first) (initial_tree z ∷ []) in
+    let same = ap (λ b. size_of (begun_again b z c.args.step.env.now c.args.step.action.now)) c.is_complete.ensures in
+    exit_over _ c.from_residual-in_err-second.result _ c.from_residual-in_err-second.ensures.1 c.in_err-second.ensures (λ lt.
+    let k = open_over c.args.step.limit second [] c.args.step.positive (omega (arith, same, lt)) in
+    seq_over c.args.step.limit c.args.step.positive (unless_done first) (is_done second) (canon tree_cmp (if_open second ++ begins)) (omega (arith, front_of_set (if_open second) begins, k)))
+
+pub beginning::advance_built-returns : goal.beginning::advance_built-returns
+beginning::advance_built-returns t c =
     let x = form_of c.args.expr.now in
     subst (λ p. Makes c.args.step.limit p c.advance.result)
     (ap (λ p. moved x c.args.step.env.now p c.args.step.action.now) (c.in_ok-tree.ensures ∙ sym (initial_is x []))) c.advance.ensures
@@ -212,8 +267,8 @@ advance::advance_seq-returns-in_err-first t c =
     exit_over _ c.from_residual.result _ c.from_residual.ensures.1 c.in_err-first.ensures (λ lt.
     seq_over c.args.step.limit c.args.step.positive (unless_done m) (some_ends z c.args.step.env.now c.args.step.action.now rest) (canon tree_cmp (second_parts (form_of c.args.y.now) z c.args.step.env.now c.args.step.action.now m rest)) (omega (arith, unless_over c.args.step.limit c.args.step.positive m lt)))
 
-pub advance::advance_seq-returns-in_err-set : goal.advance::advance_seq-returns-in_err-set
-advance::advance_seq-returns-in_err-set t c =
+pub advance::advance_seq-returns-in_err-rest : goal.advance::advance_seq-returns-in_err-rest
+advance::advance_seq-returns-in_err-rest t c =
     let z = form_of c.args.z.now in
     let m = moved (form_of c.args.y.now) c.args.step.env.now c.args.first.now c.args.step.action.now in
     let rest = items_of (listed c.args.rest.now) in
@@ -221,41 +276,25 @@ advance::advance_seq-returns-in_err-set t c =
     let more = when (is_final (form_of c.args.y.now) m) (initial_tree z ∷ []) in
     let same = ap (λ l. size_all (put_all (open_moves z c.args.step.env.now c.args.step.action.now l) [])) (items_of-listed c.args.rest.now) in
     let k = front_of_set ms more in
-    exit_over _ c.from_residual-in_err-set.result _ c.from_residual-in_err-set.ensures.1 c.in_err-set.ensures (λ lt.
+    exit_over _ c.from_residual-in_err-rest.result _ c.from_residual-in_err-rest.ensures.1 c.in_err-rest.ensures (λ lt.
     seq_over c.args.step.limit c.args.step.positive (unless_done m) (some_ends z c.args.step.env.now c.args.step.action.now rest) (canon tree_cmp (second_parts (form_of c.args.y.now) z c.args.step.env.now c.args.step.action.now m rest)) (omega (arith, same, k, lt)))
 
-pub advance::advance_seq-returns-in_err-put_first : goal.advance::advance_seq-returns-in_err-put_first
-advance::advance_seq-returns-in_err-put_first t c =
-    let z = form_of c.args.z.now in
-    let m = moved (form_of c.args.y.now) c.args.step.env.now c.args.first.now c.args.step.action.now in
-    let rest = items_of (listed c.args.rest.now) in
-    let begins = c.completes.ensures ∙ ap (is_final (form_of c.args.y.now)) c.in_ok-first.ensures.0 in
-    let whole = set_is (open_moves z c.args.step.env.now c.args.step.action.now c.args.rest.now) (when c.completes.result (initial_tree z ∷ [])) _ c.in_ok-set.ensures.0
-    ∙ ap (λ b. set_of (open_moves z c.args.step.env.now c.args.step.action.now c.args.rest.now ++ when b (initial_tree z ∷ []))) begins
-    ∙ ap (λ l. set_of (second_parts (form_of c.args.y.now) z c.args.step.env.now c.args.step.action.now m l)) (sym (items_of-listed c.args.rest.now)) in
-    exit_over _ c.from_residual-in_err-put_first.result _ c.from_residual-in_err-put_first.ensures.1 c.in_err-put_first.ensures.gathers (λ lt.
-    seq_over c.args.step.limit c.args.step.positive (unless_done m) (some_ends z c.args.step.env.now c.args.step.action.now rest) (canon tree_cmp (second_parts (form_of c.args.y.now) z c.args.step.env.now c.args.step.action.now m rest)) (omega (arith, ap size_of whole, lt, c.in_ok-set.ensures.1)))
-
-pub advance::advance_seq-sized_if_live-requires-clause-size : goal.advance::advance_seq-sized_if_live-requires-clause-size
-advance::advance_seq-sized_if_live-requires-clause-size t c =
-    omega (arith, tree_weights c.put_first.new.set.items, ap size_all c.into_items.ensures.items)
+pub advance::advance_seq-sequence_of-requires-clause-first : goal.advance::advance_seq-sequence_of-requires-clause-first
+advance::advance_seq-sequence_of-requires-clause-first t c =
+    omega (arith, ap size_of c.in_ok-first.ensures.0, c.in_ok-first.ensures.1)
 
 pub advance::advance_seq-returns : goal.advance::advance_seq-returns
 advance::advance_seq-returns t c =
+    let y = form_of c.args.y.now in
     let z = form_of c.args.z.now in
-    let m = moved (form_of c.args.y.now) c.args.step.env.now c.args.first.now c.args.step.action.now in
     let rest = items_of (listed c.args.rest.now) in
-    let begins = c.completes.ensures ∙ ap (is_final (form_of c.args.y.now)) c.in_ok-first.ensures.0 in
-    let whole = set_is (open_moves z c.args.step.env.now c.args.step.action.now c.args.rest.now) (when c.completes.result (initial_tree z ∷ [])) _ c.in_ok-set.ensures.0
-    ∙ ap (λ b. set_of (open_moves z c.args.step.env.now c.args.step.action.now c.args.rest.now ++ when b (initial_tree z ∷ []))) begins
-    ∙ ap (λ l. set_of (second_parts (form_of c.args.y.now) z c.args.step.env.now c.args.step.action.now m l)) (sym (items_of-listed c.args.rest.now)) in
-    let items = ap listed (c.into_items.ensures.items ∙ c.in_ok-put_first.ensures.gathers) ∙ whole in
-    let left = c.in_ok-left.ensures ∙ ap unless_done c.in_ok-first.ensures.0 in
-    let ended = c.in_ok-set.ensures.3 ∙ ap (some_ends z c.args.step.env.now c.args.step.action.now) (sym (items_of-listed c.args.rest.now)) in
-    subst (λ x. Makes c.args.step.limit (pruned x) c.sized_if_live.result)
-    (ap (λ x. seq_of x c.in_ok-set.ended (listed c.into_items.result.items)) left
-    ∙ ap (λ b. seq_of (unless_done m) b (listed c.into_items.result.items)) ended
-    ∙ ap (seq_of (unless_done m) (some_ends z c.args.step.env.now c.args.step.action.now rest)) items) c.sized_if_live.ensures
+    let same = sym (items_of-listed c.args.rest.now) in
+    subst (λ x. Makes c.args.step.limit (pruned x) c.sequence_of.result)
+    (ap (λ m. seq_of (unless_done m) c.in_ok-rest.ended (set_of (second_parts y z c.args.step.env.now c.args.step.action.now m c.args.rest.now))) c.in_ok-first.ensures.0
+    ∙ ap (λ b. seq_of (unless_done (moved y c.args.step.env.now c.args.first.now c.args.step.action.now)) b (set_of (second_parts y z c.args.step.env.now c.args.step.action.now (moved y c.args.step.env.now c.args.first.now c.args.step.action.now) c.args.rest.now)))
+    (c.in_ok-rest.ensures.3 ∙ ap (some_ends z c.args.step.env.now c.args.step.action.now) same)
+    ∙ ap (λ l. seq_of (unless_done (moved y c.args.step.env.now c.args.first.now c.args.step.action.now)) (some_ends z c.args.step.env.now c.args.step.action.now rest) (set_of (second_parts y z c.args.step.env.now c.args.step.action.now (moved y c.args.step.env.now c.args.first.now c.args.step.action.now) l))) same)
+    (c.sequence_of.ensures (open_moves z c.args.step.env.now c.args.step.action.now c.args.rest.now) c.in_ok-rest.ensures.0)
 
 pub advance::advance_star-advance_again-requires : goal.advance::advance_star-advance_again-requires
 advance::advance_star-advance_again-requires t c =
@@ -394,8 +433,6 @@ parallel::advance_par-advance_pairs-requires t c =
 
 pub parallel::advance_par-invariant_of-wide : goal.parallel::advance_par-invariant_of-wide
 parallel::advance_par-invariant_of-wide t c = record {
-  ends = c.args.step.ends;
-  completes = c.args.step.completes;
   positive = omega (arith, c.larger.ensures.second);
   bounded = c.larger.ensures.bound 2000010 c.args.step.bounded (omega arith);
 }
@@ -454,8 +491,6 @@ parallel::advance_par_star-returns t c =
 -- of so many runs side by side
 pub parallel::advance_times-invariant_of-wide : goal.parallel::advance_times-invariant_of-wide
 parallel::advance_times-invariant_of-wide t c = record {
-  ends = c.args.step.ends;
-  completes = c.args.step.completes;
   positive = omega (arith, c.args.step.positive, c.larger.ensures.first);
   bounded = c.larger.ensures.bound 2000010 c.args.step.bounded (omega arith);
 }
@@ -704,8 +739,6 @@ quantifiers::advance_values-advance_at-requires t c =
 
 pub quantifiers::advance_any-invariant_of-wide : goal.quantifiers::advance_any-invariant_of-wide
 quantifiers::advance_any-invariant_of-wide t c = record {
-  ends = c.args.step.ends;
-  completes = c.args.step.completes;
   positive = omega (arith, c.larger.ensures.first, c.args.step.positive);
   bounded = c.larger.ensures.bound 2000010 c.args.step.bounded (omega (arith, entries_count c.args.entries.now, c.requires.small, c.values.ensures.valid.few, ap length c.values.ensures.value));
 }
@@ -1072,3 +1105,15 @@ quantifiers::advance_at-returns-in_err-advance_side-in-OwnAlphabet t c =
     subst (λ r. c.args.step.limit < size_of (moved_part r y e a c.args.state.now)) (sym c.in-OwnAlphabet.is)
     (inside_over y e c.args.state.now a c.args.step.limit c.args.step.positive
     (subst (λ f. c.args.step.limit < size_of (moved y f c.args.state.now a)) c.bind.ensures lt)))
+
+pub quantifiers::advance_at-returns-then-is_ended : goal.quantifiers::advance_at-returns-then-is_ended
+quantifiers::advance_at-returns-then-is_ended t c =
+    let y = form_of c.args.body.expr.now in
+    let e = bind c.args.body.parameter.now c.args.value c.args.step.env.now in
+    let stuck = moved_is_dead y e c.args.state.now c.args.step.action.now (may_ended y e c.args.state.now c.args.step.action.now (sym c.is_ended.ensures ∙ c.if-is_ended.true)) in
+    elim c.match-matches.branch [
+      | quantifiers::advance_at-in-All w ↦
+          subst (λ x. Makes c.args.step.limit x c.dead_knot.result)
+          (sym (ap (λ r. moved_part r y e c.args.step.action.now c.args.state.now) w.in-All.is ∙ stuck)) c.dead_knot.ensures
+      | quantifiers::advance_at-in_default w ↦ absurd (true≢false (sym c.if-matches.true ∙ w.matches-is))
+    ]

@@ -41,7 +41,7 @@ abbrev pub decreases-advance::advance_seq : goal.decreases-advance::advance_seq
 decreases-advance::advance_seq l = 8 * form_size (form_of l.y.now) + 8 * form_size (form_of l.z.now) + 4
 
 abbrev pub decreases-advance::advance_star : goal.decreases-advance::advance_star
-decreases-advance::advance_star l = 8 * form_size (form_of l.y.now) + 6
+decreases-advance::advance_star l = 8 * form_size (form_of l.y.now) + 7
 
 abbrev pub decreases-advance::advance_each : goal.decreases-advance::advance_each
 decreases-advance::advance_each l = 8 * form_size (form_of l.expr.now) + 3
@@ -56,16 +56,22 @@ invariant-advance::advance_each-loop-tree l = record {
 }
 
 abbrev pub decreases-beginning::advance_again : goal.decreases-beginning::advance_again
-decreases-beginning::advance_again l = 8 * form_size (form_of l.expr.now) + 5
+decreases-beginning::advance_again l = 8 * form_size (form_of l.expr.now) + 6
 
 abbrev pub decreases-beginning::advance_first : goal.decreases-beginning::advance_first
-decreases-beginning::advance_first l = 8 * form_size (form_of l.expr.now) + 4
+decreases-beginning::advance_first l = 8 * form_size (form_of l.expr.now) + 5
 
 abbrev pub decreases-beginning::advance_either : goal.decreases-beginning::advance_either
-decreases-beginning::advance_either l = 8 * form_size (form_of l.y.now) + 8 * form_size (form_of l.z.now) + 5
+decreases-beginning::advance_either l = 8 * form_size (form_of l.y.now) + 8 * form_size (form_of l.z.now) + 6
+
+abbrev pub decreases-beginning::advance_first_seq : goal.decreases-beginning::advance_first_seq
+decreases-beginning::advance_first_seq l = 8 * form_size (form_of l.y.now) + 8 * form_size (form_of l.z.now) + 7
+
+abbrev pub decreases-beginning::advance_built : goal.decreases-beginning::advance_built
+decreases-beginning::advance_built l = 8 * form_size (form_of l.expr.now) + 3
 
 abbrev pub decreases-beginning::advance_whole : goal.decreases-beginning::advance_whole
-decreases-beginning::advance_whole l = 8 * form_size (form_of l.expr.now) + 3
+decreases-beginning::advance_whole l = 8 * form_size (form_of l.expr.now) + 4
 
 abbrev pub decreases-parallel::advance_par : goal.decreases-parallel::advance_par
 decreases-parallel::advance_par l = 8 * form_size (form_of l.y.now) + 8 * form_size (form_of l.z.now) + 4
@@ -82,10 +88,10 @@ invariant-parallel::advance_pairs-loop-pair l = record {
 }
 
 abbrev pub decreases-parallel::advance_par_star : goal.decreases-parallel::advance_par_star
-decreases-parallel::advance_par_star l = 8 * form_size (form_of l.y.now) + 6
+decreases-parallel::advance_par_star l = 8 * form_size (form_of l.y.now) + 7
 
 abbrev pub decreases-parallel::advance_times : goal.decreases-parallel::advance_times
-decreases-parallel::advance_times l = 8 * form_size (form_of l.y.now) + 6
+decreases-parallel::advance_times l = 8 * form_size (form_of l.y.now) + 7
 
 abbrev pub decreases-parallel::advance_bags : goal.decreases-parallel::advance_bags
 decreases-parallel::advance_bags l = 8 * form_size (form_of l.runs.expr.now) + 5

@@ -4,7 +4,7 @@ use Rattle.ix_tree.specs.Size.{size_of}
 use Rattle.ix_can.specs.TreeOf.{tree_of}
 use Rattle.ix_can.specs.inside.Moved.{moved}
 use Rattle.ix_can.proofs.MovesTell.{each_step}
-use Rattle.ix_step.proofs.calls.step.Goals as goal
+use Rattle.ix_step.proofs.leaves.LeafTrees.step.Goals as goal
 
 pub returns-in-Ok-clause-by_word : goal.returns-in-Ok-clause-by_word
 returns-in-Ok-clause-by_word c = λ w same.
