@@ -13,18 +13,19 @@ use crate::extending::{MOST_ACTIONS, Rules, extend};
 use crate::{Next, PrepareFault, ResumeFault};
 use ix_can::{can, is_final};
 use ix_expr::{Env, Expression};
-use ix_step::{BuildFault, initial};
+use ix_step::{BuildFault, LeafTrees, initial};
 use ix_tree::Tree;
 use ix_values::Action;
 use std::alloc::{AllocError, Global};
 use std::marker::Model;
 
-/// The confirmed actions of an expression, and the state tree of this history,
-/// which is always there.
+/// The confirmed actions of an expression, and the state tree of this history, which is always
+/// there. What its steps share is made once, with the engine.
 #[derive(Drop)]
 pub struct Engine {
     expression: Expression,
     env: Env,
+    leaves: LeafTrees,
     history: Vec<Action>,
     tree: Tree,
     limit: usize,
@@ -74,10 +75,14 @@ impl Engine {
         ensures over { (l : ℕ) → result ≡ Err (BuildFault.Over l)
             → (l ≡ limit) × (limit < tree_size expression []) }
     {
+        let Ok(leaves) = LeafTrees::new(alloc) else {
+            return Err(BuildFault::Memory);
+        };
         match initial(alloc, expression.expr(), limit) {
             Ok(tree) => Ok(Engine {
                 expression,
                 env: Env::new(),
+                leaves,
                 history: Vec::new(alloc),
                 tree,
                 limit,
@@ -89,7 +94,7 @@ impl Engine {
     /// Takes a list of actions, the oldest first, as the history of an engine that has none. The
     /// list itself is kept. Of the first action that `prepare` would refuse behind those in front
     /// of it the number and the refusal are told; the engine and the list are dropped then.
-    pub fn resume(self, alloc: Global, actions: Vec<Action>) -> Result<Engine, ResumeFault>
+    pub fn resume(self, _alloc: Global, actions: Vec<Action>) -> Result<Engine, ResumeFault>
         requires new { self.history ≡ [] }
         ensures history { IfOk result (λ s. s.history ≡ actions.items) }
         ensures form { IfOk result (λ s. s.form ≡ self.form) }
@@ -100,6 +105,7 @@ impl Engine {
         let Engine {
             expression,
             env,
+            leaves,
             history: _,
             mut tree,
             limit,
@@ -108,9 +114,10 @@ impl Engine {
             let rules = Rules {
                 expr: expression.expr(),
                 env: &env,
+                leaves: &leaves,
                 limit,
             };
-            match extend(alloc, rules, &tree, index, action) {
+            match extend(rules, &tree, index, action) {
                 Ok(next) => tree = next,
                 Err(why) => {
                     let number = index as u64 + 1;
@@ -121,6 +128,7 @@ impl Engine {
         Ok(Engine {
             expression,
             env,
+            leaves,
             history: actions,
             tree,
             limit,
@@ -168,7 +176,7 @@ impl Engine {
     /// their order: `NotPartial` exactly where the action may not come next, `Full` exactly where
     /// the history has 1,000,000 actions, `Over` exactly where the Size of the extended history's
     /// tree is above the limit, and want of memory.
-    pub fn prepare(&self, alloc: Global, action: &Action) -> Result<Next, PrepareFault>
+    pub fn prepare(&self, _alloc: Global, action: &Action) -> Result<Next, PrepareFault>
         ensures follows { IfOk result (λ next. Follows self.now next.action next.tree) }
         ensures action { IfOk result (λ next. next.action ≡ action.now) }
         ensures permitted { OnOk result (Allows self.now action.now) }
@@ -187,9 +195,10 @@ impl Engine {
         let rules = Rules {
             expr,
             env: &self.env,
+            leaves: &self.leaves,
             limit: self.limit,
         };
-        match extend(alloc, rules, &self.tree, actions, action) {
+        match extend(rules, &self.tree, actions, action) {
             Ok(tree) => Ok(Next {
                 action: *action,
                 tree,

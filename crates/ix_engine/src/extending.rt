@@ -13,10 +13,9 @@ ghost use Rattle.ix_engine.specs.inside.Extending.{Extends};
 use crate::PrepareFault;
 use ix_can::can;
 use ix_expr::{Env, Expr};
-use ix_step::{BuildFault, step};
+use ix_step::{BuildFault, LeafTrees};
 use ix_tree::Tree;
 use ix_values::Action;
-use std::alloc::Global;
 
 /// The most actions of a history.
 pub(crate) const MOST_ACTIONS: usize = 1_000_000;
@@ -28,6 +27,8 @@ pub(crate) struct Rules<'a> {
     pub(crate) expr: &'a Expr,
     /// The environment with no parameter in it. It is made once, because it takes time to make.
     pub(crate) env: &'a Env,
+    /// The trees without parts, which all steps share.
+    pub(crate) leaves: &'a LeafTrees,
     /// The most that the Size of a tree may be.
     pub(crate) limit: usize,
 }
@@ -35,7 +36,6 @@ pub(crate) struct Rules<'a> {
 /// The tree of a history with one more action behind it, where `tree` is that of the history, which
 /// has so many actions.
 pub(crate) fn extend(
-    alloc: Global,
     rules: Rules<'_>,
     tree: &Tree,
     actions: usize,
@@ -51,11 +51,16 @@ pub(crate) fn extend(
         → actions ≡ length history
         → Extends (form_of rules.entry.expr.now) rules.entry.limit history action.now result }
 {
-    let Rules { expr, env, limit } = rules;
+    let Rules {
+        expr,
+        env,
+        leaves,
+        limit,
+    } = rules;
     if actions == MOST_ACTIONS && can(tree, expr, env, action) {
         return Err(PrepareFault::Full);
     }
-    match step(alloc, tree, expr, env, action, limit) {
+    match leaves.step(tree, expr, env, action, limit) {
         Ok(next) if next.is_dead() => Err(PrepareFault::NotPartial),
         Ok(next) => Ok(next),
         // A tree that isn't built may be dead, and then nothing else is told.
