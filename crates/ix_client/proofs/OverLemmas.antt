@@ -17,7 +17,7 @@ use Rattle.ix_lines.specs.Words.{words_of}
 use Rattle.ix_memory.specs.inside.MemorySiteState.{MemorySiteState, crashes_of, state_of, told_contents}
 use Rattle.ix_memory.specs.lemmas.Lawful.{memory_is_lawful}
 use Rattle.ix_outside.specs.Contents.{Sends}
-use Rattle.ix_outside.specs.Crashes.{Passes}
+use Rattle.ix_outside.specs.Crashes.{Passes, stretch_of}
 use Rattle.ix_outside.specs.declared.event.Event.{Event}
 use Rattle.ix_outside.specs.declared.event.EventKind.TheVariants.{Bytes}
 use Rattle.ix_proto.specs.Requests.{PlainRequest, request_words}
@@ -140,13 +140,13 @@ module _ (apart : TextsTellTicketsApart) (asked : PlainRequest) (bytes all : Lis
         time = over.time;
       }
 
-  was_told : SendsMore (state_of before) (state_of after) (crashes_of after) → after.told ≡ true → before.told ≡ true
+  was_told : SendsMore (stretch_of state_of crashes_of before after) → after.told ≡ true → before.told ≡ true
   was_told sends told =
       let P : Option Sends → Type 0 = λ o. IsSome o in
       told_again before (sends.told (subst P (sym (sends_told after told)) refl))
 
   -- the request was answered
-  pub answers_over : (go : Go) (result : List ℕ) (handled : HandlesOver m (event_for all) all (Ok go) new (state_of before) (state_of after) (crashes_of after))
+  pub answers_over : (go : Go) (result : List ℕ) (handled : HandlesOver m (event_for all) all (Ok go) new (stretch_of state_of crashes_of before after))
       → FitsSite new (state_of after) (crashes_of after) → EndsInLine (length before.sends.sent) after.sends result
       → m.limit ≤ most_size → m.machine.number < 2 ^ 63 → AnswersOver asked result m new after
   answers_over go result handled fits ends limit number =
@@ -179,8 +179,8 @@ module _ (apart : TextsTellTicketsApart) (asked : PlainRequest) (bytes all : Lis
       ]
 
   -- the disk failed
-  pub ends_again : (handled : HandlesOver m (event_for all) all (Err Disk) new (state_of before) (state_of after) (crashes_of after))
-      → Passes (state_of before) (state_of after) (crashes_of before) (crashes_of after)
+  pub ends_again : (handled : HandlesOver m (event_for all) all (Err Disk) new (stretch_of state_of crashes_of before after))
+      → Passes (stretch_of state_of crashes_of before after)
       → after.told ≡ true → StartsAgain m.form m.machine after.image
   ends_again handled passes told =
       elim (went handled.handles.answers handled.ending handled.handles.takes).2 [
@@ -207,7 +207,7 @@ module _ (apart : TextsTellTicketsApart) (asked : PlainRequest) (bytes all : Lis
           ((lawful.left_now after.image).1 (file_left after told))
 
   -- a reply came that isn't whole, or none
-  pub lost_again : (go : Go) (handled : HandlesOver m (event_for all) all (Ok go) new (state_of before) (state_of after) (crashes_of after))
+  pub lost_again : (go : Go) (handled : HandlesOver m (event_for all) all (Ok go) new (stretch_of state_of crashes_of before after))
       → FitsSite new (state_of after) (crashes_of after) → after.told ≡ true → StartsAgain m.form m.machine after.image
   lost_again go handled fits told =
       elim (went handled.handles.answers handled.ending handled.handles.takes).2 [
@@ -220,7 +220,7 @@ module _ (apart : TextsTellTicketsApart) (asked : PlainRequest) (bytes all : Lis
       ]
 
   -- the reply that came tells that the disk failed
-  pub tells_disk : (result : List ℕ) (handled : HandlesOver m (event_for all) all (Err Disk) new (state_of before) (state_of after) (crashes_of after))
+  pub tells_disk : (result : List ℕ) (handled : HandlesOver m (event_for all) all (Err Disk) new (stretch_of state_of crashes_of before after))
       → EndsInLine (length before.sends.sent) after.sends result → after.told ≡ true → TellsDisk asked result
   tells_disk result handled ends told =
       let went_it = went handled.handles.answers handled.ending handled.handles.takes in

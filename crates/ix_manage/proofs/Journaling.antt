@@ -7,7 +7,7 @@ use Rattle.ix_outside.specs.Crashes.{Crashes, AreLawful, Elapses, Passes}
 use Rattle.ix_outside.specs.Disk.{Disk}
 use Rattle.ix_outside.specs.SiteState.{SiteState}
 use Rattle.ix_outside.specs.declared.event.Event.{Event}
-use Rattle.ix_outside.specs.inside.DiskCalls.{KeepsOpened}
+use Rattle.ix_outside.specs.inside.DiskCalls.{KeepsOpened, span}
 use Rattle.ix_proto.specs.declared.reply.Reply.{Reply}
 use Rattle.ix_script.specs.lemmas.OtherDisk.{lawful_without_sends}
 use Rattle.ix_script.specs.inside.WithoutSends.{without_sends}
@@ -56,9 +56,9 @@ pub event_saves : (old new : ManagerState) (event : Event) (bytes : List ℕ) (r
     → (IsSome after.disk → (image : List ℕ) → q.left before.tick image → HoldsBoots image old.machine.boot)
     → (IsSome after.disk → (image : List ℕ) → q.now image → EndsAs ending new.machine.history image)
     → OnErr result (Rose before.counts.disk after.counts.disk) → OnOk result (FitsSite new after q)
-    → Passes before after p q → before.counts.disk ≤ after.counts.disk
-    → KeepsOpened before.disk after.disk ⊎ (after.disk ≡ None) → SendsMore before after q
-    → SavesRun ending old new before after p q
+    → Passes (span before after p q) → before.counts.disk ≤ after.counts.disk
+    → KeepsOpened before.disk after.disk ⊎ (after.disk ≡ None) → SendsMore (span before after p q)
+    → SavesRun ending old new (span before after p q)
 event_saves old new event bytes result ending answers before after p q is takes keeps boots ends rose fits passes le opened sends =
     let grows = steps_grow takes.steps in record {
       passes = passes;
@@ -104,7 +104,7 @@ pub ok_fits : (result : Result Go Stop) (m : ManagerState) (one two : SiteState)
 ok_fits result m one two p q disk now = ok_along result (FitsSite m one p) (FitsSite m two q) (fits_again m one two p q disk now)
 
 pub passes_again : (one one' two two' : SiteState) (p q : Crashes) → one'.tick ≡ one.tick → two'.tick ≡ two.tick
-    → Passes one two p q → Passes one' two' p q
+    → Passes (span one two p q) → Passes (span one' two' p q)
 passes_again one one' two two' p q first second passes = record {
   left = subst (λ t. Elapses t two'.tick p.left q.left) (sym first)
       (subst (λ t. Elapses one.tick t p.left q.left) (sym second) passes.left);

@@ -11,7 +11,7 @@ use Rattle.ix_journal.proofs.OutcomeLaws.{one_history, one_number}
 use Rattle.ix_outside.specs.Crashes.{Crashes, AreLawful, Elapses, LeavesTheFile}
 use Rattle.ix_outside.specs.Disk.{Disk, HasNothingOpened, Opened, IsOpened, MakesFile, Stays}
 use Rattle.ix_outside.specs.SiteState.{SiteState}
-use Rattle.ix_outside.specs.inside.DiskCalls.{KeepsOpened}
+use Rattle.ix_outside.specs.inside.DiskCalls.{KeepsOpened, span}
 use Rattle.ix_manager.specs.Images as image
 use Rattle.ix_manager.specs.Images.{EachPrefixIsWithin, EndsAs, IsOwn, IsStartable, Keeps, with_failed}
 use Rattle.ix_manager.specs.Runs.{Opening, Run}
@@ -85,7 +85,7 @@ pub record KeepsAlong (x : Form) (h : PlainHistory) (played : Session) (before a
 module _ (x : Form) (limit : ℕ) (at mid : SiteState) (p q : Crashes) (d : Disk)
     (name : List ℕ) (told : at.disk ≡ Some d)
     (now : (image : List ℕ) → p.now image → image ≡ d.file)
-    (leaves : StartLeaves x limit d.file at mid p q)
+    (leaves : StartLeaves x limit d.file (span at mid p q))
   where
     abbrev opened : Opened
     opened = record { name = name; tick = at.tick; file = d.file }

@@ -16,14 +16,14 @@ use Rattle.ix_outside.specs.Files.{Listing}
 use Rattle.ix_outside.specs.FilesState.{FilesState}
 use Rattle.ix_outside.specs.SinkState.{SinkState}
 use Rattle.ix_outside.specs.SiteState.{SiteState, OnlyDisk}
-use Rattle.ix_outside.specs.inside.DiskCalls.{KeepsOpened}
+use Rattle.ix_outside.specs.inside.DiskCalls.{KeepsOpened, span}
 use Rattle.ix_outside.proofs.Passing.{KeepsOpened-join}
 use Rattle.ix_store.specs.Keeping.{Keeping}
 use Rattle.ix_manager.specs.Handled.{ManagerState, started}
 use Rattle.ix_manager.specs.Machine.{MachineState, start_of}
 use Rattle.ix_manager.specs.Runs.{Opening, Run, opening_of}
 use Rattle.ix_manager.specs.inside.Saving.{Saves}
-use Rattle.ix_manager.specs.inside.StartAnswers.{IsFault}
+use Rattle.ix_manager.specs.inside.StartAnswers.{IsStartFault}
 use Rattle.ix_manager.specs.declared.faults.StartFault.{StartFault}
 use Rattle.ix_manager.specs.declared.faults.StartFault.TheVariants as fault
 use Rattle.ix_script.specs.Events.{HasEvents}
@@ -125,7 +125,7 @@ module _ (x : Form) (limit : ℕ) (name : List ℕ) (before after : SiteState) (
         (subst (λ n. LastLine 3 [] (large_line n) status whole part) (above.0 ∙ sym it.limit_is) last)))
 
     abbrev Files : StartFault → Type 0
-    Files why = OfJournal (λ file. IsFault x limit file why) after.disk
+    Files why = OfJournal (λ file. IsStartFault x limit file why) after.disk
 
     -- no manager was started
     pub start_stops : (why : StartFault)
@@ -249,7 +249,7 @@ module _ (x : Form) (limit : ℕ) (m : ManagerState) (fresh : m ≡ started (ope
 
 -- a journal is kept along a stretch over which its history is saved
 pub along_saves : (x : Form) (h : PlainHistory) (boot : ℕ) (played : Session) (store : Keeping) (a b : SiteState) (p q : Crashes)
-    → IsSome b.disk → Saves played.ending x (start_of h boot) played.last store a b p q
+    → IsSome b.disk → Saves played.ending x (start_of h boot) played.last store (span a b p q)
     → KeepsAlong x h played a.tick b.tick p q
 along_saves x h boot played store a b p q some saves = record {
   passes = saves.passes.left;
@@ -262,7 +262,7 @@ along_saves x h boot played store a b p q some saves = record {
 -- also where its disk is told alone
 pub along_alone : (x : Form) (h : PlainHistory) (boot : ℕ) (played : Session) (store : Keeping) (a b : SiteState) (p q : Crashes)
     → IsSome b.disk
-    → Saves played.ending x (start_of h boot) played.last store (disk_alone a) (disk_alone b) (without_sends p) (without_sends q)
+    → Saves played.ending x (start_of h boot) played.last store (span (disk_alone a) (disk_alone b) (without_sends p) (without_sends q))
     → KeepsAlong x h played a.tick b.tick p q
 along_alone x h boot played store a b p q some saves = record {
   passes = saves.passes.left;
@@ -317,11 +317,11 @@ module _ (x : Form) (names : ReplayWords) (script : List ℕ) (before : SiteStat
         let form : m.form ≡ x = ap (λ (s : ManagerState). s.form) start.fresh in
         let begun : MachineState = start_of m.machine.history m.machine.boot in
         let saves : Saves it.played.ending x begun it.played.last it.store
-        (disk_alone mid) (disk_alone end) (without_sends q) (without_sends r) =
+        (span (disk_alone mid) (disk_alone end) (without_sends q) (without_sends r)) =
         subst (λ (s : MachineState). Saves it.played.ending x begun s it.store
-        (disk_alone mid) (disk_alone end) (without_sends q) (without_sends r)) (sym it.last_is)
+        (span (disk_alone mid) (disk_alone end) (without_sends q) (without_sends r))) (sym it.last_is)
         (subst (λ (y : Form). Saves it.played.ending y begun final it.store
-        (disk_alone mid) (disk_alone end) (without_sends q) (without_sends r)) form it.saves) in
+        (span (disk_alone mid) (disk_alone end) (without_sends q) (without_sends r))) form it.saves) in
         subst (JobOver (around_of files later before end) (replay_of names) r status whole part) (sym it.is)
         (record {
           ends = replayed (record { reads = reads; small = start.small }) (has events.0 events.1)

@@ -13,7 +13,7 @@ use Rattle.ix_outside.specs.Contents.{GivenEvent, Contents, SendsWhole, SendsPar
 use Rattle.ix_outside.specs.Counts.{Rose}
 use Rattle.ix_outside.specs.SinkState.{SinkState, OnlyPuts}
 use Rattle.ix_outside.specs.SiteState.{SiteState}
-use Rattle.ix_outside.specs.Crashes.{Crashes, AreLawful}
+use Rattle.ix_outside.specs.Crashes.{Crashes, AreLawful, Stretch}
 use Rattle.ix_manager.specs.inside.OverSite.{FitsSite, FitsWith}
 use Rattle.ix_manager.specs.inside.Saving.{Saves, SavesRun, WhereFailed}
 use Rattle.ix_manager.proofs.SavingLemmas.{saves_join, saves_none}
@@ -23,6 +23,7 @@ use Rattle.ix_outside.specs.Sink.{AppendsPart}
 use Rattle.ix_outside.specs.declared.event.Event.{Event}
 use Rattle.ix_outside.specs.declared.event.EventKind.{EventKind}
 use Rattle.ix_outside.specs.declared.event.EventKind.TheVariants.{Bytes, Closed, End}
+use Rattle.ix_outside.specs.inside.DiskCalls.{span}
 use Rattle.ix_proto.specs.declared.reply.Reply.{Reply}
 use Rattle.ix_store.specs.Keeping.{Keeping}
 use Rattle.ix_manager.specs.Machine.{MachineState, start_of}
@@ -41,8 +42,8 @@ use Rattle.ix_manage.specs.Session.{IsNoEnd, IsOver, over, out_of_turns, disk_fa
 use Rattle.ix_manage.specs.inside.Leaves.{AwaitsLine, LeavesOutput}
 use Rattle.ix_manage.specs.inside.Refusal.{refusal_line}
 use Rattle.ix_manage.specs.inside.ReplayProgress.{IsAtStart, IsBetween, OnlyPlays, Player, PutsHistory, ReplaysOn, ReplaysScript}
-use Rattle.ix_manage.specs.inside.ReplayProgress.{HasPlayed, TakesEvent, disk_stretch, told_by}
-use Rattle.ix_manage.specs.inside.Progress.{IsStarted, IsOutcome, SavesFrom, Stretch, opening_at}
+use Rattle.ix_manage.specs.inside.ReplayProgress.{HasPlayed, PlaysEvent, disk_stretch, told_by}
+use Rattle.ix_manage.specs.inside.Progress.{IsStarted, IsEventOutcome, SavesFrom, opening_at}
 use Rattle.ix_manage.specs.declared.refusal.Refusal.TheVariants.{Disk, Turns}
 use Rattle.ix_manage.specs.declared.early_end.EarlyEnd.{EarlyEnd}
 use Rattle.ix_manage.specs.declared.outcome.EventOutcome.{EventOutcome}
@@ -197,11 +198,11 @@ pub event_taken : (room : ℕ) (old new : ManagerState) (was between now : Playe
     → IsNextPiece room was.script was.given (given_event event (piece_of event.kind buf))
     → Handles old event passed ending new (told_by between) (told_by now)
     → new.machine.number ≤ old.machine.number + length passed
-    → IsBetween old was → IsOutcome now.failed ending event.kind outcome
+    → IsBetween old was → IsEventOutcome now.failed ending event.kind outcome
     → ((conn : ℕ) → get_or old.marks conn false ≡ false → get_or new.marks conn false ≡ true
     → Rose between.sink.faults now.sink.faults)
-    → SavesRun ending old new stretch.before stretch.after stretch.was stretch.is
-    → TakesEvent old was new now stretch outcome
+    → SavesRun ending old new stretch
+    → PlaysEvent old was new now stretch outcome
 event_taken room old new was between now buf passed event ending outcome stretch room_is given_is sink_is failed_is passed_is fits long next handled rises ready outcome_is rose saves =
     let told = given_told handled.sends.sends refl in
     let same : between.given ≡ now.given = cc in
@@ -232,17 +233,17 @@ event_taken room old new was between now buf passed event ending outcome stretch
 
 -- what is kept from a manager on that was just started is kept from its opening on
 pub saves_begun : (m : ManagerState) → IsStarted m → {ending : Ending} {last : MachineState} {store : Keeping}
-    {a b : SiteState} {p q : Crashes} → Saves ending m.form m.machine last store a b p q
-    → Saves ending m.form (start_of m.machine.history m.machine.boot) last store a b p q
+    {a b : SiteState} {p q : Crashes} → Saves ending m.form m.machine last store (span a b p q)
+    → Saves ending m.form (start_of m.machine.history m.machine.boot) last store (span a b p q)
 saves_begun m fresh {ending = ending} {last = last} {store = store} {a = a} {b = b} {p = p} {q = q} saves =
-    subst (λ s. Saves ending m.form s last store a b p q) (ap (λ (s : ManagerState). s.machine) fresh) saves
+    subst (λ s. Saves ending m.form s last store (span a b p q)) (ap (λ (s : ManagerState). s.machine) fresh) saves
 
 -- the same where nothing was made of it
 pub saves_resting : (m : ManagerState) → IsStarted m → {store : Keeping} {a b : SiteState} {p q : Crashes}
-    → Saves going m.form m.machine m.machine store a b p q
-    → Saves going m.form (start_of m.machine.history m.machine.boot) (start_of m.machine.history m.machine.boot) store a b p q
+    → Saves going m.form m.machine m.machine store (span a b p q)
+    → Saves going m.form (start_of m.machine.history m.machine.boot) (start_of m.machine.history m.machine.boot) store (span a b p q)
 saves_resting m fresh {store = store} {a = a} {b = b} {p = p} {q = q} saves =
-    subst (λ s. Saves going m.form s s store a b p q) (ap (λ (s : ManagerState). s.machine) fresh) saves
+    subst (λ s. Saves going m.form s s store (span a b p q)) (ap (λ (s : ManagerState). s.machine) fresh) saves
 
 -- a manager that was just started stands behind what was put before
 pub stands_first : (m : ManagerState) (start : Player) (site : SiteState) (crashes : Crashes) → IsStarted m → IsAtStart start
@@ -315,7 +316,7 @@ module _ {opening : Opening} {known : Option (List ℕ)} {m : ManagerState} {now
       }
 
 module _ {old new : ManagerState} {was now : Player} {outcome : EventOutcome} {a b c : SiteState} {p q r : Crashes}
-    (took : TakesEvent old was new now (record { before = b; after = c; was = q; is = r }) outcome)
+    (took : PlaysEvent old was new now (record { before = b; after = c; was = q; is = r }) outcome)
     {opening : Opening} {known : Option (List ℕ)}
     (stands : HasPlayed opening known old was (record { before = a; after = b; was = p; is = q }))
     (lawful : AreLawful c r)
@@ -327,7 +328,7 @@ module _ {old new : ManagerState} {was now : Player} {outcome : EventOutcome} {a
     saved : SavesFrom opening took.ending new.machine new.store stretch
     saved = saves_join took.ending opening.form (start_of opening.history opening.boot) old.machine new.machine old.store new.store a b c p q r lawful
         stands.saves
-        (subst (λ x. Saves took.ending x old.machine new.machine new.store b c q r) stands.follows.form_is took.saves)
+        (subst (λ x. Saves took.ending x old.machine new.machine new.store (span b c q r)) stands.follows.form_is took.saves)
 
     abbrev given : GivenEvent
     given = given_event took.event took.piece
@@ -360,7 +361,7 @@ module _ {old new : ManagerState} {was now : Player} {outcome : EventOutcome} {a
     -- it may go on
     pub outcome_more : outcome ≡ More → OnlyPlays was now → HasPlayed opening known new now stretch
     outcome_more same plays =
-        let is = subst (IsOutcome now.failed took.ending took.event.kind) same took.outcome_is in
+        let is = subst (IsEventOutcome now.failed took.ending took.event.kind) same took.outcome_is in
         let behind = sym took.given in record {
           answers = answers;
           follows = subst (λ taken. FollowsRun opening taken answers new) behind
@@ -406,7 +407,7 @@ module _ {old new : ManagerState} {was now : Player} {outcome : EventOutcome} {a
         -- the event was the end or brought `stop`
         pub outcome_done : outcome ≡ Done → Ended (ReplaysScript opening turns was.script now.given new.machine stretch) 0 start now.sink
         outcome_done same =
-            let is = subst (IsOutcome now.failed took.ending took.event.kind) same took.outcome_is in
+            let is = subst (IsEventOutcome now.failed took.ending took.event.kind) same took.outcome_is in
             ended_whole start now.sink (session_text played) (Some played) (replays (ends (over (is_over is.1))))
             (told_whole is.0 ∙ ap (λ k. append_known k (run_text now.given answers)) line_put
             ∙ append_twice start.written (history_line opening.history) (run_text now.given answers))
@@ -419,7 +420,7 @@ module _ {old new : ManagerState} {was now : Player} {outcome : EventOutcome} {a
         pub outcome_failed : outcome ≡ Failed
             → AwaitsLine (ReplaysScript opening turns was.script now.given new.machine stretch) 5 (refusal_line Disk) start now.sink
         outcome_failed same =
-            let is = subst (IsOutcome now.failed took.ending took.event.kind) same took.outcome_is in record {
+            let is = subst (IsEventOutcome now.failed took.ending took.event.kind) same took.outcome_is in record {
               before = session_text played;
               session = Some played;
               may =
@@ -434,7 +435,7 @@ module _ {old new : ManagerState} {was now : Player} {outcome : EventOutcome} {a
         pub outcome_cut : outcome ≡ Cut → start.faults ≤ was.sink.faults
             → Ended (ReplaysScript opening turns was.script now.given new.machine stretch) 10 start now.sink
         outcome_cut same le =
-            let is : now.failed ≡ true = subst (IsOutcome now.failed took.ending took.event.kind) same took.outcome_is in
+            let is : now.failed ≡ true = subst (IsEventOutcome now.failed took.ending took.event.kind) same took.outcome_is in
             let one = loses_one (sends old new was now took.event took.piece took.ending took.handled took.fits stands.marks stands.open_sink) (marked_now ∙ is) in
             let text : List ℕ = replay_text opening.history was.given stands.answers in
             let sent_text : List ℕ = replies_text took.event.conn one.sent_ones in
@@ -447,7 +448,7 @@ module _ {old new : ManagerState} {was now : Player} {outcome : EventOutcome} {a
             one.part)
             (Rose-earlier _ _ _ le (took.fault is))
 
-pub taken_count : {old new : ManagerState} {was now : Player} {stretch : Stretch} {outcome : EventOutcome} → TakesEvent old was new now stretch outcome
+pub taken_count : {old new : ManagerState} {was now : Player} {stretch : Stretch} {outcome : EventOutcome} → PlaysEvent old was new now stretch outcome
     → length now.given ≡ length was.given + 1
 taken_count {was = was} took = ap length took.given ∙ length_push was.given (given_event took.event took.piece)
 

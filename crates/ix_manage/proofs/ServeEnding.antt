@@ -9,13 +9,13 @@ use Rattle.ix_journal.specs.History.{PlainHistory}
 use Rattle.ix_expr.specs.Form.{Form}
 use Rattle.ix_outside.specs.Contents.{Contents, GivenEvent, Sends, with_name}
 use Rattle.ix_outside.specs.Counts.{Rose}
-use Rattle.ix_outside.specs.Crashes.{Crashes, AreLawful, IsSentByThen, LeavesTheSame, OneCall}
+use Rattle.ix_outside.specs.Crashes.{Crashes, AreLawful, IsSentByThen, LeavesTheSame, OneCall, Stretch}
 use Rattle.ix_outside.specs.Disk.{Disk, Opened}
 use Rattle.ix_outside.specs.Files.{Listing}
 use Rattle.ix_outside.specs.Sink.{AppendsPart}
 use Rattle.ix_outside.specs.SinkState.{SinkState}
 use Rattle.ix_outside.specs.SiteState.{SiteState, OnlyWire}
-use Rattle.ix_outside.specs.inside.DiskCalls.{KeepsOpened}
+use Rattle.ix_outside.specs.inside.DiskCalls.{KeepsOpened, span}
 use Rattle.ix_outside.proofs.Counting.{Rose-earlier}
 use Rattle.ix_outside.proofs.Passing.{KeepsOpened-join, sent-nothing}
 use Rattle.ix_proto.specs.declared.reply.Reply.{Reply}
@@ -46,7 +46,7 @@ use Rattle.ix_manage.specs.inside.Leaves.{LeavesOutput}
 use Rattle.ix_manage.specs.inside.Opening.{EndsUnstarted, IsJobOf, StartsOver}
 use Rattle.ix_manage.specs.inside.Playing.{ServesOver}
 use Rattle.ix_manage.specs.inside.ServeProgress.{OnlyServed, SentFor, ServedSession, ServesFrom, ServesOn, ServesTo, served, unheard}
-use Rattle.ix_manage.specs.inside.Progress.{IsStarted, SavesFrom, Stretch}
+use Rattle.ix_manage.specs.inside.Progress.{IsStarted, SavesFrom}
 use Rattle.ix_manage.specs.inside.Progress as stood
 use Rattle.ix_manage.proofs.Causes.{serve_ends_earlier}
 use Rattle.ix_manage.proofs.Devices.{calls_of_disk, calls_then}
@@ -79,7 +79,7 @@ no_replies (takes {events = events} given last marked wire sends) none =
 -- a site that was listened to
 module _ (socket : List ℕ) (a b : SiteState) (p q : Crashes) (heard : b.contents ≡ with_name socket a.contents)
     (lawful : AreLawful a p) (lawful' : AreLawful b q)
-    (only : OnlyWire a b) (same : LeavesTheSame p.now q.now) (call : OneCall a b p q)
+    (only : OnlyWire a b) (same : LeavesTheSame p.now q.now) (call : OneCall (span a b p q))
   where
     abbrev known : Option Sends
     known = option_map (λ (sends : Sends). record sends { heard = sends.heard ++ socket ∷ [] }) a.contents.sends
@@ -88,12 +88,12 @@ module _ (socket : List ℕ) (a b : SiteState) (p q : Crashes) (heard : b.conten
     sends_heard = ap (λ (k : Contents). k.sends) heard
 
     -- a `listen` sends nothing
-    pub listen_only : OnlySends a b p q
+    pub listen_only : OnlySends (span a b p q)
     listen_only = wire_only a b p q only same call
         (λ some. heard_told socket a.contents.sends (subst (λ (o : Option Sends). IsSome o) sends_heard some))
         (λ s s' told told'. ap (λ (sends : Sends). sends.sent) (heard_before socket a.contents.sends s' s (sym sends_heard ∙ told') told))
 
-    module _ (x : Form) (last : MachineState) (store : Keeping) (saves : Saves going x last last store a b p q) where
+    module _ (x : Form) (last : MachineState) (store : Keeping) (saves : Saves going x last last store (span a b p q)) where
       abbrev h : PlainHistory
       h = last.history
 
@@ -170,7 +170,7 @@ module _ (socket : List ℕ) (a b c : SiteState) (p q r : Crashes) (heard : b.co
 -- a manager that was just started listened, put the line of the history, and took events
 module _ (turns : ℕ) (socket : List ℕ) (old new : ManagerState) (a b c : SiteState) (p q r : Crashes)
     (lawful : AreLawful c r)
-    (fresh : IsStarted old) (listened : Saves going old.form old.machine old.machine old.store a b p q)
+    (fresh : IsStarted old) (listened : Saves going old.form old.machine old.machine old.store (span a b p q))
     (heard : b.contents ≡ with_name socket a.contents) (sends : b.counts.send ≡ a.counts.send)
     (since : (t : ℕ) (start : Sends) → a.contents.sends ≡ Some start
     → ServesSince t old.form (length old.machine.history) old.machine.history start [] [] unmarked a p
@@ -195,7 +195,7 @@ module _ (turns : ℕ) (socket : List ℕ) (old new : ManagerState) (a b c : Sit
       store = it.store;
       saves = saves_join session.ending old.form (start_of old.machine.history old.machine.boot) old.machine new.machine old.store it.store
           a b c p q r lawful (saves_begun old fresh listened)
-          (subst (λ s. Saves session.ending old.form s new.machine it.store b c q r) (sym (ap (λ (s : ManagerState). s.machine) fresh)) it.saves);
+          (subst (λ s. Saves session.ending old.form s new.machine it.store (span b c q r)) (sym (ap (λ (s : ManagerState). s.machine) fresh)) it.saves);
     }
 
     abbrev Mid : Stretch
@@ -231,7 +231,7 @@ module _ (turns : ℕ) (socket : List ℕ) (old new : ManagerState) (a b c : Sit
 
 -- the put of the history's line fails, before any event is taken
 pub history_lost : (m : ManagerState) → IsStarted m → (turns : ℕ) (socket line : List ℕ) (a b : SiteState) (p q : Crashes)
-    → Saves going m.form m.machine m.machine m.store a b p q
+    → Saves going m.form m.machine m.machine m.store (span a b p q)
     → b.contents ≡ with_name socket a.contents → b.counts.send ≡ a.counts.send
     → ((t : ℕ) (start : Sends) → a.contents.sends ≡ Some start
     → ServesSince t m.form (length m.machine.history) m.machine.history start [] [] unmarked a p
@@ -347,15 +347,15 @@ module _ (x : Form) (names : ServeWords) (before : SiteState) where
         journal = session_on_journal x names.limit names.journal.now before mid end q r m start files.contents (serve_of names)
             (job_served_by files.contents reads) serves.opened None refl run_begins
             (λ some. along_saves x m.machine.history m.machine.boot (session_of (opening_of x names.limit m.machine.history m.machine.boot) None) store mid end q r some
-            (subst (λ y. Saves going y (start_of m.machine.history m.machine.boot) (start_of m.machine.history m.machine.boot) store mid end q r) form saves));
+            (subst (λ y. Saves going y (start_of m.machine.history m.machine.boot) (start_of m.machine.history m.machine.boot) store (span mid end q r)) form saves));
         wire = λ socket same. contents ∙ start.only.contents;
       }
       session_serves status whole part session (served {session = played} it wire how) = λ files now reads.
           let opening_is = it.opening_is ∙ opening_fresh x names.limit m start.fresh in
           let begun : MachineState = start_of m.machine.history m.machine.boot in
-          let saves : Saves played.ending x begun played.last it.store mid end q r =
-          subst (λ (s : MachineState). Saves played.ending x begun s it.store mid end q r) (sym it.last_is)
-          (subst (λ y. Saves played.ending y begun final it.store mid end q r) form it.saves) in record {
+          let saves : Saves played.ending x begun played.last it.store (span mid end q r) =
+          subst (λ (s : MachineState). Saves played.ending x begun s it.store (span mid end q r)) (sym it.last_is)
+          (subst (λ y. Saves played.ending y begun final it.store (span mid end q r)) form it.saves) in record {
             ends = job_served (record { reads = reads; small = start.small })
                 (opening_from x names.limit m start.fresh played it.opening_is) it.takes
                 (serve_ends_earlier names.turns before.counts mid.counts end.counts played start.only.disk wire_before how);

@@ -8,11 +8,12 @@ use Rattle.ix_words.proofs.Each.{Each-append, Each-left}
 use Rattle.ix_expr.specs.Form.{Form}
 use Rattle.ix_outside.specs.Contents.{Contents, GivenEvent, Sends, SendsPart, SendsWhole, SentBytes, with_pair}
 use Rattle.ix_outside.specs.Counts.{Rose}
-use Rattle.ix_outside.specs.Crashes.{Crashes, AreLawful, IsSentByThen, LeavesTheSame, OneCall}
+use Rattle.ix_outside.specs.Crashes.{Crashes, AreLawful, IsSentByThen, LeavesTheSame, OneCall, Stretch}
 use Rattle.ix_outside.specs.SiteState.{SiteState, OnlyWire}
 use Rattle.ix_outside.proofs.Counting.{Rose-earlier, Rose-later}
 use Rattle.ix_outside.proofs.Passing.{sent-nothing}
 use Rattle.ix_outside.specs.declared.event.EventKind.TheVariants.{End}
+use Rattle.ix_outside.specs.inside.DiskCalls.{span}
 use Rattle.ix_proto.specs.declared.reply.Reply.{Reply}
 use Rattle.ix_store.specs.Keeping.{Keeping}
 use Rattle.ix_manager.specs.Handled.{ManagerState, held_at}
@@ -37,17 +38,17 @@ use Rattle.ix_manage.specs.declared.early_end.EarlyEnd.TheVariants.{Refused}
 use Rattle.ix_manage.specs.declared.outcome.EventOutcome.{EventOutcome}
 use Rattle.ix_manage.specs.declared.outcome.EventOutcome.TheVariants.{More, Done, Cut, Failed}
 use Rattle.ix_manage.specs.inside.ServeProgress.{SentFor, ServedSession, HasServed, ServesTo, ServesEvent, TakesOver, took, unheard}
-use Rattle.ix_manage.specs.inside.Progress.{IsStarted, IsOutcome, SavesFrom, Stretch, opening_at}
+use Rattle.ix_manage.specs.inside.Progress.{IsStarted, IsEventOutcome, SavesFrom, opening_at}
 use Rattle.ix_manage.proofs.Opening.{some_is}
 use Rattle.ix_manage.proofs.Replaying.{few_bytes, given_told, marks_same, new_mark, no_answers, nothing_sent}
 
 -- sends that are told behind a call were told before it, and no more was sent
 module _ (old new : SiteState) (was is : Crashes) (only : OnlyWire old new) (same : LeavesTheSame was.now is.now)
-    (call : OneCall old new was is)
+    (call : OneCall (span old new was is))
     (told : IsSome new.contents.sends → IsSome old.contents.sends)
     (sent_is : (s s' : Sends) → old.contents.sends ≡ Some s → new.contents.sends ≡ Some s' → s'.sent ≡ s.sent)
   where
-    none_more : SendsMore old new is
+    none_more : SendsMore (span old new was is)
     none_more = record {
       told = told;
       all = λ s s' known known'. subst (λ (sent : List SentBytes). IsSentBetween s.sent sent sent) (sym (sent_is s s' known known'))
@@ -61,7 +62,7 @@ module _ (old new : SiteState) (was is : Crashes) (only : OnlyWire old new) (sam
     }
 
     -- a call of the wire leaves the disk alone
-    pub wire_only : OnlySends old new was is
+    pub wire_only : OnlySends (span old new was is)
     wire_only = record {
       count = only.disk;
       disk = inl only.file;
@@ -73,15 +74,15 @@ module _ (old new : SiteState) (was is : Crashes) (only : OnlyWire old new) (sam
 
 -- `next`, and a `listen` that failed
 pub next_only : (old new : SiteState) (was is : Crashes) → OnlyWire old new → LeavesTheSame was.now is.now
-    → OneCall old new was is → new.contents.sends ≡ old.contents.sends → OnlySends old new was is
+    → OneCall (span old new was is) → new.contents.sends ≡ old.contents.sends → OnlySends (span old new was is)
 next_only old new was is only same call sends = wire_only old new was is only same call
     (λ some. subst (λ (o : Option Sends). IsSome o) sends some)
     (λ s s' known known'. ap (λ (t : Sends). t.sent) (some_is (sym known' ∙ sends ∙ known)))
 
 -- so the history is kept over it
 pub wire_saves : (x : Form) (s : MachineState) (store : Keeping) (old new : SiteState) (was is : Crashes)
-    → AreLawful old was → AreLawful new is → FitsWith x s store old was → OnlySends old new was is
-    → Saves going x s s store old new was is
+    → AreLawful old was → AreLawful new is → FitsWith x s store old was → OnlySends (span old new was is)
+    → Saves going x s s store (span old new was is)
 wire_saves x s store old new was is before lawful fits only =
     saves_sends going x s s store old old new was was is before lawful (saves_none x s store old was before fits) only
 
@@ -196,7 +197,7 @@ module _ {old new : ManagerState} {outcome : EventOutcome} {a b c : SiteState} {
     saved : SavesFrom opening it.ending new.machine new.store stretch
     saved = saves_join it.ending opening.form (start_of opening.history opening.boot) old.machine new.machine old.store new.store a b c p q r lawful
         serves.saves
-        (subst (λ x. Saves it.ending x old.machine new.machine new.store b c q r) serves.follows.form_is it.saves)
+        (subst (λ x. Saves it.ending x old.machine new.machine new.store (span b c q r)) serves.follows.form_is it.saves)
 
     -- the mark that the event's replies left, where the count of sends didn't rise
     none_marked : old.marks ≡ unmarked → ¬ Rose b.counts.send c.counts.send → it.handled.sends.marked ≡ false
@@ -257,7 +258,7 @@ module _ {old new : ManagerState} {outcome : EventOutcome} {a b c : SiteState} {
     -- it may go on
     pub serves_more : outcome ≡ More → HasServed opening longer new stretch
     serves_more same =
-        let is = subst (IsOutcome false it.ending it.event.kind) same it.outcome_is in record {
+        let is = subst (IsEventOutcome false it.ending it.event.kind) same it.outcome_is in record {
           answers = answers;
           follows = taken_follows opening taken serves.answers old it.event it.piece it.handled.answers new it.ending serves.follows it.fits it.handled.takes is.1;
           tickets =
@@ -293,7 +294,7 @@ module _ {old new : ManagerState} {outcome : EventOutcome} {a b c : SiteState} {
           served = subst (λ o. ServedSession o turns new.machine stretch played) same_opening (served_played turns few);
           marks = new.marks;
           sent = subst (λ o. SentFor o (with_failed it.ending new.machine.history) longer answers new.marks stretch) same_opening sent_now;
-          ends = is_over ((subst (IsOutcome false it.ending it.event.kind) same it.outcome_is).1);
+          ends = is_over ((subst (IsEventOutcome false it.ending it.event.kind) same it.outcome_is).1);
         }
           where
             is_over : (it.event.kind ≡ End) ⊎ (it.ending ≡ stopped) → IsOver played
@@ -308,7 +309,7 @@ module _ {old new : ManagerState} {outcome : EventOutcome} {a b c : SiteState} {
           marks = new.marks;
           sent = subst (λ o. SentFor o (with_failed it.ending new.machine.history) longer answers new.marks stretch) same_opening sent_now;
           ends =
-              let is = subst (IsOutcome false it.ending it.event.kind) same it.outcome_is in
+              let is = subst (IsEventOutcome false it.ending it.event.kind) same it.outcome_is in
               let P : Ending → Type 0 = λ e. WhereFailed e (Rose a.counts.disk c.counts.disk) in
               let rose = subst P is.1.1 saved.faults in
               λ status whole part last. ends (disk_failed is.1.1 rose last);
@@ -317,7 +318,7 @@ module _ {old new : ManagerState} {outcome : EventOutcome} {a b c : SiteState} {
 -- nothing came since the wire failed
 abbrev IsCut : ManagerState → ManagerState → SiteState → SiteState → Crashes → Crashes → Type 0
 IsCut old new b c q r = (new ≡ old) × (c.contents ≡ b.contents) × Rose b.counts.wire c.counts.wire
-    × Saves going old.form old.machine new.machine new.store b c q r
+    × Saves going old.form old.machine new.machine new.store (span b c q r)
     × ((t : ℕ) (least : ℕ) (start : Sends) (taken : List GivenEvent) (answers : List (List (List Reply)))
     → ServesSince t old.form least old.machine.history start taken answers old.marks b q
     → ServesSince t old.form least old.machine.history start taken answers old.marks c r)
@@ -328,7 +329,7 @@ module _ {old new : ManagerState} {b c : SiteState} {q r : Crashes} where
       → IsCut old new b c q r
   cut_unheard (unheard same contents rose saves since) is = (same, contents, rose, saves, since)
   cut_unheard (took it) is =
-      let no : false ≡ true = subst (IsOutcome false it.ending it.event.kind) is it.outcome_is in absurd (true≢false (sym no))
+      let no : false ≡ true = subst (IsEventOutcome false it.ending it.event.kind) is it.outcome_is in absurd (true≢false (sym no))
 
 -- where the wire failed, no further event came
 module _ {old new : ManagerState} {a b c : SiteState} {p q r : Crashes}
@@ -369,7 +370,7 @@ module _ {old new : ManagerState} {a b c : SiteState} {p q r : Crashes}
         store = new.store;
         saves = saves_join going opening.form (start_of opening.history opening.boot) old.machine new.machine old.store new.store a b c p q r lawful
             serves.saves
-            (subst (λ x. Saves going x old.machine new.machine new.store b c q r) serves.follows.form_is cut.3);
+            (subst (λ x. Saves going x old.machine new.machine new.store (span b c q r)) serves.follows.form_is cut.3);
       });
       marks = old.marks;
       sent = subst (λ o. SentFor o new.machine.history taken serves.answers old.marks over_all) same_opening

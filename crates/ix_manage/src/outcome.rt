@@ -5,7 +5,7 @@ ghost use Rattle.ix_outside.specs.Event.{KindFits};
 ghost use Rattle.ix_outside.specs.declared.event.EventKind.TheVariants.{End};
 ghost use Rattle.ix_manager.specs.Runs.{Ending};
 ghost use Rattle.ix_manager.specs.inside.OverSite.{EndsBy};
-ghost use Rattle.ix_manage.specs.inside.Progress.{IsOutcome};
+ghost use Rattle.ix_manage.specs.inside.Progress.{IsEventOutcome};
 
 use ix_manager::{Go, Stop};
 use ix_outside::EventKind;
@@ -28,7 +28,7 @@ pub(crate) enum EventOutcome {
 
 /// `failed` says whether a put failed.
 pub(crate) fn outcome_of(failed: bool, go: Result<Go, Stop>, kind: EventKind) -> EventOutcome
-    ensures { (ending : Ending) → EndsBy go ending → IsOutcome failed ending kind result }
+    ensures { (ending : Ending) → EndsBy go ending → IsEventOutcome failed ending kind result }
 {
     if failed {
         return EventOutcome::Cut;

@@ -1,5 +1,6 @@
 //! One run of `serve`, up to the last line that a refusal puts.
 ghost use Rattle.std.specs.Prelude.{◌≡◌, ◌≤◌, true, false};
+ghost use Rattle.ix_outside.specs.Crashes.{stretch_of};
 ghost use Rattle.ix_cli.specs.Commands.{most_nodes, most_turns};
 ghost use Rattle.ix_outside.specs.FilesState.{OnlyFaults};
 ghost use Rattle.ix_outside.specs.SinkState.{OnlyPuts};
@@ -10,7 +11,7 @@ ghost use Rattle.ix_manage.specs.inside.Jobs.{serve_of};
 ghost use Rattle.ix_manage.specs.inside.Leaves.{LeavesOutput};
 ghost use Rattle.ix_manage.specs.inside.Playing.{ServesOver};
 ghost use Rattle.ix_manage.specs.inside.ServeProgress.{OnlyServed, ServesOn};
-ghost use Rattle.ix_manage.specs.inside.Progress.{IsStarted, opening_at, stretch_of};
+ghost use Rattle.ix_manage.specs.inside.Progress.{IsStarted, opening_at};
 
 mod events;
 

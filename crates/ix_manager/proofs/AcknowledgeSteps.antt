@@ -11,6 +11,7 @@ use Rattle.ix_outside.specs.Contents.{Contents, SentBytes, Sends, SendsWhole, Se
 use Rattle.ix_outside.specs.Crashes.{Crashes, Left, AreLawful, Elapses}
 use Rattle.ix_outside.specs.Disk.{Disk, OfFile}
 use Rattle.ix_outside.specs.SiteState.{SiteState}
+use Rattle.ix_outside.specs.inside.DiskCalls.{span}
 use Rattle.ix_proto.specs.declared.reply.Reply.{Reply}
 use Rattle.ix_store.specs.Keeping.{Keeping}
 use Rattle.ix_store.specs.inside.KeptBy.{kept}
@@ -34,9 +35,9 @@ use Rattle.ix_manager.proofs.SendLemmas.{silent_keeps, carries}
 pub saves_acknowledges : (e : Ending) (x : Form) (h new : MachineState) (store : Keeping) (conn : ℕ)
     (replies : List Reply)
     (before after : WireState) (p q : Crashes) → AreLawful after.site q
-    → Saves e x h new store before.site after.site p q
+    → Saves e x h new store (span before.site after.site p q)
     → SendsAll conn replies before after → Each TellsNoConfirm replies
-    → Acknowledges x (length h.history) (with_failed e new.history) replies before.site after.site q
+    → Acknowledges x (length h.history) (with_failed e new.history) replies (span before.site after.site p q)
 saves_acknowledges e x h new store conn replies before after p q lawful saves sends none told s s'
     is is' left since =
     let by_then = saves.sends.by_then s s' is is' left since in
@@ -57,18 +58,18 @@ saves_acknowledges e x h new store conn replies before after p q lawful saves se
 
 module _ (conn : ℕ) (ticket : Ticket) (one : Reply) (old new : Journaled) (was_gone gone : Bool)
     (a b c : SiteState) (p q r : Crashes)
-    (between : AreLawful b q) (lawful : AreLawful c r) (only : OnlySends b c q r)
-    (over : ConfirmsOver ticket (Ok one) old new a b p q)
+    (between : AreLawful b q) (lawful : AreLawful c r) (only : OnlySends (span b c q r))
+    (over : ConfirmsOver ticket (Ok one) old new (span a b p q))
     (sends : SendsAll conn (one ∷ []) (wired was_gone b) (wired gone c)) where
-  saves : SavesJournal going old new a b p q
-  saves = subst (λ e. SavesJournal e old new a b p q) over.confirms.1 over.saves
+  saves : SavesJournal going old new (span a b p q)
+  saves = subst (λ e. SavesJournal e old new (span a b p q)) over.confirms.1 over.saves
 
   told_between : IsSome c.disk → IsSome b.disk
   told_between told = still_told b.disk c.disk only.disk told
 
   -- the reply to a confirm was sent behind its append
   pub confirm_acknowledges : Acknowledges old.machine.form (length old.machine.state.history)
-      new.machine.state.history (one ∷ []) a c r
+      new.machine.state.history (one ∷ []) (span a c p r)
   confirm_acknowledges told s s' is is' left since =
       elim (only.passes.left_since.nothing_else a.tick left over.calls.passes.left_since.later
       since) [
@@ -115,14 +116,14 @@ none_left [] le = refl
 none_left (x ∷ xs) le = absurd (omega arith)
 
 module _ (x : Form) (h mid new rest : PlainHistory) (conn : ℕ) (one two : List Reply)
-    (before here after : WireState) (q r : Crashes)
+    (before here after : WireState) (p q r : Crashes)
     (lawful : AreLawful here.site q) (le : before.site.tick ≤ here.site.tick)
     (passes : Elapses here.site.tick after.site.tick q.left_since r.left_since)
     (sends : SendsAll conn one before here) (more : SendsAll conn two here after)
-    (grows_first : SendsMore before.site here.site q) (grows : SendsMore here.site after.site r)
+    (grows_first : SendsMore (span before.site here.site p q)) (grows : SendsMore (span here.site after.site q r))
     (told_before : IsSome after.site.disk → IsSome here.site.disk)
-    (first : Acknowledges x (length h) mid one before.site here.site q)
-    (second : Acknowledges x (length mid) new two here.site after.site r)
+    (first : Acknowledges x (length h) mid one (span before.site here.site p q))
+    (second : Acknowledges x (length mid) new two (span here.site after.site q r))
     (longer : mid ++ rest ≡ new) (no_shorter : length h ≤ length mid) where
   -- by the end of the first calls all that they acknowledged is within the history that they left
   at_the_join : IsSome here.site.disk → (s s' : Sends) → before.site.contents.sends ≡ Some s
@@ -146,7 +147,7 @@ module _ (x : Form) (h mid new rest : PlainHistory) (conn : ℕ) (one two : List
       )
 
   -- two stretches, of which the second began where the first ended
-  pub acknowledges_join : Acknowledges x (length h) new (one ++ two) before.site after.site r
+  pub acknowledges_join : Acknowledges x (length h) new (one ++ two) (span before.site after.site p r)
   acknowledges_join told s s' is is' left since =
       let middle = the_value here.site.contents.sends
       (grows.told (is_there after.site.contents.sends s' is')) in

@@ -12,7 +12,7 @@ use Rattle.ix_expr.specs.Form.{Form}
 use Rattle.ix_outside.specs.Contents.{Contents, SentBytes, Sends, SendsBytes, with_pair, with_gone}
 use Rattle.ix_outside.specs.Crashes.{Crashes, AreLawful, Elapses, OneCall}
 use Rattle.ix_outside.specs.SiteState.{SiteState}
-use Rattle.ix_outside.specs.inside.DiskCalls.{DiskCalls}
+use Rattle.ix_outside.specs.inside.DiskCalls.{DiskCalls, span}
 use Rattle.ix_proto.specs.Requests as request
 use Rattle.ix_proto.specs.Requests.{PlainRequest}
 use Rattle.ix_proto.specs.declared.reply.Reply.{Reply}
@@ -171,7 +171,7 @@ between_length before after sent is =
 
 -- no call
 pub more_none : (site : SiteState) (crashes : Crashes) → AreLawful site crashes
-    → SendsMore site site crashes
+    → SendsMore (span site site crashes crashes)
 more_none site crashes lawful = record {
   told = λ told. told;
   all = λ s s' told told'.
@@ -187,9 +187,9 @@ more_none site crashes lawful = record {
 }
 
 -- over a site that tells no sends
-pub more_untold : (old new : SiteState) (is : Crashes) → new.contents.sends ≡ None
-    → SendsMore old new is
-more_untold old new is untold = record {
+pub more_untold : (old new : SiteState) (was is : Crashes) → new.contents.sends ≡ None
+    → SendsMore (span old new was is)
+more_untold old new was is untold = record {
   told = λ told.
       let P : Option Sends → Type 0 = λ t. IsSome t in
       let nothing : P None = subst P untold told in absurd (true≢false (sym nothing));
@@ -198,11 +198,11 @@ more_untold old new is untold = record {
 }
 
 -- one call of which is known what it sent
-pub more_call : (old new : SiteState) (was is : Crashes) → OneCall old new was is
+pub more_call : (old new : SiteState) (was is : Crashes) → OneCall (span old new was is)
     → (IsSome new.contents.sends → IsSome old.contents.sends)
     → ((s s' : Sends) → old.contents.sends ≡ Some s → new.contents.sends ≡ Some s'
     → IsSentBetween s.sent s'.sent s'.sent)
-    → SendsMore old new is
+    → SendsMore (span old new was is)
 more_call old new was is call told all = record {
   told = told;
   all = all;
@@ -268,8 +268,8 @@ sent_more conn bytes (Err fault) old new s s' part told told' = elim part.sends 
 ]
 
 -- calls of the disk send nothing
-pub more_disk : (old new : SiteState) (was is : Crashes) → DiskCalls old new was is
-    → SendsMore old new is
+pub more_disk : (old new : SiteState) (was is : Crashes) → DiskCalls (span old new was is)
+    → SendsMore (span old new was is)
 more_disk old new was is calls = record {
   told = λ told. subst (λ (c : Contents). IsSome c.sends) calls.rest.contents told;
   all = λ s s' told told'.
@@ -287,10 +287,10 @@ more_disk old new was is calls = record {
 }
 
 -- two stretches
-pub more_join : (a b c : SiteState) (q r : Crashes) → a.tick ≤ b.tick
+pub more_join : (a b c : SiteState) (p q r : Crashes) → a.tick ≤ b.tick
     → Elapses b.tick c.tick q.left_since r.left_since
-    → SendsMore a b q → SendsMore b c r → SendsMore a c r
-more_join a b c q r le passes first second = record {
+    → SendsMore (span a b p q) → SendsMore (span b c q r) → SendsMore (span a c p r)
+more_join a b c p q r le passes first second = record {
   told = λ told. first.told (second.told told);
   all = λ s s' told told'.
       let mid = the_value b.contents.sends (second.told (is_there c.contents.sends s' told')) in

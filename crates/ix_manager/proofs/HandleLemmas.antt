@@ -10,6 +10,7 @@ use Rattle.ix_outside.specs.Crashes.{Crashes, AreLawful, Passes}
 use Rattle.ix_outside.specs.SiteState.{SiteState}
 use Rattle.ix_outside.specs.declared.event.Event.{Event}
 use Rattle.ix_outside.specs.declared.event.EventKind.TheVariants.{Bytes, Closed, End}
+use Rattle.ix_outside.specs.inside.DiskCalls.{span}
 use Rattle.ix_manager.specs.Runs.{Ending, going, Steps, none, raised}
 use Rattle.ix_manager.specs.Wire.{done, marks_after, all_replies}
 use Rattle.ix_manager.specs.Handled.{ManagerState, Handles, held_at, completed_by, held_after}
@@ -18,7 +19,7 @@ use Rattle.ix_manager.specs.Machine.{MachineState}
 use Rattle.ix_proto.specs.declared.reply.Reply.{Reply}
 use Rattle.ix_manager.specs.inside.Acknowledging.{Acknowledges}
 use Rattle.ix_manager.specs.inside.Does.{MayReserve}
-use Rattle.ix_manager.specs.inside.WireState.{WireState, wired, SendsAll}
+use Rattle.ix_manager.specs.inside.WireState.{WireState, wired, SendsAll, wire_span}
 use Rattle.ix_manager.specs.declared.faults.Go.{Go}
 use Rattle.ix_manager.specs.declared.faults.Go.TheVariants.{More, Stopped}
 use Rattle.ix_manager.specs.declared.faults.Stop.{Stop}
@@ -135,13 +136,13 @@ fits_along (Err Disk) P Q to p = tt
 
 module _ (old between new : ManagerState) (event : Event) (n : ℕ) (bytes : List ℕ) (result : Result Go Stop)
     (before after : WireState) (p q : Crashes) (is : event.kind ≡ Bytes n) (same : between ≡ at_moment event.moment old)
-    (taken : OverRun (TakesBytes event.conn bytes) result between new before after p q) where
-  over : OverRun (TakesBytes event.conn bytes) result (at_moment event.moment old) new before after p q
-  over = subst (λ (m : ManagerState). OverRun (TakesBytes event.conn bytes) result m new before after p q) same
+    (taken : OverRun (TakesBytes event.conn bytes) result between new (wire_span before after p q)) where
+  over : OverRun (TakesBytes event.conn bytes) result (at_moment event.moment old) new (wire_span before after p q)
+  over = subst (λ (m : ManagerState). OverRun (TakesBytes event.conn bytes) result m new (wire_span before after p q)) same
       taken
 
   -- bytes came, over a site
-  pub bytes_over : before.gone ≡ get_or between.marks event.conn false → HandlesOver old event bytes result new before.site after.site q
+  pub bytes_over : before.gone ≡ get_or between.marks event.conn false → HandlesOver old event bytes result new (span before.site after.site p q)
   bytes_over gone_between = record {
     ending = over.ending;
     answered = over.answered;
@@ -151,7 +152,7 @@ module _ (old between new : ManagerState) (event : Event) (n : ℕ) (bytes : Lis
     boots = over.saves.boots;
     ends = over.saves.ends;
     acknowledges = subst (λ rs. Acknowledges old.form (length old.machine.history)
-        (with_failed over.ending new.machine.history) rs before.site after.site q) over.made.all
+        (with_failed over.ending new.machine.history) rs (span before.site after.site p q)) over.made.all
         over.acknowledges;
     sends = over.saves.sends;
   }
@@ -165,7 +166,7 @@ module _ (old between new : ManagerState) (event : Event) (n : ℕ) (bytes : Lis
       fits_along result (FitsWith old.form new.machine new.store after.site q) _ (λ fits. subst (λ x. FitsWith x new.machine new.store after.site q) (sym form) fits)
       (fits_where result over.ending _ over.answered over.saves.fits)
 
-  pub bytes_pass : Passes before.site after.site p q
+  pub bytes_pass : Passes (span before.site after.site p q)
   bytes_pass = over.saves.passes
 
 -- raising the moment reserves nothing
@@ -185,7 +186,7 @@ pub rest_over : (old new : ManagerState) (event : Event) (bytes : List ℕ) (sit
     → FitsSite old site crashes → (handles :
     Handles old event bytes going new site.contents site.contents) → handles.answers ≡ []
     → new.machine ≡ raised event.moment old.machine
-    → HandlesOver old event bytes (Ok More) new site site crashes
+    → HandlesOver old event bytes (Ok More) new (span site site crashes crashes)
 rest_over old new event bytes site crashes lawful fits handles nothing same =
     let none = saves_same going old.form old.machine (raised event.moment old.machine) new.machine old.store site site crashes crashes same
     (saves_reserved old.form old.machine old.machine (raised event.moment old.machine) old.store site site crashes crashes refl
@@ -198,7 +199,7 @@ rest_over old new event bytes site crashes lawful fits handles nothing same =
       boots = none.boots;
       ends = none.ends;
       acknowledges = subst (λ answers. Acknowledges old.form (length old.machine.history)
-          new.machine.history (all_replies answers) site site crashes) (sym nothing)
+          new.machine.history (all_replies answers) (span site site crashes crashes)) (sym nothing)
           (saves_acknowledges going old.form old.machine new.machine old.store 0 []
           (wired false site) (wired false site) crashes crashes
           lawful none (nothing_sent 0 (wired false site)) no_item);

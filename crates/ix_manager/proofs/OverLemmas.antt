@@ -14,7 +14,7 @@ use Rattle.ix_lines.specs.Words.{words_of}
 use Rattle.ix_outside.specs.Counts.{Rose}
 use Rattle.ix_outside.specs.Crashes.{Crashes, AreLawful}
 use Rattle.ix_outside.specs.SiteState.{SiteState}
-use Rattle.ix_outside.specs.inside.DiskCalls.{DiskCalls, LeavesOnly}
+use Rattle.ix_outside.specs.inside.DiskCalls.{DiskCalls, LeavesOnly, span}
 use Rattle.ix_outside.proofs.Passing.{DiskCalls-none}
 use Rattle.ix_proto.specs.Requests.{confirm}
 use Rattle.ix_proto.specs.RequestFaults.{IsRequestFault}
@@ -39,7 +39,7 @@ use Rattle.ix_manager.specs.inside.Does.{Does, MayReserve}
 use Rattle.ix_manager.specs.inside.Over.{OverJournal}
 use Rattle.ix_manager.specs.inside.OverSite.{ending_after}
 use Rattle.ix_manager.specs.inside.Saving.{FitsJournal, OnlySends, Saves, SavesJournal, Finds, Commits, ConfirmsOver}
-use Rattle.ix_manager.specs.inside.WireState.{WireState, wired, SendsAll, AnswersRequest, AnswersItem}
+use Rattle.ix_manager.specs.inside.WireState.{WireState, wired, SendsAll, AnswersRequest, AnswersItem, wire_span, wire_stretch}
 use Rattle.ix_manager.proofs.AcknowledgedLemmas.{TellsNoConfirm}
 use Rattle.ix_manager.proofs.AcknowledgeSteps.{saves_acknowledges, confirm_acknowledges}
 use Rattle.ix_manager.proofs.AnswerLemmas.{confirm_answered, confirm_failed, line_answered, line_refused, long_line_refused}
@@ -66,7 +66,7 @@ no_such_does core ticket one finds is =
 -- a confirm that is refused
 pub refused_over : (ticket : Ticket) (one : Reply) (j : Journaled) (site : SiteState) (crashes : Crashes) → AreLawful site crashes
     → FitsJournal j site crashes → Does j.machine (confirm ticket) one j.machine
-    → ConfirmsOver ticket (Ok one) j j site site crashes crashes
+    → ConfirmsOver ticket (Ok one) j j (span site site crashes crashes)
 refused_over ticket one j site crashes lawful fits does = record {
   ending = going;
   confirms = (does, refl);
@@ -76,17 +76,17 @@ refused_over ticket one j site crashes lawful fits does = record {
 
 module _ (ticket : Ticket) (action : PlainAction) (old new : Journaled) (before after : SiteState) (was is : Crashes)
     (lawful : AreLawful after is) (fits : FitsJournal old before was) (finds : Finds old.machine ticket (Taken action))
-    (calls : DiskCalls before after was is)
+    (calls : DiskCalls (span before after was is))
     (images : (text : List ℕ) (history : PlainHistory) → Fits before was (kept old.store) text history
     → ForSome before.disk
-    (λ _. LeavesOnly (IsWithOrWithout text history (kept old.store).marks (entry.Spent ticket action)) before is)) where
+    (λ _. LeavesOnly (IsWithOrWithout text history (kept old.store).marks (entry.Spent ticket action)) (span before after was is))) where
   -- the action was appended
   pub confirmed_over : (one : Reply) → Commits old.machine ticket one new.machine
       → ((text : List ℕ) (history : PlainHistory) → Fits before was (kept old.store) text history
       → Fits after is (kept new.store) text (history ++ (Some ticket, action) ∷ []))
       → (kept new.store).marks ≡ record { boots = (kept old.store).marks.boots; seq = ticket.seq }
       → (kept new.store).failed ≡ false
-      → ConfirmsOver ticket (Ok one) old new before after was is
+      → ConfirmsOver ticket (Ok one) old new (span before after was is)
   confirmed_over one commits appended spent works =
       let facts = finds.1 in
       let does = commits action facts.0 facts.1 facts.2 in
@@ -112,7 +112,7 @@ module _ (ticket : Ticket) (action : PlainAction) (old new : Journaled) (before 
 
   -- the append failed
   pub append_failed : new.machine ≡ old.machine → Rose before.counts.disk after.counts.disk
-      → ConfirmsOver ticket (Err Disk) old new before after was is
+      → ConfirmsOver ticket (Err Disk) old new (span before after was is)
   append_failed same rose =
       let facts = finds.1 in
       let x = old.machine.form in
@@ -128,11 +128,11 @@ module _ (ticket : Ticket) (action : PlainAction) (old new : Journaled) (before 
       }
 
 module _ (conn : ℕ) (ticket : Ticket) (old new : Journaled) (was_gone gone : Bool) (a b c : SiteState) (p q r : Crashes)
-    (between : AreLawful b q) (lawful : AreLawful c r) (only : OnlySends b c q r) where
+    (between : AreLawful b q) (lawful : AreLawful c r) (only : OnlySends (span b c q r)) where
   -- a confirm's reply is sent
-  pub confirm_over : (one : Reply) → ConfirmsOver ticket (Ok one) old new a b p q
+  pub confirm_over : (one : Reply) → ConfirmsOver ticket (Ok one) old new (span a b p q)
       → SendsAll conn (one ∷ []) (wired was_gone b) (wired gone c)
-      → OverJournal (AnswersRequest conn (Confirm ticket)) (Ok More) old new (wired was_gone a) (wired gone c) p r
+      → OverJournal (AnswersRequest conn (Confirm ticket)) (Ok More) old new (wire_stretch was_gone gone (span a c p r))
   confirm_over one over sends = record {
     ending = going;
     replies = one ∷ [];
@@ -140,15 +140,15 @@ module _ (conn : ℕ) (ticket : Ticket) (old new : Journaled) (was_gone gone : B
     made = confirm_answered conn ticket one old.machine new.machine (wired was_gone a) (wired gone c) over.confirms.0
         (sends-append conn [] (one ∷ []) (wired was_gone a) (wired was_gone b) (wired gone c) (disk_sent conn was_gone a b p q over.calls) sends);
     saves = saves_sends going old.machine.form old.machine.state new.machine.state (kept new.store) a b c p q r between lawful
-        (subst (λ e. SavesJournal e old new a b p q) over.confirms.1 over.saves) only;
+        (subst (λ e. SavesJournal e old new (span a b p q)) over.confirms.1 over.saves) only;
     acknowledges = confirm_acknowledges conn ticket one old new was_gone gone a b c p q r between
         lawful only over sends;
   }
 
   -- that the disk failed is sent
-  pub failure_over : (stop : Stop) (one : Reply) → ConfirmsOver ticket (Err stop) old new a b p q → one ≡ disk
+  pub failure_over : (stop : Stop) (one : Reply) → ConfirmsOver ticket (Err stop) old new (span a b p q) → one ≡ disk
       → SendsAll conn (one ∷ []) (wired was_gone b) (wired gone c)
-      → OverJournal (AnswersRequest conn (Confirm ticket)) (Err stop) old new (wired was_gone a) (wired gone c) p r
+      → OverJournal (AnswersRequest conn (Confirm ticket)) (Err stop) old new (wire_stretch was_gone gone (span a c p r))
   failure_over Disk one over is sends =
       let facts = over.confirms in
       let before = wired was_gone a in
@@ -160,9 +160,9 @@ module _ (conn : ℕ) (ticket : Ticket) (old new : Journaled) (was_gone gone : B
       after facts.2 facts.3 facts.4 is
       (sends-append conn [] (one ∷ []) before (wired was_gone b) after
       (disk_sent conn was_gone a b p q over.calls) sends) in
-      let saves : SavesJournal (failed (Some ticket, facts.0)) old new a c p r =
+      let saves : SavesJournal (failed (Some ticket, facts.0)) old new (span a c p r) =
       saves_sends (failed (Some ticket, facts.0)) x h w (kept new.store) a b c p q r between lawful
-      (subst (λ e. SavesJournal e old new a b p q) facts.5 over.saves) only in
+      (subst (λ e. SavesJournal e old new (span a b p q)) facts.5 over.saves) only in
       record {
         ending = failed (Some ticket, facts.0);
         replies = disk ∷ [];
@@ -180,16 +180,16 @@ pub request_over : (conn : ℕ) (request : Request) (go : Go) (old new : Journal
     → kept new.store ≡ kept old.store
     → (replies : List Reply)
     → AnswersRequest conn request (ending_after go) replies old.machine new.machine before after
-    → OnlySends before.site after.site p q
+    → OnlySends (span before.site after.site p q)
     → Each TellsNoConfirm replies
-    → OverJournal (AnswersRequest conn request) (Ok go) old new before after p q
+    → OverJournal (AnswersRequest conn request) (Ok go) old new (wire_span before after p q)
 request_over conn request go old new before after p q lawful lawful' fits same reserves store replies answers
     only none =
     let x = old.machine.form in
     let h = old.machine.state in
     let w = new.machine.state in
-    let saves : SavesJournal (ending_after go) old new before.site after.site p q =
-    subst (λ s. Saves (ending_after go) x h w s before.site after.site p q) (sym store)
+    let saves : SavesJournal (ending_after go) old new (span before.site after.site p q) =
+    subst (λ s. Saves (ending_after go) x h w s (span before.site after.site p q)) (sym store)
     (answered_saves go x h w (kept old.store) before.site after.site p q lawful lawful' fits.fits same
     reserves only) in
     record {
@@ -204,8 +204,8 @@ request_over conn request go old new before after p q lawful lawful' fits same r
 
 -- a line that is a request
 pub line_over : (conn : ℕ) (bytes : List ℕ) (request : Request) (result : Result Go Stop) (old new : Journaled) (before after : WireState) (p q : Crashes)
-    → Reads (words_of bytes) request → OverJournal (AnswersRequest conn request) result old new before after p q
-    → OverJournal (AnswersItem conn (line bytes)) result old new before after p q
+    → Reads (words_of bytes) request → OverJournal (AnswersRequest conn request) result old new (wire_span before after p q)
+    → OverJournal (AnswersItem conn (line bytes)) result old new (wire_span before after p q)
 line_over conn bytes request result old new before after p q reads over = record {
   ending = over.ending;
   replies = over.replies;
@@ -217,14 +217,14 @@ line_over conn bytes request result old new before after p q reads over = record
 
 -- a line that is no request
 pub fault_over : (conn : ℕ) (bytes : List ℕ) (code : ℕ) (told : Reply) (j : Journaled) (before after : WireState) (p q : Crashes)
-    → AreLawful before.site p → AreLawful after.site q → FitsJournal j before.site p → OnlySends before.site after.site p q
+    → AreLawful before.site p → AreLawful after.site q → FitsJournal j before.site p → OnlySends (span before.site after.site p q)
     → IsRequestFault (words_of bytes) code → told ≡ reply.Refused code 0 → SendsAll conn (told ∷ []) before after
-    → OverJournal (AnswersItem conn (line bytes)) (Ok More) j j before after p q
+    → OverJournal (AnswersItem conn (line bytes)) (Ok More) j j (wire_span before after p q)
 fault_over conn bytes code told j before after p q lawful lawful' fits only fault is sends =
     let x = j.machine.form in
     let h = j.machine.state in
     let answers = line_refused conn bytes code told j.machine before after fault is sends in
-    let saves : SavesJournal going j j before.site after.site p q =
+    let saves : SavesJournal going j j (span before.site after.site p q) =
     answered_saves More x h h (kept j.store) before.site after.site p q lawful lawful' fits.fits refl
     (reserves_none h) only in
     record {
@@ -239,14 +239,14 @@ fault_over conn bytes code told j before after p q lawful lawful' fits only faul
 
 -- a line that is too long
 pub long_over : (conn : ℕ) (told : Reply) (j : Journaled) (before after : WireState) (p q : Crashes)
-    → AreLawful before.site p → AreLawful after.site q → FitsJournal j before.site p → OnlySends before.site after.site p q
+    → AreLawful before.site p → AreLawful after.site q → FitsJournal j before.site p → OnlySends (span before.site after.site p q)
     → told ≡ reply.Refused 10 0 → SendsAll conn (told ∷ []) before after
-    → OverJournal (AnswersItem conn too_long) (Ok More) j j before after p q
+    → OverJournal (AnswersItem conn too_long) (Ok More) j j (wire_span before after p q)
 long_over conn told j before after p q lawful lawful' fits only is sends =
     let x = j.machine.form in
     let h = j.machine.state in
     let answers = long_line_refused conn told j.machine before after is sends in
-    let saves : SavesJournal going j j before.site after.site p q =
+    let saves : SavesJournal going j j (span before.site after.site p q) =
     answered_saves More x h h (kept j.store) before.site after.site p q lawful lawful' fits.fits refl
     (reserves_none h) only in
     record {
@@ -266,8 +266,8 @@ is_confirm _ ticket P lends p = absurd lends
 
 -- a request that is a confirm
 pub confirm_request : (conn : ℕ) (request : Request) (ticket : Ticket) (result : Result Go Stop) (old mid new : Journaled) (before after : WireState) (p q : Crashes)
-    → Lends request (confirm ticket) → mid ≡ old → OverJournal (AnswersRequest conn (Confirm ticket)) result mid new before after p q
-    → OverJournal (AnswersRequest conn request) result old new before after p q
+    → Lends request (confirm ticket) → mid ≡ old → OverJournal (AnswersRequest conn (Confirm ticket)) result mid new (wire_span before after p q)
+    → OverJournal (AnswersRequest conn request) result old new (wire_span before after p q)
 confirm_request conn request ticket result old mid new before after p q lends same over =
-    is_confirm request ticket (λ r. OverJournal (AnswersRequest conn r) result old new before after p q) lends
-    (subst (λ (j : Journaled). OverJournal (AnswersRequest conn (Confirm ticket)) result j new before after p q) same over)
+    is_confirm request ticket (λ r. OverJournal (AnswersRequest conn r) result old new (wire_span before after p q)) lends
+    (subst (λ (j : Journaled). OverJournal (AnswersRequest conn (Confirm ticket)) result j new (wire_span before after p q)) same over)

@@ -19,7 +19,7 @@ use Rattle.ix_outside.specs.Counts.{Rose}
 use Rattle.ix_outside.specs.Crashes.{Crashes, AreLawful, OneCall, LeavesTheSame}
 use Rattle.ix_outside.specs.Disk.{Disk}
 use Rattle.ix_outside.specs.SiteState.{SiteState, OnlySend}
-use Rattle.ix_outside.specs.inside.DiskCalls.{DiskCalls, KeepsOpened, LeavesOnly}
+use Rattle.ix_outside.specs.inside.DiskCalls.{DiskCalls, KeepsOpened, LeavesOnly, span}
 use Rattle.ix_outside.proofs.Counting.{Rose-later, Rose-earlier}
 use Rattle.ix_outside.proofs.Passing.{Passes-none, Passes-join, LeavesOnly-none, LeavesOnly-join}
 use Rattle.ix_store.specs.inside.Keeping.{Fits, IsWithOrWithout}
@@ -185,7 +185,7 @@ where_failed (failed a) to p = to p
 
 -- no call, where the store fits
 pub saves_none : (x : Form) (s : MachineState) (store : Keeping) (site : SiteState) (crashes : Crashes) → AreLawful site crashes
-    → FitsWith x s store site crashes → Saves going x s s store site site crashes crashes
+    → FitsWith x s store site crashes → Saves going x s s store (span site site crashes crashes)
 saves_none x s store site crashes lawful fits = record {
   passes = Passes-none site crashes;
   sends = more_none site crashes lawful;
@@ -206,23 +206,23 @@ saves_none x s store site crashes lawful fits = record {
 
 -- two stretches make one
 pub saves_join : (e : Ending) (x : Form) (h mid new : MachineState) (one two : Keeping) (a b c : SiteState) (p q r : Crashes) → AreLawful c r
-    → Saves going x h mid one a b p q → Saves e x mid new two b c q r → Saves e x h new two a c p r
+    → Saves going x h mid one (span a b p q) → Saves e x mid new two (span b c q r) → Saves e x h new two (span a c p r)
 saves_join e x h mid new one two a b c p q r lawful first second = record {
   passes = Passes-join a b c p q r lawful first.passes second.passes;
-  sends = more_join a b c q r first.passes.left.later second.passes.left_since first.sends
+  sends = more_join a b c p q r first.passes.left.later second.passes.left_since first.sends
       second.sends;
   count = let le = first.count in let le2 = second.count in omega arith;
   told = λ told. first.told (second.told told);
   rest = first.rest ++ second.rest;
   grows = sym (append_assoc h.history first.rest second.rest) ∙ ap (λ (w : PlainHistory). w ++ second.rest) first.grows ∙ second.grows;
   boot = second.boot ∙ first.boot;
-  keeps = λ told. LeavesOnly-join (Keeps x (length h.history) (with_failed e new.history)) a b c q r
+  keeps = λ told. LeavesOnly-join (Keeps x (length h.history) (with_failed e new.history)) a b c p q r
       (λ at left. keeps_longer x (length h.history) mid.history second.rest (with_failed e new.history) at second.grows
       (first.keeps (second.told told) at left))
       second.passes.left first.passes.left.later
       (λ at left. keeps_fewer x (length mid.history) (length h.history) (with_failed e new.history) at
       (shorter h.history first.rest mid.history first.grows) (second.keeps told at left));
-  boots = λ told. LeavesOnly-join (λ at. HoldsBoots at h.boot) a b c q r (first.boots (second.told told))
+  boots = λ told. LeavesOnly-join (λ at. HoldsBoots at h.boot) a b c p q r (first.boots (second.told told))
       second.passes.left first.passes.left.later
       (λ at left. subst (λ n. HoldsBoots at n) first.boot (second.boots told at left));
   ends = second.ends;
@@ -235,12 +235,12 @@ saves_join e x h mid new one two a b c p q r lawful first second = record {
 
 -- of a state that has another spelling
 pub saves_same : (e : Ending) (x : Form) (h new other : MachineState) (store : Keeping) (a b : SiteState) (p q : Crashes) → other ≡ new
-    → Saves e x h new store a b p q → Saves e x h other store a b p q
-saves_same e x h new other store a b p q same = subst (λ (s : MachineState). Saves e x h s store a b p q) (sym same)
+    → Saves e x h new store (span a b p q) → Saves e x h other store (span a b p q)
+saves_same e x h new other store a b p q same = subst (λ (s : MachineState). Saves e x h s store (span a b p q)) (sym same)
 
 -- of a machine that may have reserved a ticket then
 pub saves_reserved : (x : Form) (h mid new : MachineState) (store : Keeping) (a b : SiteState) (p q : Crashes)
-    → new.history ≡ mid.history → MayReserve mid new → Saves going x h mid store a b p q → Saves going x h new store a b p q
+    → new.history ≡ mid.history → MayReserve mid new → Saves going x h mid store (span a b p q) → Saves going x h new store (span a b p q)
 saves_reserved x h mid new store a b p q same reserves saves = record {
   passes = saves.passes;
   sends = saves.sends;
@@ -258,7 +258,7 @@ saves_reserved x h mid new store a b p q same reserves saves = record {
 
 -- `stop` may end the run
 pub saves_after : (go : Go) (x : Form) (h new : MachineState) (store : Keeping) (a b : SiteState) (p q : Crashes)
-    → Saves going x h new store a b p q → Saves (ending_after go) x h new store a b p q
+    → Saves going x h new store (span a b p q) → Saves (ending_after go) x h new store (span a b p q)
 saves_after More x h new store a b p q saves = saves
 saves_after Stopped x h new store a b p q saves = record {
   passes = saves.passes;
@@ -276,7 +276,7 @@ saves_after Stopped x h new store a b p q saves = record {
 }
 
 -- nothing is sent
-pub only_none : (site : SiteState) (crashes : Crashes) → AreLawful site crashes → OnlySends site site crashes crashes
+pub only_none : (site : SiteState) (crashes : Crashes) → AreLawful site crashes → OnlySends (span site site crashes crashes)
 only_none site crashes lawful = record {
   count = refl;
   disk = inl refl;
@@ -290,8 +290,8 @@ only_none site crashes lawful = record {
 pub only_one : {T E : Type 0} (conn : ℕ) (bytes : List ℕ) (result : Result T E)
     (old new : SiteState) (was is : Crashes)
     → OnlySend old new → SendsBytes conn bytes result old.contents new.contents
-    → LeavesTheSame was.now is.now → OneCall old new was is
-    → OnlySends old new was is
+    → LeavesTheSame was.now is.now → OneCall (span old new was is)
+    → OnlySends (span old new was is)
 only_one conn bytes result old new was is only contents same call = record {
   count = only.disk;
   disk = only.file;
@@ -305,7 +305,7 @@ only_one conn bytes result old new was is only contents same call = record {
 }
 
 -- sends and further ones
-pub only_join : (a b c : SiteState) (p q r : Crashes) → AreLawful c r → OnlySends a b p q → OnlySends b c q r → OnlySends a c p r
+pub only_join : (a b c : SiteState) (p q r : Crashes) → AreLawful c r → OnlySends (span a b p q) → OnlySends (span b c q r) → OnlySends (span a c p r)
 only_join a b c p q r lawful first second = record {
   count = second.count ∙ first.count;
   disk = elim second.disk [
@@ -314,14 +314,14 @@ only_join a b c p q r lawful first second = record {
   ];
   now = λ at. (λ now. (first.now at).0 ((second.now at).0 now), λ now. (second.now at).1 ((first.now at).1 now));
   passes = Passes-join a b c p q r lawful first.passes second.passes;
-  images = LeavesOnly-join p.now a b c q r first.images second.passes.left first.passes.left.later
+  images = LeavesOnly-join p.now a b c p q r first.images second.passes.left first.passes.left.later
       (λ at left. (first.now at).0 (second.images at left));
-  sends = more_join a b c q r first.passes.left.later second.passes.left_since first.sends
+  sends = more_join a b c p q r first.passes.left.later second.passes.left_since first.sends
       second.sends;
 }
 
 -- where a store fits, it does after sends
-pub fits_sends : (x : Form) (s : MachineState) (store : Keeping) (b c : SiteState) (q r : Crashes) → OnlySends b c q r
+pub fits_sends : (x : Form) (s : MachineState) (store : Keeping) (b c : SiteState) (q r : Crashes) → OnlySends (span b c q r)
     → FitsWith x s store b q → FitsWith x s store c r
 fits_sends x s store b c q r only fits = record {
   works = fits.works;
@@ -337,10 +337,10 @@ fits_sends x s store b c q r only fits = record {
 
 -- sends behind calls
 pub saves_sends : (e : Ending) (x : Form) (h new : MachineState) (store : Keeping) (a b c : SiteState) (p q r : Crashes)
-    → AreLawful b q → AreLawful c r → Saves e x h new store a b p q → OnlySends b c q r → Saves e x h new store a c p r
+    → AreLawful b q → AreLawful c r → Saves e x h new store (span a b p q) → OnlySends (span b c q r) → Saves e x h new store (span a c p r)
 saves_sends e x h new store a b c p q r before lawful first only = record {
   passes = Passes-join a b c p q r lawful first.passes only.passes;
-  sends = more_join a b c q r first.passes.left.later only.passes.left_since first.sends only.sends;
+  sends = more_join a b c p q r first.passes.left.later only.passes.left_since first.sends only.sends;
   count = let le = first.count in let same = only.count in omega arith;
   told = λ told. first.told (still_told b.disk c.disk only.disk told);
   rest = first.rest;
@@ -348,11 +348,11 @@ saves_sends e x h new store a b c p q r before lawful first only = record {
   boot = first.boot;
   keeps = λ told.
       let keeps = first.keeps (still_told b.disk c.disk only.disk told) in
-      LeavesOnly-join (Keeps x (length h.history) (with_failed e new.history)) a b c q r keeps only.passes.left first.passes.left.later
+      LeavesOnly-join (Keeps x (length h.history) (with_failed e new.history)) a b c p q r keeps only.passes.left first.passes.left.later
       (λ at left. keeps at (before.left_earlier a.tick b.tick at first.passes.left.later ((before.left_now at).1 (only.images at left))));
   boots = λ told.
       let boots = first.boots (still_told b.disk c.disk only.disk told) in
-      LeavesOnly-join (λ at. HoldsBoots at h.boot) a b c q r boots only.passes.left first.passes.left.later
+      LeavesOnly-join (λ at. HoldsBoots at h.boot) a b c p q r boots only.passes.left first.passes.left.later
       (λ at left. boots at (before.left_earlier a.tick b.tick at first.passes.left.later ((before.left_now at).1 (only.images at left))));
   ends = λ told at now. first.ends (still_told b.disk c.disk only.disk told) at ((only.now at).0 now);
   fits = unless_failed e (fits_sends x new store b c q r only) first.fits;
@@ -361,17 +361,17 @@ saves_sends e x h new store a b c p q r before lawful first only = record {
 
 -- an item was answered that left the journal alone
 pub answered_saves : (go : Go) (x : Form) (h new : MachineState) (store : Keeping) (a b : SiteState) (p q : Crashes)
-    → AreLawful a p → AreLawful b q → FitsWith x h store a p → new.history ≡ h.history → MayReserve h new → OnlySends a b p q
-    → Saves (ending_after go) x h new store a b p q
+    → AreLawful a p → AreLawful b q → FitsWith x h store a p → new.history ≡ h.history → MayReserve h new → OnlySends (span a b p q)
+    → Saves (ending_after go) x h new store (span a b p q)
 answered_saves go x h new store a b p q before lawful fits same reserves only =
     saves_after go x h new store a b p q (saves_reserved x h h new store a b p q same reserves
     (saves_sends going x h h store a a b p p q before lawful (saves_none x h store a p before fits) only))
 
 module _ (x : Form) (s : MachineState) (marks : Marks) (boot : s.boot ≡ marks.boots) (ticket : Ticket) (action : PlainAction)
     (new : Keeping) (a b : SiteState) (p q : Crashes)
-    (lawful : AreLawful b q) (calls : DiskCalls a b p q)
+    (lawful : AreLawful b q) (calls : DiskCalls (span a b p q))
     (images : (disk : Disk) → a.disk ≡ Some disk
-    → LeavesOnly (IsWithOrWithout (canonical_text x) s.history marks (entry.Spent ticket action)) a q) where
+    → LeavesOnly (IsWithOrWithout (canonical_text x) s.history marks (entry.Spent ticket action)) (span a b p q)) where
   -- the history with the action and its ticket behind it, and the state then
   abbrev longer_history : PlainHistory
   longer_history = s.history ++ (Some ticket, action) ∷ []
@@ -386,13 +386,13 @@ module _ (x : Form) (s : MachineState) (marks : Marks) (boot : s.boot ≡ marks.
   was_told told = kept_told a.disk b.disk calls.opened told
 
   with_or_without : IsSome b.disk
-      → LeavesOnly (IsWithOrWithout (canonical_text x) s.history marks (entry.Spent ticket action)) a q
+      → LeavesOnly (IsWithOrWithout (canonical_text x) s.history marks (entry.Spent ticket action)) (span a b p q)
   with_or_without told = let disk = the_value a.disk (was_told told) in images disk.0 disk.1
 
   longer : length s.history ≤ length longer_history
   longer = let counts = length-append s.history ((Some ticket, action) ∷ []) in omega arith
 
-  appended_keeps : IsSome b.disk → LeavesOnly (Keeps x (length s.history) longer_history) a q
+  appended_keeps : IsSome b.disk → LeavesOnly (Keeps x (length s.history) longer_history) (span a b p q)
   appended_keeps told at left =
       let is = with_or_without told at left in
       let least = length s.history in
@@ -401,7 +401,7 @@ module _ (x : Form) (s : MachineState) (marks : Marks) (boot : s.boot ≡ marks.
         | inr with_it ↦ journal_keeps x least longer_history [] longer_history spent is.0 at with_it (append-nil longer_history) longer
       ]
 
-  appended_boots : IsSome b.disk → LeavesOnly (λ at. HoldsBoots at s.boot) a q
+  appended_boots : IsSome b.disk → LeavesOnly (λ at. HoldsBoots at s.boot) (span a b p q)
   appended_boots told at left =
       let is = with_or_without told at left in
       subst (λ n. HoldsBoots at n) (sym boot) (elim is.1 [
@@ -410,7 +410,7 @@ module _ (x : Form) (s : MachineState) (marks : Marks) (boot : s.boot ≡ marks.
       ])
 
   -- an action was appended
-  pub appended_saves : FitsWith x confirmed_state new b q → Saves going x s confirmed_state new a b p q
+  pub appended_saves : FitsWith x confirmed_state new b q → Saves going x s confirmed_state new (span a b p q)
   appended_saves fits = record {
     passes = calls.passes;
     sends = more_disk a b p q calls;
@@ -428,7 +428,7 @@ module _ (x : Form) (s : MachineState) (marks : Marks) (boot : s.boot ≡ marks.
   }
 
   -- an append failed
-  pub failed_saves : Rose a.counts.disk b.counts.disk → Saves (failed (Some ticket, action)) x s s new a b p q
+  pub failed_saves : Rose a.counts.disk b.counts.disk → Saves (failed (Some ticket, action)) x s s new (span a b p q)
   failed_saves rose = record {
     passes = calls.passes;
     sends = more_disk a b p q calls;

@@ -7,7 +7,7 @@ use Rattle.ix_outside.specs.Counts.{Counts, Rose}
 use Rattle.ix_outside.specs.Crashes.{Crashes}
 use Rattle.ix_outside.specs.SiteState.{SiteState, OnlySend}
 use Rattle.ix_outside.specs.Disk.{Disk}
-use Rattle.ix_outside.specs.inside.DiskCalls.{DiskCalls, KeepsOpened}
+use Rattle.ix_outside.specs.inside.DiskCalls.{DiskCalls, KeepsOpened, span}
 use Rattle.ix_outside.proofs.Passing.{KeepsOpened-none, KeepsOpened-join}
 use Rattle.ix_outside.proofs.Counting.{Rose-later, Rose-earlier}
 use Rattle.ix_outside.specs.Contents.{Contents, SendsWhole, SendsPart, SendsBytes}
@@ -111,7 +111,7 @@ sends-append conn xs ys a b c first second = record {
 }
 
 -- calls of the disk send nothing
-pub disk_sent : (conn : ℕ) (gone : Bool) (old new : SiteState) (was is : Crashes) → DiskCalls old new was is → SendsAll conn [] (wired gone old) (wired gone new)
+pub disk_sent : (conn : ℕ) (gone : Bool) (old new : SiteState) (was is : Crashes) → DiskCalls (span old new was is) → SendsAll conn [] (wired gone old) (wired gone new)
 disk_sent conn gone old new was is calls =
     let whole : Reply → Contents → Contents → Type 0 = λ reply. SendsWhole conn (reply_line reply) in
     let front : Reply → Contents → Contents → Type 0 = λ reply. SendsPart conn (reply_line reply) in

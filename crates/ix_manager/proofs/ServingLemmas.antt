@@ -12,6 +12,7 @@ use Rattle.ix_outside.specs.Disk.{Disk, OfFile}
 use Rattle.ix_outside.specs.SiteState.{SiteState}
 use Rattle.ix_outside.specs.declared.event.Event.{Event}
 use Rattle.ix_outside.proofs.Passing.{sent-nothing}
+use Rattle.ix_outside.specs.inside.DiskCalls.{span}
 use Rattle.ix_proto.specs.declared.reply.Reply.{Reply}
 use Rattle.ix_manager.specs.Acknowledged.{IsAcknowledged, KeepsAcknowledged}
 use Rattle.ix_manager.specs.Handled.{ManagerState}
@@ -30,7 +31,7 @@ use Rattle.ix_manager.proofs.SendLemmas.{wire_goes_on, wire_pairs}
 
 -- a call that sends nothing, as `listen`
 pub nothing_call : (t : ℕ) (before : List SentBytes) (a b : SiteState) (p q : Crashes)
-    → OneCall a b p q → t ≤ a.tick
+    → OneCall (span a b p q) → t ≤ a.tick
     → (IsSome b.contents.sends → IsSome a.contents.sends)
     → ((s s' : Sends) → a.contents.sends ≡ Some s → b.contents.sends ≡ Some s' → s'.sent ≡ s.sent)
     → SentNothingSince t before a p → SentNothingSince t before b q
@@ -77,7 +78,7 @@ serves_begin t x least history before site is lawful began long sends_are keeps 
 pub serves_call : (t : ℕ) (x : Form) (least : ℕ) (history : PlainHistory) (before : Sends)
     (events : List GivenEvent) (answers : List (List (List Reply))) (marks : List Bool)
     (a b : SiteState) (p q : Crashes)
-    → AreLawful a p → AreLawful b q → OneCall a b p q → LeavesTheSame p.now q.now
+    → AreLawful a p → AreLawful b q → OneCall (span a b p q) → LeavesTheSame p.now q.now
     → b.contents.sends ≡ a.contents.sends → b.disk ≡ a.disk
     → ServesSince t x least history before events answers marks a p
     → ServesSince t x least history before events answers marks b q
@@ -110,10 +111,10 @@ module _ (t : ℕ) (x : Form) (least : ℕ) (before : Sends) (events : List Give
     (answers : List (List (List Reply)))
     (old : ManagerState) (event : Event) (bytes : List ℕ) (result : Result Go Stop)
     (new : ManagerState)
-    (a b : SiteState) (p q : Crashes) (lawful : AreLawful a p) (passes : Passes a b p q)
+    (a b : SiteState) (p q : Crashes) (lawful : AreLawful a p) (passes : Passes (span a b p q))
     (form : old.form ≡ x)
     (told_before : IsSome b.disk → IsSome a.disk)
-    (over : HandlesOver old event bytes result new a b q)
+    (over : HandlesOver old event bytes result new (span a b p q))
     (serves : ServesSince t x least old.machine.history before events answers old.marks a p) where
   abbrev longer_history : PlainHistory
   longer_history = with_failed over.ending new.machine.history

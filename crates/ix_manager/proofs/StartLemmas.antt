@@ -23,7 +23,7 @@ use Rattle.ix_journal.proofs.OutcomeLaws.{one_history, one_number}
 use Rattle.ix_outside.specs.Crashes.{Crashes, AreLawful}
 use Rattle.ix_outside.specs.Disk.{Disk, MakesFile, Stays}
 use Rattle.ix_outside.specs.SiteState.{SiteState}
-use Rattle.ix_outside.specs.inside.DiskCalls.{DiskCalls, KeepsOpened, LeavesOnly}
+use Rattle.ix_outside.specs.inside.DiskCalls.{DiskCalls, KeepsOpened, LeavesOnly, span}
 use Rattle.ix_store.specs.Opening.{IsNew}
 use Rattle.ix_store.specs.Keeping.{Keeping}
 use Rattle.ix_store.specs.inside.Keeping.{Fits, IsBootedOrNot, booted}
@@ -37,7 +37,7 @@ use Rattle.ix_store.proofs.Opened.{ready_not_new}
 use Rattle.ix_manager.specs.Images as image
 use Rattle.ix_manager.specs.Images.{IsOwn, IsWithin, EachPrefixIsWithin, IsStartable}
 use Rattle.ix_manager.specs.Starts.{HasText}
-use Rattle.ix_manager.specs.inside.StartAnswers.{IsFault, StartLeaves}
+use Rattle.ix_manager.specs.inside.StartAnswers.{IsStartFault, StartLeaves}
 use Rattle.ix_manager.specs.Runs.{opening_of}
 use Rattle.ix_manager.specs.declared.faults.StartFault.{StartFault}
 use Rattle.ix_manager.specs.declared.faults.StartFault.TheVariants as start
@@ -50,7 +50,7 @@ use Rattle.ix_manager.proofs.RecoverLemmas.{few_kept, none_within, each_within, 
 
 -- no call
 pub leaves_none : (x : Form) (limit : ℕ) (file : List ℕ) (site : SiteState) (crashes : Crashes) → AreLawful site crashes
-    → StartLeaves x limit file site site crashes crashes
+    → StartLeaves x limit file (span site site crashes crashes)
 leaves_none x limit file site crashes lawful = record {
   recovers = λ history is at left. inl ((lawful.left_now at).0 left);
   boots = λ boots holds at left. inl ((lawful.left_now at).0 left);
@@ -101,7 +101,7 @@ initial_within x limit within = record { partial = empty-partial x []; size = wi
 
 -- of a start of the store
 module _ (x : Form) (limit : ℕ) (file : List ℕ) (old new : SiteState) (was is : Crashes)
-    (leaves : LeavesOnStart (canonical_text x) file old new was is) where
+    (leaves : LeavesOnStart (canonical_text x) file (span old new was is)) where
   recovers_store : (h : PlainHistory) → Recovers file h → (at : List ℕ) → is.left old.tick at → was.now at ⊎ Recovers at h
   recovers_store h of_file at left = elim (leaves.keeps of_file.entries of_file.keeps at left) [
     | inl now ↦ inl now
@@ -130,7 +130,7 @@ module _ (x : Form) (limit : ℕ) (file : List ℕ) (old new : SiteState) (was i
   own_store (inr (inr ready)) at left = inl ((leaves.stays (ready_not_new file (canonical_text x) ready)).1 at left)
 
   -- no boot was written behind it
-  pub leaves_store : tree_size x [] ≤ limit → StartLeaves x limit file old new was is
+  pub leaves_store : tree_size x [] ≤ limit → StartLeaves x limit file (span old new was is)
   leaves_store within = record {
     recovers = recovers_store;
     boots = λ boots holds at left. elim (holds_store boots holds at left) [ inl now ↦ inl now | inr same ↦ inr (inl same) ];
@@ -187,10 +187,10 @@ begun_fits x h old new boot site crashes works fits number is = record {
 
 -- of a start of the store, and of the boot that was written behind it
 module _ (x : Form) (limit : ℕ) (file : List ℕ) (old mid new : SiteState) (was then is : Crashes)
-    (leaves : LeavesOnStart (canonical_text x) file old mid was then)
-    (before : DiskCalls old mid was then) (calls : DiskCalls mid new then is)
+    (leaves : LeavesOnStart (canonical_text x) file (span old mid was then))
+    (before : DiskCalls (span old mid was then)) (calls : DiskCalls (span mid new then is))
     (h : PlainHistory) (marks : Marks) (opens : Opens file (canonical_text x) h marks.boots)
-    (images : LeavesOnly (IsBootedOrNot (canonical_text x) h marks) mid is) where
+    (images : LeavesOnly (IsBootedOrNot (canonical_text x) h marks) (span mid new then is)) where
   -- an image that a crash may have left is from before the boot was written, or from then on
   since : (at : List ℕ) → is.left old.tick at → then.left old.tick at ⊎ is.left mid.tick at
   since at left = calls.passes.left.nothing_else old.tick at before.passes.left.later left
@@ -232,7 +232,7 @@ module _ (x : Form) (limit : ℕ) (file : List ℕ) (old mid new : SiteState) (w
   ]
 
   pub leaves_booted : tree_size x [] ≤ limit → AreAllowed x limit (actions_of h) → marks.boots < 1000000
-      → StartLeaves x limit file old new was is
+      → StartLeaves x limit file (span old new was is)
   leaves_booted within allowed few = record {
     recovers = recovers_booted;
     boots = boots_booted;
@@ -244,19 +244,19 @@ module _ (x : Form) (limit : ℕ) (file : List ℕ) (old mid new : SiteState) (w
 pub started_leaves : (x : Form) (limit : ℕ) (disk : Disk) (old mid new : SiteState) (was then is : Crashes) (text : List ℕ)
     (h pairs : PlainHistory) (form : Form) (store : Keeping)
     → text ≡ canonical_text x → form ≡ x → pairs ≡ h → old.disk ≡ Some disk
-    → LeavesOnStart text disk.file old mid was then → DiskCalls old mid was then → DiskCalls mid new then is
+    → LeavesOnStart text disk.file (span old mid was then) → DiskCalls (span old mid was then) → DiskCalls (span mid new then is)
     → Opens disk.file text h store.marks.boots
-    → ForSome mid.disk (λ _. LeavesOnly (IsBootedOrNot (canonical_text form) pairs store.marks) mid is)
+    → ForSome mid.disk (λ _. LeavesOnly (IsBootedOrNot (canonical_text form) pairs store.marks) (span mid new then is))
     → tree_size x [] ≤ limit → AreAllowed x limit (actions_of h) → store.marks.boots < 1000000
-    → StartLeaves x limit disk.file old new was is
+    → StartLeaves x limit disk.file (span old new was is)
 started_leaves x limit disk old mid new was then is text h pairs form store text_is form_is pairs_are told leaves before calls
     opens images =
     let told_then = stays_told old.disk mid.disk disk before.opened told in
     leaves_booted x limit disk.file old mid new was then is
-    (subst (λ (t : List ℕ). LeavesOnStart t disk.file old mid was then) text_is leaves) before calls h store.marks
+    (subst (λ (t : List ℕ). LeavesOnStart t disk.file (span old mid was then)) text_is leaves) before calls h store.marks
     (subst (λ (t : List ℕ). Opens disk.file t h store.marks.boots) text_is opens)
-    (subst (λ (f : Form). LeavesOnly (IsBootedOrNot (canonical_text f) h store.marks) mid is) form_is
-    (subst (λ (k : PlainHistory). LeavesOnly (IsBootedOrNot (canonical_text form) k store.marks) mid is) pairs_are
+    (subst (λ (f : Form). LeavesOnly (IsBootedOrNot (canonical_text f) h store.marks) (span mid new then is)) form_is
+    (subst (λ (k : PlainHistory). LeavesOnly (IsBootedOrNot (canonical_text form) k store.marks) (span mid new then is)) pairs_are
     (images told_then.0 told_then.1)))
 
 -- a store that wasn't opened isn't refused as large
@@ -281,7 +281,7 @@ disk_fault refused.Memory fault is same = cc
 
 -- why the store wasn't opened
 pub open_fault : (x : Form) (limit : ℕ) (file : List ℕ) (why : OpenFault) → Refuses file (canonical_text x) why
-    → IsFault x limit file (open_fault_of why)
+    → IsStartFault x limit file (open_fault_of why)
 open_fault x limit file refused.Disk facts = tt
 open_fault x limit file refused.NotJournal facts = facts
 open_fault x limit file (refused.OtherExpression kept) facts = facts
@@ -299,7 +299,7 @@ few_recovered file h of_file =
 -- why an engine of this expression and limit didn't take the history
 pub resume_fault : (x : Form) (limit : ℕ) (file : List ℕ) (h : PlainHistory) (boots : ℕ) (stopped : ResumeFault) → tree_size x [] ≤ limit
     → Opens file (canonical_text x) h boots → StopsAt x limit (actions_of h) stopped
-    → IsFault x limit file (record_fault_of stopped.number stopped.why)
+    → IsStartFault x limit file (record_fault_of stopped.number stopped.why)
 resume_fault x limit file h boots stopped within opens at = told stopped.why at.refused
   where
     own : IsOwn x file × Recovers file h
@@ -308,7 +308,7 @@ resume_fault x limit file h boots stopped within opens at = told stopped.why at.
     each : EachPrefixIsWithin x limit at.before
     each = each_within x limit at.before (initial_within x limit within) at.allowed
 
-    told : (why : PrepareFault) → IsRefused x limit at.before at.action why → IsFault x limit file (record_fault_of stopped.number why)
+    told : (why : PrepareFault) → IsRefused x limit at.before at.action why → IsStartFault x limit file (record_fault_of stopped.number why)
     told prepare.NotPartial refused =
         (h, own, no_word x limit (actions_of h) at.before at.action at.behind stopped.number at.parts at.number each refused)
     told (prepare.Over l) refused =

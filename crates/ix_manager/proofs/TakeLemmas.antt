@@ -22,6 +22,7 @@ use Rattle.ix_manager.specs.declared.faults.Stop.TheVariants.{Disk}
 use Rattle.ix_manager.specs.declared.journaled.Journaled.{Journaled}
 use Rattle.ix_outside.specs.Crashes.{Crashes, AreLawful}
 use Rattle.ix_outside.specs.SiteState.{SiteState}
+use Rattle.ix_outside.specs.inside.DiskCalls.{span}
 use Rattle.ix_store.specs.inside.KeptBy.{kept}
 use Rattle.ix_manager.specs.Handled.{ManagerState, held_at, has_ended}
 use Rattle.ix_manager.specs.Images.{with_failed}
@@ -31,7 +32,7 @@ use Rattle.ix_manager.specs.inside.Saving.{FitsJournal, Saves, SavesJournal}
 use Rattle.ix_manager.specs.inside.TakenItems.{TakesOne, TakesNone, TakesBytes}
 use Rattle.ix_manager.specs.inside.Core.{Core}
 use Rattle.ix_manager.specs.inside.Clean.{IsClean, AreClean}
-use Rattle.ix_manager.specs.inside.WireState.{WireState, wired, SendsAll, AnswersItem, AnswersItems}
+use Rattle.ix_manager.specs.inside.WireState.{WireState, wired, SendsAll, AnswersItem, AnswersItems, wire_span, wire_stretch}
 use Rattle.ix_manager.specs.inside.Over.{OverJournal, OverRun}
 use Rattle.ix_manager.proofs.SavingLemmas.{saves_none, saves_join}
 use Rattle.ix_manager.proofs.AcknowledgeSteps.{saves_acknowledges, acknowledges_join}
@@ -184,10 +185,10 @@ clean-set lines conn held clean here =
 pub record Reaches (conn : ℕ) (all : List Item) (first : Journaled) (before : WireState) (p : Crashes)
     (items : List Item) (now : Journaled) (here : WireState) (q : Crashes) : Type 0 where
   pub progress : Progress conn all first.machine before items now.machine here
-  pub saves : SavesJournal going first now before.site here.site p q
+  pub saves : SavesJournal going first now (span before.site here.site p q)
   pub acknowledges : Acknowledges first.machine.form (length first.machine.state.history)
       now.machine.state.history
-      (all_replies progress.answers) before.site here.site q
+      (all_replies progress.answers) (span before.site here.site p q)
 
 pub reach_begins : (conn : ℕ) (items : List Item) (j : Journaled) (w : WireState) (p : Crashes) → AreLawful w.site p
     → FitsJournal j w.site p → Reaches conn items j w p items j w p
@@ -211,23 +212,23 @@ ends_run (Err Disk) ending stops answered is = let e : failed answered.0 ≡ goi
 -- what an item saved, for the expression of the start
 saves_of_first : (ending : Ending) (conn : ℕ) (all items : List Item) (first now next : Journaled) (before here there : WireState) (p q r : Crashes)
     → AreLawful there.site r → Reaches conn all first before p items now here q
-    → SavesJournal ending now next here.site there.site q r → SavesJournal ending first next before.site there.site p r
+    → SavesJournal ending now next (span here.site there.site q r) → SavesJournal ending first next (span before.site there.site p r)
 saves_of_first ending conn all items first now next before here there p q r lawful reach saves =
     saves_join ending first.machine.form first.machine.state now.machine.state next.machine.state
     (kept now.store) (kept next.store) before.site here.site there.site p q r lawful reach.saves
-    (subst (λ x. Saves ending x now.machine.state next.machine.state (kept next.store) here.site there.site q r) reach.progress.form saves)
+    (subst (λ x. Saves ending x now.machine.state next.machine.state (kept next.store) (span here.site there.site q r)) reach.progress.form saves)
 
 -- what was acknowledged so far, and with an item
 reach_acknowledges : (ending : Ending) (conn : ℕ) (all items : List Item)
     (first now next : Journaled) (before here there : WireState) (p q r : Crashes)
     → AreLawful here.site q → (reach : Reaches conn all first before p items now here q)
     → (replies : List Reply)
-    → SavesJournal ending now next here.site there.site q r → SendsAll conn replies here there
+    → SavesJournal ending now next (span here.site there.site q r) → SendsAll conn replies here there
     → Acknowledges now.machine.form (length now.machine.state.history)
-    (with_failed ending next.machine.state.history) replies here.site there.site r
+    (with_failed ending next.machine.state.history) replies (span here.site there.site q r)
     → Acknowledges first.machine.form (length first.machine.state.history)
     (with_failed ending next.machine.state.history)
-    (all_replies reach.progress.answers ++ replies) before.site there.site r
+    (all_replies reach.progress.answers ++ replies) (span before.site there.site p r)
 reach_acknowledges ending conn all items first now next before here there p q r lawful reach replies
     saves sends acknowledges =
     let x = first.machine.form in
@@ -236,10 +237,10 @@ reach_acknowledges ending conn all items first now next before here there p q r 
     let new = with_failed ending next.machine.state.history in
     let longer = sym (ap length reach.saves.grows) ∙ length-append h reach.saves.rest in
     acknowledges_join x h mid new saves.rest conn (all_replies reach.progress.answers) replies
-    before here there q r lawful reach.saves.passes.left.later
+    before here there p q r lawful reach.saves.passes.left.later
     saves.passes.left_since reach.progress.sends sends reach.saves.sends saves.sends saves.told
     reach.acknowledges
-    (subst (λ y. Acknowledges y (length mid) new replies here.site there.site r) reach.progress.form
+    (subst (λ y. Acknowledges y (length mid) new replies (span here.site there.site q r)) reach.progress.form
     acknowledges)
     saves.grows (omega (arith, longer))
 
@@ -248,16 +249,16 @@ reach_item_acknowledges : (ending : Ending) (conn : ℕ) (all items : List Item)
     (first now next : Journaled) (before here there : WireState) (p q r : Crashes)
     → AreLawful here.site q → (reach : Reaches conn all first before p items now here q)
     → (replies : List Reply)
-    → SavesJournal ending now next here.site there.site q r → SendsAll conn replies here there
+    → SavesJournal ending now next (span here.site there.site q r) → SendsAll conn replies here there
     → Acknowledges now.machine.form (length now.machine.state.history)
-    (with_failed ending next.machine.state.history) replies here.site there.site r
+    (with_failed ending next.machine.state.history) replies (span here.site there.site q r)
     → Acknowledges first.machine.form (length first.machine.state.history)
     (with_failed ending next.machine.state.history)
-    (all_replies (reach.progress.answers ++ replies ∷ [])) before.site there.site r
+    (all_replies (reach.progress.answers ++ replies ∷ [])) (span before.site there.site p r)
 reach_item_acknowledges ending conn all items first now next before here there p q r lawful reach
     replies saves sends acknowledges =
     subst (λ rs. Acknowledges first.machine.form (length first.machine.state.history)
-    (with_failed ending next.machine.state.history) rs before.site there.site r)
+    (with_failed ending next.machine.state.history) rs (span before.site there.site p r))
     (sym (one_item_more reach.progress.answers replies))
     (reach_acknowledges ending conn all items first now next before here there p q r lawful reach
     replies saves sends acknowledges)
@@ -267,10 +268,10 @@ record ItemGoes (conn : ℕ) (item : Item) (ending : Ending) (now next : Journal
     (here there : WireState) (q r : Crashes) : Type 0 where
   pub replies : List Reply
   pub made : AnswersItem conn item ending replies now.machine next.machine here there
-  pub saves : SavesJournal ending now next here.site there.site q r
+  pub saves : SavesJournal ending now next (span here.site there.site q r)
   pub acknowledges : Acknowledges now.machine.form (length now.machine.state.history)
       (with_failed ending next.machine.state.history)
-      replies here.site there.site r
+      replies (span here.site there.site q r)
 
 -- one item more was answered
 reach_goes_on : (conn : ℕ) (all : List Item) (first : Journaled) (before : WireState) (p : Crashes)
@@ -307,7 +308,7 @@ module _ (conn : ℕ) (all : List Item) (first : Journaled) (before : WireState)
   -- an item of a piece was taken, and the rest of the piece is left
   pub taken_goes_on : (used : ℕ) (go : Go) → AreLawful here.site q → AreLawful there.site r
       → Reaches conn all first before p (completes held piece) now here q
-      → TakesOne conn held piece used (Ok go) after_it now next here there q r → go ≡ More
+      → TakesOne conn held piece used (Ok go) after_it now next (wire_span here there q r) → go ≡ More
       → Reaches conn all first before p (completes after_it (take (length piece - used) (drop used piece))) next there r
   taken_goes_on used go lawful_here lawful reach one goes =
       let rest = drop used piece in
@@ -330,8 +331,8 @@ module _ (conn : ℕ) (all : List Item) (first : Journaled) (before : WireState)
   pub taken_stops : (used : ℕ) (result : Result Go Stop) → (result ≡ Ok More → ⊥)
       → AreLawful here.site q → AreLawful there.site r
       → Reaches conn all first before p (completes held piece) now here q
-      → TakesOne conn held piece used result after_it now next here there q r
-      → OverJournal (AnswersItems conn all) result first next before there p r
+      → TakesOne conn held piece used result after_it now next (wire_span here there q r)
+      → OverJournal (AnswersItems conn all) result first next (wire_span before there p r)
   taken_stops used result ends lawful_here lawful reach one =
       let rest = drop used piece in
       let over = one.answers in
@@ -357,8 +358,8 @@ module _ (conn : ℕ) (all : List Item) (first : Journaled) (before : WireState)
   -- the piece was taken to its end
   pub taken_ends : AreLawful here.site q → AreLawful there.site r
       → Reaches conn all first before p (completes held piece) now here q
-      → TakesNone held piece after_it now next here there q r
-      → OverJournal (AnswersItems conn all) (Ok More) first next before there p r
+      → TakesNone held piece after_it now next (wire_span here there q r)
+      → OverJournal (AnswersItems conn all) (Ok More) first next (wire_span before there p r)
   taken_ends lawful_here lawful reach none_taken =
       let rests = none_taken.rests in
       let left : Reaches conn all first before p [] now here q =
@@ -379,7 +380,7 @@ module _ (conn : ℕ) (all : List Item) (first : Journaled) (before : WireState)
         saves = saves_of_first going conn all [] first now next before here there p q r lawful left
             rests.saves;
         acknowledges = subst (λ replies. Acknowledges first.machine.form
-            (length first.machine.state.history) w.history replies before.site there.site r)
+            (length first.machine.state.history) w.history replies (span before.site there.site p r))
             (append-nil so_far)
             (reach_acknowledges going conn all [] first now next before here there p q r lawful_here
             left [] rests.saves nothing
@@ -388,18 +389,18 @@ module _ (conn : ℕ) (all : List Item) (first : Journaled) (before : WireState)
       }
 
   -- what is held behind the rest is what is held behind the piece
-  pub taken_holds : (used : ℕ) (result : Result Go Stop) → TakesOne conn held piece used result after_it now next here there q r
+  pub taken_holds : (used : ℕ) (result : Result Go Stop) → TakesOne conn held piece used result after_it now next (wire_span here there q r)
       → holds_after held piece ≡ holds_after after_it (take (length piece - used) (drop used piece))
   taken_holds used result one =
       held_behind held piece used ∙ ap (λ h. holds_after h (drop used piece)) (sym one.held_is)
       ∙ ap (holds_after after_it) (sym (take_rest piece used))
 
   -- what is held behind an item is clean
-  pub taken_clean : (used : ℕ) (result : Result Go Stop) → TakesOne conn held piece used result after_it now next here there q r → IsClean after_it
+  pub taken_clean : (used : ℕ) (result : Result Go Stop) → TakesOne conn held piece used result after_it now next (wire_span here there q r) → IsClean after_it
   taken_clean used result one = subst IsClean (sym one.held_is) (clean_after held (take used piece))
 
   -- an item takes at least as many bytes as tickets
-  pub taken_tickets : (used : ℕ) (result : Result Go Stop) → TakesOne conn held piece used result after_it now next here there q r → IsClean held
+  pub taken_tickets : (used : ℕ) (result : Result Go Stop) → TakesOne conn held piece used result after_it now next (wire_span here there q r) → IsClean held
       → next.machine.state.number + length (take (length piece - used) (drop used piece)) ≤ now.machine.state.number + length piece
   taken_tickets used result one clean =
       let some = takes_a_byte held piece one.item used one.feeds clean in
@@ -408,7 +409,7 @@ module _ (conn : ℕ) (all : List Item) (first : Journaled) (before : WireState)
       rw rest (omega (arith, some, one.feeds.within, one.answers.made.number))
 
   -- the rest of a piece is shorter
-  pub taken_shorter : (used : ℕ) (result : Result Go Stop) → TakesOne conn held piece used result after_it now next here there q r → IsClean held
+  pub taken_shorter : (used : ℕ) (result : Result Go Stop) → TakesOne conn held piece used result after_it now next (wire_span here there q r) → IsClean held
       → length (take (length piece - used) (drop used piece)) < length piece
   taken_shorter used result one clean =
       let some = takes_a_byte held piece one.item used one.feeds clean in
@@ -462,10 +463,10 @@ pub bytes_taken : (conn : ℕ) (bytes : List ℕ) (result : Result Go Stop) (j n
     (was ended : Bool) (behind : UnfinishedLine) (gone : Bool) (a b : SiteState) (p q : Crashes)
     → ended ≡ ended_by result → (result ≡ Ok More → behind ≡ holds_after (held_at conn lines) bytes)
     → OverJournal (AnswersItems conn (completes (held_at conn lines) bytes)) result j next
-    (wired (get_or marks conn false) a) (wired gone b) p q
+    (wire_stretch (get_or marks conn false) gone (span a b p q))
     → OverRun (TakesBytes conn bytes) result (managed j lines marks was)
     (managed next (set lines conn behind) (set marks conn gone) ended)
-    (wired (get_or marks conn false) a) (wired false b) p q
+    (wire_stretch (get_or marks conn false) false (span a b p q))
 bytes_taken conn bytes result j next lines marks was ended behind gone a b p q ends holds over =
     record {
       ending = over.ending;

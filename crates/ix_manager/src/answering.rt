@@ -6,10 +6,11 @@ ghost use Rattle.ix_lines.specs.Feeding.{completes, holds_after};
 ghost use Rattle.ix_manager.specs.inside.Clean.{IsClean};
 ghost use Rattle.ix_manager.specs.inside.Saving.{FitsJournal};
 ghost use Rattle.ix_manager.specs.inside.Over.{OverJournal};
-ghost use Rattle.ix_manager.specs.inside.WireState.{wired, IsPlain};
+ghost use Rattle.ix_manager.specs.inside.WireState.{IsPlain, wire_stretch};
 ghost use Rattle.ix_manager.specs.inside.WireState.{AnswersRequest, AnswersItem, AnswersItems};
 ghost use Rattle.ix_manager.specs.inside.TakenItems.{TakesItem};
 ghost use Rattle.ix_proto.specs.declared.request.Request.TheVariants.{Confirm};
+ghost use Rattle.ix_outside.specs.Crashes.{stretch_of};
 
 use crate::journaled::Journaled;
 use crate::machine::Answer;
@@ -54,8 +55,7 @@ pub(crate) fn take_piece<S: Site>(
     ensures answers { OverJournal
         (AnswersItems piece.entry.conn (completes lines.old piece.entry.bytes.now)) result
         journaled.old journaled.new
-        (wired gone.old (S.state site.old)) (wired gone.new (S.state site.new))
-        (S.crashes site.old) (S.crashes site.new) }
+        (wire_stretch gone.old gone.new (stretch_of S.state S.crashes site.old site.new)) }
     ensures lines { result ≡ Ok Go.More → lines.new ≡ holds_after lines.old piece.entry.bytes.now }
     ensures clean { IsClean lines.new }
     ensures tickets { journaled.new.machine.state.number
@@ -91,8 +91,7 @@ fn take_item<S: Site>(
     requires fits { FitsJournal journaled.old (S.state site.old) (S.crashes site.old) }
     ensures { TakesItem piece.entry.conn lines.old piece.entry.bytes.now result lines.new
         journaled.old journaled.new
-        (wired gone.old (S.state site.old)) (wired gone.new (S.state site.new))
-        (S.crashes site.old) (S.crashes site.new) }
+        (wire_stretch gone.old gone.new (stretch_of S.state S.crashes site.old site.new)) }
 {
     let fed = lines.feed(piece.bytes);
     let used = fed.used;
@@ -122,8 +121,7 @@ fn answer_line<S: Site>(
     requires tickets { journaled.old.machine.state.number < 2 ^ 64 - 1 }
     requires fits { FitsJournal journaled.old (S.state site.old) (S.crashes site.old) }
     ensures { OverJournal (AnswersItem conn (line_item line.now)) result journaled.old journaled.new
-        (wired gone.old (S.state site.old)) (wired gone.new (S.state site.new))
-        (S.crashes site.old) (S.crashes site.new) }
+        (wire_stretch gone.old gone.new (stretch_of S.state S.crashes site.old site.new)) }
 {
     match Request::read(line) {
         Ok(request) => answer_request(alloc, journaled, conn, gone, &request, site),
@@ -151,8 +149,7 @@ fn answer_request<S: Site>(
     requires plain { IsPlain request.now }
     requires fits { FitsJournal journaled.old (S.state site.old) (S.crashes site.old) }
     ensures { OverJournal (AnswersRequest conn request.now) result journaled.old journaled.new
-        (wired gone.old (S.state site.old)) (wired gone.new (S.state site.new))
-        (S.crashes site.old) (S.crashes site.new) }
+        (wire_stretch gone.old gone.new (stretch_of S.state S.crashes site.old site.new)) }
 {
     match journaled.machine.answer(alloc, request) {
         Answer::One(reply) => {
@@ -182,8 +179,7 @@ fn answer_confirm<S: Site>(
 ) -> Result<Go, Stop>
     requires fits { FitsJournal journaled.old (S.state site.old) (S.crashes site.old) }
     ensures { OverJournal (AnswersRequest conn (Confirm ticket)) result journaled.old journaled.new
-        (wired gone.old (S.state site.old)) (wired gone.new (S.state site.new))
-        (S.crashes site.old) (S.crashes site.new) }
+        (wire_stretch gone.old gone.new (stretch_of S.state S.crashes site.old site.new)) }
 {
     match journaled.confirm(ticket, site) {
         Ok(reply) => {

@@ -1,6 +1,7 @@
 //! The machine beside its journal.
 
 ghost use Rattle.ix_manager.specs.inside.Saving.{FitsJournal, ConfirmsOver};
+ghost use Rattle.ix_outside.specs.Crashes.{stretch_of};
 
 use crate::Stop;
 use crate::machine::Machine;
@@ -24,8 +25,8 @@ impl Journaled {
     /// the history and the reservation stay. Takes no memory.
     pub(crate) fn confirm<S: Site>(&mut self, ticket: Ticket, site: &mut S) -> Result<Reply, Stop>
         requires fits { FitsJournal self.old (S.state site.old) (S.crashes site.old) }
-        ensures { ConfirmsOver ticket result self.old self.new (S.state site.old) (S.state site.new)
-            (S.crashes site.old) (S.crashes site.new) }
+        ensures { ConfirmsOver ticket result self.old self.new
+            (stretch_of S.state S.crashes site.old site.new) }
     {
         let action = match self.machine.reserved(ticket) {
             Take::Taken(action) => action,

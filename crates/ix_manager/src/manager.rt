@@ -7,7 +7,7 @@ ghost use Rattle.std.specs.List.{zip};
 ghost use Rattle.std.specs.Option.{ForSome};
 ghost use Rattle.ix_expr.specs.CanonicalText.{canonical_text};
 ghost use Rattle.ix_outside.specs.Counts.{CountsFault, Rose};
-ghost use Rattle.ix_outside.specs.Crashes.{Passes};
+ghost use Rattle.ix_outside.specs.Crashes.{Passes, stretch_of};
 ghost use Rattle.ix_outside.specs.inside.DiskCalls.{DiskCalls, LeavesOnly};
 ghost use Rattle.ix_store.specs.inside.Keeping.{Fits, IsBootedOrNot};
 ghost use Rattle.ix_store.specs.inside.KeptBy.{kept};
@@ -25,7 +25,7 @@ ghost use Rattle.ix_manager.specs.inside.StartFaults.{start_fault_of, open_fault
 ghost use Rattle.ix_manager.specs.inside.StartFaults.{record_fault_of};
 ghost use Rattle.ix_manager.specs.inside.Over.{OverRun};
 ghost use Rattle.ix_manager.specs.inside.TakenItems.{TakesBytes};
-ghost use Rattle.ix_manager.specs.inside.WireState.{wired};
+ghost use Rattle.ix_manager.specs.inside.WireState.{wire_stretch};
 
 use crate::answering::{Piece, take_piece};
 use crate::journaled::Journaled;
@@ -116,10 +116,9 @@ impl Manager {
 
         // What the disk is left with, whatever the answer.
         ensures leaves { ForSome (S.state site.old).disk (λ disk.
-            StartLeaves expression limit disk.file (S.state site.old) (S.state site.new)
-            (S.crashes site.old) (S.crashes site.new)) }
-        ensures calls { DiskCalls (S.state site.old) (S.state site.new)
-            (S.crashes site.old) (S.crashes site.new) }
+            StartLeaves expression limit disk.file
+            (stretch_of S.state S.crashes site.old site.new)) }
+        ensures calls { DiskCalls (stretch_of S.state S.crashes site.old site.new) }
     {
         let Ok(text) = text(alloc, &expression) else {
             return Err(StartFault::Memory);
@@ -179,7 +178,7 @@ impl Manager {
         // The machine takes the event, its replies are sent, the journal keeps its history, and
         // whatever a crash leaves keeps what was acknowledged by then.
         ensures handles { HandlesOver self.old event bytes.now result self.new
-            (S.state site.old) (S.state site.new) (S.crashes site.new) }
+            (stretch_of S.state S.crashes site.old site.new) }
         ensures failed { OnErr result
             (Rose (S.state site.old).counts.disk (S.state site.new).counts.disk) }
         ensures fits { OnOk result (FitsSite self.new (S.state site.new) (S.crashes site.new)) }
@@ -189,8 +188,7 @@ impl Manager {
             → get_or self.old.marks conn false ≡ false → get_or self.new.marks conn false ≡ true
             → Rose (S.state site.old).counts.send (S.state site.new).counts.send }
         ensures tickets { self.new.machine.number ≤ self.old.machine.number + length bytes.now }
-        ensures passes { Passes (S.state site.old) (S.state site.new)
-            (S.crashes site.old) (S.crashes site.new) }
+        ensures passes { Passes (stretch_of S.state S.crashes site.old site.new) }
         ensures site { OnlyServes (S.state site.old) (S.state site.new) }
     {
         self.journaled.machine.raise(event.moment);
@@ -218,8 +216,8 @@ impl Manager {
         requires attached { (S.state site.old).attached ≡ true }
         requires fits { FitsSite self.old (S.state site.old) (S.crashes site.old) }
         ensures takes { OverRun (TakesBytes conn bytes.now) result self.old self.new
-            (wired (get_or self.old.marks conn false) (S.state site.old))
-            (wired false (S.state site.new)) (S.crashes site.old) (S.crashes site.new) }
+            (wire_stretch (get_or self.old.marks conn false) false
+            (stretch_of S.state S.crashes site.old site.new)) }
         ensures tickets { self.new.machine.number ≤ self.old.machine.number + length bytes.now }
     {
         let index = usize::from(conn);
@@ -310,11 +308,10 @@ fn start_machine<S: Site>(
     ensures fits { IfOk result (λ j. FitsJournal j (S.state site.new) (S.crashes site.new)) }
     ensures images { ForSome (S.state site.old).disk (λ _. LeavesOnly
         (IsBootedOrNot (canonical_text engine.form) (zip tickets.items engine.history)
-        (kept store).marks) (S.state site.old) (S.crashes site.new)) }
+        (kept store).marks) (stretch_of S.state S.crashes site.old site.new)) }
     ensures failed { CountsFault result
         (S.state site.old).counts.disk (S.state site.new).counts.disk }
-    ensures calls { DiskCalls (S.state site.old) (S.state site.new)
-        (S.crashes site.old) (S.crashes site.new) }
+    ensures calls { DiskCalls (stretch_of S.state S.crashes site.old site.new) }
 {
     let boot = store.boot(site)?;
     let machine = Machine::new(alloc, engine, tickets, boot);

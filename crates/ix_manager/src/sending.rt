@@ -6,6 +6,7 @@ ghost use Rattle.ix_proto.specs.inside.ReplyTexts.{CanBeTold};
 ghost use Rattle.ix_manager.specs.inside.Core.{change_replies};
 ghost use Rattle.ix_manager.specs.inside.Saving.{OnlySends};
 ghost use Rattle.ix_manager.specs.inside.WireState.{wired, SendsAll, poll_replies};
+ghost use Rattle.ix_outside.specs.Crashes.{stretch_of};
 
 use crate::machine::Machine;
 use arrayvec::ArrayVec;
@@ -19,8 +20,7 @@ pub(crate) fn send_reply<S: Site>(site: &mut S, conn: u8, gone: &mut bool, reply
     requires { CanBeTold reply.now }
     ensures sends { SendsAll conn (reply.now ∷ [])
         (wired gone.old (S.state site.old)) (wired gone.new (S.state site.new)) }
-    ensures only { OnlySends (S.state site.old) (S.state site.new)
-        (S.crashes site.old) (S.crashes site.new) }
+    ensures only { OnlySends (stretch_of S.state S.crashes site.old site.new) }
 {
     if *gone {
         return;
@@ -42,8 +42,7 @@ pub(crate) fn send_changes<S: Site>(
 )
     ensures sends { SendsAll conn (poll_replies (changes_of name.now machine.now.noted))
         (wired gone.old (S.state site.old)) (wired gone.new (S.state site.new)) }
-    ensures only { OnlySends (S.state site.old) (S.state site.new)
-        (S.crashes site.old) (S.crashes site.new) }
+    ensures only { OnlySends (stretch_of S.state S.crashes site.old site.new) }
 {
     let count = count_changes(machine, name);
     send_reply(site, conn, gone, &Reply::Changes(count));
@@ -59,8 +58,7 @@ fn count_changes(machine: &Machine, name: &Name) -> u32
 fn send_each<S: Site>(site: &mut S, conn: u8, gone: &mut bool, changes: Changes<'_>)
     ensures sends { SendsAll conn (change_replies changes.entry)
         (wired gone.old (S.state site.old)) (wired gone.new (S.state site.new)) }
-    ensures only { OnlySends (S.state site.old) (S.state site.new)
-        (S.crashes site.old) (S.crashes site.new) }
+    ensures only { OnlySends (stretch_of S.state S.crashes site.old site.new) }
 {
     for (action, answer) in changes {
         send_reply(site, conn, gone, &Reply::Change(answer, *action));

@@ -4,7 +4,7 @@ use Rattle.std.proofs.Common.{inl, inr, sym, ap, subst, arith}
 use Rattle.std.proofs.lemmas.List.{append-nil}
 use Rattle.ix_outside.specs.Contents.{GivenEvent, SentBytes, Sends}
 use Rattle.ix_outside.specs.Counts.{Counts}
-use Rattle.ix_outside.specs.Crashes.{Left, OneCall, IsSentByThen}
+use Rattle.ix_outside.specs.Crashes.{Left, OneCall, IsSentByThen, stretch_of}
 use Rattle.ix_memory.specs.PlanState.{fresh_plan}
 use Rattle.ix_memory.specs.declared.past.Effect.{Effect}
 use Rattle.ix_memory.specs.inside.MemorySiteState.{MemorySiteState, state_of, crashes_of}
@@ -44,7 +44,7 @@ LeftSince-sent call calls file sent left whole (inr (inr behind)) =
 
 -- a call from one site to the other
 abbrev pub Calls : MemorySiteState → MemorySiteState → Type 0
-Calls old new = OneCall (state_of old) (state_of new) (crashes_of old) (crashes_of new)
+Calls old new = OneCall (stretch_of state_of crashes_of old new)
 
 -- a call of this effect, with the file and the sends before it
 abbrev pub call_on : Effect → MemorySiteState → PastCall

@@ -5,6 +5,7 @@ ghost use Rattle.std.specs.Prelude.{drop, not, is_ok, slice_get, Some, IfOk, OnO
 ghost use Rattle.ix_outside.specs.Contents.{piece_of, with_pair, Listens, Gives, SendsBytes};
 ghost use Rattle.ix_outside.specs.Counts.{CountsFault, Rose};
 ghost use Rattle.ix_outside.specs.Crashes.{OneCall, LeavesTheSame, LeavesBy, Settles};
+ghost use Rattle.ix_outside.specs.Crashes.{stretch_of};
 ghost use Rattle.ix_outside.specs.Disk.{OfFile, MakesFile, Stays, Torn, MaybeCut};
 ghost use Rattle.ix_outside.specs.Disk.{Writes, Cuts, Attaches};
 ghost use Rattle.ix_outside.specs.Event.{FitsBuffer};
@@ -189,8 +190,7 @@ impl Site for MemorySite {
         ensures contents { Listens name.now result
             (state_of self.old).contents (state_of self.new).contents }
         ensures now { LeavesTheSame (crashes_of self.old).now (crashes_of self.new).now }
-        ensures call { OneCall (state_of self.old) (state_of self.new)
-            (crashes_of self.old) (crashes_of self.new) }
+        ensures call { OneCall (stretch_of state_of crashes_of self.old self.new) }
         ensures rest { OnlyWire (state_of self.old) (state_of self.new) }
     {
         self.past.add(Effect::Kept, &self.image, &self.sent);
@@ -227,8 +227,7 @@ impl Site for MemorySite {
         ensures contents { Gives buf.new result
             (state_of self.old).contents (state_of self.new).contents }
         ensures now { LeavesTheSame (crashes_of self.old).now (crashes_of self.new).now }
-        ensures call { OneCall (state_of self.old) (state_of self.new)
-            (crashes_of self.old) (crashes_of self.new) }
+        ensures call { OneCall (stretch_of state_of crashes_of self.old self.new) }
         ensures rest { OnlyWire (state_of self.old) (state_of self.new) }
     {
         self.past.add(Effect::Kept, &self.image, &self.sent);
@@ -259,8 +258,7 @@ impl Site for MemorySite {
             (state_of self.old).contents (state_of self.new).contents }
         ensures disk { OnOk result ((state_of self.new).disk ≡ (state_of self.old).disk) }
         ensures now { LeavesTheSame (crashes_of self.old).now (crashes_of self.new).now }
-        ensures call { OneCall (state_of self.old) (state_of self.new)
-            (crashes_of self.old) (crashes_of self.new) }
+        ensures call { OneCall (stretch_of state_of crashes_of self.old self.new) }
         ensures rest { OnlySend (state_of self.old) (state_of self.new) }
     {
         self.past.add(Effect::Kept, &self.image, &self.sent);
@@ -295,8 +293,7 @@ impl Site for MemorySite {
             (state_of self.old).disk (state_of self.new).disk }
         ensures now { Settles result (state_of self.new).disk
             (crashes_of self.old).now (crashes_of self.new).now }
-        ensures call { OneCall (state_of self.old) (state_of self.new)
-            (crashes_of self.old) (crashes_of self.new) }
+        ensures call { OneCall (stretch_of state_of crashes_of self.old self.new) }
         ensures rest { OnlyDisk (state_of self.old) (state_of self.new) }
     {
         let fate = self.plan.make(LEAST_COST + name.len());
@@ -329,8 +326,7 @@ impl Site for MemorySite {
             (λ count. OfFile (λ file. count ≡ length file) (state_of self.old).disk) }
         ensures file { MakesFile Stays (state_of self.old).disk (state_of self.new).disk }
         ensures now { LeavesTheSame (crashes_of self.old).now (crashes_of self.new).now }
-        ensures call { OneCall (state_of self.old) (state_of self.new)
-            (crashes_of self.old) (crashes_of self.new) }
+        ensures call { OneCall (stretch_of state_of crashes_of self.old self.new) }
         ensures rest { OnlyDisk (state_of self.old) (state_of self.new) }
     {
         self.past.add(Effect::Kept, &self.image, &self.sent);
@@ -363,8 +359,7 @@ impl Site for MemorySite {
             (λ file. take count buf.new ≡ take count (drop at file)) (state_of self.old).disk) }
         ensures file { MakesFile Stays (state_of self.old).disk (state_of self.new).disk }
         ensures now { LeavesTheSame (crashes_of self.old).now (crashes_of self.new).now }
-        ensures call { OneCall (state_of self.old) (state_of self.new)
-            (crashes_of self.old) (crashes_of self.new) }
+        ensures call { OneCall (stretch_of state_of crashes_of self.old self.new) }
         ensures rest { OnlyDisk (state_of self.old) (state_of self.new) }
     {
         self.longest_read = self.longest_read.max(buf.len());
@@ -400,8 +395,7 @@ impl Site for MemorySite {
             (state_of self.old).disk (state_of self.new).disk }
         ensures now { LeavesBy (Torn at (length bytes.now)) result
             (crashes_of self.old).now (crashes_of self.new).now }
-        ensures call { OneCall (state_of self.old) (state_of self.new)
-            (crashes_of self.old) (crashes_of self.new) }
+        ensures call { OneCall (stretch_of state_of crashes_of self.old self.new) }
         ensures rest { OnlyDisk (state_of self.old) (state_of self.new) }
     {
         let fate = self.plan.make(LEAST_COST + bytes.len());
@@ -439,8 +433,7 @@ impl Site for MemorySite {
         ensures file { Cuts length result (state_of self.old).disk (state_of self.new).disk }
         ensures now { LeavesBy (MaybeCut length) result
             (crashes_of self.old).now (crashes_of self.new).now }
-        ensures call { OneCall (state_of self.old) (state_of self.new)
-            (crashes_of self.old) (crashes_of self.new) }
+        ensures call { OneCall (stretch_of state_of crashes_of self.old self.new) }
         ensures rest { OnlyDisk (state_of self.old) (state_of self.new) }
     {
         let fate = self.plan.make(LEAST_COST);
@@ -471,8 +464,7 @@ impl Site for MemorySite {
         ensures file { MakesFile Stays (state_of self.old).disk (state_of self.new).disk }
         ensures now { Settles result (state_of self.new).disk
             (crashes_of self.old).now (crashes_of self.new).now }
-        ensures call { OneCall (state_of self.old) (state_of self.new)
-            (crashes_of self.old) (crashes_of self.new) }
+        ensures call { OneCall (stretch_of state_of crashes_of self.old self.new) }
         ensures rest { OnlyDisk (state_of self.old) (state_of self.new) }
     {
         let fate = self.plan.make(LEAST_COST);

@@ -4,7 +4,7 @@ use Rattle.ix_outside.specs.Contents.{SentBytes}
 use Rattle.ix_outside.specs.Crashes.{Crashes, AreLawful, Elapses, Passes, OneCall, IsSentByThen}
 use Rattle.ix_outside.specs.Disk.{Disk, MakesFile}
 use Rattle.ix_outside.specs.SiteState.{SiteState, OnlyDisk}
-use Rattle.ix_outside.specs.inside.DiskCalls.{KeepsOpened, DiskCalls, LeavesOnly}
+use Rattle.ix_outside.specs.inside.DiskCalls.{KeepsOpened, DiskCalls, LeavesOnly, span}
 
 -- no call passes no time
 pub Elapses-none : {A : Type 0} (now : ℕ) (since : ℕ → A → Type 0) → Elapses now now since since
@@ -31,12 +31,12 @@ Elapses-join a b c past mid since earlier first second = record {
       ];
 }
 
-pub Passes-none : (now : SiteState) (crashes : Crashes) → Passes now now crashes crashes
+pub Passes-none : (now : SiteState) (crashes : Crashes) → Passes (span now now crashes crashes)
 Passes-none now crashes =
     record { left = Elapses-none now.tick crashes.left; left_since = Elapses-none now.tick crashes.left_since }
 
 pub Passes-join : (old mid new : SiteState) (was then is : Crashes) → AreLawful new is
-    → Passes old mid was then → Passes mid new then is → Passes old new was is
+    → Passes (span old mid was then) → Passes (span mid new then is) → Passes (span old new was is)
 Passes-join old mid new was then is lawful first second = record {
   left = Elapses-join old.tick mid.tick new.tick was.left then.left is.left lawful.left_earlier first.left second.left;
   left_since = Elapses-join old.tick mid.tick new.tick was.left_since then.left_since is.left_since
@@ -45,8 +45,8 @@ Passes-join old mid new was then is lawful first second = record {
 
 -- one call more: where what may have been left so far has P, and what may be left behind it has P
 pub LeavesOnly-call : (P : List ℕ → Type 0) (old mid new : SiteState) (was then is : Crashes) → AreLawful mid then
-    → Passes old mid was then → LeavesOnly P old then → OneCall mid new then is
-    → ((image : List ℕ) → is.now image → P image) → LeavesOnly P old is
+    → Passes (span old mid was then) → LeavesOnly P (span old mid was then) → OneCall (span mid new then is)
+    → ((image : List ℕ) → is.now image → P image) → LeavesOnly P (span old new was is)
 LeavesOnly-call P old mid new was then is lawful before so_far call behind image left =
     elim (call.passes.left.nothing_else old.tick image before.left.later left) [
       | inl earlier ↦ so_far image earlier
@@ -58,14 +58,14 @@ LeavesOnly-call P old mid new was then is lawful before so_far call behind image
 
 -- before any call
 pub LeavesOnly-none : (P : List ℕ → Type 0) (old : SiteState) (was : Crashes) → AreLawful old was
-    → ((image : List ℕ) → was.now image → P image) → LeavesOnly P old was
+    → ((image : List ℕ) → was.now image → P image) → LeavesOnly P (span old old was was)
 LeavesOnly-none P old was lawful now image left = now image ((lawful.left_now image).0 left)
 
 -- two stretches, of which each leaves only what has P
-pub LeavesOnly-join : (P : List ℕ → Type 0) (old mid new : SiteState) (then is : Crashes)
-    → LeavesOnly P old then → Elapses mid.tick new.tick then.left is.left → old.tick ≤ mid.tick
-    → LeavesOnly P mid is → LeavesOnly P old is
-LeavesOnly-join P old mid new then is first passes le second image left =
+pub LeavesOnly-join : (P : List ℕ → Type 0) (old mid new : SiteState) (was then is : Crashes)
+    → LeavesOnly P (span old mid was then) → Elapses mid.tick new.tick then.left is.left → old.tick ≤ mid.tick
+    → LeavesOnly P (span mid new then is) → LeavesOnly P (span old new was is)
+LeavesOnly-join P old mid new was then is first passes le second image left =
     elim (passes.nothing_else old.tick image le left) [
       | inl earlier ↦ first image earlier
       | inr since ↦ second image since
@@ -100,7 +100,7 @@ KeepsOpened-makes R (Some old) None makes = makes
 KeepsOpened-makes R (Some old) (Some new) makes = (tt, makes.1)
 
 -- no call
-pub DiskCalls-none : (now : SiteState) (crashes : Crashes) → AreLawful now crashes → DiskCalls now now crashes crashes
+pub DiskCalls-none : (now : SiteState) (crashes : Crashes) → AreLawful now crashes → DiskCalls (span now now crashes crashes)
 DiskCalls-none now crashes lawful = record {
   rest = record { disk = omega arith; wire = refl; send = refl; contents = refl; held = refl };
   attached = refl;
@@ -110,8 +110,8 @@ DiskCalls-none now crashes lawful = record {
 }
 
 -- one call of the disk
-pub DiskCalls-one : (old new : SiteState) (was is : Crashes) → OneCall old new was is → OnlyDisk old new
-    → new.attached ≡ old.attached → KeepsOpened old.disk new.disk → DiskCalls old new was is
+pub DiskCalls-one : (old new : SiteState) (was is : Crashes) → OneCall (span old new was is) → OnlyDisk old new
+    → new.attached ≡ old.attached → KeepsOpened old.disk new.disk → DiskCalls (span old new was is)
 DiskCalls-one old new was is call rest attached opened = record {
   rest = rest;
   attached = attached;
@@ -123,7 +123,7 @@ DiskCalls-one old new was is call rest attached opened = record {
 
 -- two stretches
 pub DiskCalls-join : (old mid new : SiteState) (was then is : Crashes) → AreLawful new is
-    → DiskCalls old mid was then → DiskCalls mid new then is → DiskCalls old new was is
+    → DiskCalls (span old mid was then) → DiskCalls (span mid new then is) → DiskCalls (span old new was is)
 DiskCalls-join old mid new was then is lawful first second = record {
   rest = record {
     disk = let one = first.rest.disk in let two = second.rest.disk in omega arith;

@@ -22,6 +22,23 @@ pub record Crashes : Type 1 where
 abbrev pub nothing_left : Crashes
 nothing_left = record { now = λ image. ⊥; left = λ t image. ⊥; left_since = λ t left. ⊥ }
 
+-- A stretch of calls of a site: what the site is before and after them, and what a crash might have
+-- left before them and may leave behind them.
+pub record Stretch : Type 1 where
+  pub before : SiteState
+  pub after : SiteState
+  pub was : Crashes
+  pub is : Crashes
+
+-- the stretch that leads from one site to another, by what is told of a site and of its crashes
+abbrev pub stretch_of : {S : Type 0} → (S → SiteState) → (S → Crashes) → S → S → Stretch
+stretch_of site_state site_crashes old new = record {
+  before = site_state old;
+  after = site_state new;
+  was = site_crashes old;
+  is = site_crashes new;
+}
+
 -- What holds at any moment of a site: where nothing is attached, nothing is told of an attach; the
 -- file as it reads may be left; since this very tick nothing is left but what may be left now,
 -- beside all that was sent; what is left since a later tick is left since an earlier one; and
@@ -50,10 +67,11 @@ pub record Elapses {A : Type 0} (before now : ℕ) (past since : ℕ → A → T
   pub still : (t : ℕ) (x : A) → t ≤ before → past t x → since t x
   pub nothing_else : (t : ℕ) (x : A) → t ≤ before → since t x → past t x ⊎ since before x
 
--- a stretch of calls, of what a crash may leave with and without what had been sent by then
-pub record Passes (old new : SiteState) (was is : Crashes) : Type 0 where
-  pub left : Elapses old.tick new.tick was.left is.left
-  pub left_since : Elapses old.tick new.tick was.left_since is.left_since
+-- over a stretch of calls, of what a crash may leave with and without what had been sent by then
+pub record Passes (stretch : Stretch) : Type 0 where
+  pub left : Elapses stretch.before.tick stretch.after.tick stretch.was.left stretch.is.left
+  pub left_since : Elapses stretch.before.tick stretch.after.tick
+      stretch.was.left_since stretch.is.left_since
 
 -- behind what was sent before, one pair stands that was cut short
 pub record HasFrontOfLast (before after sent : List SentBytes) : Type 0 where
@@ -71,16 +89,18 @@ IsSentByThen before after sent = (sent ≡ before) ⊎ HasFrontOfLast before aft
 -- One call: what a crash since its beginning may have left is what it might have left before the
 -- call, or may leave behind it; where the sends are told, beside what had been sent at a moment of
 -- the call, and at each such moment.
-pub record OneCall (old new : SiteState) (was is : Crashes) : Type 0 where
-  pub passes : Passes old new was is
-  pub images : (image : List ℕ) → is.left old.tick image → was.now image ⊎ is.now image
-  pub sent : (before after : Sends) → old.contents.sends ≡ Some before
-      → new.contents.sends ≡ Some after
-      → (left : Left) → is.left_since old.tick left → IsSentByThen before.sent after.sent left.sent
-  pub moments : (before after : Sends) → old.contents.sends ≡ Some before
-      → new.contents.sends ≡ Some after
-      → (left : Left) → is.now left.image → IsSentByThen before.sent after.sent left.sent
-      → is.left_since old.tick left
+pub record OneCall (stretch : Stretch) : Type 0 where
+  pub passes : Passes stretch
+  pub images : (image : List ℕ) → stretch.is.left stretch.before.tick image
+      → stretch.was.now image ⊎ stretch.is.now image
+  pub sent : (before after : Sends) → stretch.before.contents.sends ≡ Some before
+      → stretch.after.contents.sends ≡ Some after
+      → (left : Left) → stretch.is.left_since stretch.before.tick left
+      → IsSentByThen before.sent after.sent left.sent
+  pub moments : (before after : Sends) → stretch.before.contents.sends ≡ Some before
+      → stretch.after.contents.sends ≡ Some after
+      → (left : Left) → stretch.is.now left.image → IsSentByThen before.sent after.sent left.sent
+      → stretch.is.left_since stretch.before.tick left
 
 -- just these images may be left: the ones that might have been before
 abbrev pub LeavesTheSame : (List ℕ → Type 0) → (List ℕ → Type 0) → Type 0

@@ -4,7 +4,7 @@ ghost use Rattle.std.specs.Prelude.{length as list_length};
 ghost use Rattle.std.specs.Prelude.{take, drop, is_ok, IfOk, OnOk, OnErr};
 ghost use Rattle.ix_outside.specs.Contents.{Listens, Gives, SendsBytes};
 ghost use Rattle.ix_outside.specs.Counts.{CountsFault, Rose};
-ghost use Rattle.ix_outside.specs.Crashes.{AreLawful, Crashes, OneCall, nothing_left};
+ghost use Rattle.ix_outside.specs.Crashes.{AreLawful, Crashes, OneCall, nothing_left, stretch_of};
 ghost use Rattle.ix_outside.specs.Crashes.{LeavesBy, LeavesTheSame, Settles};
 ghost use Rattle.ix_outside.specs.Disk.{Attaches, Cuts, MakesFile, MaybeCut, OfFile, Stays, Torn};
 ghost use Rattle.ix_outside.specs.Disk.{Writes};
@@ -35,8 +35,7 @@ pub trait Site {
         ensures contents { Listens name.now result
             (state self.old).contents (state self.new).contents }
         ensures now { LeavesTheSame (crashes self.old).now (crashes self.new).now }
-        ensures call { OneCall (state self.old) (state self.new)
-            (crashes self.old) (crashes self.new) }
+        ensures call { OneCall (stretch_of state crashes self.old self.new) }
         ensures rest { OnlyWire (state self.old) (state self.new) };
 
     /// The next event. The bytes of a `Bytes` event stand at the front of `buf`.
@@ -48,8 +47,7 @@ pub trait Site {
         ensures contents { Gives buf.new result
             (state self.old).contents (state self.new).contents }
         ensures now { LeavesTheSame (crashes self.old).now (crashes self.new).now }
-        ensures call { OneCall (state self.old) (state self.new)
-            (crashes self.old) (crashes self.new) }
+        ensures call { OneCall (stretch_of state crashes self.old self.new) }
         ensures rest { OnlyWire (state self.old) (state self.new) };
 
     /// Sends the bytes on a connection. After `Gone` some front of them may have been sent.
@@ -60,8 +58,7 @@ pub trait Site {
             (state self.old).contents (state self.new).contents }
         ensures disk { OnOk result ((state self.new).disk ≡ (state self.old).disk) }
         ensures now { LeavesTheSame (crashes self.old).now (crashes self.new).now }
-        ensures call { OneCall (state self.old) (state self.new)
-            (crashes self.old) (crashes self.new) }
+        ensures call { OneCall (stretch_of state crashes self.old self.new) }
         ensures rest { OnlySend (state self.old) (state self.new) };
 
     /// Attaches the file of this name; an absent one is made with no bytes. After a
@@ -75,8 +72,7 @@ pub trait Site {
             (state self.old).disk (state self.new).disk }
         ensures now { Settles result (state self.new).disk
             (crashes self.old).now (crashes self.new).now }
-        ensures call { OneCall (state self.old) (state self.new)
-            (crashes self.old) (crashes self.new) }
+        ensures call { OneCall (stretch_of state crashes self.old self.new) }
         ensures rest { OnlyDisk (state self.old) (state self.new) };
 
     /// How many bytes the attached file has.
@@ -89,8 +85,7 @@ pub trait Site {
             (λ count. OfFile (λ file. count ≡ length file) (state self.old).disk) }
         ensures file { MakesFile Stays (state self.old).disk (state self.new).disk }
         ensures now { LeavesTheSame (crashes self.old).now (crashes self.new).now }
-        ensures call { OneCall (state self.old) (state self.new)
-            (crashes self.old) (crashes self.new) }
+        ensures call { OneCall (stretch_of state crashes self.old self.new) }
         ensures rest { OnlyDisk (state self.old) (state self.new) };
 
     /// Reads the bytes from `at` on into the front of `buf`, and gives their number;
@@ -107,8 +102,7 @@ pub trait Site {
             (λ file. take count buf.new ≡ take count (drop at file)) (state self.old).disk) }
         ensures file { MakesFile Stays (state self.old).disk (state self.new).disk }
         ensures now { LeavesTheSame (crashes self.old).now (crashes self.new).now }
-        ensures call { OneCall (state self.old) (state self.new)
-            (crashes self.old) (crashes self.new) }
+        ensures call { OneCall (stretch_of state crashes self.old self.new) }
         ensures rest { OnlyDisk (state self.old) (state self.new) };
 
     /// Writes the bytes at `at`, over what is there and past the end.
@@ -121,8 +115,7 @@ pub trait Site {
         ensures file { Writes at bytes.now result (state self.old).disk (state self.new).disk }
         ensures now { LeavesBy (Torn at (length bytes.now)) result
             (crashes self.old).now (crashes self.new).now }
-        ensures call { OneCall (state self.old) (state self.new)
-            (crashes self.old) (crashes self.new) }
+        ensures call { OneCall (stretch_of state crashes self.old self.new) }
         ensures rest { OnlyDisk (state self.old) (state self.new) };
 
     /// Cuts the attached file to its first `length` bytes.
@@ -135,8 +128,7 @@ pub trait Site {
         ensures file { Cuts length result (state self.old).disk (state self.new).disk }
         ensures now { LeavesBy (MaybeCut length) result
             (crashes self.old).now (crashes self.new).now }
-        ensures call { OneCall (state self.old) (state self.new)
-            (crashes self.old) (crashes self.new) }
+        ensures call { OneCall (stretch_of state crashes self.old self.new) }
         ensures rest { OnlyDisk (state self.old) (state self.new) };
 
     /// Brings to the disk what was written before.
@@ -148,8 +140,7 @@ pub trait Site {
         ensures file { MakesFile Stays (state self.old).disk (state self.new).disk }
         ensures now { Settles result (state self.new).disk
             (crashes self.old).now (crashes self.new).now }
-        ensures call { OneCall (state self.old) (state self.new)
-            (crashes self.old) (crashes self.new) }
+        ensures call { OneCall (stretch_of state crashes self.old self.new) }
         ensures rest { OnlyDisk (state self.old) (state self.new) };
 
     /// What a crash may leave agrees with what is told.

@@ -4,10 +4,9 @@ ghost use Rattle.std.specs.Prelude.{IfOk, OnErr, refl};
 ghost use Rattle.std.specs.Duration.{as_nanos};
 ghost use Rattle.ix_outside.specs.Contents.{Gives};
 ghost use Rattle.ix_outside.specs.Counts.{Rose};
-ghost use Rattle.ix_outside.specs.Crashes.{LeavesTheSame, OneCall};
+ghost use Rattle.ix_outside.specs.Crashes.{LeavesTheSame, OneCall, nothing_left, stretch_of};
 ghost use Rattle.ix_outside.specs.Event.{FitsBuffer};
 ghost use Rattle.ix_outside.specs.SiteState.{OnlyWire};
-ghost use Rattle.ix_outside.specs.Crashes.{nothing_left};
 ghost use Rattle.ix_outside.specs.lemmas.Untold.{untold_is_lawful};
 ghost use Rattle.ix_real.specs.inside.Piece.{IsServed};
 ghost use Rattle.ix_real.specs.inside.Untold.{untold_site, with_disk_fault, with_wire_fault};
@@ -165,8 +164,7 @@ impl<R: rt::Files<File = File> + Net + Clock> Site for RealSite<'_, R> {
         ensures contents { Gives buf.new result
             (untold_site self.old).contents (untold_site self.new).contents }
         ensures now { LeavesTheSame nothing_left.now nothing_left.now }
-        ensures call { OneCall (untold_site self.old)
-            (untold_site self.new) nothing_left nothing_left }
+        ensures call { OneCall (stretch_of untold_site (λ _. nothing_left) self.old self.new) }
         ensures rest { OnlyWire (untold_site self.old) (untold_site self.new) }
     {
         let Some(mut stream) = self.take_stream() else {

@@ -82,7 +82,7 @@ impl<'a, S: Site, K: Sink> Site for ScriptSite<'a, S, K> {
     ghost use Rattle.std.specs.Prelude.{◌<◌, length, IfOk, OnErr, Some, None, refl};
     ghost use Rattle.ix_outside.specs.Contents.{Gives, piece_of};
     ghost use Rattle.ix_outside.specs.Counts.{Rose};
-    ghost use Rattle.ix_outside.specs.Crashes.{LeavesTheSame, OneCall};
+    ghost use Rattle.ix_outside.specs.Crashes.{LeavesTheSame, OneCall, stretch_of};
     ghost use Rattle.ix_outside.specs.Event.{FitsBuffer};
     ghost use Rattle.ix_outside.specs.Loans.{free, lent, reads, unused_wire};
     ghost use Rattle.ix_outside.specs.SiteState.{OnlyWire};
@@ -139,8 +139,8 @@ impl<'a, S: Site, K: Sink> Site for ScriptSite<'a, S, K> {
             (⟦<Self as Site>⟧.state self.new).contents }
         ensures now { LeavesTheSame (⟦<Self as Site>⟧.crashes self.old).now
             (⟦<Self as Site>⟧.crashes self.new).now }
-        ensures call { OneCall (⟦<Self as Site>⟧.state self.old) (⟦<Self as Site>⟧.state self.new)
-            (⟦<Self as Site>⟧.crashes self.old) (⟦<Self as Site>⟧.crashes self.new) }
+        ensures call { OneCall (stretch_of ⟦<Self as Site>⟧.state ⟦<Self as Site>⟧.crashes
+            self.old self.new) }
         ensures rest { OnlyWire (⟦<Self as Site>⟧.state self.old)
             (⟦<Self as Site>⟧.state self.new) }
     {

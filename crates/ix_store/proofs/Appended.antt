@@ -9,7 +9,7 @@ use Rattle.ix_journal.specs.declared.entries.Marks.{Marks}
 use Rattle.ix_outside.specs.Crashes.{Crashes, AreLawful, LeavesTheFile}
 use Rattle.ix_outside.specs.Disk.{Disk, OfFile, MakesFile, Overwrites, Torn}
 use Rattle.ix_outside.specs.SiteState.{SiteState}
-use Rattle.ix_outside.specs.inside.DiskCalls.{DiskCalls, LeavesOnly}
+use Rattle.ix_outside.specs.inside.DiskCalls.{DiskCalls, LeavesOnly, span}
 use Rattle.ix_journal.specs.Format.{record_of}
 use Rattle.ix_journal.specs.Recovery.{IsJournalWith}
 use Rattle.ix_store.specs.inside.Keeping.{Fits, IsWithOrWithout}
@@ -38,17 +38,17 @@ place_behind old was store text history lawful fits =
     let within = journal.journal.closes.records.within in omega arith)
 
 -- `mid` is behind the call that writes the record
-module _ (old mid : SiteState) (was then : Crashes) (calls : DiskCalls old mid was then)
+module _ (old mid : SiteState) (was then : Crashes) (calls : DiskCalls (span old mid was then))
     (lawful : AreLawful old was) (lawful' : AreLawful mid then)
     (store : Keeping) (text : List ℕ) (history : PlainHistory) (fits : Fits old was store text history)
     (bytes : List ℕ) (images : (disk : Disk) → old.disk ≡ Some disk
-    → LeavesOnly (MaybeTorn (store.gate + 1) (length bytes) was.now) old then)
+    → LeavesOnly (MaybeTorn (store.gate + 1) (length bytes) was.now) (span old mid was then))
   where
     abbrev Same : List ℕ → Type 0
     Same image = IsJournalWith image text history store.marks store.gate
 
     -- what is left while the record is written
-    recorded : (disk : Disk) → old.disk ≡ Some disk → LeavesOnly Same old then
+    recorded : (disk : Disk) → old.disk ≡ Some disk → LeavesOnly Same (span old mid was then)
     recorded disk told image left = elim (images disk told image left) [
       | inl now ↦ fits.images disk told image now
       | inr torn ↦ torn_behind text history store.marks store.gate (length bytes) torn.0 image
@@ -56,7 +56,7 @@ module _ (old mid : SiteState) (was then : Crashes) (calls : DiskCalls old mid w
     ]
 
     pub recorded_images : (entry : Entry) (disk : Disk) → old.disk ≡ Some disk
-        → LeavesOnly (IsWithOrWithout text history store.marks entry) old then
+        → LeavesOnly (IsWithOrWithout text history store.marks entry) (span old mid was then)
     recorded_images entry disk told image left = (store.gate, inl (recorded disk told image left))
 
     -- the gate's own place is in the file
@@ -95,10 +95,10 @@ module _ (old mid : SiteState) (was then : Crashes) (calls : DiskCalls old mid w
               subst (λ (b : List ℕ). there.file ≡ staged text history store.marks store.gate disk.file b)
               spelled makes
 
-          pub gated_images : DiskCalls mid new then is
+          pub gated_images : DiskCalls (span mid new then is)
               → ((disk : Disk) → mid.disk ≡ Some disk
-              → LeavesOnly (MaybeTorn store.gate 1 then.now) mid is)
-              → LeavesOnly both old is
+              → LeavesOnly (MaybeTorn store.gate 1 then.now) (span mid new then is))
+              → LeavesOnly both (span old new was is)
           gated_images calls' images' =
               let there = made _ old.disk mid.disk disk told written in
               let before = recorded_images entry disk told in

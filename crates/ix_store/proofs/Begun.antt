@@ -3,7 +3,7 @@ use Rattle.std.proofs.Common.{◌≡◌, ℕ, ◌<◌, List, [], ◌∷◌, ◌+
 use Rattle.ix_outside.specs.Crashes.{Crashes, AreLawful, LeavesTheFile}
 use Rattle.ix_outside.specs.Disk.{Disk, MakesFile, Overwrites, Torn}
 use Rattle.ix_outside.specs.SiteState.{SiteState}
-use Rattle.ix_outside.specs.inside.DiskCalls.{DiskCalls, LeavesOnly}
+use Rattle.ix_outside.specs.inside.DiskCalls.{DiskCalls, LeavesOnly, span}
 use Rattle.ix_outside.proofs.Passing.{DiskCalls-join}
 use Rattle.ix_journal.specs.inside.Writing.{new_header}
 use Rattle.ix_store.specs.inside.Steps.{IsBegun, MaybeTorn}
@@ -12,15 +12,15 @@ use Rattle.ix_store.proofs.Calls.{now_has, calls_more, torn_has}
 use Rattle.ix_store.proofs.Told.{made}
 
 module _ (text : List ℕ) (short : length text < 65536) (old mid : SiteState) (was then : Crashes)
-    (lawful : AreLawful mid then) (calls : DiskCalls old mid was then)
-    (so_far : LeavesOnly (IsBegun text) old then)
+    (lawful : AreLawful mid then) (calls : DiskCalls (span old mid was then))
+    (so_far : LeavesOnly (IsBegun text) (span old mid was then))
     (disk : Disk) (told : mid.disk ≡ Some disk) (cleared : disk.file ≡ 0 ∷ [])
     (settled : LeavesTheFile mid.disk then.now) (bytes : List ℕ)
-    (mid' : SiteState) (then' : Crashes) (calls' : DiskCalls mid mid' then then')
+    (mid' : SiteState) (then' : Crashes) (calls' : DiskCalls (span mid mid' then then'))
     (images' : (disk : Disk) → mid.disk ≡ Some disk
-    → LeavesOnly (MaybeTorn 1 (length bytes) then.now) mid then') where
+    → LeavesOnly (MaybeTorn 1 (length bytes) then.now) (span mid mid' then then')) where
   -- while the header is written
-  pub headed_images : LeavesOnly (IsBegun text) old then'
+  pub headed_images : LeavesOnly (IsBegun text) (span old mid' was then')
   headed_images =
       calls_more (IsBegun text) old mid was then calls so_far mid' then' calls' (λ image left.
       torn_has (IsBegun text) 1 (length bytes) mid.disk disk then.now told settled
@@ -32,9 +32,9 @@ module _ (text : List ℕ) (short : length text < 65536) (old mid : SiteState) (
   -- while the head gate is opened
   pub opened_images : AreLawful mid' then' → bytes ≡ new_header text ++ 0 ∷ []
       → MakesFile (Overwrites 1 bytes) mid.disk mid'.disk → LeavesTheFile mid'.disk then'.now
-      → (new : SiteState) (is : Crashes) → DiskCalls mid' new then' is
-      → ((disk : Disk) → mid'.disk ≡ Some disk → LeavesOnly (MaybeTorn 0 1 then'.now) mid' is)
-      → LeavesOnly (IsBegun text) old is
+      → (new : SiteState) (is : Crashes) → DiskCalls (span mid' new then' is)
+      → ((disk : Disk) → mid'.disk ≡ Some disk → LeavesOnly (MaybeTorn 0 1 then'.now) (span mid' new then' is))
+      → LeavesOnly (IsBegun text) (span old new was is)
   opened_images lawful' spelled written settled' new is calls'' images'' =
       let there = made _ mid.disk mid'.disk disk told written in
       let is_headed =

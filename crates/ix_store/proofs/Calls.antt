@@ -4,7 +4,7 @@ use Rattle.std.proofs.Common.{inl, inr, sym, ◌∙◌, subst}
 use Rattle.ix_outside.specs.Crashes.{Crashes, AreLawful, OneCall, LeavesBy, LeavesTheFile, Settles}
 use Rattle.ix_outside.specs.Disk.{Disk, OfFile, MakesFile, Stays, Torn}
 use Rattle.ix_outside.specs.SiteState.{SiteState, OnlyDisk}
-use Rattle.ix_outside.specs.inside.DiskCalls.{DiskCalls, LeavesOnly, KeepsOpened}
+use Rattle.ix_outside.specs.inside.DiskCalls.{DiskCalls, LeavesOnly, KeepsOpened, span}
 use Rattle.ix_outside.proofs.Passing.{DiskCalls-one, DiskCalls-join, LeavesOnly-call}
 use Rattle.ix_outside.proofs.Passing.{LeavesOnly-join}
 use Rattle.ix_outside.proofs.Passing.{LeavesOnly-none, Passes-none}
@@ -13,16 +13,16 @@ use Rattle.ix_store.proofs.Told.{of_told, made, just}
 
 -- a call that answers with a file attached, as before
 pub one : (old new : SiteState) (was is : Crashes) → old.attached ≡ true → new.attached ≡ true
-    → OneCall old new was is → OnlyDisk old new → KeepsOpened old.disk new.disk
-    → DiskCalls old new was is
+    → OneCall (span old new was is) → OnlyDisk old new → KeepsOpened old.disk new.disk
+    → DiskCalls (span old new was is)
 one old new was is before after call rest opened =
     DiskCalls-one old new was is call rest (after ∙ sym before) opened
 
 -- one call more
 pub more : (old mid new : SiteState) (was then is : Crashes) → AreLawful new is
-    → old.attached ≡ true → DiskCalls old mid was then → new.attached ≡ true
-    → OneCall mid new then is → OnlyDisk mid new → KeepsOpened mid.disk new.disk
-    → DiskCalls old new was is
+    → old.attached ≡ true → DiskCalls (span old mid was then) → new.attached ≡ true
+    → OneCall (span mid new then is) → OnlyDisk mid new → KeepsOpened mid.disk new.disk
+    → DiskCalls (span old new was is)
 more old mid new was then is lawful before calls after call rest opened =
     DiskCalls-join old mid new was then is lawful calls
     (one mid new then is (calls.attached ∙ before) after call rest opened)
@@ -48,14 +48,14 @@ sync_now P (Err fault) disk old new was is told file stays settles has image now
 
 -- before and after the first call
 pub first_call : (P : List ℕ → Type 0) (old new : SiteState) (was is : Crashes) → AreLawful old was
-    → OneCall old new was is → ((image : List ℕ) → was.now image → P image)
-    → ((image : List ℕ) → is.now image → P image) → LeavesOnly P old is
+    → OneCall (span old new was is) → ((image : List ℕ) → was.now image → P image)
+    → ((image : List ℕ) → is.now image → P image) → LeavesOnly P (span old new was is)
 first_call P old new was is lawful call before behind =
     LeavesOnly-call P old old new was was is lawful (Passes-none old was)
     (LeavesOnly-none P old was lawful before) call behind
 
 module _ (P : List ℕ → Type 0) (old mid : SiteState) (was then : Crashes)
-    (calls : DiskCalls old mid was then) (so_far : LeavesOnly P old then) where
+    (calls : DiskCalls (span old mid was then)) (so_far : LeavesOnly P (span old mid was then)) where
   -- what each image since the begin has, each image now has
   pub now_has : AreLawful mid then → (image : List ℕ) → then.now image → P image
   now_has lawful image now =
@@ -63,16 +63,16 @@ module _ (P : List ℕ → Type 0) (old mid : SiteState) (was then : Crashes)
       so_far image (lawful.left_earlier old.tick mid.tick image calls.passes.left.later here)
 
   -- and behind one call more
-  pub call_more : (new : SiteState) (is : Crashes) → AreLawful mid then → OneCall mid new then is
-      → ((image : List ℕ) → is.now image → P image) → LeavesOnly P old is
+  pub call_more : (new : SiteState) (is : Crashes) → AreLawful mid then → OneCall (span mid new then is)
+      → ((image : List ℕ) → is.now image → P image) → LeavesOnly P (span old new was is)
   call_more new is lawful call behind =
       LeavesOnly-call P old mid new was then is lawful calls.passes so_far call behind
 
   -- and behind calls of which each leaves what has it
-  pub calls_more : (new : SiteState) (is : Crashes) → DiskCalls mid new then is
-      → LeavesOnly P mid is → LeavesOnly P old is
+  pub calls_more : (new : SiteState) (is : Crashes) → DiskCalls (span mid new then is)
+      → LeavesOnly P (span mid new then is) → LeavesOnly P (span old new was is)
   calls_more new is calls' next =
-      LeavesOnly-join P old mid new then is so_far calls'.passes.left calls.passes.left.later next
+      LeavesOnly-join P old mid new was then is so_far calls'.passes.left calls.passes.left.later next
 
 -- where just the file might have been left, and then it is written in this range
 pub torn_has : (P : List ℕ → Type 0) (at count : ℕ) (disk : Option Disk) (told : Disk)

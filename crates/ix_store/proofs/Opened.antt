@@ -10,7 +10,7 @@ use Rattle.ix_journal.specs.declared.entries.Marks.{Marks}
 use Rattle.ix_outside.specs.Crashes.{Crashes, LeavesTheFile}
 use Rattle.ix_outside.specs.Disk.{Disk, OfFile, MakesFile, Stays}
 use Rattle.ix_outside.specs.SiteState.{SiteState}
-use Rattle.ix_outside.specs.inside.DiskCalls.{DiskCalls, LeavesOnly}
+use Rattle.ix_outside.specs.inside.DiskCalls.{DiskCalls, LeavesOnly, span}
 use Rattle.ix_journal.specs.inside.Writing.{new_header}
 use Rattle.ix_journal.specs.Kinds.{IsReady, unfinished, unopened, foreign, ready}
 use Rattle.ix_journal.specs.Recovery.{IsJournalWith, Keeps}
@@ -219,7 +219,7 @@ fits_only site crashes store text history counts settled journal = record {
 -- a start that only read
 pub leaves_same : (text file : List ℕ) (old new : SiteState) (was is : Crashes)
     → MakesFile Stays old.disk new.disk
-    → LeavesOnly was.now old is → LeavesOnStart text file old new was is
+    → LeavesOnly was.now (span old new was is) → LeavesOnStart text file (span old new was is)
 leaves_same text file old new was is stays only = record {
   keeps = λ entries kept image left. inl (only image left);
   own = λ own image left. inl (only image left);
@@ -229,11 +229,11 @@ leaves_same text file old new was is stays only = record {
 -- a start that made a journal anew, or tried to
 pub leaves_begun : (text file : List ℕ) (old mid new : SiteState) (was then is : Crashes)
     → IsNew file text
-    → DiskCalls old mid was then → LeavesOnly was.now old then → DiskCalls mid new then is
-    → LeavesOnly (IsBegun text) mid is → LeavesOnStart text file old new was is
+    → DiskCalls (span old mid was then) → LeavesOnly was.now (span old mid was then) → DiskCalls (span mid new then is)
+    → LeavesOnly (IsBegun text) (span mid new then is) → LeavesOnStart text file (span old new was is)
 leaves_begun text file old mid new was then is new_file calls only calls' begun =
     let P : List ℕ → Type 0 = λ image. was.now image ⊎ IsBegun text image in
-    let both : LeavesOnly P old is =
+    let both : LeavesOnly P (span old new was is) =
     calls_more P old mid was then calls (λ image left. inl (only image left)) new is calls'
     (λ image left. inr (begun image left)) in
     record {

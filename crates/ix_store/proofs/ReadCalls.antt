@@ -4,6 +4,7 @@ use Rattle.ix_outside.specs.Crashes.{Crashes, AreLawful, OneCall, LeavesTheFile,
 use Rattle.ix_outside.specs.Disk.{Disk, OfFile, MakesFile, Stays}
 use Rattle.ix_outside.specs.SiteState.{SiteState, OnlyDisk}
 use Rattle.ix_outside.proofs.Passing.{DiskCalls-none, DiskCalls-join, KeepsOpened-makes}
+use Rattle.ix_outside.specs.inside.DiskCalls.{span}
 use Rattle.ix_store.specs.inside.Reading.{OnlyReads}
 use Rattle.ix_store.proofs.Calls.{one, first_call, calls_more}
 use Rattle.ix_store.proofs.Told.{of_told, to_told, came, just, stays_none}
@@ -24,7 +25,7 @@ stays_join a b c first second = stays_then Stays a b c first second
 
 -- no call
 pub reads_none : (now : SiteState) (crashes : Crashes) → AreLawful now crashes
-    → OnlyReads now now crashes crashes
+    → OnlyReads (span now now crashes crashes)
 reads_none now crashes lawful = record {
   calls = DiskCalls-none now crashes lawful;
   stays = stays_none now.disk;
@@ -34,8 +35,8 @@ reads_none now crashes lawful = record {
 
 -- one call
 pub reads_one : (old new : SiteState) (was is : Crashes) → AreLawful old was
-    → old.attached ≡ true → new.attached ≡ true → OneCall old new was is → OnlyDisk old new
-    → MakesFile Stays old.disk new.disk → LeavesTheSame was.now is.now → OnlyReads old new was is
+    → old.attached ≡ true → new.attached ≡ true → OneCall (span old new was is) → OnlyDisk old new
+    → MakesFile Stays old.disk new.disk → LeavesTheSame was.now is.now → OnlyReads (span old new was is)
 reads_one old new was is lawful before after call rest stays same = record {
   calls = one old new was is before after call rest
       (KeepsOpened-makes Stays old.disk new.disk stays);
@@ -47,7 +48,7 @@ reads_one old new was is lawful before after call rest stays same = record {
 
 -- two stretches
 pub reads_join : (old mid new : SiteState) (was then is : Crashes) → AreLawful new is
-    → OnlyReads old mid was then → OnlyReads mid new then is → OnlyReads old new was is
+    → OnlyReads (span old mid was then) → OnlyReads (span mid new then is) → OnlyReads (span old new was is)
 reads_join old mid new was then is lawful first second = record {
   calls = DiskCalls-join old mid new was then is lawful first.calls second.calls;
   stays = stays_join old.disk mid.disk new.disk first.stays second.stays;
@@ -60,7 +61,7 @@ reads_join old mid new was then is lawful first second = record {
 }
 
 -- where just the file might be left, just the file may be left
-pub reads_settled : (old new : SiteState) (was is : Crashes) → OnlyReads old new was is
+pub reads_settled : (old new : SiteState) (was is : Crashes) → OnlyReads (span old new was is)
     → LeavesTheFile old.disk was.now → LeavesTheFile new.disk is.now
 reads_settled old new was is reads settled =
     let Only : List ℕ → Type 0 = λ file.

@@ -32,7 +32,7 @@ use Rattle.ix_journal.proofs.KindFronts.{Covers, kinds_of_front}
 use Rattle.ix_journal.proofs.OrderLemmas.{entry_near, marks_of-more}
 use Rattle.ix_journal.proofs.SlideLaws.{stays_away}
 use Rattle.ix_journal.proofs.SlideLemmas.{gives_text, gives_closed, gives_damage, further}
-use Rattle.ix_store.specs.inside.Reading.{BeginsWith, Feeds, IsHeadOf}
+use Rattle.ix_store.specs.inside.Reading.{HasFront, ReadsOn, IsHeadOf}
 use Rattle.ix_store.specs.inside.Steps.{ClosesWith, KeepsNot, MayKeep, StopsReading}
 use Rattle.ix_store.specs.declared.fault.OpenFault.{OpenFault}
 use Rattle.ix_store.specs.declared.fault.OpenFault.TheVariants as fault
@@ -93,7 +93,7 @@ module _ (head : List ℕ) (first count : ℕ) (within : first < length head)
     boots = omega arith;
   }
 
-  pub starts_reached : (file : List ℕ) → BeginsWith head file
+  pub starts_reached : (file : List ℕ) → HasFront head file
       → Reached first (first + count) [] (extended (empty_at first) piece) file
   starts_reached file (rest, whole) =
       let longer = ap length whole in
@@ -383,9 +383,9 @@ module _ (first at : ℕ) (history : PlainHistory) (kept : Kept) (short : IsShor
   short_few : length kept.bytes ≤ 210
   short_few = want_few kept.bytes short.1
 
-  pub fed_on_way : (disk : Option Disk) (next : ℕ) (new : Kept) → Feeds disk at kept next new
+  pub fed_on_way : (disk : Option Disk) (next : ℕ) (new : Kept) → ReadsOn disk at kept next new
       → IsOnWay first at history kept → IsOnWay first next history new
-  fed_on_way disk _ _ (Feeds.took piece some room file) way = record {
+  fed_on_way disk _ _ (ReadsOn.took piece some room file) way = record {
     place = let place = way.place in omega (arith, length-append kept.bytes piece);
     some = omega (arith, length-append kept.bytes piece);
     room = omega (arith, length-append kept.bytes piece);
@@ -394,7 +394,7 @@ module _ (first at : ℕ) (history : PlainHistory) (kept : Kept) (short : IsShor
     few = way.few;
     boots = way.boots;
   }
-  fed_on_way disk _ _ (Feeds.told_the_end file) way = record {
+  fed_on_way disk _ _ (ReadsOn.told_the_end file) way = record {
     place = way.place;
     some = way.some;
     room = way.room;
@@ -407,16 +407,16 @@ module _ (first at : ℕ) (history : PlainHistory) (kept : Kept) (short : IsShor
   going : let left : ℕ = if kept.ended then 0 else 1 in left ≡ 1
   going = let one_left : Bool → ℕ = λ b. if b then 0 else 1 in ap one_left short.0
 
-  pub fed_less : (disk : Option Disk) (next : ℕ) (new : Kept) → Feeds disk at kept next new
+  pub fed_less : (disk : Option Disk) (next : ℕ) (new : Kept) → ReadsOn disk at kept next new
       → steps_left history new < steps_left history kept
-  fed_less disk _ _ (Feeds.took piece some room file) =
+  fed_less disk _ _ (ReadsOn.took piece some room file) =
       let few = short_few in omega (arith, length-append kept.bytes piece)
-  fed_less disk _ _ (Feeds.told_the_end file) = let e = going in omega arith
+  fed_less disk _ _ (ReadsOn.told_the_end file) = let e = going in omega arith
 
   pub fed_reached : (file : List ℕ) (disk : Option Disk) (told : Disk) → disk ≡ Some told
-      → told.file ≡ file → (next : ℕ) (new : Kept) → Feeds disk at kept next new
+      → told.file ≡ file → (next : ℕ) (new : Kept) → ReadsOn disk at kept next new
       → Reached first at history kept file → Reached first next history new file
-  fed_reached file disk told is same _ _ (Feeds.took piece some room of_file) reached =
+  fed_reached file disk told is same _ _ (ReadsOn.took piece some room of_file) reached =
       let P : List ℕ → Type 0 = λ f. drop at f ≡ piece ++ drop (at + length piece) f in
       let read : P file = subst P same (of_told P disk told is of_file) in
       record {
@@ -428,7 +428,7 @@ module _ (first at : ℕ) (history : PlainHistory) (kept : Kept) (short : IsShor
             ∙ ap (λ (b : List ℕ). kept.bytes ++ b) (sym read) ∙ reached.here;
         end = λ ended. absurd (let e : true ≡ false = sym ended ∙ short.0 in cc);
       }
-  fed_reached file disk told is same _ _ (Feeds.told_the_end of_file) reached =
+  fed_reached file disk told is same _ _ (ReadsOn.told_the_end of_file) reached =
       let P : List ℕ → Type 0 = λ f. drop at f ≡ [] in
       record {
         entries = reached.entries;
@@ -454,11 +454,11 @@ piece_read file buf at count taken size counted few len same =
 pub feeds_took : (disk : Option Disk) (at : ℕ) (old : Kept) (piece : List ℕ) (taken : ℕ)
     → length piece ≡ taken → 0 < taken → length old.bytes + taken ≤ 4096
     → OfFile (λ file. drop at file ≡ piece ++ drop (at + taken) file) disk
-    → Feeds disk at old (at + taken) (extended old piece)
+    → ReadsOn disk at old (at + taken) (extended old piece)
 feeds_took disk at old piece taken long some room of_file =
     let P : ℕ → Type 0 = λ n. OfFile (λ file. drop at file ≡ piece ++ drop (at + n) file) disk in
-    subst (λ (n : ℕ). Feeds disk at old (at + n) (extended old piece)) long
-    (Feeds.took piece (omega arith) (omega arith) (subst P (sym long) of_file))
+    subst (λ (n : ℕ). ReadsOn disk at old (at + n) (extended old piece)) long
+    (ReadsOn.took piece (omega arith) (omega arith) (subst P (sym long) of_file))
 
 -- no byte is read of a file into a buffer that has room
 pub end_read : (file : List ℕ) (at size : ℕ) → 0 ≡ min size (length file - at) → 0 < size

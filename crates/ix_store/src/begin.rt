@@ -4,7 +4,7 @@ ghost use Rattle.std.specs.Prelude.{◌≡◌, ◌<◌, ◌≤◌, [], ◌∷◌
 ghost use Rattle.std.specs.Prelude.{drop, OnOk, IfErr};
 ghost use Rattle.std.specs.Option.{ForSome};
 ghost use Rattle.ix_outside.specs.Counts.{CountsFault};
-ghost use Rattle.ix_outside.specs.Crashes.{LeavesTheFile};
+ghost use Rattle.ix_outside.specs.Crashes.{LeavesTheFile, stretch_of};
 ghost use Rattle.ix_outside.specs.Disk.{OfFile, MakesFile};
 ghost use Rattle.ix_outside.specs.inside.DiskCalls.{DiskCalls, LeavesOnly};
 ghost use Rattle.ix_store.specs.Opening.{IsNew};
@@ -38,12 +38,11 @@ pub(crate) fn begin<S: Site>(
     ensures settled { OnOk result
         (LeavesTheFile (S.state site.new).disk (S.crashes site.new).now) }
     ensures images { ForSome (S.state site.old).disk (λ _.
-        LeavesOnly (IsBegun text.now) (S.state site.old) (S.crashes site.new)) }
+        LeavesOnly (IsBegun text.now) (stretch_of S.state S.crashes site.old site.new)) }
     ensures fault { IfErr result TellsNothing }
     ensures failed { CountsOpening result
         (S.state site.old).counts.disk (S.state site.new).counts.disk }
-    ensures calls { DiskCalls (S.state site.old) (S.state site.new)
-        (S.crashes site.old) (S.crashes site.new) }
+    ensures calls { DiskCalls (stretch_of S.state S.crashes site.old site.new) }
 {
     let Ok(header) = header_bytes(alloc, text) else {
         return Err(OpenFault::Memory);
@@ -71,11 +70,10 @@ fn clear<S: Site>(site: &mut S, bytes: &[u8]) -> Result<(), DiskFailed>
         (LeavesTheFile (S.state site.new).disk (S.crashes site.new).now) }
     ensures images { ForSome (S.state site.old).disk (λ disk. (text : List ℕ)
         → length text < 65536 → IsNew disk.file text
-        → LeavesOnly (IsBegun text) (S.state site.old) (S.crashes site.new)) }
+        → LeavesOnly (IsBegun text) (stretch_of S.state S.crashes site.old site.new)) }
     ensures failed { CountsFault result
         (S.state site.old).counts.disk (S.state site.new).counts.disk }
-    ensures calls { DiskCalls (S.state site.old) (S.state site.new)
-        (S.crashes site.old) (S.crashes site.new) }
+    ensures calls { DiskCalls (stretch_of S.state S.crashes site.old site.new) }
 {
     close_head(site, bytes)?;
     cut_behind_head(site, bytes)?;
@@ -91,11 +89,10 @@ fn close_head<S: Site>(site: &mut S, bytes: &[u8]) -> Result<(), DiskFailed>
         (S.state site.old).disk (S.state site.new).disk) }
     ensures images { ForSome (S.state site.old).disk (λ disk. (text : List ℕ)
         → length text < 65536 → IsNew disk.file text
-        → LeavesOnly (IsBegun text) (S.state site.old) (S.crashes site.new)) }
+        → LeavesOnly (IsBegun text) (stretch_of S.state S.crashes site.old site.new)) }
     ensures failed { CountsFault result
         (S.state site.old).counts.disk (S.state site.new).counts.disk }
-    ensures calls { DiskCalls (S.state site.old) (S.state site.new)
-        (S.crashes site.old) (S.crashes site.new) }
+    ensures calls { DiskCalls (stretch_of S.state S.crashes site.old site.new) }
 {
     if bytes.starts_with(&[CLOSED]) {
         return Ok(());
@@ -113,11 +110,10 @@ fn cut_behind_head<S: Site>(site: &mut S, bytes: &[u8]) -> Result<(), DiskFailed
         (S.state site.old).disk (S.state site.new).disk) }
     ensures images { (text : List ℕ)
         → ((image : List ℕ) → (S.crashes site.old).now image → IsBegun text image)
-        → LeavesOnly (IsBegun text) (S.state site.old) (S.crashes site.new) }
+        → LeavesOnly (IsBegun text) (stretch_of S.state S.crashes site.old site.new) }
     ensures failed { CountsFault result
         (S.state site.old).counts.disk (S.state site.new).counts.disk }
-    ensures calls { DiskCalls (S.state site.old) (S.state site.new)
-        (S.crashes site.old) (S.crashes site.new) }
+    ensures calls { DiskCalls (stretch_of S.state S.crashes site.old site.new) }
 {
     if bytes.len() <= 1 {
         return Ok(());

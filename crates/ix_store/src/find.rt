@@ -8,6 +8,7 @@ ghost use Rattle.ix_store.specs.inside.Reading.{OnlyReads};
 ghost use Rattle.ix_store.specs.inside.Refusals.{Refuses};
 ghost use Rattle.ix_store.specs.inside.Starting.{CountsOpening, SettlesOpening};
 ghost use Rattle.ix_store.specs.inside.Steps.{IsFound, IsSound};
+ghost use Rattle.ix_outside.specs.Crashes.{stretch_of};
 
 use crate::OpenFault;
 use crate::judge::judge;
@@ -40,11 +41,10 @@ pub(crate) fn sync_and_find<S: Site>(
     ensures settled { SettlesOpening result (S.state site.new).disk (S.crashes site.new).now }
     ensures stays { MakesFile Stays (S.state site.old).disk (S.state site.new).disk }
     ensures images { ForSome (S.state site.old).disk (λ _.
-        LeavesOnly (S.crashes site.old).now (S.state site.old) (S.crashes site.new)) }
+        LeavesOnly (S.crashes site.old).now (stretch_of S.state S.crashes site.old site.new)) }
     ensures failed { CountsOpening result
         (S.state site.old).counts.disk (S.state site.new).counts.disk }
-    ensures calls { DiskCalls (S.state site.old) (S.state site.new)
-        (S.crashes site.old) (S.crashes site.new) }
+    ensures calls { DiskCalls (stretch_of S.state S.crashes site.old site.new) }
 {
     let Ok(()) = site.sync() else {
         return Err(OpenFault::Disk);
@@ -60,8 +60,7 @@ fn find<S: Site>(alloc: Global, site: &mut S, text: &[u8]) -> Result<Found, Open
         (λ found. OfFile (IsFound text.now found) (S.state site.old).disk)
         (λ fault. OfFile (λ file. Refuses file text.now fault) (S.state site.old).disk) }
     ensures sound { IfOk result IsSound }
-    ensures reads { OnlyReads (S.state site.old) (S.state site.new)
-        (S.crashes site.old) (S.crashes site.new) }
+    ensures reads { OnlyReads (stretch_of S.state S.crashes site.old site.new) }
     ensures failed { CountsOpening result
         (S.state site.old).counts.disk (S.state site.new).counts.disk }
 {

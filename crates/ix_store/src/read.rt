@@ -5,6 +5,7 @@ ghost use Rattle.ix_outside.specs.Disk.{OfFile};
 ghost use Rattle.ix_store.specs.inside.Reading.{IsHeadOf, OnlyReads};
 ghost use Rattle.ix_store.specs.inside.Refusals.{TellsNothing};
 ghost use Rattle.ix_store.specs.inside.Starting.{CountsOpening};
+ghost use Rattle.ix_outside.specs.Crashes.{stretch_of};
 
 use crate::OpenFault;
 use ix_journal::{FRONT_LENGTH, text_length};
@@ -16,8 +17,7 @@ use std::alloc::Global;
 pub(crate) fn read_head<S: Site>(alloc: Global, site: &mut S) -> Result<Vec<u8>, OpenFault>
     requires { (S.state site.old).attached ≡ true }
     ensures head { IfOk result (λ head. OfFile (IsHeadOf head.items) (S.state site.old).disk) }
-    ensures reads { OnlyReads (S.state site.old) (S.state site.new)
-        (S.crashes site.old) (S.crashes site.new) }
+    ensures reads { OnlyReads (stretch_of S.state S.crashes site.old site.new) }
     ensures fault { IfErr result TellsNothing }
     ensures failed { CountsOpening result
         (S.state site.old).counts.disk (S.state site.new).counts.disk }
@@ -43,8 +43,7 @@ fn read_more<S: Site>(
     requires { (S.state site.old).attached ≡ true }
     ensures front { OnOk result (OfFile (λ file. (so_far : ℕ) → front.old.items ≡ take so_far file
         → front.new.items ≡ take (so_far + count) file) (S.state site.old).disk) }
-    ensures reads { OnlyReads (S.state site.old) (S.state site.new)
-        (S.crashes site.old) (S.crashes site.new) }
+    ensures reads { OnlyReads (stretch_of S.state S.crashes site.old site.new) }
     ensures fault { IfErr result TellsNothing }
     ensures failed { CountsOpening result
         (S.state site.old).counts.disk (S.state site.new).counts.disk }

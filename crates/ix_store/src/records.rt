@@ -3,10 +3,11 @@
 ghost use Rattle.std.specs.Prelude.{◌≡◌, ◌^◌, ◌<◌, ◌≤◌, ◌++◌, true, false, length, IfOk, IfErr};
 ghost use Rattle.std.specs.Prelude.{OnOk, MatchResult};
 ghost use Rattle.ix_outside.specs.Counts.{CountsFault};
+ghost use Rattle.ix_outside.specs.Crashes.{stretch_of};
 ghost use Rattle.ix_outside.specs.Disk.{OfFile};
 ghost use Rattle.ix_journal.specs.Entries.{IsEntry, pair_of};
 ghost use Rattle.ix_journal.specs.Format.{farthest_gate};
-ghost use Rattle.ix_store.specs.inside.Reading.{BeginsWith, Feeds, OnlyReads};
+ghost use Rattle.ix_store.specs.inside.Reading.{HasFront, ReadsOn, OnlyReads};
 ghost use Rattle.ix_store.specs.inside.Starting.{CountsOpening};
 ghost use Rattle.ix_store.specs.inside.Steps.{ClosesWith, IsSoundly, KeepsNot, MayKeep};
 ghost use Rattle.ix_store.specs.inside.Steps.{StopsReading};
@@ -37,15 +38,14 @@ pub(crate) fn read_records<S: Site>(
     requires attached { (S.state site.old).attached ≡ true }
     requires within { first < length head.now }
     requires near { first ≤ farthest_gate 0 0 }
-    requires head { OfFile (BeginsWith head.now) (S.state site.old).disk }
+    requires head { OfFile (HasFront head.now) (S.state site.old).disk }
     ensures file { MatchResult result
         (λ kept. OfFile (λ file. ClosesWith file first kept.history.items kept.marks kept.gate)
         (S.state site.old).disk)
         (λ fault. OfFile (StopsReading first fault) (S.state site.old).disk) }
     ensures sound { IfOk result
         (λ kept. IsSoundly kept.history.items kept.marks kept.gate) }
-    ensures reads { OnlyReads (S.state site.old) (S.state site.new)
-        (S.crashes site.old) (S.crashes site.new) }
+    ensures reads { OnlyReads (stretch_of S.state S.crashes site.old site.new) }
     ensures failed { CountsOpening result
         (S.state site.old).counts.disk (S.state site.new).counts.disk }
 {
@@ -105,9 +105,9 @@ fn feed<S: Site>(site: &mut S, slide: &mut Slide, at: u64) -> Result<u64, DiskFa
     requires some { 0 < length slide.old.bytes }
     requires room { length slide.old.bytes < SLIDE_ROOM }
     requires place { at < 2 ^ 63 }
-    ensures fed { IfOk result (λ next. Feeds (S.state site.old).disk at slide.old next slide.new) }
-    ensures reads { OnlyReads (S.state site.old) (S.state site.new)
-        (S.crashes site.old) (S.crashes site.new) }
+    ensures fed { IfOk result
+        (λ next. ReadsOn (S.state site.old).disk at slide.old next slide.new) }
+    ensures reads { OnlyReads (stretch_of S.state S.crashes site.old site.new) }
     ensures failed { CountsFault result
         (S.state site.old).counts.disk (S.state site.new).counts.disk }
 {

@@ -39,6 +39,7 @@ impl Store {
     ghost use Rattle.ix_journal.specs.History.{PlainHistory, Spent};
     ghost use Rattle.ix_journal.specs.declared.entries.Entry.TheVariants as entry;
     ghost use Rattle.ix_outside.specs.Counts.{CountsFault};
+    ghost use Rattle.ix_outside.specs.Crashes.{stretch_of};
     ghost use Rattle.ix_outside.specs.Disk.{MakesFile};
     ghost use Rattle.ix_outside.specs.inside.DiskCalls.{DiskCalls, LeavesOnly};
     ghost use Rattle.ix_store.specs.inside.Opens.{Opens};
@@ -91,11 +92,10 @@ impl Store {
             (S.state site.old).disk (S.state site.new).disk) }
         ensures settled { SettlesOpening result (S.state site.new).disk (S.crashes site.new).now }
         ensures images { ForSome (S.state site.old).disk (λ disk. LeavesOnStart text.now disk.file
-            (S.state site.old) (S.state site.new) (S.crashes site.old) (S.crashes site.new)) }
+            (stretch_of S.state S.crashes site.old site.new)) }
         ensures failed { CountsOpening result
             (S.state site.old).counts.disk (S.state site.new).counts.disk }
-        ensures calls { DiskCalls (S.state site.old) (S.state site.new)
-            (S.crashes site.old) (S.crashes site.new) }
+        ensures calls { DiskCalls (stretch_of S.state S.crashes site.old site.new) }
     {
         match sync_and_find(alloc, site, text) {
             Ok(Found::Journal(kept)) => {
@@ -145,11 +145,10 @@ impl Store {
             → Fits (S.state site.old) (S.crashes site.old) (kept self.old) text history
             → ForSome (S.state site.old).disk (λ _.
             LeavesOnly (IsBootedOrNot text history (kept self.old).marks)
-            (S.state site.old) (S.crashes site.new)) }
+            (stretch_of S.state S.crashes site.old site.new)) }
         ensures failed { CountsFault result
             (S.state site.old).counts.disk (S.state site.new).counts.disk }
-        ensures calls { DiskCalls (S.state site.old) (S.state site.new)
-            (S.crashes site.old) (S.crashes site.new) }
+        ensures calls { DiskCalls (stretch_of S.state S.crashes site.old site.new) }
     {
         let number = self.marks.boots + 1;
         match self.append_record(site, &Record::Boot(number)) {
@@ -188,11 +187,10 @@ impl Store {
             → Fits (S.state site.old) (S.crashes site.old) (kept self.old) text history
             → ForSome (S.state site.old).disk (λ _. LeavesOnly
             (IsWithOrWithout text history (kept self.old).marks (entry.Spent ticket action.now))
-            (S.state site.old) (S.crashes site.new)) }
+            (stretch_of S.state S.crashes site.old site.new)) }
         ensures failed { CountsFault result
             (S.state site.old).counts.disk (S.state site.new).counts.disk }
-        ensures calls { DiskCalls (S.state site.old) (S.state site.new)
-            (S.crashes site.old) (S.crashes site.new) }
+        ensures calls { DiskCalls (stretch_of S.state S.crashes site.old site.new) }
     {
         self.append_record(site, &Record::Spent { ticket, action })
     }
@@ -240,11 +238,10 @@ impl Store {
             → Fits (S.state site.old) (S.crashes site.old) (kept self.old) text history
             → ForSome (S.state site.old).disk (λ _. LeavesOnly
             (IsWithOrWithout text history (kept self.old).marks (entry_of written.now))
-            (S.state site.old) (S.crashes site.new)) }
+            (stretch_of S.state S.crashes site.old site.new)) }
         ensures failed { CountsFault result
             (S.state site.old).counts.disk (S.state site.new).counts.disk }
-        ensures calls { DiskCalls (S.state site.old) (S.state site.new)
-            (S.crashes site.old) (S.crashes site.new) }
+        ensures calls { DiskCalls (stretch_of S.state S.crashes site.old site.new) }
     {
         let mut bytes = ArrayVec::new();
         record_bytes(written, &mut bytes);

@@ -3,7 +3,7 @@
 ghost use Rattle.std.specs.Prelude.{◌≡◌, ◌≤◌, true, length, OnOk, OnErr};
 ghost use Rattle.std.specs.Option.{ForSome};
 ghost use Rattle.ix_outside.specs.Counts.{CountsFault};
-ghost use Rattle.ix_outside.specs.Crashes.{LeavesTheFile};
+ghost use Rattle.ix_outside.specs.Crashes.{LeavesTheFile, stretch_of};
 ghost use Rattle.ix_outside.specs.Disk.{OfFile, MakesFile, Overwrites};
 ghost use Rattle.ix_outside.specs.inside.DiskCalls.{DiskCalls, LeavesOnly};
 ghost use Rattle.ix_store.specs.inside.Steps.{MaybeTorn};
@@ -20,11 +20,10 @@ pub(crate) fn write_through<S: Site>(site: &mut S, at: u64, bytes: &[u8]) -> Res
         (LeavesTheFile (S.state site.new).disk (S.crashes site.new).now) }
     ensures images { ForSome (S.state site.old).disk (λ _.
         LeavesOnly (MaybeTorn at (length bytes.now) (S.crashes site.old).now)
-        (S.state site.old) (S.crashes site.new)) }
+        (stretch_of S.state S.crashes site.old site.new)) }
     ensures failed { CountsFault result
         (S.state site.old).counts.disk (S.state site.new).counts.disk }
-    ensures calls { DiskCalls (S.state site.old) (S.state site.new)
-        (S.crashes site.old) (S.crashes site.new) }
+    ensures calls { DiskCalls (stretch_of S.state S.crashes site.old site.new) }
 {
     site.write_at(at, bytes)?;
     site.sync()

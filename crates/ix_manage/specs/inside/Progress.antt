@@ -1,8 +1,7 @@
 -- A run as far as it went: what it started from, what an event makes of it, what its journal keeps.
 use Rattle.std.specs.Prelude.{◌≡◌, ◌≢◌, ◌⊎◌, Bool, true, false}
 use Rattle.ix_journal.specs.History.{Spent}
-use Rattle.ix_outside.specs.Crashes.{Crashes}
-use Rattle.ix_outside.specs.SiteState.{SiteState}
+use Rattle.ix_outside.specs.Crashes.{Stretch}
 use Rattle.ix_outside.specs.declared.event.EventKind.{EventKind}
 use Rattle.ix_outside.specs.declared.event.EventKind.TheVariants.{End}
 use Rattle.ix_store.specs.Keeping.{Keeping}
@@ -22,33 +21,17 @@ opening_at m =
 abbrev pub IsStarted : ManagerState → Type 0
 IsStarted m = m ≡ started (opening_at m) m.store
 
--- a stretch of calls of a site: the site before and after it, and what a crash may leave
-pub record Stretch : Type 1 where
-  pub before : SiteState
-  pub after : SiteState
-  pub was : Crashes
-  pub is : Crashes
-
--- between two states of a site
-abbrev pub stretch_of : {S : Type 0} → (S → SiteState) → (S → Crashes) → S → S → Stretch
-stretch_of site_state site_crashes old new = record {
-  before = site_state old;
-  after = site_state new;
-  was = site_crashes old;
-  is = site_crashes new;
-}
-
 -- what became of a run by an event: a put failed; or none did, and the disk failed, or the event was
 -- the end or brought `stop`; or else the run may go on
-abbrev pub IsOutcome : Bool → Ending → EventKind → EventOutcome → Type 0
-IsOutcome lost ending kind More = (lost ≡ false) × (ending ≡ going) × (kind ≢ End)
-IsOutcome lost ending kind Done = (lost ≡ false) × ((kind ≡ End) ⊎ (ending ≡ stopped))
-IsOutcome lost ending kind Cut = lost ≡ true
-IsOutcome lost ending kind Failed = (lost ≡ false) × ((spent : Spent) × (ending ≡ failed spent))
+abbrev pub IsEventOutcome : Bool → Ending → EventKind → EventOutcome → Type 0
+IsEventOutcome lost ending kind More = (lost ≡ false) × (ending ≡ going) × (kind ≢ End)
+IsEventOutcome lost ending kind Done = (lost ≡ false) × ((kind ≡ End) ⊎ (ending ≡ stopped))
+IsEventOutcome lost ending kind Cut = lost ≡ true
+IsEventOutcome lost ending kind Failed =
+    (lost ≡ false) × ((spent : Spent) × (ending ≡ failed spent))
 
 -- over a stretch of calls the journal kept the history of a run that started from the opening, and
 -- goes on or ended so in this state
 abbrev pub SavesFrom : Opening → Ending → MachineState → Keeping → Stretch → Type 0
 SavesFrom opening ending last store stretch =
-    Saves ending opening.form (start_of opening.history opening.boot) last store
-    stretch.before stretch.after stretch.was stretch.is
+    Saves ending opening.form (start_of opening.history opening.boot) last store stretch

@@ -6,7 +6,7 @@ use Rattle.ix_words.specs.Each.{Each}
 use Rattle.ix_journal.specs.History.{PlainHistory}
 use Rattle.ix_outside.specs.Contents.{Contents, GivenEvent}
 use Rattle.ix_outside.specs.Counts.{Rose}
-use Rattle.ix_outside.specs.Crashes.{Crashes}
+use Rattle.ix_outside.specs.Crashes.{Crashes, Stretch}
 use Rattle.ix_outside.specs.SinkState.{SinkState, OnlyPuts}
 use Rattle.ix_outside.specs.SiteState.{SiteState, OnlyDisk}
 use Rattle.ix_outside.specs.inside.DiskCalls.{KeepsOpened}
@@ -30,7 +30,7 @@ use Rattle.ix_manage.specs.Session.{IsNoEnd, Session, history_line}
 use Rattle.ix_manage.specs.Replay.{AreFirst, Plays, ReplayEnds}
 use Rattle.ix_manage.specs.declared.early_end.EarlyEnd.{EarlyEnd}
 use Rattle.ix_manage.specs.declared.outcome.EventOutcome.{EventOutcome}
-use Rattle.ix_manage.specs.inside.Progress.{IsOutcome, SavesFrom, Stretch, opening_at}
+use Rattle.ix_manage.specs.inside.Progress.{IsEventOutcome, SavesFrom, opening_at}
 use Rattle.ix_manage.specs.inside.Leaves.{LeavesOutput}
 
 -- a site's disk alone: nothing is told of its connections
@@ -103,7 +103,7 @@ pub record IsBetween (m : ManagerState) (player : Player) : Type 0 where
   pub open_sink : player.failed ≡ false
 
 -- the manager took the script's next event, its replies were put, and the journal kept its history
-pub record TakesEvent (old : ManagerState) (was : Player) (new : ManagerState) (now : Player)
+pub record PlaysEvent (old : ManagerState) (was : Player) (new : ManagerState) (now : Player)
     (stretch : Stretch) (outcome : EventOutcome) : Type 0 where
   pub event : Event
   pub piece : List ℕ
@@ -114,9 +114,9 @@ pub record TakesEvent (old : ManagerState) (was : Player) (new : ManagerState) (
   pub handled : Handles old event piece ending new
       (told_by (record was { given = now.given })) (told_by now)
   pub tickets : new.machine.number ≤ old.machine.number + length piece
-  pub outcome_is : IsOutcome now.failed ending event.kind outcome
+  pub outcome_is : IsEventOutcome now.failed ending event.kind outcome
   pub fault : now.failed ≡ true → Rose was.sink.faults now.sink.faults
-  pub saves : SavesRun ending old new stretch.before stretch.after stretch.was stretch.is
+  pub saves : SavesRun ending old new stretch
 
 -- a manager that took the events given so far, none of them the end, and put its replies behind what
 -- was known before; it may go on

@@ -5,6 +5,7 @@ use Rattle.ix_words.specs.Each.{Each}
 use Rattle.ix_journal.specs.History.{PlainHistory}
 use Rattle.ix_outside.specs.Contents.{Contents, GivenEvent, Sends, with_event}
 use Rattle.ix_outside.specs.Counts.{Counts, Rose}
+use Rattle.ix_outside.specs.Crashes.{Stretch}
 use Rattle.ix_outside.specs.SiteState.{SiteState}
 use Rattle.ix_outside.specs.inside.DiskCalls.{KeepsOpened}
 use Rattle.ix_outside.specs.declared.event.Event.{Event}
@@ -28,7 +29,7 @@ use Rattle.ix_manage.specs.declared.early_end.EarlyEnd.TheVariants.{Refused, Wor
 use Rattle.ix_manage.specs.declared.outcome.EventOutcome.{EventOutcome}
 use Rattle.ix_manage.specs.declared.outcome.EventOutcome.TheVariants.{Cut}
 use Rattle.ix_manage.specs.inside.Refusal.{refusal_line, refusal_status}
-use Rattle.ix_manage.specs.inside.Progress.{IsOutcome, SavesFrom, Stretch, opening_at}
+use Rattle.ix_manage.specs.inside.Progress.{IsEventOutcome, SavesFrom, opening_at}
 
 -- nothing was attached since; what was stays so, but that the disk may be told no more
 pub record OnlyServed (old new : SiteState) : Type 0 where
@@ -75,8 +76,8 @@ pub record TakesOver (old new : ManagerState) (stretch : Stretch) (outcome : Eve
       → get_or old.marks conn false ≡ false → get_or new.marks conn false ≡ true
       → Rose stretch.before.counts.send stretch.after.counts.send
   pub tickets : new.machine.number ≤ old.machine.number + length piece
-  pub outcome_is : IsOutcome false ending event.kind outcome
-  pub saves : SavesRun ending old new stretch.before stretch.after stretch.was stretch.is
+  pub outcome_is : IsEventOutcome false ending event.kind outcome
+  pub saves : SavesRun ending old new stretch
   pub since : (t : ℕ) (least : ℕ) (start : Sends) (taken : List GivenEvent)
       (answers : List (List (List Reply)))
       → ServesSince t old.form least old.machine.history start taken answers old.marks
@@ -89,7 +90,7 @@ pub record TakesOver (old new : ManagerState) (stretch : Stretch) (outcome : Eve
 pub data ServesEvent (old new : ManagerState) (stretch : Stretch) : EventOutcome → Type 0 where
   unheard : new ≡ old → stretch.after.contents ≡ stretch.before.contents
       → Rose stretch.before.counts.wire stretch.after.counts.wire
-      → SavesRun going old new stretch.before stretch.after stretch.was stretch.is
+      → SavesRun going old new stretch
       → ((t : ℕ) (least : ℕ) (start : Sends) (taken : List GivenEvent)
       (answers : List (List (List Reply)))
       → ServesSince t old.form least old.machine.history start taken answers old.marks

@@ -3,7 +3,7 @@ ghost use Rattle.std.specs.Prelude.{◌≡◌, ◌≤◌, true, length};
 ghost use Rattle.ix_cli.specs.Commands.{most_turns};
 ghost use Rattle.ix_script.specs.inside.Site.{playing};
 ghost use Rattle.ix_manage.specs.inside.ReplayProgress.{FitsDisk, IsAtStart, IsBetween};
-ghost use Rattle.ix_manage.specs.inside.ReplayProgress.{OnlyPlays, TakesEvent, TakesEvents};
+ghost use Rattle.ix_manage.specs.inside.ReplayProgress.{OnlyPlays, PlaysEvent, TakesEvents};
 ghost use Rattle.ix_manage.specs.inside.ReplayProgress.{disk_stretch, player};
 ghost use Rattle.ix_manage.specs.inside.Progress.{IsStarted};
 
@@ -58,7 +58,7 @@ fn take_event<S: Site, K: Sink>(
     requires attached { (S.state (playing site.old).site).attached ≡ true }
     requires fits { FitsDisk S.state S.crashes manager.old (playing site.old).site }
 
-    ensures outcome { TakesEvent manager.old (player S.state K.state site.old)
+    ensures outcome { PlaysEvent manager.old (player S.state K.state site.old)
         manager.new (player S.state K.state site.new)
         (disk_stretch S.state S.crashes (playing site.old).site (playing site.new).site) result }
 

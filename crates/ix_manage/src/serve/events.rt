@@ -1,9 +1,10 @@
 //! Takes the events of a site one by one.
 ghost use Rattle.std.specs.Prelude.{◌≡◌, ◌^◌, ◌<◌, ◌≤◌, true, false, length};
+ghost use Rattle.ix_outside.specs.Crashes.{stretch_of};
 ghost use Rattle.ix_cli.specs.Commands.{most_turns};
 ghost use Rattle.ix_manager.specs.inside.OverSite.{FitsSite};
 ghost use Rattle.ix_manage.specs.inside.ServeProgress.{OnlyServed, ServesTo, ServesEvent};
-ghost use Rattle.ix_manage.specs.inside.Progress.{IsStarted, stretch_of};
+ghost use Rattle.ix_manage.specs.inside.Progress.{IsStarted};
 
 use crate::early_end::EarlyEnd;
 use crate::outcome::{EVENT_ROOM, EventOutcome, outcome_of, piece};

@@ -4,8 +4,7 @@ use Rattle.std.specs.Prelude.{◌≡◌, ℕ, ◌≤◌, List, ◌++◌, length,
 use Rattle.ix_journal.specs.History.{PlainHistory}
 use Rattle.ix_expr.specs.Form.{Form}
 use Rattle.ix_outside.specs.Contents.{SentBytes, Sends}
-use Rattle.ix_outside.specs.Crashes.{Crashes, Left}
-use Rattle.ix_outside.specs.SiteState.{SiteState}
+use Rattle.ix_outside.specs.Crashes.{Left, Stretch}
 use Rattle.ix_proto.specs.declared.reply.Reply.{Reply}
 use Rattle.ix_manager.specs.Acknowledged.{KeepsAcknowledged}
 
@@ -18,22 +17,21 @@ pub record IsSentBetween (before after sent : List SentBytes) : Type 0 where
 
 -- Over calls: sends that are told behind them were told before. At each moment since they began
 -- that a crash may have come at what had been sent stands between, and so does all behind them.
-pub record SendsMore (old new : SiteState) (is : Crashes) : Type 0 where
-  pub told : IsSome new.contents.sends → IsSome old.contents.sends
+pub record SendsMore (stretch : Stretch) : Type 0 where
+  pub told : IsSome stretch.after.contents.sends → IsSome stretch.before.contents.sends
   pub all : (sends sends' : Sends)
-      → old.contents.sends ≡ Some sends → new.contents.sends ≡ Some sends'
+      → stretch.before.contents.sends ≡ Some sends → stretch.after.contents.sends ≡ Some sends'
       → IsSentBetween sends.sent sends'.sent sends'.sent
   pub by_then : (sends sends' : Sends)
-      → old.contents.sends ≡ Some sends → new.contents.sends ≡ Some sends'
-      → (left : Left) → is.left_since old.tick left
+      → stretch.before.contents.sends ≡ Some sends → stretch.after.contents.sends ≡ Some sends'
+      → (left : Left) → stretch.is.left_since stretch.before.tick left
       → IsSentBetween sends.sent sends'.sent left.sent
 
 -- Over calls that sent these replies, in order: where the site still tells its disk and its sends,
 -- each image that a crash since they began may have left keeps what was acknowledged by then.
-abbrev pub Acknowledges : Form → ℕ → PlainHistory → List Reply → SiteState → SiteState → Crashes
-    → Type 0
-Acknowledges x least history replies before after is =
-    IsSome after.disk → (sends sends' : Sends)
-    → before.contents.sends ≡ Some sends → after.contents.sends ≡ Some sends'
-    → (left : Left) → is.left_since before.tick left
+abbrev pub Acknowledges : Form → ℕ → PlainHistory → List Reply → Stretch → Type 0
+Acknowledges x least history replies stretch =
+    IsSome stretch.after.disk → (sends sends' : Sends)
+    → stretch.before.contents.sends ≡ Some sends → stretch.after.contents.sends ≡ Some sends'
+    → (left : Left) → stretch.is.left_since stretch.before.tick left
     → KeepsAcknowledged x least history replies sends.sent left

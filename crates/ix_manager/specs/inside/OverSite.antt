@@ -9,9 +9,9 @@ use Rattle.ix_journal.specs.Recovery.{HoldsBoots}
 use Rattle.ix_journal.specs.declared.entries.Marks.{Marks}
 use Rattle.ix_expr.specs.CanonicalText.{canonical_text}
 use Rattle.ix_expr.specs.Form.{Form}
-use Rattle.ix_outside.specs.Crashes.{Crashes}
+use Rattle.ix_outside.specs.Crashes.{Crashes, Stretch}
 use Rattle.ix_outside.specs.SiteState.{SiteState}
-use Rattle.ix_outside.specs.inside.DiskCalls.{KeepsOpened}
+use Rattle.ix_outside.specs.inside.DiskCalls.{KeepsOpened, LeavesOnly}
 use Rattle.ix_outside.specs.declared.event.Event.{Event}
 use Rattle.ix_lease.specs.declared.Slot.TheVariants.{Held}
 use Rattle.ix_store.specs.inside.Keeping.{Fits}
@@ -66,20 +66,19 @@ EndsBy (Err Disk) ending = (spent : Spent) × (ending ≡ failed spent)
 -- too, each image that a crash at some moment since the call began may have left keeps all that was
 -- acknowledged by then.
 pub record HandlesOver (old : ManagerState) (event : Event) (bytes : List ℕ)
-    (result : Result Go Stop) (new : ManagerState) (before after : SiteState) (is : Crashes)
-    : Type 0 where
+    (result : Result Go Stop) (new : ManagerState) (stretch : Stretch) : Type 0 where
   pub ending : Ending
   pub answered : EndsBy result ending
-  pub handles : Handles old event bytes ending new before.contents after.contents
-  pub keeps : IsSome after.disk → (image : List ℕ) → is.left before.tick image
-      → Keeps old.form (length old.machine.history) (with_failed ending new.machine.history) image
-  pub boots : IsSome after.disk → (image : List ℕ) → is.left before.tick image
-      → HoldsBoots image old.machine.boot
-  pub ends : IsSome after.disk
-      → (image : List ℕ) → is.now image → EndsAs ending new.machine.history image
+  pub handles : Handles old event bytes ending new stretch.before.contents stretch.after.contents
+  pub keeps : IsSome stretch.after.disk → LeavesOnly
+      (Keeps old.form (length old.machine.history) (with_failed ending new.machine.history)) stretch
+  pub boots : IsSome stretch.after.disk
+      → LeavesOnly (λ image. HoldsBoots image old.machine.boot) stretch
+  pub ends : IsSome stretch.after.disk
+      → (image : List ℕ) → stretch.is.now image → EndsAs ending new.machine.history image
   pub acknowledges : Acknowledges old.form (length old.machine.history)
-      (with_failed ending new.machine.history) (all_replies handles.answers) before after is
-  pub sends : SendsMore before after is
+      (with_failed ending new.machine.history) (all_replies handles.answers) stretch
+  pub sends : SendsMore stretch
 
 -- Nothing changed but the counts of the disk and of sends, neither of which fell, the tick, and
 -- what the site tells of its connections and its disk; what was attached stays, where it is still

@@ -11,7 +11,7 @@ use Rattle.ix_lease.specs.declared.Slot.TheVariants.{Held}
 use Rattle.ix_lease.specs.declared.Take.{Take}
 use Rattle.ix_lease.specs.inside.Takes.{Takes}
 use Rattle.ix_outside.specs.Counts.{Rose}
-use Rattle.ix_outside.specs.Crashes.{Crashes, Passes, LeavesTheSame}
+use Rattle.ix_outside.specs.Crashes.{Crashes, Passes, LeavesTheSame, Stretch}
 use Rattle.ix_outside.specs.SiteState.{SiteState}
 use Rattle.ix_outside.specs.inside.DiskCalls.{DiskCalls, LeavesOnly}
 use Rattle.ix_proto.specs.Requests.{confirm}
@@ -49,47 +49,45 @@ WhereFailed (failed a) P = P
 
 -- Only sends were made: the disk is told as before or no more, what a crash now may leave stays,
 -- and what else it may leave since they began is that too, beside what had been sent by then.
-pub record OnlySends (old new : SiteState) (was is : Crashes) : Type 0 where
-  pub count : new.counts.disk ≡ old.counts.disk
-  pub disk : (new.disk ≡ old.disk) ⊎ (new.disk ≡ None)
-  pub now : LeavesTheSame was.now is.now
-  pub passes : Passes old new was is
-  pub images : LeavesOnly was.now old is
-  pub sends : SendsMore old new is
+pub record OnlySends (stretch : Stretch) : Type 0 where
+  pub count : stretch.after.counts.disk ≡ stretch.before.counts.disk
+  pub disk : (stretch.after.disk ≡ stretch.before.disk) ⊎ (stretch.after.disk ≡ None)
+  pub now : LeavesTheSame stretch.was.now stretch.is.now
+  pub passes : Passes stretch
+  pub images : LeavesOnly stretch.was.now stretch
+  pub sends : SendsMore stretch
 
 -- Over calls for a machine of the expression, which ended so: the history went on in this boot, and
 -- each image keeps the actions of the one before, and no others than those of the new one and the
 -- one whose confirm failed, and no boot more; what had been sent by each moment stands between.
 -- Unless one did, the store as it is then fits.
 pub record Saves (ending : Ending) (x : Form) (old new : MachineState) (store : Keeping)
-    (before after : SiteState) (was is : Crashes) : Type 0 where
-  pub passes : Passes before after was is
-  pub sends : SendsMore before after is
-  pub count : before.counts.disk ≤ after.counts.disk
-  pub told : IsSome after.disk → IsSome before.disk
+    (stretch : Stretch) : Type 0 where
+  pub passes : Passes stretch
+  pub sends : SendsMore stretch
+  pub count : stretch.before.counts.disk ≤ stretch.after.counts.disk
+  pub told : IsSome stretch.after.disk → IsSome stretch.before.disk
   pub rest : PlainHistory
   pub grows : old.history ++ rest ≡ with_failed ending new.history
   pub boot : new.boot ≡ old.boot
-  pub keeps : IsSome after.disk
-      → LeavesOnly (Keeps x (length old.history) (with_failed ending new.history)) before is
-  pub boots : IsSome after.disk → LeavesOnly (λ image. HoldsBoots image old.boot) before is
-  pub ends : IsSome after.disk
-      → (image : List ℕ) → is.now image → EndsAs ending new.history image
-  pub fits : UnlessFailed ending (FitsWith x new store after is)
-  pub faults : WhereFailed ending (Rose before.counts.disk after.counts.disk)
+  pub keeps : IsSome stretch.after.disk
+      → LeavesOnly (Keeps x (length old.history) (with_failed ending new.history)) stretch
+  pub boots : IsSome stretch.after.disk → LeavesOnly (λ image. HoldsBoots image old.boot) stretch
+  pub ends : IsSome stretch.after.disk
+      → (image : List ℕ) → stretch.is.now image → EndsAs ending new.history image
+  pub fits : UnlessFailed ending (FitsWith x new store stretch.after stretch.is)
+  pub faults : WhereFailed ending
+      (Rose stretch.before.counts.disk stretch.after.counts.disk)
 
 -- of a machine with its journal
-abbrev pub SavesJournal : Ending → Journaled → Journaled → SiteState → SiteState
-    → Crashes → Crashes → Type 0
-SavesJournal ending old new before after was is =
-    Saves ending old.machine.form old.machine.state new.machine.state (kept new.store)
-    before after was is
+abbrev pub SavesJournal : Ending → Journaled → Journaled → Stretch → Type 0
+SavesJournal ending old new stretch =
+    Saves ending old.machine.form old.machine.state new.machine.state (kept new.store) stretch
 
 -- of a manager
-abbrev pub SavesRun : Ending → ManagerState → ManagerState → SiteState → SiteState
-    → Crashes → Crashes → Type 0
-SavesRun ending old new before after was is =
-    Saves ending old.form old.machine new.machine new.store before after was is
+abbrev pub SavesRun : Ending → ManagerState → ManagerState → Stretch → Type 0
+SavesRun ending old new stretch =
+    Saves ending old.form old.machine new.machine new.store stretch
 
 -- what the reservation of a ticket is found to be
 abbrev pub Finds : Core → Ticket → Take → Type 0
@@ -111,8 +109,8 @@ ConfirmEnds ticket (Err Disk) old new ending =
 
 -- a confirm was answered over a site
 pub record ConfirmsOver (ticket : Ticket) (result : Result Reply Stop) (old new : Journaled)
-    (before after : SiteState) (was is : Crashes) : Type 0 where
+    (stretch : Stretch) : Type 0 where
   pub ending : Ending
   pub confirms : ConfirmEnds ticket result old.machine new.machine ending
-  pub saves : SavesJournal ending old new before after was is
-  pub calls : DiskCalls before after was is
+  pub saves : SavesJournal ending old new stretch
+  pub calls : DiskCalls stretch

@@ -6,9 +6,9 @@ use Rattle.ix_expr.specs.CanonicalText.{canonical_text}
 use Rattle.ix_expr.specs.Form.{Form}
 use Rattle.ix_journal.specs.Kinds.{IsUnfinished, IsForeign}
 use Rattle.ix_journal.specs.Recovery.{HoldsBoots, IsDamaged, IsMany, Recovers}
-use Rattle.ix_outside.specs.Crashes.{Crashes}
+use Rattle.ix_outside.specs.Crashes.{Stretch}
 use Rattle.ix_outside.specs.Disk.{MakesFile, Stays}
-use Rattle.ix_outside.specs.SiteState.{SiteState}
+use Rattle.ix_outside.specs.inside.DiskCalls.{LeavesOnly}
 use Rattle.ix_store.specs.Opening.{IsReadyWith}
 use Rattle.ix_manager.specs.declared.faults.StartFault.{StartFault}
 use Rattle.ix_manager.specs.declared.faults.StartFault.TheVariants as fault
@@ -19,42 +19,43 @@ use Rattle.ix_manager.specs.Starts.{HasText, IsHeavy, IsNoWord, OpensAs}
 
 -- Why no run starts from the file, under a limit that the initial tree is within. The disk may
 -- fail, and memory run out, over any file.
-abbrev pub IsFault : Form → ℕ → List ℕ → StartFault → Type 0
-IsFault x limit file (fault.Large l) = ⊥
-IsFault x limit file fault.Disk = ⊤
-IsFault x limit file fault.Foreign = IsForeign file
-IsFault x limit file (fault.Other kept) = HasText file kept.items × (kept.items ≢ canonical_text x)
-IsFault x limit file (fault.Damaged at) = IsReadyWith file (canonical_text x) × IsDamaged file at
-IsFault x limit file fault.Many =
+abbrev pub IsStartFault : Form → ℕ → List ℕ → StartFault → Type 0
+IsStartFault x limit file (fault.Large l) = ⊥
+IsStartFault x limit file fault.Disk = ⊤
+IsStartFault x limit file fault.Foreign = IsForeign file
+IsStartFault x limit file (fault.Other kept) =
+    HasText file kept.items × (kept.items ≢ canonical_text x)
+IsStartFault x limit file (fault.Damaged at) =
+    IsReadyWith file (canonical_text x) × IsDamaged file at
+IsStartFault x limit file fault.Many =
     IsReadyWith file (canonical_text x) × (IsMany file ⊎ HoldsBoots file 1000000)
-IsFault x limit file (fault.Word number) =
+IsStartFault x limit file (fault.Word number) =
     (history : PlainHistory) × OpensAs x file history
     × IsNoWord x limit (actions_of history) number
-IsFault x limit file (fault.Heavy number l) =
+IsStartFault x limit file (fault.Heavy number l) =
     (history : PlainHistory) × OpensAs x file history
     × IsHeavy x limit (actions_of history) number × (l ≡ limit)
-IsFault x limit file fault.Memory = ⊤
+IsStartFault x limit file fault.Memory = ⊤
 
 -- what a start answers by the file, under a limit that the initial tree is within
 abbrev pub StartsFrom : Form → ℕ → List ℕ → Result ManagerState StartFault → Type 0
 StartsFrom x limit file (Ok m) =
     IsStartable (opening_of x limit m.machine.history m.machine.boot) file
-StartsFrom x limit file (Err why) = IsFault x limit file why
+StartsFrom x limit file (Err why) = IsStartFault x limit file why
 
 -- What a crash since a start began may leave, by the file as it read then: an image that might have
 -- been left before, or one that recovers the same and holds as many boots or one more; and where
 -- the file is unfinished or has the expression's text, one that the expression may open. Where no
 -- run starts from the file, it stays, and nothing else may be left than before.
-pub record StartLeaves (x : Form) (limit : ℕ) (file : List ℕ)
-    (old new : SiteState) (was is : Crashes) : Type 0 where
+pub record StartLeaves (x : Form) (limit : ℕ) (file : List ℕ) (stretch : Stretch) : Type 0 where
   pub recovers : (history : PlainHistory) → Recovers file history
-      → (image : List ℕ) → is.left old.tick image → was.now image ⊎ Recovers image history
-  pub boots : (boots : ℕ) → HoldsBoots file boots
-      → (image : List ℕ) → is.left old.tick image
-      → was.now image ⊎ HoldsBoots image boots ⊎ HoldsBoots image (boots + 1)
+      → LeavesOnly (λ image. stretch.was.now image ⊎ Recovers image history) stretch
+  pub boots : (boots : ℕ) → HoldsBoots file boots → LeavesOnly
+      (λ image. stretch.was.now image ⊎ HoldsBoots image boots ⊎ HoldsBoots image (boots + 1))
+      stretch
   pub own : IsUnfinished file ⊎ HasText file (canonical_text x)
-      → (image : List ℕ) → is.left old.tick image → was.now image ⊎ IsOwn x image
+      → LeavesOnly (λ image. stretch.was.now image ⊎ IsOwn x image) stretch
   pub refused : ((history : PlainHistory) (boot : ℕ)
       → ¬ IsStartable (opening_of x limit history boot) file)
-      → MakesFile Stays old.disk new.disk
-      × ((image : List ℕ) → is.left old.tick image → was.now image)
+      → MakesFile Stays stretch.before.disk stretch.after.disk
+      × LeavesOnly stretch.was.now stretch

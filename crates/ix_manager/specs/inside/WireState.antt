@@ -5,7 +5,9 @@ use Rattle.ix_lines.specs.Items.{Item, line}
 use Rattle.ix_lines.specs.Words.{words_of}
 use Rattle.ix_outside.specs.Contents.{SendsWhole, SendsPart}
 use Rattle.ix_outside.specs.Counts.{Rose}
+use Rattle.ix_outside.specs.Crashes.{Crashes, Stretch}
 use Rattle.ix_outside.specs.SiteState.{SiteState}
+use Rattle.ix_outside.specs.inside.DiskCalls.{span}
 use Rattle.ix_proto.specs.declared.reply.Reply.{Reply}
 use Rattle.ix_proto.specs.declared.reply.Reply.TheVariants as reply
 use Rattle.ix_proto.specs.Requests.{PlainRequest, IsRequest, request_words}
@@ -24,6 +26,27 @@ pub record WireState : Type 0 where
 -- the same, part by part
 abbrev pub wired : Bool → SiteState → WireState
 wired gone site = record { gone = gone; site = site }
+
+-- A stretch of calls of a site, with whether a connection is marked as gone before and after them,
+-- and what a crash may leave then.
+pub record WireStretch : Type 1 where
+  pub before : WireState
+  pub after : WireState
+  pub was : Crashes
+  pub is : Crashes
+
+-- the stretch from one wire to another
+abbrev pub wire_span : WireState → WireState → Crashes → Crashes → WireStretch
+wire_span before after was is = record { before = before; after = after; was = was; is = is }
+
+-- the stretch over which a mark was this, and is that
+abbrev pub wire_stretch : Bool → Bool → Stretch → WireStretch
+wire_stretch gone is_gone stretch =
+    wire_span (wired gone stretch.before) (wired is_gone stretch.after) stretch.was stretch.is
+
+-- the same without the marks
+abbrev pub site_stretch : WireStretch → Stretch
+site_stretch wires = span wires.before.site wires.after.site wires.was wires.is
 
 -- replies are sent in order on a connection; it is newly marked only where the count of sends rose
 pub record SendsAll (conn : ℕ) (replies : List Reply) (old new : WireState) : Type 0 where

@@ -2,9 +2,8 @@
 use Rattle.std.specs.Prelude.{◌≡◌, ◌⊎◌, ℕ, List, [], ◌∷◌, ◌++◌, Option, Result, Ok, Err}
 use Rattle.ix_journal.specs.declared.entries.Entry.{Entry}
 use Rattle.ix_outside.specs.Counts.{Rose}
-use Rattle.ix_outside.specs.Crashes.{Crashes, LeavesTheFile}
+use Rattle.ix_outside.specs.Crashes.{LeavesTheFile, Stretch}
 use Rattle.ix_outside.specs.Disk.{Disk, MakesFile, Stays}
-use Rattle.ix_outside.specs.SiteState.{SiteState}
 use Rattle.ix_outside.specs.inside.DiskCalls.{LeavesOnly}
 use Rattle.ix_journal.specs.declared.TheConstants.{CLOSED, OPEN}
 use Rattle.ix_journal.specs.inside.Writing.{new_header}
@@ -19,12 +18,13 @@ use Rattle.ix_store.specs.inside.Refusals.{TellsNothing}
 -- an image that might have been left before, or one that keeps the records that the file keeps, so
 -- that it recovers the same history and holds as many boots; and if the file was unfinished or had
 -- this text, it is so too. A file that isn't to be made anew stays.
-pub record LeavesOnStart (text file : List ℕ) (old new : SiteState)
-    (was is : Crashes) : Type 0 where
+pub record LeavesOnStart (text file : List ℕ) (stretch : Stretch) : Type 0 where
   pub keeps : (entries : List Entry) → Keeps file entries
-      → LeavesOnly (λ image. was.now image ⊎ Keeps image entries) old is
-  pub own : IsOwn file text → LeavesOnly (λ image. was.now image ⊎ IsOwn image text) old is
-  pub stays : ¬ IsNew file text → MakesFile Stays old.disk new.disk × LeavesOnly was.now old is
+      → LeavesOnly (λ image. stretch.was.now image ⊎ Keeps image entries) stretch
+  pub own : IsOwn file text
+      → LeavesOnly (λ image. stretch.was.now image ⊎ IsOwn image text) stretch
+  pub stays : ¬ IsNew file text → MakesFile Stays stretch.before.disk stretch.after.disk
+      × LeavesOnly stretch.was.now stretch
 
 -- the bytes of a journal of this text that was made anew: an open gate, its header, a closed gate
 abbrev pub new_journal : List ℕ → List ℕ

@@ -2,7 +2,7 @@ use Rattle.std.proofs.Common.{length, inl, None, Ok, Err, refl, sym, ap, subst, 
 use Rattle.ix_outside.specs.Contents.{Contents, Sends}
 use Rattle.ix_outside.proofs.Counting.{Rose-earlier}
 use Rattle.ix_can.specs.TreeOf.{tree_size}
-use Rattle.ix_manager.specs.inside.StartAnswers.{IsFault}
+use Rattle.ix_manager.specs.inside.StartAnswers.{IsStartFault}
 use Rattle.ix_manager.proofs.AcknowledgedLemmas.{the_value}
 use Rattle.ix_manager.proofs.SavingLemmas.{kept_told}
 use Rattle.ix_manager.proofs.ServingLemmas.{serves_begin}
@@ -52,7 +52,7 @@ returns-in_err-start-clause-stops g c =
     (g.met.S.Site.lawful c.start.new.site) told.calls.passes.left.later e after)))
     (disk_calls_then before at mid c.in_ok-attach.ensures.rest told.calls.rest) sink why (λ l same. told.only_large l (ap Err same))
     (fault_kind limit (tree_size x _) (Err why) why refl told.large)
-    (λ small. of_journal (λ file. IsFault x limit file why) name at.tick before.disk at.disk mid.disk
+    (λ small. of_journal (λ file. IsStartFault x limit file why) name at.tick before.disk at.disk mid.disk
     c.in_ok-attach.ensures.file told.calls.opened (λ d is. told.not_large small d is))
     (λ same. Rose-earlier before.counts.disk at.counts.disk mid.counts.disk c.in_ok-attach.ensures.rest.disk (told.failed (ap Err same))))
 

@@ -4,7 +4,7 @@ use Rattle.ix_manager.specs.declared.answering.Taken.{Taken}
 use Rattle.ix_manager.specs.declared.faults.Go.TheVariants.{Stopped}
 use Rattle.ix_manager.specs.inside.Clean.{IsClean}
 use Rattle.ix_manager.specs.inside.TakenItems.{TakesOne, TakesItem}
-use Rattle.ix_manager.specs.inside.WireState.{wired}
+use Rattle.ix_manager.specs.inside.WireState.{wired, wire_span}
 use Rattle.ix_manager.proofs.TakeLemmas.{reach_begins, reach_fits, taken_goes_on, taken_stops, taken_ends, taken_holds, taken_clean, taken_tickets, clean_after}
 use Rattle.ix_manager.proofs.answering.take_piece.Goals as goal
 
@@ -38,10 +38,10 @@ returns-in-Stopped-clause-answers g c =
     let q = g.S.Site.crashes c.items.site in
     let r = g.S.Site.crashes c.take_item.new.site in
     let item = λ (o : Option Taken). TakesItem c.args.piece.conn c.items.lines c.items.rest.now (Ok o) c.take_item.new.lines
-    c.items.journaled c.take_item.new.journaled here there q r in
+    c.items.journaled c.take_item.new.journaled (wire_span here there q r) in
     let taken = subst item c.in-Ok-Some.field-0-is c.in-Ok-Some.ensures in
     let one = subst (λ go. TakesOne c.args.piece.conn c.items.lines c.items.rest.now c.in-Ok-Some.taken.used (Ok go) c.take_item.new.lines
-    c.items.journaled c.take_item.new.journaled here there q r) c.in-Stopped.is taken in
+    c.items.journaled c.take_item.new.journaled (wire_span here there q r)) c.in-Stopped.is taken in
     taken_stops c.args.piece.conn (completes c.args.lines.now c.args.piece.bytes.now) c.args.journaled.now start p c.items.lines c.items.rest.now
     c.take_item.new.lines c.items.journaled c.take_item.new.journaled here there q r c.in-Ok-Some.taken.used (Ok Stopped) (λ e. cc)
     (g.met.S.Site.lawful c.items.site) (g.met.S.Site.lawful c.take_item.new.site)
@@ -54,7 +54,7 @@ returns-in-Stopped-clause-clean g c =
     let q = g.S.Site.crashes c.items.site in
     let r = g.S.Site.crashes c.take_item.new.site in
     let item = λ (o : Option Taken). TakesItem c.args.piece.conn c.items.lines c.items.rest.now (Ok o) c.take_item.new.lines
-    c.items.journaled c.take_item.new.journaled here there q r in
+    c.items.journaled c.take_item.new.journaled (wire_span here there q r) in
     let taken = subst item c.in-Ok-Some.field-0-is c.in-Ok-Some.ensures in
     subst IsClean (sym taken.held_is) (clean_after c.items.lines _)
 
@@ -78,7 +78,7 @@ items-preserved g c =
     let used = c.in-Ok-Some.taken.used in
     let go = c.in-Ok-Some.taken.go in
     let item = λ (o : Option Taken). TakesItem c.args.piece.conn c.items.lines c.items.rest.now (Ok o) c.take_item.new.lines
-    c.items.journaled c.take_item.new.journaled here there q r in
+    c.items.journaled c.take_item.new.journaled (wire_span here there q r) in
     let taken = subst item c.in-Ok-Some.field-0-is c.in-Ok-Some.ensures in
     let one = taken in
     let left = taken_tickets conn all first start p lines rest after_it now next here there q r used (Ok go) one c.items.invariant.2 in (
@@ -100,7 +100,7 @@ returns-in-Ok-None-clause-answers g c =
     let q = g.S.Site.crashes c.items.site in
     let r = g.S.Site.crashes c.take_item.new.site in
     let item = λ (o : Option Taken). TakesItem c.args.piece.conn c.items.lines c.items.rest.now (Ok o) c.take_item.new.lines
-    c.items.journaled c.take_item.new.journaled here there q r in
+    c.items.journaled c.take_item.new.journaled (wire_span here there q r) in
     let none_taken = subst item c.in-Ok-None.field-0-is c.in-Ok-None.ensures in
     taken_ends c.args.piece.conn (completes c.args.lines.now c.args.piece.bytes.now) c.args.journaled.now start p c.items.lines c.items.rest.now
     c.take_item.new.lines c.items.journaled c.take_item.new.journaled here there q r
@@ -114,7 +114,7 @@ returns-in-Ok-None-clause-clean g c =
     let q = g.S.Site.crashes c.items.site in
     let r = g.S.Site.crashes c.take_item.new.site in
     let item = λ (o : Option Taken). TakesItem c.args.piece.conn c.items.lines c.items.rest.now (Ok o) c.take_item.new.lines
-    c.items.journaled c.take_item.new.journaled here there q r in
+    c.items.journaled c.take_item.new.journaled (wire_span here there q r) in
     let none_taken = subst item c.in-Ok-None.field-0-is c.in-Ok-None.ensures in
     subst IsClean (sym none_taken.held_is) (clean_after c.items.lines c.items.rest.now)
 

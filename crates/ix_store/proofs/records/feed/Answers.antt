@@ -1,7 +1,7 @@
 use Rattle.std.proofs.Common.{◌≡◌, ◌+◌, List, [], ◌++◌, length, take, drop, ℕ}
 use Rattle.std.proofs.Common.{sym, ◌∙◌, subst, arith}
 use Rattle.std.proofs.lemmas.List.{length-take}
-use Rattle.ix_store.specs.inside.Reading.{Feeds}
+use Rattle.ix_store.specs.inside.Reading.{ReadsOn}
 use Rattle.ix_store.proofs.ReadCalls.{reads_one}
 use Rattle.ix_store.proofs.Reading.{feeds_took, piece_read, end_read}
 use Rattle.ix_store.proofs.Told.{of_told, to_told}
@@ -17,8 +17,8 @@ pub returns-then-count-eq0-clause-fed : goal.returns-then-count-eq0-clause-fed
 returns-then-count-eq0-clause-fed g c =
     let at = c.args.at in
     let disk = (g.S.Site.state c.args.site.now).disk in
-    subst (Feeds disk at c.args.slide.now at) (sym c.ended.ensures)
-    (Feeds.told_the_end (to_told (λ file. drop at file ≡ []) disk (λ told is.
+    subst (ReadsOn disk at c.args.slide.now at) (sym c.ended.ensures)
+    (ReadsOn.told_the_end (to_told (λ file. drop at file ≡ []) disk (λ told is.
     let value = of_told _ _ told is c.in_ok-count.ensures.value in
     let none = c.if-count-eq0.true in
     end_read told.file at 4096 (sym none ∙ value) (omega arith))))
@@ -46,7 +46,7 @@ returns-clause-fed g c =
     let read = length-take count buf in
     let long : length piece ≡ taken = omega (arith, length-take taken (take count buf)) in
     let P : List ℕ → Type 0 = λ file. drop at file ≡ piece ++ drop (at + taken) file in
-    subst (Feeds disk at old (at + taken)) (sym c.take-taken.ensures.kept)
+    subst (ReadsOn disk at old (at + taken)) (sym c.take-taken.ensures.kept)
     (feeds_took disk at old piece taken long (omega arith) (omega arith)
     (to_told P disk (λ told is.
     piece_read told.file buf at count taken 4096

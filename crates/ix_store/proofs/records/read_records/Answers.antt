@@ -6,7 +6,7 @@ use Rattle.ix_journal.specs.Kept.{Kept, empty_at, extended}
 use Rattle.ix_journal.specs.declared.entries.Marks.{Marks}
 use Rattle.ix_journal.specs.Slide.{Leaves}
 use Rattle.ix_store.specs.declared.fault.OpenFault.TheVariants as fault
-use Rattle.ix_store.specs.inside.Reading.{Feeds}
+use Rattle.ix_store.specs.inside.Reading.{ReadsOn}
 use Rattle.ix_store.specs.inside.Steps.{ClosesWith, StopsReading}
 use Rattle.ix_store.proofs.ReadCalls.{reads_none, reads_join}
 use Rattle.ix_store.proofs.Reading.{IsOnWay, Reached, starts_on_way, starts_reached}
@@ -51,7 +51,7 @@ pub records-smaller-in-Ok : goal.records-smaller-in-Ok
 records-smaller-in-Ok g c =
     let now = c.records in
     let same = subst (λ a. Leaves now.slide a c.next.follows.lender-at-none) c.in-More.is c.next.follows.holds-at-none in
-    let fed = subst (λ (k : Kept). Feeds (g.S.Site.state now.site).disk now.at k c.in-Ok.next
+    let fed = subst (λ (k : Kept). ReadsOn (g.S.Site.state now.site).disk now.at k c.in-Ok.next
     c.feed.new.slide) same c.in-Ok.ensures.fed in
     fed_less c.args.first now.at now.history.items now.slide c.in-More.ensures.tells _ _ _ fed
 
@@ -63,7 +63,7 @@ records-preserved-in-Ok g c =
     let next = c.in-Ok.next in
     let new = c.feed.new.slide in
     let same = subst (λ a. Leaves now.slide a c.next.follows.lender-at-none) c.in-More.is c.next.follows.holds-at-none in
-    let fed = subst (λ (k : Kept). Feeds (g.S.Site.state now.site).disk now.at k next new)
+    let fed = subst (λ (k : Kept). ReadsOn (g.S.Site.state now.site).disk now.at k next new)
     same c.in-Ok.ensures.fed in
     record {
       reads = reads_join _ _ _ _ _ _ (g.met.S.Site.lawful c.feed.new.site) now.invariant.reads

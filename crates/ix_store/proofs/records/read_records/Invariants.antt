@@ -3,12 +3,12 @@ use Rattle.ix_outside.specs.Disk.{OfFile}
 use Rattle.ix_store.specs.inside.Reading.{OnlyReads}
 use Rattle.ix_store.proofs.Reading.{IsOnWay, Reached, steps_left}
 use Rattle.ix_store.proofs.records.read_records.Given as goal
+use Rattle.ix_outside.specs.Crashes.{stretch_of}
 
 -- calls so far only read, none of them failed, and where the file is told, the Slide stands behind records of it that tell this history
 abbrev pub invariant-records : goal.invariant-records
 invariant-records g l = record {
-  reads : OnlyReads (g.S.Site.state l.fn.site) (g.S.Site.state l.site)
-      (g.S.Site.crashes l.fn.site) (g.S.Site.crashes l.site);
+  reads : OnlyReads (stretch_of g.S.Site.state g.S.Site.crashes l.fn.site l.site);
   way : IsOnWay l.first l.at l.history.items l.slide;
   counts : (g.S.Site.state l.site).counts.disk ≡ (g.S.Site.state l.fn.site).counts.disk;
   reached : OfFile (Reached l.first l.at l.history.items l.slide) (g.S.Site.state l.fn.site).disk;

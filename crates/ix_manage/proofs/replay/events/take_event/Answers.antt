@@ -5,7 +5,7 @@ use Rattle.ix_manager.proofs.AcknowledgedLemmas.{more_untold}
 use Rattle.ix_script.specs.inside.Site.{ScriptSiteState, playing}
 use Rattle.ix_script.specs.inside.WithoutSends.{without_sends}
 use Rattle.ix_manage.specs.inside.ReplayProgress.{FitsDisk, OnlyUsesDisk, disk_stretch, disk_alone, player}
-use Rattle.ix_manage.specs.inside.Progress.{IsOutcome}
+use Rattle.ix_manage.specs.inside.Progress.{IsEventOutcome}
 use Rattle.ix_manage.proofs.Devices.{holds_same, site_used}
 use Rattle.ix_manage.proofs.Journaling.{event_saves, fits_again, ok_fits, passes_again}
 use Rattle.ix_manage.proofs.Replaying.{event_taken}
@@ -32,7 +32,8 @@ returns-clause-outcome g c =
     over.answered over.handles.takes over.keeps over.boots over.ends go.ensures.failed
     (ok_fits go.result go.new.self _ _ _ _ refl refl go.ensures.fits)
     (passes_again _ _ _ _ _ _ refl refl go.ensures.passes) go.ensures.site.disk go.ensures.site.opened
-    (more_untold (disk_alone (g.S.Site.state site)) (disk_alone (g.S.Site.state last)) (without_sends (g.S.Site.crashes last)) refl) in
+    (more_untold (disk_alone (g.S.Site.state site)) (disk_alone (g.S.Site.state last))
+    (without_sends (g.S.Site.crashes site)) (without_sends (g.S.Site.crashes last)) refl) in
     event_taken (length c.args.buffer.now) c.args.manager.now go.new.self
     (player g.S.Site.state g.K.Sink.state c.args.site.now)
     (player g.S.Site.state g.K.Sink.state next.new.self) now
@@ -42,12 +43,11 @@ returns-clause-outcome g c =
     (ap (λ (s : ScriptSiteState _ _). g.K.Sink.state s.sink) next.ensures.rest)
     (ap (λ (s : ScriptSiteState _ _). s.sink_failed) next.ensures.rest) c.piece.ensures next.ensures.fits next.auto.buf next.ensures.next
     over.handles go.ensures.tickets c.requires.between
-    (subst (λ failed. IsOutcome failed over.ending next.result.kind c.outcome_of.result)
+    (subst (λ failed. IsEventOutcome failed over.ending next.result.kind c.outcome_of.result)
     c.sink_failed.ensures (c.outcome_of.ensures over.ending over.answered))
     go.ensures.marks
     (subst (λ s. SavesRun over.ending c.args.manager.now go.new.self
-    (disk_alone (g.S.Site.state s)) (disk_alone (g.S.Site.state last))
-    (without_sends (g.S.Site.crashes s)) (without_sends (g.S.Site.crashes last)))
+    (disk_stretch g.S.Site.state g.S.Site.crashes s last))
     (ap (λ (s : ScriptSiteState _ _). s.site) next.ensures.rest) saves)
 
 -- of the lent site only the disk is called

@@ -1,7 +1,8 @@
 use Rattle.std.proofs.Common.{◌≡◌, List, length}
 use Rattle.ix_outside.specs.Contents.{GivenEvent}
+use Rattle.ix_outside.specs.Crashes.{stretch_of}
 use Rattle.ix_manage.specs.inside.ServeProgress.{OnlyServed, HasServed}
-use Rattle.ix_manage.specs.inside.Progress.{opening_at, stretch_of}
+use Rattle.ix_manage.specs.inside.Progress.{opening_at}
 use Rattle.ix_manage.proofs.serve.events.serve_events.Given as goal
 
 -- the manager took as many events as turns were made, and of the site only what serving calls changed

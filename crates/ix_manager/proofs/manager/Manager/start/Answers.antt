@@ -11,11 +11,12 @@ use Rattle.ix_store.specs.inside.KeptBy.{kept}
 use Rattle.ix_store.specs.inside.Opens.{Opens}
 use Rattle.ix_store.specs.inside.Refusals.{Refuses}
 use Rattle.ix_store.specs.inside.Starting.{LeavesOnStart}
+use Rattle.ix_outside.specs.Crashes.{stretch_of}
 use Rattle.ix_manager.specs.Images.{IsStartable}
 use Rattle.ix_manager.specs.Machine.{MachineState, start_of}
 use Rattle.ix_manager.specs.Runs.{opening_of}
 use Rattle.ix_manager.specs.inside.Core.{Core}
-use Rattle.ix_manager.specs.inside.StartAnswers.{IsFault}
+use Rattle.ix_manager.specs.inside.StartAnswers.{IsStartFault}
 use Rattle.ix_manager.specs.declared.faults.StartFault.{StartFault}
 use Rattle.ix_manager.specs.inside.Clean.{AreClean}
 use Rattle.ix_manager.proofs.Keeping.{zipped}
@@ -50,7 +51,7 @@ pub returns-in-Err-start-clause-not_large : goal.returns-in-Err-start-clause-not
 returns-in-Err-start-clause-not_large g c = λ small disk is.
     let text : c.deref.result.now ≡ canonical_text c.args.expression = c.deref.ensures.value ∙ c.in-Ok.ensures.value in
     let why = c.in-Err-start.fault in
-    subst (λ (fault : StartFault). IsFault c.args.expression c.args.limit disk.file fault) (sym c.open_fault.ensures)
+    subst (λ (fault : StartFault). IsStartFault c.args.expression c.args.limit disk.file fault) (sym c.open_fault.ensures)
     (open_fault c.args.expression c.args.limit disk.file why
     (subst (λ (t : List ℕ). Refuses disk.file t why) text (c.in-Err-start.ensures.refused disk is)))
 
@@ -60,7 +61,7 @@ returns-in-Err-start-clause-leaves g c = λ disk is.
     let old = c.args.site.now in
     let new = c.start.new.site in
     leaves_store c.args.expression c.args.limit disk.file (g.S.Site.state old) (g.S.Site.state new) (g.S.Site.crashes old) (g.S.Site.crashes new)
-    (subst (λ (t : List ℕ). LeavesOnStart t disk.file (g.S.Site.state old) (g.S.Site.state new) (g.S.Site.crashes old) (g.S.Site.crashes new)) text
+    (subst (λ (t : List ℕ). LeavesOnStart t disk.file (stretch_of g.S.Site.state g.S.Site.crashes old new)) text
     (c.in-Err-start.ensures.images disk is)) c.in-Ok-new.ensures.within
 
 pub returns-in-Err-start-clause-failed : goal.returns-in-Err-start-clause-failed
@@ -76,7 +77,7 @@ returns-in_default-take_apart-clause-leaves g c = λ disk is.
     let old = c.args.site.now in
     let new = c.start.new.site in
     leaves_store x limit disk.file (g.S.Site.state old) (g.S.Site.state new) (g.S.Site.crashes old) (g.S.Site.crashes new)
-    (subst (λ (t : List ℕ). LeavesOnStart t disk.file (g.S.Site.state old) (g.S.Site.state new) (g.S.Site.crashes old) (g.S.Site.crashes new)) text
+    (subst (λ (t : List ℕ). LeavesOnStart t disk.file (stretch_of g.S.Site.state g.S.Site.crashes old new)) text
     (c.in-Ok-start.ensures.images disk is)) c.in-Ok-new.ensures.within
 
 -- a record was refused
@@ -95,7 +96,7 @@ returns-in-Err-resume-clause-not_large g c = λ small disk is.
     (subst (λ (form : Form). StopsAt form limit c.in-Ok-take_apart.actions.items stopped) c.in-Ok-new.ensures.form
     (subst (λ most. StopsAt c.in-Ok-new.engine.form most c.in-Ok-take_apart.actions.items stopped) c.in-Ok-new.ensures.limit
     c.in-Err-resume.ensures.refused)) in
-    subst (λ (fault : StartFault). IsFault x limit disk.file fault) (sym c.record_fault.ensures)
+    subst (λ (fault : StartFault). IsStartFault x limit disk.file fault) (sym c.record_fault.ensures)
     (resume_fault x limit disk.file history boots stopped small opens at)
 
 pub returns-in-Err-resume-clause-leaves : goal.returns-in-Err-resume-clause-leaves
@@ -106,7 +107,7 @@ returns-in-Err-resume-clause-leaves g c = λ disk is.
     let old = c.args.site.now in
     let new = c.start.new.site in
     leaves_store x limit disk.file (g.S.Site.state old) (g.S.Site.state new) (g.S.Site.crashes old) (g.S.Site.crashes new)
-    (subst (λ (t : List ℕ). LeavesOnStart t disk.file (g.S.Site.state old) (g.S.Site.state new) (g.S.Site.crashes old) (g.S.Site.crashes new)) text
+    (subst (λ (t : List ℕ). LeavesOnStart t disk.file (stretch_of g.S.Site.state g.S.Site.crashes old new)) text
     (c.in-Ok-start.ensures.images disk is)) c.in-Ok-new.ensures.within
 
 -- the history was taken, and the boot is recorded

@@ -1,11 +1,12 @@
 use Rattle.std.proofs.Common.{rules, arith, ◌≡◌, ◌∙◌, ◌<◌, [], ℕ, false, length, get_or, set, Ok}
 use Rattle.std.proofs.Common.{ap, sym, subst}
 use Rattle.ix_lines.specs.Feeding.{UnfinishedLine, unfinished, completes, holds_after}
+use Rattle.ix_outside.specs.inside.DiskCalls.{span}
 use Rattle.ix_manager.specs.Handled.{ManagerState, held_at}
 use Rattle.ix_manager.specs.declared.faults.Go.TheVariants.{More}
 use Rattle.ix_manager.specs.inside.OverSite.{FitsWith}
 use Rattle.ix_manager.specs.inside.TakenItems.{TakesBytes}
-use Rattle.ix_manager.specs.inside.WireState.{wired, AnswersItems}
+use Rattle.ix_manager.specs.inside.WireState.{wired, AnswersItems, wire_stretch}
 use Rattle.ix_manager.specs.inside.Over.{OverJournal, OverRun}
 use Rattle.ix_manager.proofs.TakeLemmas.{managed, ended_by, bytes_taken, get_or_any}
 use Rattle.ix_manager.proofs.manager.Manager.take_bytes.Goals as goal
@@ -41,11 +42,11 @@ returns-clause-takes g c =
     c.index_mut-lines.ensures.value ∙ ap (λ (n : ℕ). get_or lines n held) c.from-index.ensures
     ∙ get_or_any lines conn held (unfinished []) within in
     let over : OverJournal (AnswersItems conn (completes (held_at conn lines) bytes)) result i.journaled
-    next.journaled (wired (get_or i.marks conn false) a) (wired next.gone b) p q =
+    next.journaled (wire_stretch (get_or i.marks conn false) next.gone (span a b p q)) =
     subst (λ (h : UnfinishedLine). OverJournal (AnswersItems conn (completes h bytes)) result i.journaled
-    next.journaled (wired (get_or i.marks conn false) a) (wired next.gone b) p q) is
+    next.journaled (wire_stretch (get_or i.marks conn false) next.gone (span a b p q))) is
     (subst (λ (n : ℕ). OverJournal (AnswersItems conn (completes held bytes)) result i.journaled next.journaled
-    (wired (get_or i.marks n false) a) (wired next.gone b) p q)
+    (wire_stretch (get_or i.marks n false) next.gone (span a b p q)))
     c.from-index.ensures c.take_piece-outcome.ensures.answers) in
     let holds : result ≡ Ok More → next.lines ≡ holds_after (held_at conn lines) bytes =
     λ more. c.take_piece-outcome.ensures.lines more
@@ -59,7 +60,7 @@ returns-clause-takes g c =
     c.match-outcome.self next.lines next.gone a b p q ends holds over in
     let at : ManagerState → ℕ → Type 0 = λ m n. OverRun (TakesBytes conn bytes) result m
     (managed next.journaled (set lines n next.lines) (set i.marks n next.gone) c.match-outcome.self)
-    (wired (get_or m.marks conn false) a) (wired false b) p q in
+    (wire_stretch (get_or m.marks conn false) false (span a b p q)) in
     subst (λ (m : ManagerState). at m index) c.self.view_is
     (subst (λ (n : ℕ). at (managed i.journaled lines i.marks i.ended) n)
     (sym c.from-index.ensures) taken)
