@@ -4,8 +4,8 @@
 ghost use Rattle.std.specs.Prelude.{◌≤◌};
 
 use super::*;
-use ix_expr::{Arg, Atom, Expr, Expression, has_numbers};
-use ix_step::BuildFault;
+use ix_expr::{Arg, Atom, Env, Expr, Expression, has_numbers};
+use ix_step::{BuildFault, initial, step};
 use ix_values::{Action, Name, Value};
 use std::alloc::{AllocError, Global};
 use std::test::Fail;
@@ -141,6 +141,39 @@ fn a_repeated_sequence_is_asked_for(rt: HostRuntime) -> Result<(), Fail> {
     let texts: [&[u8]; 5] = [b"b", b"a", b"a", b"b", b"a"];
     let seen = new_engine_answers(alloc, repeated(alloc)?, 4, &texts)?;
     assert!(rt; answers_so(seen, b"nynyy", 4, 3, false));
+    Ok(())
+}
+
+/// How large the tree of the one action is that `step` makes with nothing kept, or none where it is
+/// above the limit.
+#[tactic(auto, using(crate::proofs::Trees::tree_proper))]
+fn step_size(
+    alloc: Global,
+    expression: &Expression,
+    text: &[u8],
+    limit: usize,
+) -> Result<Option<usize>, Fail>
+    requires { limit ≤ 1000000 }
+{
+    let action = action(text)?;
+    let expr = expression.expr();
+    let Ok(first) = initial(alloc, expr, limit) else {
+        return Ok(None);
+    };
+    match step(alloc, &first, expr, &Env::new(), &action, limit) {
+        Ok(tree) => Ok(Some(tree.size())),
+        Err(BuildFault::Over { .. }) => Ok(None),
+        Err(BuildFault::Memory) => Err("no memory".into()),
+    }
+}
+
+#[test]
+fn a_step_by_itself_gives_the_same_tree(rt: HostRuntime) -> Result<(), Fail> {
+    let alloc = rt.alloc();
+    let expression = formed(repeated(alloc)?)?;
+    assert_eq!(rt; step_size(alloc, &expression, b"a", 4)?, Some(4));
+    assert_eq!(rt; step_size(alloc, &expression, b"a", 3)?, None);
+    assert_eq!(rt; step_size(alloc, &expression, b"b", 4)?, Some(1));
     Ok(())
 }
 
