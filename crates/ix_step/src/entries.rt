@@ -53,8 +53,8 @@ pub(crate) fn put_tree(
     Ok(total + 1 + size)
 }
 
-/// The values that have entries, and those of the action that the body sees. Every other value moves
-/// as outside does.
+/// The values that have entries, and those of the action that the body sees. Every other value
+/// moves as outside does.
 pub(crate) fn touched_values(
     alloc: Global,
     body: Body,

@@ -39,7 +39,8 @@ pub(crate) fn sequence_of(
     ensures { (moves : List Plain) → rest.items ≡ put_all moves []
         → Makes step.entry.limit
         (pruned (seq (unless_done first) ended
-        (set_of (moves ++ when (is_final (form_of y.now) first) (initial_tree (form_of z.now) ∷ [])))))
+        (set_of (moves
+        ++ when (is_final (form_of y.now) first) (initial_tree (form_of z.now) ∷ [])))))
         result }
 {
     put_first(step, &mut rest, completes(y, &first), z)?;
