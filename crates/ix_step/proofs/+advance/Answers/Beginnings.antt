@@ -1,0 +1,102 @@
+-- The tree of one action that comes first: of `y | z` and `y - z` by their parts, of another form whole.
+use Rattle.std.proofs.Common.{◌≡◌, refl, sym, ap, ◌∙◌, subst, arith, [], ◌∷◌, ◌++◌}
+use Rattle.ix_words.specs.Canon.{canon, when}
+use Rattle.ix_expr.specs.inside.FormOf.{form_of}
+use Rattle.ix_expr.specs.FormFaults.{Fits}
+use Rattle.ix_expr.specs.Form.{seq, or}
+use Rattle.ix_tree.specs.Order.{tree_cmp}
+use Rattle.ix_tree.specs.Size.{size_of}
+use Rattle.ix_can.specs.Nodes.{is_done, unless_done}
+use Rattle.ix_can.specs.Tests.{accepts_empty}
+use Rattle.ix_can.specs.TreeOf.{is_final}
+use Rattle.ix_can.specs.inside.Moved.{moved}
+use Rattle.ix_step.specs.inside.Initial.{initial_tree}
+use Rattle.ix_step.specs.inside.Makes.{Makes}
+use Rattle.ix_step.specs.inside.Moves.{if_open, begun, begun_again}
+use Rattle.ix_expr.proofs.Parts.{fits-operands}
+use Rattle.ix_step.proofs.Arms.{first_ready, asked, or_first, or_second}
+use Rattle.ix_step.proofs.Beginnings.{initial_is}
+use Rattle.ix_step.proofs.Exits.{exit_over}
+use Rattle.ix_step.proofs.Gathered.{open_over}
+use Rattle.ix_step.proofs.Gathering.{front_of_set}
+use Rattle.ix_step.proofs.Measure.{form_size}
+use Rattle.ix_step.proofs.MovedIs.{begun_dead, begun_or, begun_seq_is}
+use Rattle.ix_step.proofs.Overs.{unless_over, seq_over}
+use Rattle.ix_step.proofs.+advance.Goals as goal
+
+pub beginning::advance_again-returns : goal.beginning::advance_again-returns
+beginning::advance_again-returns t c =
+    subst (λ p. Makes c.args.step.limit p c.advance_first.result)
+    (ap (λ b. begun_again b (form_of c.args.expr.now) c.args.step.env.now c.args.step.action.now) (sym c.if-not-again.false)) c.advance_first.ensures
+
+pub beginning::advance_first-advance_either-requires : goal.beginning::advance_first-advance_either-requires
+beginning::advance_first-advance_either-requires t c =
+    let is : form_of c.args.expr.now ≡ or (form_of c.deref.result.now) (form_of c.deref-in-Or.result.now) = ap form_of c.in-Or.is ∙ ap (λ v. or (form_of v) (form_of c.in-Or.z.value)) (sym c.deref.ensures) ∙ ap (λ v. or (form_of c.deref.result.now) (form_of v)) (sym c.deref-in-Or.ensures) in
+    let size = ap form_size is in
+    let ready = asked is refl (ap initial_tree is) c.requires in (
+      omega (arith, size),
+      (or_first ready, or_second ready),
+    )
+
+pub beginning::advance_first-returns-in-Or : goal.beginning::advance_first-returns-in-Or
+beginning::advance_first-returns-in-Or t c =
+    let is : form_of c.args.expr.now ≡ or (form_of c.deref.result.now) (form_of c.deref-in-Or.result.now) = ap form_of c.in-Or.is ∙ ap (λ v. or (form_of v) (form_of c.in-Or.z.value)) (sym c.deref.ensures) ∙ ap (λ v. or (form_of c.deref.result.now) (form_of v)) (sym c.deref-in-Or.ensures) in
+    subst (λ p. Makes c.args.step.limit p c.advance_either.result)
+    (sym (begun_or (form_of c.deref.result.now) (form_of c.deref-in-Or.result.now) c.args.step.env.now c.args.step.action.now (subst (λ x. Fits x c.args.step.env.now) is c.requires.fits))
+    ∙ ap (λ x. begun x c.args.step.env.now c.args.step.action.now) (sym is)) c.advance_either.ensures
+
+pub beginning::advance_first_seq-advance_first-requires : goal.beginning::advance_first_seq-advance_first-requires
+beginning::advance_first_seq-advance_first-requires t c =
+    (omega arith, c.requires.first)
+
+pub beginning::advance_first_seq-advance_again-requires : goal.beginning::advance_first_seq-advance_again-requires
+beginning::advance_first_seq-advance_again-requires t c =
+    (omega arith, c.requires.second)
+
+pub beginning::advance_first_seq-returns-in_err-first : goal.beginning::advance_first_seq-returns-in_err-first
+beginning::advance_first_seq-returns-in_err-first t c =
+    let y = form_of c.args.y.now in
+    let z = form_of c.args.z.now in
+    let first = begun y c.args.step.env.now c.args.step.action.now in
+    let second = begun_again (accepts_empty y) z c.args.step.env.now c.args.step.action.now in
+    exit_over _ c.from_residual.result _ c.from_residual.ensures.1 c.in_err-first.ensures (λ lt.
+    seq_over c.args.step.limit c.args.step.positive (unless_done first) (is_done second) (canon tree_cmp (if_open second ++ when (is_final y first) (initial_tree z ∷ []))) (omega (arith, unless_over c.args.step.limit c.args.step.positive first lt)))
+
+pub beginning::advance_first_seq-returns-in_err-second : goal.beginning::advance_first_seq-returns-in_err-second
+beginning::advance_first_seq-returns-in_err-second t c =
+    let y = form_of c.args.y.now in
+    let z = form_of c.args.z.now in
+    let first = begun y c.args.step.env.now c.args.step.action.now in
+    let second = begun_again (accepts_empty y) z c.args.step.env.now c.args.step.action.now in
+    let begins = when (is_final y first) (initial_tree z ∷ []) in
+    let same = ap (λ b. size_of (begun_again b z c.args.step.env.now c.args.step.action.now)) c.is_complete.ensures in
+    exit_over _ c.from_residual-in_err-second.result _ c.from_residual-in_err-second.ensures.1 c.in_err-second.ensures (λ lt.
+    let k = open_over c.args.step.limit second [] c.args.step.positive (omega (arith, same, lt)) in
+    seq_over c.args.step.limit c.args.step.positive (unless_done first) (is_done second) (canon tree_cmp (if_open second ++ begins)) (omega (arith, front_of_set (if_open second) begins, k)))
+
+pub beginning::advance_whole-returns-then-is_refused : goal.beginning::advance_whole-returns-then-is_refused
+beginning::advance_whole-returns-then-is_refused t c =
+    subst (λ p. Makes c.args.step.limit p c.dead_knot.result)
+    (sym (begun_dead (form_of c.args.expr.now) c.args.step.env.now c.args.step.action.now c.requires.fits (c.is_refused.ensures c.if-is_refused.true))) c.dead_knot.ensures
+
+pub beginning::advance_whole-advance_first_seq-requires : goal.beginning::advance_whole-advance_first_seq-requires
+beginning::advance_whole-advance_first_seq-requires t c =
+    let is : form_of c.args.expr.now ≡ seq (form_of c.deref.result.now) (form_of c.deref-in-Seq.result.now) = ap form_of c.in-Seq.is ∙ ap (λ v. seq (form_of v) (form_of c.in-Seq.z.value)) (sym c.deref.ensures) ∙ ap (λ v. seq (form_of c.deref.result.now) (form_of v)) (sym c.deref-in-Seq.ensures) in
+    let size = ap form_size is in
+    let fits = fits-operands (seq (form_of c.deref.result.now) (form_of c.deref-in-Seq.result.now)) c.args.step.env.now (subst (λ x. Fits x c.args.step.env.now) is c.requires.fits) in (
+      omega (arith, size),
+      (first_ready fits.0, first_ready fits.1),
+    )
+
+pub beginning::advance_whole-returns-in-Seq : goal.beginning::advance_whole-returns-in-Seq
+beginning::advance_whole-returns-in-Seq t c =
+    let is : form_of c.args.expr.now ≡ seq (form_of c.deref.result.now) (form_of c.deref-in-Seq.result.now) = ap form_of c.in-Seq.is ∙ ap (λ v. seq (form_of v) (form_of c.in-Seq.z.value)) (sym c.deref.ensures) ∙ ap (λ v. seq (form_of c.deref.result.now) (form_of v)) (sym c.deref-in-Seq.ensures) in
+    subst (λ p. Makes c.args.step.limit p c.advance_first_seq.result)
+    (sym (begun_seq_is (form_of c.deref.result.now) (form_of c.deref-in-Seq.result.now) c.args.step.env.now c.args.step.action.now (subst (λ x. Fits x c.args.step.env.now) is c.requires.fits))
+    ∙ ap (λ x. begun x c.args.step.env.now c.args.step.action.now) (sym is)) c.advance_first_seq.ensures
+
+pub beginning::advance_built-returns : goal.beginning::advance_built-returns
+beginning::advance_built-returns t c =
+    let x = form_of c.args.expr.now in
+    subst (λ p. Makes c.args.step.limit p c.advance.result)
+    (ap (λ p. moved x c.args.step.env.now p c.args.step.action.now) (c.in_ok-tree.ensures ∙ sym (initial_is x []))) c.advance.ensures
