@@ -1,5 +1,5 @@
 -- The place of a key among entries whose keys ascend strictly.
-use Rattle.std.proofs.Common.{◌≡◌, ℕ, suc, zero, ◌+◌, ◌<◌, ◌≤◌, List, [], ◌∷◌, length, get_or, set, Some, None, refl, sym, ap, ◌∙◌, subst, arith}
+use Rattle.std.proofs.Common.{◌≡◌, ℕ, suc, zero, ◌+◌, ◌<◌, ◌≤◌, ◌++◌, List, [], ◌∷◌, length, get_or, set, take, drop, Some, None, refl, sym, ap, ◌∙◌, subst, arith}
 use Rattle.std.specs.BTreeMap.{is_at, insert_entry}
 use Rattle.std.specs.Cmp.{IsTotalOrder}
 use Rattle.std.specs.List.{insert, remove, AllWithin, HoldsAt}
@@ -20,6 +20,7 @@ pub record Found {K T : Type 0} (cmp : K → K → Ordering) (entries : List (K 
   pub looked_up : (d : K × T) → lookup (is_at (cmp key)) entries ≡ Some (get_or entries place d).1
   pub removed : remove entries place ≡ remove_entry (is_at (cmp key)) entries
   pub written : (item : T) (d : K × T) → set entries place ((get_or entries place d).0, item) ≡ insert_entry cmp entries key item
+  pub beside : ((other : K) → cmp key other ≡ Equal → other ≡ key) → (item : T) → take place entries ++ (key, item) ∷ drop (suc place) entries ≡ insert_entry cmp entries key item
 
 -- and where the key has no entry, and this is the place where one would stand
 pub record Missing {K T : Type 0} (cmp : K → K → Ordering) (entries : List (K × T)) (key : K) (place : ℕ) : Type 0 where
@@ -51,7 +52,12 @@ module _ {K T : Type 0} {cmp : K → K → Ordering} (o : IsTotalOrder cmp) wher
   found [] key place h lt at = absurd (omega arith)
   found (e ∷ es) key zero h lt at =
       let t : cmp key e.0 ≡ Equal = turned o e.0 key Equal (at e) in
-      record { looked_up = λ d. rw t refl; removed = rw t refl; written = λ item d. rw t refl }
+      record {
+        looked_up = λ d. rw t refl;
+        removed = rw t refl;
+        written = λ item d. rw t refl;
+        beside = λ same item. rw t (ap (λ (k : K). (k, item) ∷ es) (sym (same e.0 t)));
+      }
   found (e ∷ es) key (suc k) h lt at =
       let rest = found es key k h.1 (omega arith) at in
       let before : cmp e.0 (get_or es k e).0 ≡ Less = keys_less (e ∷ es) 0 (suc k) e h (omega arith) lt in
@@ -60,6 +66,7 @@ module _ {K T : Type 0} {cmp : K → K → Ordering} (o : IsTotalOrder cmp) wher
         looked_up = λ d. rw t (rest.looked_up d);
         removed = rw t (ap (λ l. e ∷ l) rest.removed);
         written = λ item d. rw t (ap (λ l. e ∷ l) (rest.written item d));
+        beside = λ same item. rw t (ap (λ l. e ∷ l) (rest.beside same item));
       }
 
   -- where all keys before a place are less and the others greater, the key has no entry

@@ -1,12 +1,16 @@
 //! Entries by key beside a common item, which stands for every key that has no entry.
 #![tactic(auto)]
 
-ghost use Rattle.std.specs.Prelude.{◌≡◌, length, false, OnOk, OnErr, if◌then◌else◌};
+ghost use Rattle.std.specs.Prelude.{◌≡◌, ◌≤◌, ◌+◌, ◌++◌, ◌∷◌, length, false, OnOk, OnErr};
+ghost use Rattle.std.specs.Prelude.{if◌then◌else◌};
+ghost use Rattle.std.specs.BTreeMap.{is_at, insert_entry};
 ghost use Rattle.std.specs.List.Sorted.{IsBinarySearchResult, IsSearchInRange};
+ghost use Rattle.std.specs.Map.{remove_entry};
 ghost use Rattle.std.specs.Ordering.{is_eq};
 ghost use Rattle.ix_entries.specs.inside.Entries.{KeysAscend, IsProper, item_at, with_entry};
 
 use std::alloc::AllocError;
+use std::cmp::Ordering;
 
 /// The item of the key, or the common item where the key has no entry. The keys ascend strictly.
 pub fn at<'a, K: Ord, T>(entries: &'a [(K, T)], common: &'a T, key: &K) -> &'a T
@@ -57,6 +61,24 @@ pub fn put<K: Ord + Drop, T: Eq + Drop>(
             }
             Ok(())
         }
+    }
+}
+
+/// The entries before the key's place and those behind it, without the key's own entry. The keys
+/// ascend strictly.
+pub fn around<'a, K: Ord, T>(entries: &'a [(K, T)], key: &K) -> (&'a [(K, T)], &'a [(K, T)])
+    requires { KeysAscend K.cmp entries.now }
+    ensures count { length result.0.now + length result.1.now ≤ length entries.now }
+    ensures without { result.0.now ++ result.1.now
+        ≡ remove_entry (is_at (K.cmp key.now)) entries.now }
+    ensures with { ((other : _) → K.cmp key.now other ≡ Ordering.Equal → other ≡ key.now)
+        → (item : _)
+        → result.0.now ++ (key.now, item) ∷ result.1.now
+        ≡ insert_entry K.cmp entries.now key.now item }
+{
+    match place_of(entries, key) {
+        Ok(place) => (&entries[..place], &entries[place + 1..]),
+        Err(place) => (&entries[..place], &entries[place..]),
     }
 }
 
