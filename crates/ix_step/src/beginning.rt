@@ -1,9 +1,10 @@
 //! The tree of one action, from that of the empty word.
 
-ghost use Rattle.std.specs.Prelude.{◌≡◌, false, IsTrue};
+ghost use Rattle.std.specs.Prelude.{◌≡◌, false, IsTrue, if◌then◌else◌};
 ghost use Rattle.ix_expr.specs.FormFaults.{Fits};
 ghost use Rattle.ix_expr.specs.inside.FormOf.{form_of};
-ghost use Rattle.ix_tree.specs.Plain.{or as or_of};
+ghost use Rattle.ix_tree.specs.Plain.{dead, done, or as or_of};
+ghost use Rattle.ix_can.specs.Tests.{is_match};
 ghost use Rattle.ix_can.specs.inside.May.{may_first};
 ghost use Rattle.ix_step.specs.inside.Initial.{initial_tree};
 ghost use Rattle.ix_step.specs.inside.Makes.{Makes};
@@ -14,14 +15,14 @@ ghost use Rattle.ix_step.specs.inside.Ready.{Ready};
 
 use crate::advance::advance;
 use crate::fault::Unbuilt;
-use crate::first::{first_shared, is_complete};
-use crate::nodes::{dead_knot, or_within};
+use crate::first::{first_tree, is_complete};
+use crate::nodes::{dead_knot, done_knot, or_within};
 use crate::one_step::Step;
 use crate::sequences::sequence_of;
 use crate::sets::put_open;
 use ix_alts::AltSet;
 use ix_can::can_first;
-use ix_expr::Expr;
+use ix_expr::{Atom, Expr, matches};
 use ix_tree::Knot;
 
 /// The tree of a run that begins with the action, dead where no further run may begin.
@@ -47,9 +48,21 @@ fn advance_first(step: Step, expr: &Expr) -> Result<Knot, Unbuilt>
         step.entry.action.now) result }
 {
     match expr {
+        Expr::Atom(atom) => match_atom(step, atom),
         Expr::Or(y, z) => advance_either(step, y, z),
         _ => advance_whole(step, expr),
     }
+}
+
+/// An atom is done with its action.
+fn match_atom(step: Step, atom: &Atom) -> Result<Knot, Unbuilt>
+    ensures { Makes step.entry.limit (if is_match atom.now step.entry.env.now
+        step.entry.action.now then done else dead) result }
+{
+    if !matches(atom, step.env, step.action) {
+        return dead_knot(step);
+    }
+    done_knot(step)
 }
 
 #[cycle(advance)]
@@ -104,7 +117,7 @@ fn advance_built(step: Step, expr: &Expr) -> Result<Knot, Unbuilt>
     ensures { Makes step.entry.limit (begun (form_of expr.now) step.entry.env.now
         step.entry.action.now) result }
 {
-    let tree = first_shared(step, expr)?;
+    let tree = first_tree(step.leaves, expr)?;
     advance(step, expr, &tree)
 }
 

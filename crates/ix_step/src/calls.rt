@@ -68,7 +68,8 @@ fn first_within(alloc: Global, expr: &Expr, limit: usize) -> Result<Knot, Unbuil
     requires { (e : Environment) × Fits (form_of expr.now) e }
     ensures { Makes limit (tree_of (form_of expr.now) [] []) result }
 {
-    let tree = first_tree(alloc, expr)?;
+    let leaves = LeafTrees::new(alloc)?;
+    let tree = first_tree(&leaves, expr)?;
     bounded(tree, limit)
 }
 

@@ -3,7 +3,7 @@
 ghost use Rattle.std.specs.Prelude.{◌≡◌, ℕ, ◌≤◌, ◌++◌, ◌∷◌, [], List, IfOk, OnOk};
 ghost use Rattle.std.specs.Map.{keys_of};
 ghost use Rattle.ix_values.specs.Order.{text_cmp};
-ghost use Rattle.ix_entries.specs.inside.Entries.{IsProper};
+ghost use Rattle.ix_entries.specs.inside.Entries.{IsProper, KeysAscend, with_entry};
 ghost use Rattle.ix_expr.specs.inside.FormOf.{form_of};
 ghost use Rattle.ix_tree.specs.Plain.{Plain};
 ghost use Rattle.ix_tree.specs.Size.{size_of};
@@ -13,9 +13,9 @@ ghost use Rattle.ix_step.specs.inside.ValueTrees.{AddsSeen, TakesIn};
 
 use crate::bodies::Body;
 use crate::fault::Unbuilt;
-use ix_entries::put;
+use ix_entries::{around, put};
 use ix_expr::sees;
-use ix_tree::Knot;
+use ix_tree::{Knot, push_shared_entries};
 use ix_values::{Action, Value};
 use std::alloc::{AllocError, Global};
 
@@ -51,6 +51,29 @@ pub(crate) fn put_tree(
         return Err(Unbuilt::Over);
     }
     Ok(total + 1 + size)
+}
+
+/// The entries with this tree at the value, made in one pass. A tree that equals the common one
+/// leaves no entry.
+pub(crate) fn entries_with(
+    alloc: Global,
+    entries: &[(Value, Knot)],
+    common: &Knot,
+    value: Value,
+    tree: Knot,
+) -> Result<Vec<(Value, Knot)>, AllocError>
+    requires { KeysAscend text_cmp entries.now }
+    ensures { IfOk result (λ made. made.items
+        ≡ with_entry text_cmp ⟦<Knot as PartialEq>⟧.eq common.now entries.now value tree) }
+{
+    let (before, behind) = around(entries, &value);
+    let mut made = Vec::with_capacity(alloc, entries.len().saturating_add(1))?;
+    push_shared_entries(&mut made, before)?;
+    if tree != *common {
+        made.push_reserved((value, tree));
+    }
+    push_shared_entries(&mut made, behind)?;
+    Ok(made)
 }
 
 /// The values that have entries, and those of the action that the body sees. Every other value

@@ -10,7 +10,7 @@ ghost use Rattle.ix_can.specs.Tests.{accepts_empty as accepts};
 ghost use Rattle.ix_step.specs.inside.Initial.{initial_tree};
 ghost use Rattle.ix_step.specs.inside.Limits.{most_size};
 
-use crate::one_step::Step;
+use crate::leaves::LeafTrees;
 use ix_expr::{Expr, accepts_empty};
 use ix_tree::{Bag, Knot, Map, Node, Pair};
 use std::alloc::{AllocError, Global};
@@ -18,57 +18,47 @@ use std::alloc::{AllocError, Global};
 /// The tree of the empty word, whatever its Size. The flag of `?y` says that nothing has happened,
 /// and that of `*y` that a run may begin.
 #[cycle(first)]
-pub(crate) fn first_tree(alloc: Global, expr: &Expr) -> Result<Knot, AllocError>
+pub(crate) fn first_tree(leaves: &LeafTrees, expr: &Expr) -> Result<Knot, AllocError>
     requires { size_of (initial_tree (form_of expr.now)) ≤ most_size }
     ensures { IfOk result (λ t. t ≡ initial_tree (form_of expr.now)) }
 {
+    let alloc = leaves.alloc();
     match expr {
-        Expr::Atom(_) => Knot::new(alloc, Node::Start),
-        Expr::Opt(y) => Knot::new(alloc, Node::Opt(true, first_tree(alloc, y)?)),
-        Expr::Seq(y, z) => first_seq(alloc, y, z),
-        Expr::Star(_) => Knot::new(alloc, Node::Star(true, Vec::new(alloc))),
-        Expr::Par(y, z) => one_pair(alloc, first_tree(alloc, y)?, first_tree(alloc, z)?),
+        Expr::Atom(_) => leaves.start.share(),
+        Expr::Opt(y) => Knot::new(alloc, Node::Opt(true, first_tree(leaves, y)?)),
+        Expr::Seq(y, z) => first_seq(leaves, y, z),
+        Expr::Star(_) => leaves.iteration.share(),
+        Expr::Par(y, z) => one_pair(alloc, first_tree(leaves, y)?, first_tree(leaves, z)?),
         Expr::ParStar(_) => Knot::new(alloc, Node::ParStar(no_runs(alloc)?)),
         Expr::Or(y, z) => {
             Knot::new(
                 alloc,
-                Node::Or(first_tree(alloc, y)?, first_tree(alloc, z)?),
+                Node::Or(first_tree(leaves, y)?, first_tree(leaves, z)?),
             )
         }
         Expr::And(y, z) => {
             Knot::new(
                 alloc,
-                Node::And(first_tree(alloc, y)?, first_tree(alloc, z)?),
+                Node::And(first_tree(leaves, y)?, first_tree(leaves, z)?),
             )
         }
         Expr::Couple(y, z) => {
             Knot::new(
                 alloc,
-                Node::Couple(first_tree(alloc, y)?, first_tree(alloc, z)?),
+                Node::Couple(first_tree(leaves, y)?, first_tree(leaves, z)?),
             )
         }
-        Expr::Any(_, y) => Knot::new(alloc, Node::Any(first_tree(alloc, y)?, Vec::new(alloc))),
-        Expr::Every(_, y) => Knot::new(alloc, Node::Every(first_tree(alloc, y)?, Vec::new(alloc))),
-        Expr::Sync(_, y) => Knot::new(alloc, Node::Sync(first_tree(alloc, y)?, Vec::new(alloc))),
+        Expr::Any(_, y) => Knot::new(alloc, Node::Any(first_tree(leaves, y)?, Vec::new(alloc))),
+        Expr::Every(_, y) => Knot::new(alloc, Node::Every(first_tree(leaves, y)?, Vec::new(alloc))),
+        Expr::Sync(_, y) => Knot::new(alloc, Node::Sync(first_tree(leaves, y)?, Vec::new(alloc))),
         Expr::All(_, _) => empty_map(alloc),
         Expr::Times(_, _) => Knot::new(alloc, Node::Times(no_runs(alloc)?)),
     }
 }
 
-/// The tree of the empty word, which of an atom is shared.
-pub(crate) fn first_shared(step: Step, expr: &Expr) -> Result<Knot, AllocError>
-    requires { size_of (initial_tree (form_of expr.now)) ≤ most_size }
-    ensures { IfOk result (λ t. t ≡ initial_tree (form_of expr.now)) }
-{
-    match expr {
-        Expr::Atom(_) => step.leaves.start.share(),
-        _ => first_tree(step.alloc, expr),
-    }
-}
-
 /// Where the empty word is complete in y, z may begin.
 #[cycle(first)]
-fn first_seq(alloc: Global, y: &Expr, z: &Expr) -> Result<Knot, AllocError>
+fn first_seq(leaves: &LeafTrees, y: &Expr, z: &Expr) -> Result<Knot, AllocError>
     requires first { size_of (initial_tree (form_of y.now)) ≤ most_size }
     requires second { accepts (form_of y.now) ≡ true → size_of (initial_tree (form_of z.now)) ≤
         most_size }
@@ -77,12 +67,12 @@ fn first_seq(alloc: Global, y: &Expr, z: &Expr) -> Result<Knot, AllocError>
         ≡ seq (initial_tree (form_of y.now)) false
         (listed (when (accepts (form_of y.now)) (initial_tree (form_of z.now) ∷ [])))) }
 {
-    let first = first_tree(alloc, y)?;
-    let mut rest = Vec::new(alloc);
+    let first = first_tree(leaves, y)?;
+    let mut rest = Vec::new(leaves.alloc());
     if is_complete(y) {
-        rest.push(first_tree(alloc, z)?)?;
+        rest.push(first_tree(leaves, z)?)?;
     }
-    Knot::new(alloc, Node::Seq(first, false, rest))
+    Knot::new(leaves.alloc(), Node::Seq(first, false, rest))
 }
 
 /// Whether the empty word is complete.

@@ -1,10 +1,11 @@
 //! The trees that have no parts, which steps share.
 
-ghost use Rattle.std.specs.Prelude.{◌≡◌, ◌≤◌, ◌++◌, ◌∷◌, []};
+ghost use Rattle.std.specs.Prelude.{◌≡◌, ◌≤◌, ◌++◌, ◌∷◌, [], true};
 ghost use Rattle.ix_values.specs.PlainAction.{Word};
 ghost use Rattle.ix_expr.specs.FormFaults.{Fits};
 ghost use Rattle.ix_expr.specs.inside.FormOf.{form_of};
 ghost use Rattle.ix_tree.specs.Plain.{dead as dead_tree, done as done_tree, start as start_tree};
+ghost use Rattle.ix_tree.specs.Plain.{star, none};
 ghost use Rattle.ix_tree.specs.Size.{size_of};
 ghost use Rattle.ix_can.specs.Laws.{IsProper};
 ghost use Rattle.ix_can.specs.inside.Moved.{moved};
@@ -19,27 +20,31 @@ use ix_tree::{Knot, Node, Tree};
 use ix_values::Action;
 use std::alloc::{AllocError, Global};
 
-/// The dead tree, the one that is done, and that of an atom before its action. They have no parts,
-/// so one of each serves all steps of an engine, and no step makes its own.
+/// The dead tree, the one that is done, that of an atom before its action, and that of an iteration
+/// before its first run. They have no parts, so one of each serves all steps of an engine, and no
+/// step makes its own.
 #[derive(Drop)]
 pub struct LeafTrees {
     alloc: Global,
     pub(crate) dead: Knot,
     pub(crate) done: Knot,
     pub(crate) start: Knot,
+    pub(crate) iteration: Knot,
     ghost ends: { dead ≡ dead_tree },
     ghost completes: { done ≡ done_tree },
     ghost begins: { start ≡ start_tree },
+    ghost repeats: { iteration ≡ star true none },
 }
 
 impl LeafTrees {
-    /// The three trees, made once.
+    /// The four trees, made once.
     pub fn new(alloc: Global) -> Result<LeafTrees, AllocError> {
         Ok(LeafTrees {
             alloc,
             dead: Knot::new(alloc, Node::Dead)?,
             done: Knot::new(alloc, Node::Done)?,
             start: Knot::new(alloc, Node::Start)?,
+            iteration: Knot::new(alloc, Node::Star(true, Vec::new(alloc)))?,
         })
     }
 

@@ -22,6 +22,7 @@ ghost use Rattle.ix_step.specs.inside.MapsAfter.{maps_after, with_tree};
 
 use crate::advance::advance;
 use crate::bodies::Body;
+use crate::entries::entries_with;
 use crate::fault::Unbuilt;
 use crate::first::first_tree;
 use crate::nodes::{dead_knot, sized_if_live};
@@ -29,9 +30,8 @@ use crate::one_step::{Step, larger};
 use crate::sets::put as put_alternative;
 use ix_alts::AltSet;
 use ix_can::state_of;
-use ix_entries::put;
 use ix_expr::sees;
-use ix_tree::{Knot, Map, Node, share_entries};
+use ix_tree::{Knot, Map, Node};
 use ix_values::Value;
 use std::alloc::{AllocError, Global};
 
@@ -44,7 +44,7 @@ pub(crate) fn advance_all(step: Step, body: Body, maps: &[Map]) -> Result<Knot, 
         (moved_node (all body.entry.parameter.now (form_of body.entry.expr.now)) step.entry.env.now
         (all_of (listed (map plain_map maps.now))) step.entry.action.now)) result }
 {
-    let first = first_tree(step.alloc, body.expr)?;
+    let first = first_tree(step.leaves, body.expr)?;
     let set = advance_maps(step, body, &first, maps)?;
     let size = 1 + set.total();
     sized_if_live(step, Node::All(set.into_items()), size)
@@ -190,7 +190,6 @@ fn map_beside(
         (λ m. plain_map m
         ≡ with_tree first.now value tree (items_of (first_part (plain_map state.now)))) }
 {
-    let mut entries = share_entries(alloc, &state.entries)?;
-    put(&mut entries, first, value, tree)?;
+    let entries = entries_with(alloc, &state.entries, first, value, tree)?;
     Ok(Map { entries })
 }

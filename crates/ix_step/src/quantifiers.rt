@@ -1,6 +1,7 @@
 //! The moved trees of the quantifiers `any`, `every` and `sync`.
 
 ghost use Rattle.std.specs.Prelude.{◌≡◌, ◌≤◌, true, false, None, Some, map};
+ghost use Rattle.ix_words.specs.Each.{Member};
 ghost use Rattle.ix_expr.specs.Environment.{bind};
 ghost use Rattle.ix_expr.specs.Fitting.{FitsInside};
 ghost use Rattle.ix_expr.specs.Form.{any, every, sync};
@@ -18,12 +19,13 @@ ghost use Rattle.ix_step.specs.inside.MovedNode.{moved_node};
 ghost use Rattle.ix_step.specs.inside.Pruned.{pruned};
 ghost use Rattle.ix_step.specs.inside.ValueTrees.{ReadyInside, part_may, EachMay, moved_part};
 ghost use Rattle.ix_step.specs.inside.ValueTrees.{common_after, entries_after, MakesEntries};
+ghost use Rattle.ix_step.specs.inside.ValueTrees.{tree_after, MakesOne};
 ghost use Rattle.ix_step.specs.inside.ValueTrees.{MakesParts, MakesOwn};
 
 use crate::advance::{advance, advance_asked};
 use crate::bodies::{Body, Reach};
 use crate::coupling::advance_side;
-use crate::entries::{put_tree, touched_values};
+use crate::entries::{entries_with, put_tree, touched_values};
 use crate::fault::Unbuilt;
 use crate::nodes::{bounded, dead_knot, is_ended, settled_within, within_if_live};
 use crate::one_step::{Step, larger};
@@ -200,13 +202,46 @@ fn advance_own(
         step.entry.env.now step.entry.action.now common.now (plain_entries entries.now))
         result }
 {
-    let mut own = share_entries(step.alloc, entries)?;
-    for value in step.action.values() {
-        let state = state_at(entries, common, value);
-        let tree = advance_at(step, body, Reach::OwnAlphabet, Some(*value), state)?;
-        put(&mut own, common, *value, tree)?;
+    match step.action.values() {
+        [] => Ok(share_entries(step.alloc, entries)?),
+        [first, later @ ..] => {
+            let tree = advance_own_at(step, body, common, entries, first)?;
+            let mut own = entries_with(step.alloc, entries, common, *first, tree)?;
+            for value in later {
+                let tree = advance_own_at(step, body, common, entries, value)?;
+                put(&mut own, common, *value, tree)?;
+            }
+            Ok(own)
+        }
     }
-    Ok(own)
+}
+
+/// The state of one of the action's own values after the action.
+#[cycle(advance)]
+fn advance_own_at(
+    step: Step,
+    body: Body,
+    common: &Knot,
+    entries: &[(Value, Knot)],
+    value: &Value,
+) -> Result<Knot, Unbuilt>
+    requires ready { ReadyInside body.parameter.now (form_of body.expr.now) step.env.now common.now
+        (map plain_entry entries.now) }
+    requires outside { in_alphabet (form_of body.expr.now)
+        (bind body.parameter.now None step.env.now) step.action.now ≡ false }
+    requires each { EachMay OwnAlphabet body.parameter.now (form_of body.expr.now) step.env.now
+        step.action.now common.now entries.now }
+    requires own { Member value.now step.action.now.values }
+    ensures { MakesOne step.entry.limit
+        (tree_after OwnAlphabet body.entry.parameter.now (form_of body.entry.expr.now)
+        step.entry.env.now step.entry.action.now common.now (map plain_entry entries.now) value.now)
+        common.now
+        (entries_after OwnAlphabet body.entry.parameter.now (form_of body.entry.expr.now)
+        step.entry.env.now step.entry.action.now common.now (plain_entries entries.now))
+        result }
+{
+    let state = state_at(entries, common, value);
+    advance_at(step, body, Reach::OwnAlphabet, Some(*value), state)
 }
 
 /// The state under a value after the action, where a value of None is outside.

@@ -12,7 +12,7 @@ ghost use Rattle.ix_step.specs.inside.Makes.{Gathers, Puts};
 ghost use Rattle.ix_step.specs.inside.Moves.{if_open};
 
 use crate::fault::Unbuilt;
-use crate::first::first_shared;
+use crate::first::first_tree;
 use crate::nodes::is_ended;
 use crate::one_step::Step;
 use ix_alts::{AltFault, AltSet, Weight};
@@ -62,5 +62,5 @@ pub(crate) fn put_first(
     if !begins {
         return Ok(());
     }
-    put(set, first_shared(step, expr)?)
+    put(set, first_tree(step.leaves, expr)?)
 }

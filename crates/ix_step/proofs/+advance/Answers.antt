@@ -436,17 +436,20 @@ quantifiers::advance_at-returns-in_err-advance_side-in-OwnAlphabet = ValueStates
 pub quantifiers::advance_at-returns-then-is_ended : goal.quantifiers::advance_at-returns-then-is_ended
 quantifiers::advance_at-returns-then-is_ended = ValueStates.quantifiers::advance_at-returns-then-is_ended
 
+pub quantifiers::advance_own-returns-in_ok-share_entries-in-empty : goal.quantifiers::advance_own-returns-in_ok-share_entries-in-empty
+quantifiers::advance_own-returns-in_ok-share_entries-in-empty = OwnStates.quantifiers::advance_own-returns-in_ok-share_entries-in-empty
+
+pub quantifiers::advance_own-advance_own_at-requires : goal.quantifiers::advance_own-advance_own_at-requires
+quantifiers::advance_own-advance_own_at-requires = OwnStates.quantifiers::advance_own-advance_own_at-requires
+
+pub quantifiers::advance_own-entries_with-requires : goal.quantifiers::advance_own-entries_with-requires
+quantifiers::advance_own-entries_with-requires = OwnStates.quantifiers::advance_own-entries_with-requires
+
 pub quantifiers::advance_own-loop-value-init : goal.quantifiers::advance_own-loop-value-init
 quantifiers::advance_own-loop-value-init = OwnStates.quantifiers::advance_own-loop-value-init
 
-pub quantifiers::advance_own-state_at-state-requires : goal.quantifiers::advance_own-state_at-state-requires
-quantifiers::advance_own-state_at-state-requires = OwnStates.quantifiers::advance_own-state_at-state-requires
-
-pub quantifiers::advance_own-advance_at-requires : goal.quantifiers::advance_own-advance_at-requires
-quantifiers::advance_own-advance_at-requires = OwnStates.quantifiers::advance_own-advance_at-requires
-
-pub quantifiers::advance_own-returns-in_err-tree : goal.quantifiers::advance_own-returns-in_err-tree
-quantifiers::advance_own-returns-in_err-tree = OwnStates.quantifiers::advance_own-returns-in_err-tree
+pub quantifiers::advance_own-advance_own_at-requires-in-loop-value : goal.quantifiers::advance_own-advance_own_at-requires-in-loop-value
+quantifiers::advance_own-advance_own_at-requires-in-loop-value = OwnStates.quantifiers::advance_own-advance_own_at-requires-in-loop-value
 
 pub quantifiers::advance_own-put-requires : goal.quantifiers::advance_own-put-requires
 quantifiers::advance_own-put-requires = OwnStates.quantifiers::advance_own-put-requires
@@ -454,5 +457,14 @@ quantifiers::advance_own-put-requires = OwnStates.quantifiers::advance_own-put-r
 pub quantifiers::advance_own-loop-value-preserved : goal.quantifiers::advance_own-loop-value-preserved
 quantifiers::advance_own-loop-value-preserved = OwnStates.quantifiers::advance_own-loop-value-preserved
 
-pub quantifiers::advance_own-returns : goal.quantifiers::advance_own-returns
-quantifiers::advance_own-returns = OwnStates.quantifiers::advance_own-returns
+pub quantifiers::advance_own-returns-after-loop-value : goal.quantifiers::advance_own-returns-after-loop-value
+quantifiers::advance_own-returns-after-loop-value = OwnStates.quantifiers::advance_own-returns-after-loop-value
+
+pub quantifiers::advance_own_at-state_at-state-requires : goal.quantifiers::advance_own_at-state_at-state-requires
+quantifiers::advance_own_at-state_at-state-requires = OwnStates.quantifiers::advance_own_at-state_at-state-requires
+
+pub quantifiers::advance_own_at-advance_at-requires : goal.quantifiers::advance_own_at-advance_at-requires
+quantifiers::advance_own_at-advance_at-requires = OwnStates.quantifiers::advance_own_at-advance_at-requires
+
+pub quantifiers::advance_own_at-returns : goal.quantifiers::advance_own_at-returns
+quantifiers::advance_own_at-returns = OwnStates.quantifiers::advance_own_at-returns

@@ -92,3 +92,8 @@ MakesParts limit common entries r =
 abbrev pub MakesOwn : ℕ → Plain → Plain → Result (Vec (List ℕ × Plain) Global) Unbuilt → Type 0
 MakesOwn limit common entries r =
     MatchResult r (λ made. (plain_entries made.items ≡ entries) × (size_of entries ≤ 10000000)) (IsOver limit (more common entries))
+
+-- the tree of one value was made and is within the limit, or the common tree and the entries are above it, or memory ran out
+abbrev pub MakesOne : ℕ → Plain → Plain → Plain → Result Plain Unbuilt → Type 0
+MakesOne limit tree common entries r =
+    MatchResult r (λ made. (made ≡ tree) × (size_of tree ≤ limit)) (IsOver limit (more common entries))
