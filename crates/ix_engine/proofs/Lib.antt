@@ -1,3 +1,3 @@
-mod Trees
+pub mod Trees
 mod Permitting
 mod Histories

@@ -10,6 +10,3 @@ mod next;
 pub use engine::Engine;
 pub use faults::{PrepareFault, ResumeFault};
 pub use next::Next;
-
-#[cfg(test)]
-mod tests;
