@@ -17,176 +17,154 @@ fn outcome(alloc: Global, text: &[u8]) -> Option<(u8, usize)> {
 // The outcome of a text with so many copies of another before it, and so many of a third behind it.
 fn outcome_between(
     alloc: Global,
-    before: &[u8],
+    before: &str,
     times: usize,
-    text: &[u8],
-    after: &[u8],
+    text: &str,
+    after: &str,
 ) -> Result<Option<(u8, usize)>, AllocError> {
     let mut all = Vec::new(alloc);
     for _ in 0..times {
-        all.extend_from_slice(before)?;
+        all.extend_from_slice(before.as_bytes())?;
     }
-    all.extend_from_slice(text)?;
+    all.extend_from_slice(text.as_bytes())?;
     for _ in 0..times {
-        all.extend_from_slice(after)?;
+        all.extend_from_slice(after.as_bytes())?;
     }
     Ok(outcome(alloc, all.as_slice()))
 }
 
+// A quantifier inside eight others.
+const NINE: &str = "any $a any $b any $c any $d any $e any $f any $g any $h any $i j";
+
+// A text, and its outcome.
+type Row = (&'static str, u8, usize);
+
+const FAULTS: &[Row] = &[
+    ("! a", 2, 0),
+    ("a ! b c", 2, 2),
+    ("a - b!", 2, 5),
+    (")a", 3, 0),
+    ("a b !", 3, 2),
+    ("a - b c", 3, 6),
+    ("9a", 3, 0),
+    ("", 4, 0),
+    ("(a", 4, 2),
+    ("a -", 4, 3),
+    ("a | - b", 3, 4),
+    ("a($q) | b", 5, 0),
+    ("b | a($q) | c", 5, 4),
+    ("b | c | a($q)", 5, 8),
+    ("any $p a($q)", 5, 7),
+    (" a - b(x,$p) - c | ?((d)) ", 5, 5),
+    ("any $p a($q) !", 2, 13),
+    ("any $p any $p a($q)", 6, 7),
+    ("b | any $p every $p a", 6, 11),
+    ("all $p b", 7, 7),
+    ("all $p (a($p) - b - c($p))", 7, 16),
+    ("all $p (a($p) - b)", 7, 16),
+    ("a(p,q,r,s,t)", 10, 9),
+    ("b - a(p,q,r,s,t,", 10, 13),
+    (NINE, 13, 56),
+    // Behind reserved words.
+    ("all(x)", 12, 0),
+    ("b - times - c", 12, 4),
+    ("times", 12, 0),
+    ("times (a)", 12, 0),
+    ("times $p a", 12, 0),
+    ("times ! 2", 12, 0),
+    ("times a", 16, 6),
+    ("times 1 a", 16, 6),
+    ("times 02 a", 16, 6),
+    ("times 65 a", 16, 6),
+    ("times 2", 4, 7),
+    ("times 2 - a", 3, 8),
+    ("b | any !", 12, 4),
+];
+
+const READ: &[Row] = &[
+    ("times 2 a", 0, 2),
+    ("times 64 (a - b)", 0, 4),
+    ("any $times a($times) | b(times)", 0, 4),
+    (" a - b(x) - c | ?((d)) ", 0, 8),
+];
+
+// Whether the outcome of a row is what it says.
+fn comes_out_so(alloc: Global, row: &Row) -> bool {
+    let (text, code, at) = *row;
+    outcome(alloc, text.as_bytes()) == Some((code, at))
+}
+
 #[test]
 fn first_faults(rt: HostRuntime) -> Result<(), Fail> {
-    let rows = [
-        (b"! a".as_slice(), 2, 0),
-        (b"a ! b c".as_slice(), 2, 2),
-        (b"a - b!".as_slice(), 2, 5),
-        (b")a".as_slice(), 3, 0),
-        (b"a b !".as_slice(), 3, 2),
-        (b"a - b c".as_slice(), 3, 6),
-        (b"9a".as_slice(), 3, 0),
-        (b"".as_slice(), 4, 0),
-        (b"(a".as_slice(), 4, 2),
-        (b"a -".as_slice(), 4, 3),
-        (b"a | - b".as_slice(), 3, 4),
-        (b"a($q) | b".as_slice(), 5, 0),
-        (b"b | a($q) | c".as_slice(), 5, 4),
-        (b"b | c | a($q)".as_slice(), 5, 8),
-        (b"any $p a($q)".as_slice(), 5, 7),
-        (b"any $p a($q) !".as_slice(), 2, 13),
-        (b"any $p any $p a($q)".as_slice(), 6, 7),
-        (b"b | any $p every $p a".as_slice(), 6, 11),
-        (b"all $p b".as_slice(), 7, 7),
-        (b"all $p (a($p) - b - c($p))".as_slice(), 7, 16),
-        (b"all $p (a($p) - b)".as_slice(), 7, 16),
-        (b"a(p,q,r,s,t)".as_slice(), 10, 9),
-        (b"b - a(p,q,r,s,t,".as_slice(), 10, 13),
-    ];
-    for (text, code, at) in rows {
-        assert_eq!(rt; outcome(rt.alloc(), text), Some((code, at)));
+    for row in FAULTS {
+        assert!(rt; comes_out_so(rt.alloc(), row), "{}", row.0);
     }
     Ok(())
 }
 
 #[test]
-fn first_faults_behind_reserved_words(rt: HostRuntime) -> Result<(), Fail> {
-    let rows = [
-        (b"all(x)".as_slice(), 12, 0),
-        (b"b - times - c".as_slice(), 12, 4),
-        (b"times".as_slice(), 12, 0),
-        (b"times (a)".as_slice(), 12, 0),
-        (b"times $p a".as_slice(), 12, 0),
-        (b"times ! 2".as_slice(), 12, 0),
-        (b"times a".as_slice(), 16, 6),
-        (b"times 1 a".as_slice(), 16, 6),
-        (b"times 02 a".as_slice(), 16, 6),
-        (b"times 65 a".as_slice(), 16, 6),
-        (b"times 2".as_slice(), 4, 7),
-        (b"times 2 - a".as_slice(), 3, 8),
-        (b"b | any !".as_slice(), 12, 4),
-    ];
-    for (text, code, at) in rows {
-        assert_eq!(rt; outcome(rt.alloc(), text), Some((code, at)));
+fn texts_that_are_read(rt: HostRuntime) -> Result<(), Fail> {
+    for row in READ {
+        assert!(rt; comes_out_so(rt.alloc(), row), "{}", row.0);
     }
     Ok(())
 }
 
+// What stands before a text, so many times, the text, what stands behind it as often, and the
+// outcome.
+type Repeated = (&'static str, usize, &'static str, &'static str, u8, usize);
+
+const REPEATED: &[Repeated] = &[
+    ("times 2 ", 64, "a", "", 0, 65),
+    ("times 2 ", 65, "a", "", 9, 512),
+    ("", 31, "times nn", "n", 16, 6),
+    // Levels and depth.
+    ("(", 64, "a", ")", 0, 1),
+    ("(", 65, "a", ")", 9, 64),
+    ("any $p ", 65, "a", "", 9, 448),
+    ("?", 64, "a", "", 0, 65),
+    ("", 255, "a", "|a", 0, 511),
+    // Lengths and nodes.
+    ("a|", 8192, "", "", 8, 512),
+    (" ", 16381, "a|a", "", 0, 3),
+    (" ", 16382, "a|a", "", 1, 16384),
+    ("n", 32, "", "", 0, 1),
+    ("n", 33, "", "", 11, 0),
+    ("", 32, "b - n", "n", 11, 4),
+    ("", 32, "any $n", "n", 11, 4),
+];
+
+// Whether the outcome of a row is what it says.
+fn repeats_so(alloc: Global, row: &Repeated) -> Result<bool, AllocError> {
+    let (before, times, text, after, code, at) = *row;
+    Ok(outcome_between(alloc, before, times, text, after)? == Some((code, at)))
+}
+
 #[test]
-fn so_many_times(rt: HostRuntime) -> Result<(), Fail> {
-    let rows = [
-        (b"times 2 a".as_slice(), 2),
-        (b"times 64 (a - b)".as_slice(), 4),
-        (b"any $times a($times) | b(times)".as_slice(), 4),
-    ];
-    for (text, nodes) in rows {
-        assert_eq!(rt; outcome(rt.alloc(), text), Some((0, nodes)));
+fn levels_lengths_and_nodes(rt: HostRuntime) -> Result<(), Fail> {
+    for row in REPEATED {
+        assert!(rt;
+            repeats_so(rt.alloc(), row)?,
+            "{} of {}, {}",
+            row.1,
+            row.0,
+            row.2
+        );
     }
-    assert_eq!(rt;
-        outcome_between(rt.alloc(), b"times 2 ", 64, b"a", b"")?,
-        Some((0, 65))
-    );
-    assert_eq!(rt;
-        outcome_between(rt.alloc(), b"times 2 ", 65, b"a", b"")?,
-        Some((9, 512))
-    );
-    assert_eq!(rt;
-        outcome_between(rt.alloc(), b"", 31, b"times nn", b"n")?,
-        Some((16, 6))
-    );
-    let expression = read(rt.alloc(), b"times 10 (a + b)").map_err(|_| "an expression")?;
-    let counted = match expression.expr() {
+    Ok(())
+}
+
+// Whether an expression is `times 10` of a parallel composition.
+fn is_counted(expr: &Expr) -> bool {
+    match expr {
         Expr::Times(number, operand) => *number == 10 && matches!(&**operand, Expr::Par(_, _)),
         _ => false,
-    };
-    assert!(rt; counted);
-    Ok(())
+    }
 }
 
-#[test]
-fn levels_and_depth(rt: HostRuntime) -> Result<(), Fail> {
-    assert_eq!(rt;
-        outcome_between(rt.alloc(), b"(", 64, b"a", b")")?,
-        Some((0, 1))
-    );
-    assert_eq!(rt;
-        outcome_between(rt.alloc(), b"(", 65, b"a", b")")?,
-        Some((9, 64))
-    );
-    assert_eq!(rt;
-        outcome_between(rt.alloc(), b"any $p ", 65, b"a", b"")?,
-        Some((9, 448))
-    );
-    assert_eq!(rt;
-        outcome_between(rt.alloc(), b"?", 64, b"a", b"")?,
-        Some((0, 65))
-    );
-    assert_eq!(rt;
-        outcome_between(rt.alloc(), b"", 255, b"a", b"|a")?,
-        Some((0, 511))
-    );
-    let nine = b"any $a any $b any $c any $d any $e any $f any $g any $h any $i j";
-    assert_eq!(rt; outcome(rt.alloc(), nine), Some((13, 56)));
-    Ok(())
-}
-
-#[test]
-fn lengths_and_nodes(rt: HostRuntime) -> Result<(), Fail> {
-    assert_eq!(rt;
-        outcome_between(rt.alloc(), b"a|", 8192, b"", b"")?,
-        Some((8, 512))
-    );
-    assert_eq!(rt;
-        outcome_between(rt.alloc(), b" ", 16381, b"a|a", b"")?,
-        Some((0, 3))
-    );
-    assert_eq!(rt;
-        outcome_between(rt.alloc(), b" ", 16382, b"a|a", b"")?,
-        Some((1, 16384))
-    );
-    assert_eq!(rt;
-        outcome_between(rt.alloc(), b"n", 32, b"", b"")?,
-        Some((0, 1))
-    );
-    assert_eq!(rt;
-        outcome_between(rt.alloc(), b"n", 33, b"", b"")?,
-        Some((11, 0))
-    );
-    assert_eq!(rt;
-        outcome_between(rt.alloc(), b"", 32, b"b - n", b"n")?,
-        Some((11, 4))
-    );
-    assert_eq!(rt;
-        outcome_between(rt.alloc(), b"", 32, b"any $n", b"n")?,
-        Some((11, 4))
-    );
-    Ok(())
-}
-
-#[test]
-fn operators_group_to_the_left(rt: HostRuntime) -> Result<(), Fail> {
-    let expression = read(rt.alloc(), b" a - b(x,$p) - c | ?((d)) ").is_ok();
-    assert!(rt; !expression, "a parameter that nothing binds");
-    let expression = read(rt.alloc(), b" a - b(x) - c | ?((d)) ").map_err(|_| "an expression")?;
-    assert_eq!(rt; expression.nodes(), 8);
-    let grouped = match expression.expr() {
+// Whether an expression is a choice of a sequence that begins with a sequence, and an option.
+fn is_grouped(expr: &Expr) -> bool {
+    match expr {
         Expr::Or(left, right) => {
             matches!(&**right, Expr::Opt(_))
                 && match &**left {
@@ -195,7 +173,19 @@ fn operators_group_to_the_left(rt: HostRuntime) -> Result<(), Fail> {
                 }
         }
         _ => false,
-    };
-    assert!(rt; grouped);
+    }
+}
+
+// Whether these two texts are read as such expressions.
+fn are_grouped(alloc: Global, counted: &[u8], grouped: &[u8]) -> Result<bool, Fail> {
+    let counted = read(alloc, counted).map_err(|_| "an expression")?;
+    let grouped = read(alloc, grouped).map_err(|_| "an expression")?;
+    Ok(is_counted(counted.expr()) && is_grouped(grouped.expr()))
+}
+
+#[test]
+fn operators_group_to_the_left(rt: HostRuntime) -> Result<(), Fail> {
+    let are = are_grouped(rt.alloc(), b"times 10 (a + b)", b" a - b(x) - c | ?((d)) ")?;
+    assert!(rt; are);
     Ok(())
 }
