@@ -80,106 +80,118 @@ fn ends_so(
     Ok(ended == status && out.bytes() == put && link.next == lines.len())
 }
 
-/// What an ask of `a` comes to when these lines come back.
+/// The lines that come back to an ask of `a`, and then the status and the text of the run.
+const RUNS: &[(&[&[u8]], u8, &[u8])] = &[
+    (&[b"granted 1-7", b"confirmed 12"], 0, b"done 12\n"),
+    (
+        &[b"granted 1-7", b"", b"outcome confirmed 3"],
+        0,
+        b"done 3\n",
+    ),
+    (
+        &[b"granted 1-7", b"refused 91 disk", b"outcome confirmed 3"],
+        0,
+        b"done 3\n",
+    ),
+    (
+        &[b"granted 1-7", b"", b"outcome open", b"confirmed 4"],
+        0,
+        b"done 4\n",
+    ),
+    (&[b"refused 20 busy until 5"], 3, b"refused 20\n"),
+    (&[b"refused 21 not permitted"], 3, b"refused 21\n"),
+    (&[b"refused 22 large 9"], 3, b"refused 22\n"),
+    (&[b"refused 23 full"], 3, b"refused 23\n"),
+    (&[b"granted 1-7", b"refused 31 expired"], 4, b"never\n"),
+    (
+        &[
+            b"granted 1-7",
+            b"refused 30 no such ticket",
+            b"outcome never",
+        ],
+        4,
+        b"never\n",
+    ),
+    (
+        &[b"granted 1-7", b"", b"outcome open", b"refused 31 expired"],
+        4,
+        b"never\n",
+    ),
+    (&[b""], 6, b"refused link\n"),
+    (&[b"yes"], 7, b"refused reply\n"),
+    (&[b"granted 01-7"], 7, b"refused reply\n"),
+    (&[b"refused 90 memory"], 9, b"refused memory\n"),
+    (&[b"refused 21 not permitted"], 10, b""),
+];
+
 #[test]
 fn answers_end_a_run(rt: HostRuntime) -> Result<(), Fail> {
-    let cases: [(&[&[u8]], u8, &[u8]); 16] = [
-        (&[b"granted 1-7", b"confirmed 12"], 0, b"done 12\n"),
-        (
-            &[b"granted 1-7", b"", b"outcome confirmed 3"],
-            0,
-            b"done 3\n",
-        ),
-        (
-            &[b"granted 1-7", b"refused 91 disk", b"outcome confirmed 3"],
-            0,
-            b"done 3\n",
-        ),
-        (
-            &[b"granted 1-7", b"", b"outcome open", b"confirmed 4"],
-            0,
-            b"done 4\n",
-        ),
-        (&[b"refused 20 busy until 5"], 3, b"refused 20\n"),
-        (&[b"refused 21 not permitted"], 3, b"refused 21\n"),
-        (&[b"refused 22 large 9"], 3, b"refused 22\n"),
-        (&[b"refused 23 full"], 3, b"refused 23\n"),
-        (&[b"granted 1-7", b"refused 31 expired"], 4, b"never\n"),
-        (
-            &[
-                b"granted 1-7",
-                b"refused 30 no such ticket",
-                b"outcome never",
-            ],
-            4,
-            b"never\n",
-        ),
-        (
-            &[b"granted 1-7", b"", b"outcome open", b"refused 31 expired"],
-            4,
-            b"never\n",
-        ),
-        (&[b""], 6, b"refused link\n"),
-        (&[b"yes"], 7, b"refused reply\n"),
-        (&[b"granted 01-7"], 7, b"refused reply\n"),
-        (&[b"refused 90 memory"], 9, b"refused memory\n"),
-        (&[b"refused 21 not permitted"], 10, b""),
-    ];
-    for (lines, status, put) in cases {
-        let is_so = ends_so(rt.alloc(), &["s", "a", "5"], lines, status, put)?;
-        assert!(rt; is_so, "status {status}");
+    for (lines, status, put) in RUNS {
+        let is_so = ends_so(rt.alloc(), &["s", "a", "5"], lines, *status, put)?;
+        assert!(rt; is_so, "{lines:?}");
     }
     Ok(())
 }
 
-/// Eight turns that end unsure: nothing comes back, the ticket isn't known, another one is
-/// cancelled, and so on. A ninth would find that it is done.
-#[test]
-fn eight_turns_are_taken(rt: HostRuntime) -> Result<(), Fail> {
-    let lines: [&[u8]; 12] = [
-        b"granted 2-1",
-        b"",
-        b"",
-        b"refused 30 no such ticket",
-        b"outcome maybe",
-        b"cancelled 2-2",
-        b"outcome open",
-        b"refused 91 disk",
-        b"confirmed 3",
-        b"yes",
-        b"",
-        b"outcome confirmed 9",
-    ];
-    let mut out = sink_of(rt.alloc(), false)?;
-    let words = words_of(rt.alloc(), &["s", "a", "5"])?;
+/// The lines of eight turns that end unsure: nothing comes back, the ticket isn't known, another
+/// one is cancelled, and so on. A ninth would find that it is done.
+const TURNS: &[&[u8]] = &[
+    b"granted 2-1",
+    b"",
+    b"",
+    b"refused 30 no such ticket",
+    b"outcome maybe",
+    b"cancelled 2-2",
+    b"outcome open",
+    b"refused 91 disk",
+    b"confirmed 3",
+    b"yes",
+    b"",
+    b"outcome confirmed 9",
+];
+
+/// How a run over these lines ends: its status, how many lines it took, how many calls failed, and
+/// whether it puts this text.
+fn ended(alloc: Global, lines: &[&[u8]], put: &[u8]) -> Result<(u8, usize, u64, bool), Fail> {
+    let words = words_of(alloc, &["s", "a", "5"])?;
+    let mut out = sink_of(alloc, false)?;
     let mut link = Script {
-        lines: &lines,
+        lines,
         next: 0,
         faults: 0,
         balks: 0,
     };
-    assert_eq!(rt; client(&words, &mut link, &mut out), 8);
-    assert!(rt; out.bytes() == b"unsure 2-1\n".as_slice());
-    assert_eq!(rt; (link.next, link.faults), (11, 3));
+    let status = client(&words, &mut link, &mut out);
+    Ok((status, link.next, link.faults, out.bytes() == put))
+}
+
+#[test]
+fn eight_turns_are_taken(rt: HostRuntime) -> Result<(), Fail> {
+    let seen = ended(rt.alloc(), TURNS, b"unsure 2-1\n")?;
+    assert_eq!(rt; seen, (8, 11, 3, true));
     Ok(())
 }
 
-/// Words that name no ask: nothing is asked.
+/// Words that name no ask.
+const REFUSED: &[&[&str]] = &[
+    &["s"],
+    &["s", "a"],
+    &["s", "a", "5", "x"],
+    &["s", "1a", "5"],
+    &["s", "a()", "5"],
+    &["s", "a", "0"],
+    &["s", "a", "05"],
+    &["s", "a", "86400001"],
+    &["s", "a", ""],
+];
+
 #[test]
 fn words_name_an_ask_or_none(rt: HostRuntime) -> Result<(), Fail> {
-    let refused: [&[&str]; 9] = [
-        &["s"],
-        &["s", "a"],
-        &["s", "a", "5", "x"],
-        &["s", "1a", "5"],
-        &["s", "a()", "5"],
-        &["s", "a", "0"],
-        &["s", "a", "05"],
-        &["s", "a", "86400001"],
-        &["s", "a", ""],
-    ];
-    for words in refused {
-        assert!(rt; ends_so(rt.alloc(), words, &[], 2, b"refused words\n")?);
+    for words in REFUSED {
+        assert!(rt;
+            ends_so(rt.alloc(), words, &[], 2, b"refused words\n")?,
+            "{words:?}"
+        );
     }
     assert!(rt; ends_so(rt.alloc(), &[], &[], 0, b"ixc SOCKET ACTION MILLIS\n")?);
     let lines: [&[u8]; 2] = [b"granted 1-1", b"confirmed 1"];
@@ -195,25 +207,30 @@ fn words_name_an_ask_or_none(rt: HostRuntime) -> Result<(), Fail> {
     Ok(())
 }
 
+/// A line, a reply to it, and whether such a reply is expected.
+const REPLIES: &[(&[u8], &[u8], bool)] = &[
+    (b"ask a 5\n", b"granted 1-1", true),
+    (b"ask a 5\n", b"refused 20 busy until 7", true),
+    (b"ask a 5\n", b"refused 23 full", true),
+    (b"ask a 5\n", b"refused 90 memory", false),
+    (b"ask a 5\n", b"refused 16 name", false),
+    (b"ask a 5\n", b"confirmed 1", false),
+    (b"confirm 1-1\n", b"confirmed 1", true),
+    (b"confirm 1-1\n", b"refused 31 expired", false),
+    (b"confirm 1-1\n", b"confirmed 01", false),
+    (b"cancel 1-1\n", b"cancelled 1-1", true),
+    (b"cancel 1-1\n", b"cancelled 1-2", false),
+    (b"outcome 1-1\n", b"outcome never", true),
+    (b"outcome 1-1\n", b"refused 30 no such ticket", false),
+    (b"outcome 1-1\n", b"", false),
+];
+
 #[test]
 fn a_line_is_an_expected_reply_or_not(rt: HostRuntime) {
-    let lines: [(&[u8], &[u8], bool); 14] = [
-        (b"ask a 5\n", b"granted 1-1", true),
-        (b"ask a 5\n", b"refused 20 busy until 7", true),
-        (b"ask a 5\n", b"refused 23 full", true),
-        (b"ask a 5\n", b"refused 90 memory", false),
-        (b"ask a 5\n", b"refused 16 name", false),
-        (b"ask a 5\n", b"confirmed 1", false),
-        (b"confirm 1-1\n", b"confirmed 1", true),
-        (b"confirm 1-1\n", b"refused 31 expired", false),
-        (b"confirm 1-1\n", b"confirmed 01", false),
-        (b"cancel 1-1\n", b"cancelled 1-1", true),
-        (b"cancel 1-1\n", b"cancelled 1-2", false),
-        (b"outcome 1-1\n", b"outcome never", true),
-        (b"outcome 1-1\n", b"refused 30 no such ticket", false),
-        (b"outcome 1-1\n", b"", false),
-    ];
-    for (line, reply, expected) in lines {
-        assert_eq!(rt; is_expected(line, reply), expected);
+    for (line, reply, expected) in REPLIES {
+        assert!(rt;
+            is_expected(line, reply) == *expected,
+            "{reply:?} to {line:?}"
+        );
     }
 }

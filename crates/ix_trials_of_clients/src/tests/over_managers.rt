@@ -40,38 +40,52 @@ fn link_of(alloc: Global, failing: &[(u64, bool)]) -> Result<ManagerLink, Fail> 
     }
 }
 
-/// Each run on its own, with the calls that fail: the ask is call 0, the confirm call 1.
+/// Calls that fail so that eight turns end unsure.
+const LATER: &[(u64, bool)] = &[
+    (1, false),
+    (2, false),
+    (3, true),
+    (4, false),
+    (5, true),
+    (6, false),
+    (7, true),
+    (8, false),
+    (9, true),
+];
+
+/// An action, the calls that fail when it is asked for, and then the status and the text of the
+/// run. The ask is call 0, the confirm call 1.
+const RUNS: &[(&str, &[(u64, bool)], u8, &[u8])] = &[
+    ("a", &[], 0, b"done 1\n"),
+    ("a", &[(1, true)], 0, b"done 1\n"),
+    ("a", &[(1, false)], 4, b"never\n"),
+    ("a", &[(1, true), (2, false), (3, true)], 0, b"done 1\n"),
+    ("b", &[], 3, b"refused 21\n"),
+    ("a", &[(0, false)], 6, b"refused link\n"),
+    ("a", &[(0, true)], 6, b"refused link\n"),
+    ("a", LATER, 8, b"unsure 1-1\n"),
+];
+
+/// Whether a run on its own, whose calls of these numbers fail, ends so.
+fn ends_so(
+    alloc: Global,
+    action: &str,
+    failing: &[(u64, bool)],
+    status: u8,
+    put: &[u8],
+) -> Result<bool, Fail> {
+    let words = words_of(alloc, &["s", action, "5"])?;
+    let mut link = link_of(alloc, failing)?;
+    let mut out = sink_of(alloc, false)?;
+    let ended = client(&words, &mut link, &mut out);
+    Ok(ended == status && out.bytes() == put)
+}
+
 #[test]
 fn runs_end_so(rt: HostRuntime) -> Result<(), Fail> {
-    let alloc = rt.alloc();
-    let all_later: [(u64, bool); 9] = [
-        (1, false),
-        (2, false),
-        (3, true),
-        (4, false),
-        (5, true),
-        (6, false),
-        (7, true),
-        (8, false),
-        (9, true),
-    ];
-    let cases: [(&str, &[(u64, bool)], u8, &[u8]); 8] = [
-        ("a", &[], 0, b"done 1\n"),
-        ("a", &[(1, true)], 0, b"done 1\n"),
-        ("a", &[(1, false)], 4, b"never\n"),
-        ("a", &[(1, true), (2, false), (3, true)], 0, b"done 1\n"),
-        ("b", &[], 3, b"refused 21\n"),
-        ("a", &[(0, false)], 6, b"refused link\n"),
-        ("a", &[(0, true)], 6, b"refused link\n"),
-        ("a", &all_later, 8, b"unsure 1-1\n"),
-    ];
-    for (action, failing, status, put) in cases {
-        let words = words_of(alloc, &["s", action, "5"])?;
-        let mut link = link_of(alloc, failing)?;
-        let mut out = sink_of(alloc, false)?;
-        let ended = client(&words, &mut link, &mut out);
-        assert_eq!(rt; ended, status);
-        assert!(rt; out.bytes() == put);
+    for (action, failing, status, put) in RUNS {
+        let is_so = ends_so(rt.alloc(), action, failing, *status, put)?;
+        assert!(rt; is_so, "{action}, failing {failing:?}");
     }
     Ok(())
 }

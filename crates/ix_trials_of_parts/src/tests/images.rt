@@ -1,6 +1,6 @@
 //! Files that a crash may leave: each is opened, with the history that its synced bytes have.
 use super::stores::{
-    EMPTY, NEW, UNOPENED, Went, action, append_both, site_with, start_at, start_on,
+    EMPTY, NEW, UNOPENED, Wanted, Went, action, append_both, site_with, start_at, start_on, tells,
 };
 use std::alloc::Global;
 use std::test::Fail;
@@ -95,6 +95,12 @@ const NOT_BOOTED: Went = Went::NotBooted { has_failed: true };
 
 const NOT_APPENDED: Went = Went::Opened { has_failed: true };
 
+// Whether appends that end so where the call of this number fails leave this file.
+fn leaves(alloc: Global, call: u64, end: Went, then: &[u8]) -> Result<bool, Fail> {
+    let left = behind_an_append(alloc, call, end)?;
+    Ok(left.as_slice() == then)
+}
+
 #[test]
 fn images_of_a_record_that_was_not_synced(rt: HostRuntime) -> Result<(), Fail> {
     // Calls 0 to 4 attach and read the journal, 5 writes the boot, and 6 syncs; 9 and 10 do so
@@ -104,8 +110,7 @@ fn images_of_a_record_that_was_not_synced(rt: HostRuntime) -> Result<(), Fail> {
         (10, NOT_APPENDED, CLOSED, 22),
     ];
     for (call, end, then, least) in cases {
-        let left = behind_an_append(rt.alloc(), call, end)?;
-        assert!(rt; left.as_slice() == then, "call {call}");
+        assert!(rt; leaves(rt.alloc(), call, end, then)?, "call {call}");
         let to = then.len();
         for from in [least, least + 1, least + 2, to - 1, to] {
             let pending = Pending { from, to, least };
@@ -137,32 +142,59 @@ fn images_of_a_gate_that_was_not_synced(rt: HostRuntime) -> Result<(), Fail> {
         (12, NOT_APPENDED, ONE),
     ];
     for (call, end, then) in cases {
-        let left = behind_an_append(rt.alloc(), call, end)?;
-        assert!(rt; left.as_slice() == then, "call {call}");
-    }
-    for byte in 0..=255 {
-        let is_open = byte == 0xA5;
-        let image = with_byte(rt.alloc(), BOOT, 12, byte)?;
-        let told = start_on(rt.alloc(), &image, b"a - b")?;
-        assert_eq!(rt; told.word, "opened", "the boot's gate {byte}");
-        assert_eq!(rt; told.boots, u64::from(is_open), "the boot's gate {byte}");
-        let image = with_byte(rt.alloc(), ONE, 21, byte)?;
-        let told = start_on(rt.alloc(), &image, b"a - b")?;
-        let history: &[u8] = if is_open { b"a " } else { b"" };
-        assert_eq!(rt; told.word, "opened", "the action's gate {byte}");
-        assert!(rt; told.text.as_slice() == history, "the action's gate {byte}");
+        assert!(rt; leaves(rt.alloc(), call, end, then)?, "call {call}");
     }
     Ok(())
+}
+
+// Whether a journal with this byte in place of the boot's gate is opened with so many boots.
+fn has_boots(alloc: Global, byte: u8, boots: u64) -> Result<bool, Fail> {
+    let image = with_byte(alloc, BOOT, 12, byte)?;
+    let told = start_on(alloc, &image, b"a - b")?;
+    Ok(told.word == "opened" && told.boots == boots)
+}
+
+// Whether one with this byte in place of the action's gate is opened with this history.
+fn has_history(alloc: Global, byte: u8, text: &[u8]) -> Result<bool, Fail> {
+    let image = with_byte(alloc, ONE, 21, byte)?;
+    let told = start_on(alloc, &image, b"a - b")?;
+    Ok(told.word == "opened" && told.text.as_slice() == text)
+}
+
+#[test]
+fn a_gate_is_open_by_one_byte(rt: HostRuntime) -> Result<(), Fail> {
+    for byte in 0..=255 {
+        let is_open = byte == 0xA5;
+        let history: &[u8] = if is_open { b"a " } else { b"" };
+        assert!(rt;
+            has_boots(rt.alloc(), byte, u64::from(is_open))?,
+            "the boot's gate {byte}"
+        );
+        assert!(rt;
+            has_history(rt.alloc(), byte, history)?,
+            "the action's gate {byte}"
+        );
+    }
+    Ok(())
+}
+
+// Whether a journal without records with this byte in place of its head gate is opened, and is
+// whole then.
+fn is_made_whole(alloc: Global, byte: u8) -> Result<bool, Fail> {
+    let image = with_byte(alloc, NEW, 0, byte)?;
+    let wanted = Wanted {
+        word: "opened",
+        text: b"",
+        at: 0,
+        file: NEW,
+    };
+    tells(alloc, &image, b"a - b", wanted)
 }
 
 #[test]
 fn images_of_a_head_gate_that_was_not_synced(rt: HostRuntime) -> Result<(), Fail> {
     for byte in 0..=255 {
-        let image = with_byte(rt.alloc(), NEW, 0, byte)?;
-        let told = start_on(rt.alloc(), &image, b"a - b")?;
-        assert_eq!(rt; told.word, "opened", "head gate {byte}");
-        assert!(rt; told.text.is_empty(), "head gate {byte}");
-        assert!(rt; told.file.as_slice() == NEW, "head gate {byte}");
+        assert!(rt; is_made_whole(rt.alloc(), byte)?, "head gate {byte}");
     }
     Ok(())
 }
@@ -175,6 +207,12 @@ fn behind_a_start(alloc: Global, file: &[u8], call: u64) -> Result<Vec<u8>, Fail
         return Err("another answer".into());
     }
     Ok(told.file)
+}
+
+// Whether a start from this file in which the call of this number fails leaves that one.
+fn start_leaves(alloc: Global, file: &[u8], call: u64, then: &[u8]) -> Result<bool, Fail> {
+    let left = behind_a_start(alloc, file, call)?;
+    Ok(left.as_slice() == then)
 }
 
 #[test]
@@ -203,8 +241,10 @@ fn images_of_a_start(rt: HostRuntime) -> Result<(), Fail> {
         (UNOPENED, 11, NEW, whole),
     ];
     for (file, call, then, pending) in rows {
-        let left = behind_a_start(rt.alloc(), file, call)?;
-        assert!(rt; left.as_slice() == then, "call {call} of {file:?}");
+        assert!(rt;
+            start_leaves(rt.alloc(), file, call, then)?,
+            "call {call} of {file:?}"
+        );
         let lost = first_lost_of_all(rt.alloc(), then, pending)?;
         assert_eq!(rt; lost, None, "call {call} of {file:?}");
     }

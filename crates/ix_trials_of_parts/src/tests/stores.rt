@@ -105,67 +105,114 @@ pub(super) fn start_at(alloc: Global, site: &mut MemorySite, text: &[u8]) -> Res
     })
 }
 
+// What a start has to tell: a word, the history's texts or the text that is kept, the place of
+// damage, and the file then.
+#[derive(Clone, Copy)]
+pub(super) struct Wanted<'a> {
+    pub(super) word: &'a str,
+    pub(super) text: &'a [u8],
+    pub(super) at: usize,
+    pub(super) file: &'a [u8],
+}
+
+// Whether a start on this file with the text of an expression tells that.
+pub(super) fn tells(
+    alloc: Global,
+    file: &[u8],
+    text: &[u8],
+    wanted: Wanted<'_>,
+) -> Result<bool, Fail>
+    requires { length text.now < 65536 }
+{
+    let told = start_on(alloc, file, text)?;
+    Ok(
+        told.word == wanted.word
+            && told.text.as_slice() == wanted.text
+            && told.at == wanted.at
+            && told.file.as_slice() == wanted.file,
+    )
+}
+
+// A file, the history, and what the file then is.
+const OPENED: &[(&[u8], &[u8], &[u8])] = &[
+    // Absent, and unfinished.
+    (b"", b"", NEW),
+    (b"\x5A", b"", NEW),
+    (b"\x00\x00\x00IXJ", b"", NEW),
+    (UNOPENED, b"", NEW),
+    (KINDS, b"a b ", KINDS),
+    (ONE, b"a ", ONE),
+    (BOTH, b"a b ", BOTH),
+    // The gate in front of the record is closed.
+    (
+        b"\xA5IXJ1\x00\x05a - b\x7F\x00\x01a\x00",
+        b"",
+        b"\xA5IXJ1\x00\x05a - b\x7F\x00\x01a\x00",
+    ),
+];
+
 #[test]
 fn files_that_are_opened(rt: HostRuntime) -> Result<(), Fail> {
-    // The file, the history, and what the file then is.
-    let cases: [(&[u8], &[u8], &[u8]); 8] = [
-        // Absent, and unfinished.
-        (b"", b"", NEW),
-        (b"\x5A", b"", NEW),
-        (b"\x00\x00\x00IXJ", b"", NEW),
-        (UNOPENED, b"", NEW),
-        (KINDS, b"a b ", KINDS),
-        (ONE, b"a ", ONE),
-        (BOTH, b"a b ", BOTH),
-        // The gate in front of the record is closed.
-        (
-            b"\xA5IXJ1\x00\x05a - b\x7F\x00\x01a\x00",
-            b"",
-            b"\xA5IXJ1\x00\x05a - b\x7F\x00\x01a\x00",
-        ),
-    ];
-    for (file, history, then) in cases {
-        let told = start_on(rt.alloc(), file, b"a - b")?;
-        assert_eq!(rt; told.word, "opened", "{file:?}");
-        assert!(rt; told.text.as_slice() == history, "the history of {file:?}");
-        assert!(rt; told.file.as_slice() == then, "the file from {file:?}");
+    for (file, text, then) in OPENED {
+        let wanted = Wanted {
+            word: "opened",
+            text,
+            at: 0,
+            file: then,
+        };
+        assert!(rt; tells(rt.alloc(), file, b"a - b", wanted)?, "{file:?}");
     }
     Ok(())
 }
 
+// A file, the text handed in, the answer, and the text kept.
+const REFUSED: &[(&[u8], &[u8], &str, &[u8])] = &[
+    (b"#!/bin/sh", b"a - b", "foreign", b""),
+    (ONE, b"a - c", "other", b"a - b"),
+    (UNOPENED, b"a", "other", b"a - b"),
+    // A journal without its end: another text is told before damage.
+    (
+        b"\xA5IXJ1\x00\x05a - b\xA5\x00\x01a",
+        b"a - c",
+        "other",
+        b"a - b",
+    ),
+];
+
 #[test]
 fn files_that_are_refused(rt: HostRuntime) -> Result<(), Fail> {
-    // The file, the text handed in, the answer, the text kept, and the place of damage.
-    let cases: [(&[u8], &[u8], &str, &[u8], usize); 4] = [
-        (b"#!/bin/sh", b"a - b", "foreign", b"", 0),
-        (ONE, b"a - c", "other", b"a - b", 0),
-        (UNOPENED, b"a", "other", b"a - b", 0),
-        // Another text is told before damage.
-        (&ONE[..16], b"a - c", "other", b"a - b", 0),
-    ];
-    for (file, text, word, kept, at) in cases {
-        let told = start_on(rt.alloc(), file, text)?;
-        assert_eq!(rt; told.word, word, "{file:?}");
-        assert!(rt; told.text.as_slice() == kept, "the text kept by {file:?}");
-        assert_eq!(rt; told.at, at, "{file:?}");
-        assert!(rt; told.file.as_slice() == file, "the file from {file:?}");
+    for (file, given, word, text) in REFUSED {
+        let wanted = Wanted {
+            word,
+            text,
+            at: 0,
+            file,
+        };
+        assert!(rt; tells(rt.alloc(), file, given, wanted)?, "{file:?}");
     }
     Ok(())
+}
+
+// Whether a start on this file answers with this word, this place of damage and this text.
+fn answers(alloc: Global, file: &[u8], word: &str, at: usize, text: &[u8]) -> Result<bool, Fail> {
+    let told = start_on(alloc, file, b"a - b")?;
+    Ok(told.word == word && told.at == at && told.text.as_slice() == text)
 }
 
 #[test]
 fn each_front_of_a_journal(rt: HostRuntime) -> Result<(), Fail> {
     for length in 0..18 {
-        let told = start_on(rt.alloc(), &ONE[..length], b"a - b")?;
         let (word, at, history): (&str, usize, &[u8]) = match length {
             0 | 1 => ("opened", 0, b""),
             2..=12 => ("foreign", 0, b""),
             13..=16 => ("damaged", 13, b""),
             _ => ("opened", 0, b"a "),
         };
-        assert_eq!(rt; told.word, word, "of length {length}");
-        assert_eq!(rt; told.at, at, "of length {length}");
-        assert!(rt; told.text.as_slice() == history, "of length {length}");
+        let front = &ONE[..length];
+        assert!(rt;
+            answers(rt.alloc(), front, word, at, history)?,
+            "of length {length}"
+        );
     }
     Ok(())
 }
@@ -173,15 +220,17 @@ fn each_front_of_a_journal(rt: HostRuntime) -> Result<(), Fail> {
 #[test]
 fn each_front_of_a_journal_with_records_of_each_kind(rt: HostRuntime) -> Result<(), Fail> {
     for length in 13..KINDS.len() {
-        let told = start_on(rt.alloc(), &KINDS[..length], b"a - b")?;
         // The records stand behind the gates at 12, 21 and 29, the last of them open in the front.
         let at = match length {
             ..=21 => 13,
             ..=29 => 22,
             _ => 30,
         };
-        assert_eq!(rt; told.word, "damaged", "of length {length}");
-        assert_eq!(rt; told.at, at, "of length {length}");
+        let front = &KINDS[..length];
+        assert!(rt;
+            answers(rt.alloc(), front, "damaged", at, b"")?,
+            "of length {length}"
+        );
     }
     Ok(())
 }
@@ -224,24 +273,39 @@ fn long_record(alloc: Global) -> Result<Vec<u8>, Fail> {
     Ok(file)
 }
 
-#[test]
-fn a_start_that_failed_is_made_again(rt: HostRuntime) -> Result<(), Fail> {
-    // The file, and the history. A start makes 5, 8, 11 and 5 calls.
-    let long = long_record(rt.alloc())?;
-    let longest = spaced(rt.alloc(), &[LONGEST])?;
-    let cases: [(&[u8], &[u8]); 4] = [
-        (ONE, b"a "),
-        (b"", b""),
-        (UNOPENED, b""),
-        (long.as_slice(), longest.as_slice()),
-    ];
-    for (file, history) in cases {
-        for call in 1..12 {
-            let told = start_again(rt.alloc(), file, call)?;
-            assert_eq!(rt; told.word, "opened", "call {call} of {file:?}");
-            assert!(rt; told.text.as_slice() == history, "call {call} of {file:?}");
+// The first call whose failure isn't followed by a start that opens this file with this history.
+fn first_not_made_again(alloc: Global, file: &[u8], text: &[u8]) -> Result<Option<u64>, Fail> {
+    for call in 1..12 {
+        let told = start_again(alloc, file, call)?;
+        if told.word != "opened" || told.text.as_slice() != text {
+            return Ok(Some(call));
         }
     }
+    Ok(None)
+}
+
+// The same of a journal with a record of the longest action.
+fn first_not_made_again_behind_a_long_record(alloc: Global) -> Result<Option<u64>, Fail> {
+    let file = long_record(alloc)?;
+    let text = spaced(alloc, &[LONGEST])?;
+    first_not_made_again(alloc, &file, &text)
+}
+
+#[test]
+fn a_start_that_failed_is_made_again(rt: HostRuntime) -> Result<(), Fail> {
+    // The file, and the history. A start makes 5, 8 and 11 calls, and 5 over the long record.
+    let cases: [(&[u8], &[u8]); 3] = [(ONE, b"a "), (b"", b""), (UNOPENED, b"")];
+    for (file, text) in cases {
+        assert_eq!(rt;
+            first_not_made_again(rt.alloc(), file, text)?,
+            None,
+            "{file:?}"
+        );
+    }
+    assert_eq!(rt;
+        first_not_made_again_behind_a_long_record(rt.alloc())?,
+        None
+    );
     Ok(())
 }
 
@@ -301,14 +365,19 @@ pub(super) fn action(text: &[u8]) -> Result<Action, Fail> {
 const BOTH_SPENT: &[u8] =
     b"\xA5IXJ2\x00\x05a - b\xA5\x00\x06boot 1\xA5\x00\x051-1 a\xA5\x00\x051-2 b\x00";
 
+// How far two appends to no file come, and whether the file is this one then and is opened with
+// this history.
+fn appended(alloc: Global, then: &[u8], text: &[u8]) -> Result<(Went, bool), Fail> {
+    let mut site = site_with(alloc, b"", &[])?;
+    let went = append_both(alloc, &mut site, &action(b"a")?, &action(b"b")?)?;
+    let told = start_on(alloc, site.image(), b"a - b")?;
+    Ok((went, site.image() == then && told.text.as_slice() == text))
+}
+
 #[test]
 fn appended_actions_are_in_the_journal(rt: HostRuntime) -> Result<(), Fail> {
-    let mut site = site_with(rt.alloc(), b"", &[])?;
-    let went = append_both(rt.alloc(), &mut site, &action(b"a")?, &action(b"b")?)?;
-    assert_eq!(rt; went, Went::AppendedBoth);
-    assert!(rt; site.image() == BOTH_SPENT);
-    let told = start_on(rt.alloc(), site.image(), b"a - b")?;
-    assert!(rt; told.text.as_slice() == b"a b ".as_slice());
+    let seen = appended(rt.alloc(), BOTH_SPENT, b"a b ")?;
+    assert_eq!(rt; seen, (Went::AppendedBoth, true));
     Ok(())
 }
 
