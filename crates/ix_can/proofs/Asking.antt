@@ -41,6 +41,12 @@ part_has {A} {G} f xs i x h lt e = each_at (λ z. G (f z)) xs i x (each_made G f
 
 -- Entries
 
+-- what each of the entries to come has, the next one has, and each of those behind it
+pub next_entry : {G : Plain → Type 0} {es rest : List (List ℕ × Plain)} {entry : List ℕ × Plain} → es ≡ entry ∷ rest → Each G (items_of (plain_entries es)) → G (plain_entry entry) × Each G (items_of (plain_entries rest))
+next_entry {G} {es} {rest} {entry} e h =
+    let k : Each G (items_of (plain_entries (entry ∷ rest))) = subst (λ xs. Each G (items_of (plain_entries xs))) e h in
+    (Each-head k, Each-tail k)
+
 pub entries_proper : {y : Form} {common : Plain} {es : List (List ℕ × Plain)} → ProperEntries (IsProper y) common (items_of (plain_entries es)) → AreProper y es
 entries_proper {y} {common} {es} h = record {
   ascending = keys_ascend es (subst (Ascending (λ x y. text_cmp (key x) (key y))) (items_of-listed (map plain_entry es)) h.ascending);

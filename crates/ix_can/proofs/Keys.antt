@@ -1,5 +1,5 @@
 -- Entries in memory by their values: the tree of a value there is its tree among the plain entries.
-use Rattle.std.proofs.Common.{◌≡◌, ℕ, Bool, true, false, cond, List, [], ◌∷◌, map, Some, refl, sym, ap, ◌∙◌, subst, if◌then◌else◌}
+use Rattle.std.proofs.Common.{◌≡◌, ℕ, Bool, true, false, cond, List, [], ◌∷◌, map, Option, Some, None, MatchOption, refl, sym, ap, ◌∙◌, subst, if◌then◌else◌}
 use Rattle.std.specs.BTreeMap.{is_at}
 use Rattle.std.specs.Cmp.{Equal-is, tied_itself}
 use Rattle.std.specs.List.{AllByRecursion}
@@ -16,7 +16,7 @@ use Rattle.ix_values.specs.Order.{text_eq, text_cmp}
 use Rattle.ix_values.specs.lemmas.Order.{text_cmp-same, text_eq-decides}
 use Rattle.ix_entries.specs.inside.Entries.{KeysAscend, item_at}
 use Rattle.ix_tree.specs.Order.{key, first_part}
-use Rattle.ix_tree.specs.Plain.{Plain, items_of}
+use Rattle.ix_tree.specs.Plain.{Plain, dead, items_of}
 use Rattle.ix_tree.specs.PlainOf.{plain_entry, plain_entries}
 use Rattle.ix_tree.proofs.PlainLists.{items_of-listed}
 use Rattle.ix_can.specs.inside.May.{tree_at}
@@ -65,6 +65,11 @@ tree_of_value (e ∷ es) common v =
 -- so with the entries as a part
 pub state_of_value : (es : List (List ℕ × Plain)) (common : Plain) (v : List ℕ) → item_at text_cmp es common v ≡ tree_at v common (items_of (plain_entries es))
 state_of_value es common v = tree_of_value es common v ∙ ap (tree_at v common) (sym (items_of-listed (map plain_entry es)))
+
+-- a look-up tells the tree of the value, which is dead where there is none
+pub state_told : {S : Type 0} (plain : S → Plain) (found : Option S) (es : List (List ℕ × Plain)) (v : List ℕ) → MatchOption found (lookup (is_at (text_cmp v)) es ≡ None) (λ s. lookup (is_at (text_cmp v)) es ≡ Some (plain s)) → MatchOption found (tree_at v dead (items_of (plain_entries es)) ≡ dead) (λ s. plain s ≡ tree_at v dead (items_of (plain_entries es)))
+state_told plain None es v h = sym (state_of_value es dead v) ∙ ap (λ o. unwrap_or o dead) h
+state_told plain (Some s) es v h = sym (ap (λ o. unwrap_or o dead) h) ∙ state_of_value es dead v
 
 -- what the common tree and each entry's have, the tree of every value has
 pub tree_at_has : (G : Plain → Type 0) (common : Plain) (v : List ℕ) (xs : List Plain) → G common → Each (λ x. G (first_part x)) xs → G (tree_at v common xs)

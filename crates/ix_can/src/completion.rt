@@ -15,8 +15,7 @@ ghost use Rattle.ix_can.specs.TreeOf.{is_final, tree_of};
 
 use crate::plain_tests::accepts_empty;
 use ix_expr::Expr;
-use ix_tree::{Bag, Knot, Map, Node, Pair, Tree};
-use ix_values::Value;
+use ix_tree::{Bag, Entries, Knot, Map, Node, Pair, Tree};
 
 /// Whether the word is complete in the expression, where `tree` is the tree of the word.
 pub fn is_final(tree: &Tree, expr: &Expr) -> bool
@@ -148,12 +147,12 @@ fn some_limited_bag_completes(number: u8, y: &Expr, bags: &[Bag]) -> bool
 }
 
 #[cycle(completes)]
-fn some_entry_completes(y: &Expr, entries: &[(Value, Knot)]) -> bool
+fn some_entry_completes(y: &Expr, entries: &Entries) -> bool
     ensures { result
         ≡ list_any (λ x. is_final (form_of y.now) (first_part x))
         (items_of (plain_entries entries.now)) }
 {
-    for entry in entries {
+    for entry in entries.iter() {
         if completes(y, &entry.1) {
             return true;
         }
@@ -162,12 +161,12 @@ fn some_entry_completes(y: &Expr, entries: &[(Value, Knot)]) -> bool
 }
 
 #[cycle(completes)]
-fn each_entry_completes(y: &Expr, entries: &[(Value, Knot)]) -> bool
+fn each_entry_completes(y: &Expr, entries: &Entries) -> bool
     ensures { result
         ≡ list_all (λ x. is_final (form_of y.now) (first_part x))
         (items_of (plain_entries entries.now)) }
 {
-    for entry in entries {
+    for entry in entries.iter() {
         if !completes(y, &entry.1) {
             return false;
         }

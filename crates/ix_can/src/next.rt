@@ -27,7 +27,7 @@ use crate::first::begins;
 use crate::plain_tests::{in_alphabet, is_match};
 use crate::values::{state_at, state_of};
 use ix_expr::{Env, Expr, sees};
-use ix_tree::{Bag, Knot, Map, Node, Pair, Tree};
+use ix_tree::{Bag, Entries, Knot, Map, Node, Pair, Tree};
 use ix_values::{Action, Name, Value};
 
 /// Whether the word extended by the action is partial, where `tree` is the tree of the word.
@@ -322,7 +322,7 @@ fn goes_on_at(
 }
 
 #[cycle(goes_on)]
-fn some_entry_goes_on(body: Body, env: &Env, entries: &[(Value, Knot)], action: &Action) -> bool
+fn some_entry_goes_on(body: Body, env: &Env, entries: &Entries, action: &Action) -> bool
     requires fits { FitsInside body.parameter.now (form_of body.expr.now) env.now }
     requires proper { Each (λ x. IsProper (form_of body.expr.now) (first_part x))
         (items_of (plain_entries entries.now)) }
@@ -332,7 +332,7 @@ fn some_entry_goes_on(body: Body, env: &Env, entries: &[(Value, Knot)], action: 
         (bind body.entry.parameter.now (Some (key x)) env.now) (first_part x) action.now)
         (items_of (plain_entries entries.now)) }
 {
-    for entry in entries {
+    for entry in entries.iter() {
         if goes_on_at(body, Outside::Refused, Some(entry.0), env, &entry.1, action) {
             return true;
         }
@@ -345,7 +345,7 @@ fn each_entry_goes_on(
     body: Body,
     outside: Outside,
     env: &Env,
-    entries: &[(Value, Knot)],
+    entries: &Entries,
     action: &Action,
 ) -> bool
     requires fits { FitsInside body.parameter.now (form_of body.expr.now) env.now }
@@ -357,7 +357,7 @@ fn each_entry_goes_on(
         (bind body.entry.parameter.now (Some (key x)) env.now) (first_part x) action.now)
         (items_of (plain_entries entries.now)) }
 {
-    for entry in entries {
+    for entry in entries.iter() {
         if !goes_on_at(body, outside, Some(entry.0), env, &entry.1, action) {
             return false;
         }
@@ -372,7 +372,7 @@ fn some_own_goes_on(
     body: Body,
     env: &Env,
     common: &Knot,
-    entries: &[(Value, Knot)],
+    entries: &Entries,
     action: &Action,
 ) -> bool
     requires fits { FitsInside body.parameter.now (form_of body.expr.now) env.now }
@@ -405,7 +405,7 @@ fn each_own_goes_on(
     outside: Outside,
     env: &Env,
     common: &Knot,
-    entries: &[(Value, Knot)],
+    entries: &Entries,
     action: &Action,
 ) -> bool
     requires fits { FitsInside body.parameter.now (form_of body.expr.now) env.now }
@@ -437,7 +437,7 @@ fn some_goes_on_for(
     body: Body,
     env: &Env,
     common: &Knot,
-    entries: &[(Value, Knot)],
+    entries: &Entries,
     action: &Action,
 ) -> bool
     requires fits { FitsInside body.parameter.now (form_of body.expr.now) env.now }
@@ -467,7 +467,7 @@ fn each_goes_on_for(
     outside: Outside,
     env: &Env,
     common: &Knot,
-    entries: &[(Value, Knot)],
+    entries: &Entries,
     action: &Action,
 ) -> bool
     requires fits { FitsInside body.parameter.now (form_of body.expr.now) env.now }
@@ -489,7 +489,7 @@ fn each_goes_on_or_stays(
     body: Body,
     env: &Env,
     common: &Knot,
-    entries: &[(Value, Knot)],
+    entries: &Entries,
     action: &Action,
 ) -> bool
     requires fits { FitsInside body.parameter.now (form_of body.expr.now) env.now }
@@ -530,7 +530,7 @@ fn some_map_goes_on(body: Body, env: &Env, maps: &[Map], action: &Action) -> boo
 
 /// A value that the body doesn't see doesn't go on, since each atom names the parameter.
 #[cycle(goes_on)]
-fn some_owner_goes_on(body: Body, env: &Env, entries: &[(Value, Knot)], action: &Action) -> bool
+fn some_owner_goes_on(body: Body, env: &Env, entries: &Entries, action: &Action) -> bool
     requires fits { FitsInside body.parameter.now (form_of body.expr.now) env.now }
     requires named { EachAtomNames body.parameter.now (form_of body.expr.now) }
     requires proper { AreProper (form_of body.expr.now) entries.now }
@@ -549,13 +549,7 @@ fn some_owner_goes_on(body: Body, env: &Env, entries: &[(Value, Knot)], action: 
 
 /// A value that has no entry in the map begins.
 #[cycle(goes_on)]
-fn owner_goes_on(
-    body: Body,
-    value: &Value,
-    env: &Env,
-    entries: &[(Value, Knot)],
-    action: &Action,
-) -> bool
+fn owner_goes_on(body: Body, value: &Value, env: &Env, entries: &Entries, action: &Action) -> bool
     requires fits { FitsInside body.parameter.now (form_of body.expr.now) env.now }
     requires proper { AreProper (form_of body.expr.now) entries.now }
     ensures { result ≡ may_own (form_of body.entry.expr.now) body.entry.parameter.now env.now

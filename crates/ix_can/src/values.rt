@@ -7,28 +7,27 @@ ghost use Rattle.ix_tree.specs.Plain.{dead, items_of};
 ghost use Rattle.ix_tree.specs.PlainOf.{plain_entries};
 ghost use Rattle.ix_can.specs.inside.May.{tree_at};
 
-use ix_entries::at;
-use ix_tree::Knot;
+use ix_tree::{Entries, Knot};
 use ix_values::Value;
 
 /// The state of the value, or None where the value has no entry. The values ascend strictly.
-pub fn state_of<'a>(entries: &'a [(Value, Knot)], value: &Value) -> Option<&'a Knot>
+pub fn state_of<'a>(entries: &'a Entries, value: &Value) -> Option<&'a Knot>
     requires { KeysAscend text_cmp entries.now }
     ensures { MatchOption result
         (tree_at value.now dead (items_of (plain_entries entries.now)) ≡ dead)
         (λ state. state.now ≡ tree_at value.now dead (items_of (plain_entries entries.now))) }
 {
-    match entries.binary_search_by(|entry| entry.0.cmp(value)) {
-        Ok(place) => Some(&entries[place].1),
-        Err(_) => None,
-    }
+    entries.get(value)
 }
 
 /// The state of the value, which is the common one where the value has no entry. The values ascend
 /// strictly.
-pub fn state_at<'a>(entries: &'a [(Value, Knot)], common: &'a Knot, value: &Value) -> &'a Knot
+pub fn state_at<'a>(entries: &'a Entries, common: &'a Knot, value: &Value) -> &'a Knot
     requires { KeysAscend text_cmp entries.now }
     ensures { result.now ≡ tree_at value.now common.now (items_of (plain_entries entries.now)) }
 {
-    at(entries, common, value)
+    match entries.get(value) {
+        Some(state) => state,
+        None => common,
+    }
 }

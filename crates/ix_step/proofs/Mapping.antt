@@ -48,8 +48,8 @@ member_size m (x ∷ ms) k = elim (Member-cases k) [
 
 -- The entries of a map
 
-pub map_items : (m : Map) → items_of (first_part (plain_map m)) ≡ map plain_entry m.entries.items
-map_items m = items_of-listed (map plain_entry m.entries.items)
+pub map_items : (m : Map) → items_of (first_part (plain_map m)) ≡ map plain_entry m.entries
+map_items m = items_of-listed (map plain_entry m.entries)
 
 -- no entry has the initial tree
 differing : (initial : Plain) (es : List (List ℕ × Plain)) → Each (λ x. ¬ (first_part x ≡ initial)) (map plain_entry es) → All (λ x. tree_ghosts.eq x initial ≡ false) (values_of es)
@@ -161,13 +161,13 @@ all_held p y e initial ms r i =
 -- the entries of a map are no larger than it
 pub items_size : (m : Map) → size_all (items_of (first_part (plain_map m))) ≤ size_of (plain_map m)
 items_size m =
-    let e : size_all (items_of (first_part (plain_map m))) ≡ size_all (map plain_entry m.entries.items) = ap size_all (map_items m) in
-    let k : size_of (plain_map m) ≡ 1 + size_all (map plain_entry m.entries.items) = refl in
+    let e : size_all (items_of (first_part (plain_map m))) ≡ size_all (map plain_entry m.entries) = ap size_all (map_items m) in
+    let k : size_of (plain_map m) ≡ 1 + size_all (map plain_entry m.entries) = refl in
     omega (arith, e, k)
 
 -- Trees of values in a map
 
-module _ (m : Map) (es : List (List ℕ × Plain)) (copied : es ≡ m.entries.items) where
+module _ (m : Map) (es : List (List ℕ × Plain)) (copied : es ≡ m.entries) where
   same_entries : items_of (first_part (plain_map m)) ≡ map plain_entry es
   same_entries = map_items m ∙ ap (map plain_entry) (sym copied)
 

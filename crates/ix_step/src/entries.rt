@@ -1,11 +1,12 @@
 //! The entries of values beside a common tree.
 
-ghost use Rattle.std.specs.Prelude.{◌≡◌, ℕ, ◌≤◌, ◌++◌, ◌∷◌, [], List, IfOk, OnOk};
+ghost use Rattle.std.specs.Prelude.{◌≡◌, ℕ, ◌≤◌, ◌^◌, ◌++◌, ◌∷◌, [], length, List, IfOk, OnOk};
 ghost use Rattle.std.specs.Map.{keys_of};
 ghost use Rattle.ix_values.specs.Order.{text_cmp};
-ghost use Rattle.ix_entries.specs.inside.Entries.{IsProper, KeysAscend, with_entry};
+ghost use Rattle.ix_entries.specs.inside.Entries.{IsProper};
 ghost use Rattle.ix_expr.specs.inside.FormOf.{form_of};
 ghost use Rattle.ix_tree.specs.Plain.{Plain};
+ghost use Rattle.ix_tree.specs.PlainOf.{plain_entries};
 ghost use Rattle.ix_tree.specs.Size.{size_of};
 ghost use Rattle.ix_step.specs.inside.EnterTrees.{HoldTrees, EnterTrees};
 ghost use Rattle.ix_step.specs.inside.Limits.{most_limit};
@@ -13,9 +14,9 @@ ghost use Rattle.ix_step.specs.inside.ValueTrees.{AddsSeen, TakesIn};
 
 use crate::bodies::Body;
 use crate::fault::Unbuilt;
-use ix_entries::{around, put};
+use ix_entries::put;
 use ix_expr::sees;
-use ix_tree::{Knot, push_shared_entries};
+use ix_tree::{Entries, Knot};
 use ix_values::{Action, Value};
 use std::alloc::{AllocError, Global};
 
@@ -53,27 +54,13 @@ pub(crate) fn put_tree(
     Ok(total + 1 + size)
 }
 
-/// The entries with this tree at the value, made in one pass. A tree that equals the common one
-/// leaves no entry.
-pub(crate) fn entries_with(
-    alloc: Global,
-    entries: &[(Value, Knot)],
-    common: &Knot,
-    value: Value,
-    tree: Knot,
-) -> Result<Vec<(Value, Knot)>, AllocError>
-    requires { KeysAscend text_cmp entries.now }
-    ensures { IfOk result (λ made. made.items
-        ≡ with_entry text_cmp ⟦<Knot as PartialEq>⟧.eq common.now entries.now value tree) }
+/// How many entries there are.
+pub(crate) fn count_entries(entries: &Entries) -> usize
+    requires { size_of (plain_entries entries.now) ≤ 2 ^ 32 }
+    ensures number { result ≡ length entries.now }
+    ensures most { result ≤ size_of (plain_entries entries.now) }
 {
-    let (before, behind) = around(entries, &value);
-    let mut made = Vec::with_capacity(alloc, entries.len().saturating_add(1))?;
-    push_shared_entries(&mut made, before)?;
-    if tree != *common {
-        made.push_reserved((value, tree));
-    }
-    push_shared_entries(&mut made, behind)?;
-    Ok(made)
+    entries.iter().count()
 }
 
 /// The values that have entries, and those of the action that the body sees. Every other value
@@ -81,7 +68,7 @@ pub(crate) fn entries_with(
 pub(crate) fn touched_values(
     alloc: Global,
     body: Body,
-    entries: &[(Value, Knot)],
+    entries: &Entries,
     action: &Action,
 ) -> Result<Vec<Value>, AllocError>
     ensures { IfOk result (λ values. TakesIn (form_of body.entry.expr.now) body.entry.parameter.now
@@ -92,11 +79,11 @@ pub(crate) fn touched_values(
     Ok(values)
 }
 
-fn entry_values(alloc: Global, entries: &[(Value, Knot)]) -> Result<Vec<Value>, AllocError>
+fn entry_values(alloc: Global, entries: &Entries) -> Result<Vec<Value>, AllocError>
     ensures { IfOk result (λ values. values.items ≡ keys_of entries.now) }
 {
     let mut values = Vec::new(alloc);
-    for entry in entries {
+    for entry in entries.iter() {
         values.push(entry.0)?;
     }
     Ok(values)

@@ -12,7 +12,7 @@ ghost use Rattle.ix_step.specs.inside.Limits.{most_size};
 
 use crate::leaves::LeafTrees;
 use ix_expr::{Expr, accepts_empty};
-use ix_tree::{Bag, Knot, Map, Node, Pair};
+use ix_tree::{Bag, Entries, Knot, Map, Node, Pair};
 use std::alloc::{AllocError, Global};
 
 /// The tree of the empty word, whatever its Size. The flag of `?y` says that nothing has happened,
@@ -48,9 +48,18 @@ pub(crate) fn first_tree(leaves: &LeafTrees, expr: &Expr) -> Result<Knot, AllocE
                 Node::Couple(first_tree(leaves, y)?, first_tree(leaves, z)?),
             )
         }
-        Expr::Any(_, y) => Knot::new(alloc, Node::Any(first_tree(leaves, y)?, Vec::new(alloc))),
-        Expr::Every(_, y) => Knot::new(alloc, Node::Every(first_tree(leaves, y)?, Vec::new(alloc))),
-        Expr::Sync(_, y) => Knot::new(alloc, Node::Sync(first_tree(leaves, y)?, Vec::new(alloc))),
+        Expr::Any(_, y) => Knot::new(
+            alloc,
+            Node::Any(first_tree(leaves, y)?, Entries::new(alloc)),
+        ),
+        Expr::Every(_, y) => Knot::new(
+            alloc,
+            Node::Every(first_tree(leaves, y)?, Entries::new(alloc)),
+        ),
+        Expr::Sync(_, y) => Knot::new(
+            alloc,
+            Node::Sync(first_tree(leaves, y)?, Entries::new(alloc)),
+        ),
         Expr::All(_, _) => empty_map(alloc),
         Expr::Times(_, _) => Knot::new(alloc, Node::Times(no_runs(alloc)?)),
     }
@@ -110,7 +119,7 @@ fn empty_map(alloc: Global) -> Result<Knot, AllocError>
 {
     let mut maps = Vec::new(alloc);
     maps.push(Map {
-        entries: Vec::new(alloc),
+        entries: Entries::new(alloc),
     })?;
     Knot::new(alloc, Node::All(maps))
 }

@@ -22,7 +22,6 @@ ghost use Rattle.ix_step.specs.inside.MapsAfter.{maps_after, with_tree};
 
 use crate::advance::advance;
 use crate::bodies::Body;
-use crate::entries::entries_with;
 use crate::fault::Unbuilt;
 use crate::first::first_tree;
 use crate::nodes::{dead_knot, sized_if_live};
@@ -31,7 +30,7 @@ use crate::sets::put as put_alternative;
 use ix_alts::AltSet;
 use ix_can::state_of;
 use ix_expr::sees;
-use ix_tree::{Knot, Map, Node};
+use ix_tree::{Entries, Knot, Map, Node};
 use ix_values::Value;
 use std::alloc::{AllocError, Global};
 
@@ -142,7 +141,7 @@ fn advance_owner(
 }
 
 /// The state of the value, or the first tree where the value has no live one.
-fn or_first<'a>(entries: &'a [(Value, Knot)], first: &'a Knot, value: &Value) -> &'a Knot
+fn or_first<'a>(entries: &'a Entries, first: &'a Knot, value: &Value) -> &'a Knot
     requires { KeysAscend text_cmp entries.now }
     ensures { result.now
         ≡ or_initial first.now (tree_at value.now dead (items_of (plain_entries entries.now))) }
@@ -190,6 +189,6 @@ fn map_beside(
         (λ m. plain_map m
         ≡ with_tree first.now value tree (items_of (first_part (plain_map state.now)))) }
 {
-    let entries = entries_with(alloc, &state.entries, first, value, tree)?;
+    let entries = state.entries.with(alloc, first, value, tree)?;
     Ok(Map { entries })
 }

@@ -15,8 +15,7 @@ ghost use Rattle.ix_step.specs.inside.Pruned.{has_died, is_none, pruned};
 
 use crate::fault::Unbuilt;
 use crate::one_step::Step;
-use ix_tree::{Knot, Node, Pair};
-use ix_values::Value;
+use ix_tree::{Entries, Knot, Node, Pair};
 use std::alloc::AllocError;
 
 /// The knot of the node, whose Size is known.
@@ -133,7 +132,7 @@ fn has_died(node: &Node) -> bool
         Node::Par(pairs) => pairs.as_slice().is_empty(),
         Node::ParStar(bags) => bags.as_slice().is_empty(),
         Node::Or(left, right) => left.is_dead() && right.is_dead(),
-        Node::Any(common, entries) => common.is_dead() && entries.as_slice().is_empty(),
+        Node::Any(common, entries) => common.is_dead() && entries.is_empty(),
         Node::All(maps) => maps.as_slice().is_empty(),
         Node::Times(bags) => bags.as_slice().is_empty(),
         _ => false,
@@ -182,18 +181,18 @@ fn only_pair_done(pairs: &[Pair]) -> bool
 }
 
 /// Whether the common tree is done and there is no entry.
-fn alone_done(common: &Knot, entries: &[(Value, Knot)]) -> bool
+fn alone_done(common: &Knot, entries: &Entries) -> bool
     ensures { result ≡ (is_done common.now && is_empty (items_of (plain_entries entries.now))) }
 {
     common.is_done() && entries.is_empty()
 }
 
 /// Whether no action moves the tree of any entry.
-fn each_ended(entries: &[(Value, Knot)]) -> bool
+fn each_ended(entries: &Entries) -> bool
     ensures { result
         ≡ list_all (λ x. is_ended (first_part x)) (items_of (plain_entries entries.now)) }
 {
-    for entry in entries {
+    for entry in entries.iter() {
         if !is_ended(&entry.1) {
             return false;
         }

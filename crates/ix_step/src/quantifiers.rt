@@ -25,14 +25,13 @@ ghost use Rattle.ix_step.specs.inside.ValueTrees.{MakesParts, MakesOwn};
 use crate::advance::{advance, advance_asked};
 use crate::bodies::{Body, Reach};
 use crate::coupling::advance_side;
-use crate::entries::{entries_with, put_tree, touched_values};
+use crate::entries::{count_entries, put_tree, touched_values};
 use crate::fault::Unbuilt;
 use crate::nodes::{bounded, dead_knot, is_ended, settled_within, within_if_live};
 use crate::one_step::{Step, larger};
 use ix_can::state_at;
-use ix_entries::put;
 use ix_expr::contains;
-use ix_tree::{Knot, Node, share_entries};
+use ix_tree::{Entries, Knot, Node};
 use ix_values::Value;
 
 /// The common state after the action, and the states of the values that differ from it. Only the
@@ -44,8 +43,8 @@ fn advance_values(
     body: Body,
     reach: Reach,
     common: &Knot,
-    entries: &[(Value, Knot)],
-) -> Result<(Knot, Vec<(Value, Knot)>), Unbuilt>
+    entries: &Entries,
+) -> Result<(Knot, Entries), Unbuilt>
     requires ready { ReadyInside body.parameter.now (form_of body.expr.now) step.env.now common.now
         (map plain_entry entries.now) }
     requires common { part_may reach (form_of body.expr.now) (bind body.parameter.now None
@@ -71,9 +70,9 @@ fn advance_entries(
     body: Body,
     reach: Reach,
     common: &Knot,
-    entries: &[(Value, Knot)],
+    entries: &Entries,
     next: &Knot,
-) -> Result<Vec<(Value, Knot)>, Unbuilt>
+) -> Result<Entries, Unbuilt>
     requires ready { ReadyInside body.parameter.now (form_of body.expr.now) step.env.now common.now
         (map plain_entry entries.now) }
     requires each { EachMay reach body.parameter.now (form_of body.expr.now) step.env.now
@@ -93,7 +92,7 @@ fn advance_entries(
         let tree = advance_at(step, body, reach, Some(*value), state)?;
         total = put_tree(&mut built, total, next, *value, tree, step.limit)?;
     }
-    Ok(built)
+    Ok(Entries::of(step.alloc, built)?)
 }
 
 /// The moved tree of `any`. Where it becomes done, its common state and the states of its values
@@ -104,7 +103,7 @@ pub(crate) fn advance_any(
     step: Step,
     body: Body,
     common: &Knot,
-    entries: &[(Value, Knot)],
+    entries: &Entries,
 ) -> Result<Knot, Unbuilt>
     requires { ReadyInside body.parameter.now (form_of body.expr.now) step.env.now common.now
         (map plain_entry entries.now) }
@@ -114,7 +113,7 @@ pub(crate) fn advance_any(
         (any_of common.now (plain_entries entries.now)) step.entry.action.now))
         result }
 {
-    let room = 2 * (entries.len() + step.action.values().len()) + 1;
+    let room = 2 * (count_entries(entries) + step.action.values().len()) + 1;
     let wide = Step {
         action: step.action,
         env: step.env,
@@ -132,7 +131,7 @@ pub(crate) fn advance_every(
     step: Step,
     body: Body,
     common: &Knot,
-    entries: &[(Value, Knot)],
+    entries: &Entries,
 ) -> Result<Knot, Unbuilt>
     requires ready { ReadyInside body.parameter.now (form_of body.expr.now) step.env.now common.now
         (map plain_entry entries.now) }
@@ -158,7 +157,7 @@ pub(crate) fn advance_sync(
     step: Step,
     body: Body,
     common: &Knot,
-    entries: &[(Value, Knot)],
+    entries: &Entries,
 ) -> Result<Knot, Unbuilt>
     requires ready { ReadyInside body.parameter.now (form_of body.expr.now) step.env.now common.now
         (map plain_entry entries.now) }
@@ -185,12 +184,7 @@ pub(crate) fn advance_sync(
 
 /// The states of `sync` where outside isn't in the alphabet.
 #[cycle(advance)]
-fn advance_own(
-    step: Step,
-    body: Body,
-    common: &Knot,
-    entries: &[(Value, Knot)],
-) -> Result<Vec<(Value, Knot)>, Unbuilt>
+fn advance_own(step: Step, body: Body, common: &Knot, entries: &Entries) -> Result<Entries, Unbuilt>
     requires ready { ReadyInside body.parameter.now (form_of body.expr.now) step.env.now common.now
         (map plain_entry entries.now) }
     requires outside { in_alphabet (form_of body.expr.now)
@@ -203,13 +197,13 @@ fn advance_own(
         result }
 {
     match step.action.values() {
-        [] => Ok(share_entries(step.alloc, entries)?),
+        [] => Ok(entries.share(step.alloc)?),
         [first, later @ ..] => {
             let tree = advance_own_at(step, body, common, entries, first)?;
-            let mut own = entries_with(step.alloc, entries, common, *first, tree)?;
+            let mut own = entries.with(step.alloc, common, *first, tree)?;
             for value in later {
                 let tree = advance_own_at(step, body, common, entries, value)?;
-                put(&mut own, common, *value, tree)?;
+                own = own.with(step.alloc, common, *value, tree)?;
             }
             Ok(own)
         }
@@ -222,7 +216,7 @@ fn advance_own_at(
     step: Step,
     body: Body,
     common: &Knot,
-    entries: &[(Value, Knot)],
+    entries: &Entries,
     value: &Value,
 ) -> Result<Knot, Unbuilt>
     requires ready { ReadyInside body.parameter.now (form_of body.expr.now) step.env.now common.now

@@ -23,4 +23,4 @@ plain_bag b = bag (listed b.items.items)
 
 -- the plain map of a map
 abbrev pub plain_map : Map → Plain
-plain_map m = map (plain_entries m.entries.items)
+plain_map m = map (plain_entries m.entries)

@@ -5,7 +5,7 @@ ghost use Rattle.ix_tree.specs.Plain.{is_dead, is_done};
 ghost use Rattle.ix_tree.specs.inside.PlainNode.{plain_node};
 ghost use Rattle.ix_tree.specs.Size.{size_of};
 
-use ix_values::Value;
+use crate::entries::Entries;
 use std::alloc::{AllocError, Global};
 use std::marker::Model;
 use std::rc::Rc;
@@ -40,11 +40,11 @@ pub enum Node {
     /// `y @ z`: both states, each after its own actions.
     Couple(Knot, Knot),
     /// `any $p y`: the common state, and the state of each value that differs from it.
-    Any(Knot, Vec<(Value, Knot)>),
+    Any(Knot, Entries),
     /// `every $p y`: the common state, and the state of each value that differs from it.
-    Every(Knot, Vec<(Value, Knot)>),
+    Every(Knot, Entries),
     /// `sync $p y`: the common state, and the state of each value that differs from it.
-    Sync(Knot, Vec<(Value, Knot)>),
+    Sync(Knot, Entries),
     /// `all $p y`: the alternatives, each a map from values to states of y.
     All(Vec<Map>),
     /// `times N y`: the alternatives, each a bag of states of y, one for each run that has begun.
@@ -74,7 +74,7 @@ pub struct Bag {
 #[derive(Drop)]
 pub struct Map {
     /// The states, each beside its value.
-    pub entries: Vec<(Value, Knot)>,
+    pub entries: Entries,
 }
 
 /// A node that may be shared, with its Size. Contracts see the plain tree of the node.
@@ -86,7 +86,7 @@ pub struct Knot {
 }
 
 impl Model for Knot {
-    ghost use Rattle.std.specs.Prelude.{◌≡◌, ◌≤◌, ◌^◌};
+    ghost use Rattle.std.specs.Prelude.{◌≡◌, ◌*◌, ◌≤◌, ◌^◌};
     ghost use Rattle.ix_tree.specs.Plain.{Plain};
     ghost use Rattle.ix_tree.specs.lemmas.PlainCode.{plain_code};
 
@@ -102,7 +102,7 @@ impl Model for Knot {
     // The kept number is the Size of the node.
     ghost invariant = { λ k. (k.size ≡ size_of (plain_node k.node.value)) × (k.size ≤ 2 ^ 32) };
 
-    ghost size = { size_of };
+    ghost size = { λ x. 2 * size_of x };
 
     ghost use Rattle.ix_tree.specs.lemmas.Falls.{depth_le-size};
 

@@ -7,6 +7,7 @@ ghost use Rattle.ix_tree.specs.PlainOf.{plain_entries};
 ghost use Rattle.ix_tree.specs.inside.PlainNode.{plain_node};
 ghost use Rattle.ix_tree.specs.Order.{tree_cmp, place};
 
+use crate::entries::Entries;
 use crate::node::{Bag, Knot, Map, Node, Pair};
 use crate::tree::Tree;
 use ix_values::Value;
@@ -424,7 +425,7 @@ fn compare_couple(x: &Knot, z: &Knot, right: &Node) -> Ordering
 }
 
 #[cycle(compare)]
-fn compare_any(x: &Knot, xs: &[(Value, Knot)], right: &Node) -> Ordering
+fn compare_any(x: &Knot, xs: &Entries, right: &Node) -> Ordering
     ensures { result ≡ tree_cmp (any x.now (plain_entries xs.now)) (plain_node right.now) }
 {
     match right {
@@ -434,7 +435,7 @@ fn compare_any(x: &Knot, xs: &[(Value, Knot)], right: &Node) -> Ordering
 }
 
 #[cycle(compare)]
-fn compare_every(x: &Knot, xs: &[(Value, Knot)], right: &Node) -> Ordering
+fn compare_every(x: &Knot, xs: &Entries, right: &Node) -> Ordering
     ensures { result ≡ tree_cmp (every x.now (plain_entries xs.now)) (plain_node right.now) }
 {
     match right {
@@ -444,7 +445,7 @@ fn compare_every(x: &Knot, xs: &[(Value, Knot)], right: &Node) -> Ordering
 }
 
 #[cycle(compare)]
-fn compare_sync(x: &Knot, xs: &[(Value, Knot)], right: &Node) -> Ordering
+fn compare_sync(x: &Knot, xs: &Entries, right: &Node) -> Ordering
     ensures { result ≡ tree_cmp (sync x.now (plain_entries xs.now)) (plain_node right.now) }
 {
     match right {
@@ -538,15 +539,23 @@ fn compare_maps(left: &[Map], right: &[Map]) -> Ordering
     left.len().cmp(&right.len())
 }
 
+/// By their first entries that differ; a list stands before a longer one that begins alike.
 #[cycle(compare)]
-fn compare_entries(left: &[(Value, Knot)], right: &[(Value, Knot)]) -> Ordering
+fn compare_entries(left: &Entries, right: &Entries) -> Ordering
     ensures { result ≡ tree_cmp (plain_entries left.now) (plain_entries right.now) }
 {
-    for i in 0..left.len().min(right.len()) {
-        let order = compare_entry(&left[i], &right[i]);
+    let mut others = right.iter();
+    for entry in left.iter() {
+        let Some(other) = others.next() else {
+            return Ordering::Greater;
+        };
+        let order = compare_entry(entry, other);
         if order != Ordering::Equal {
             return order;
         }
     }
-    left.len().cmp(&right.len())
+    match others.next() {
+        Some(_) => Ordering::Less,
+        None => Ordering::Equal,
+    }
 }

@@ -31,7 +31,7 @@ pub fn share_knots(alloc: Global, knots: &[Knot]) -> Result<Vec<Knot>, AllocErro
 
 /// Appends the same values with equal knots of the same nodes, in the same order. There is room for
 /// them, so none is asked for. After an error the first few of them may have been appended.
-pub fn push_shared_entries(
+pub(crate) fn push_shared_entries(
     shared: &mut Vec<(Value, Knot)>,
     entries: &[(Value, Knot)],
 ) -> Result<(), AllocError>
@@ -47,14 +47,14 @@ pub fn push_shared_entries(
     Ok(())
 }
 
-/// The same values with equal knots of the same nodes, in the same order, and room for one more.
-pub fn share_entries(
+/// The same values with equal knots of the same nodes, in the same order.
+pub(crate) fn share_entries(
     alloc: Global,
     entries: &[(Value, Knot)],
 ) -> Result<Vec<(Value, Knot)>, AllocError>
     ensures { IfOk result (λ v. v.items ≡ entries.now) }
 {
-    let mut shared = Vec::with_capacity(alloc, entries.len().saturating_add(1))?;
+    let mut shared = Vec::with_capacity(alloc, entries.len())?;
     push_shared_entries(&mut shared, entries)?;
     Ok(shared)
 }

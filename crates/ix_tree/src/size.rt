@@ -7,7 +7,6 @@ ghost use Rattle.ix_tree.specs.inside.PlainNode.{plain_node};
 ghost use Rattle.ix_tree.specs.Size.{size_of};
 
 use crate::node::{Bag, Knot, Map, Node, Pair};
-use ix_values::Value;
 
 impl Node {
     /// The Size of the node, which is at most 2^32.
@@ -24,7 +23,7 @@ impl Node {
             Node::ParStar(bags) | Node::Times(bags) => 1 + bags_size(bags),
             Node::Or(x, y) | Node::And(x, y) | Node::Couple(x, y) => 1 + x.size() + y.size(),
             Node::Any(x, entries) | Node::Every(x, entries) | Node::Sync(x, entries) => {
-                1 + x.size() + entries_size(entries)
+                1 + x.size() + entries.size()
             }
             Node::All(maps) => 1 + maps_size(maps),
         }
@@ -57,7 +56,7 @@ impl Map {
         requires { size_of (plain_map self.now) ≤ 2 ^ 32 }
         ensures { result ≡ size_of (plain_map self.now) }
     {
-        1 + entries_size(&self.entries)
+        1 + self.entries.size()
     }
 }
 
@@ -101,18 +100,6 @@ fn maps_size(maps: &[Map]) -> usize
     let mut sum = 0;
     for map in maps {
         sum += map.size();
-    }
-    sum
-}
-
-/// Each entry counts 1 and the Size of its tree.
-fn entries_size(entries: &[(Value, Knot)]) -> usize
-    requires { size_of (plain_entries entries.now) ≤ 2 ^ 32 }
-    ensures { result ≡ size_of (plain_entries entries.now) }
-{
-    let mut sum = 0;
-    for entry in entries {
-        sum += 1 + entry.1.size();
     }
     sum
 }

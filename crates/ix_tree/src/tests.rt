@@ -91,7 +91,7 @@ fn no_value(alloc: Global) -> Result<Knot, AllocError>
     ensures { IfOk result (λ t. t ≡ any (seq dead false (more start none)) none) }
 {
     let common = half(alloc)?;
-    Knot::new(alloc, Node::Any(common, Vec::new(alloc)))
+    Knot::new(alloc, Node::Any(common, Entries::new(alloc)))
 }
 
 /// `any $p (a - b($p) - c)` after `a`, `b(u)`, for the value `u`.
@@ -102,7 +102,7 @@ fn one_value(alloc: Global, value: Value) -> Result<Knot, AllocError>
     let mut entries = Vec::new(alloc);
     entries.push((value, half(alloc)?))?;
     let common = Knot::new(alloc, Node::Dead)?;
-    Knot::new(alloc, Node::Any(common, entries))
+    Knot::new(alloc, Node::Any(common, Entries::of(alloc, entries)?))
 }
 
 #[test]
@@ -135,8 +135,10 @@ fn copies(rt: HostRuntime) -> Result<(), Fail> {
     assert!(rt; Tree::of(Knot::new(alloc, Node::Dead)?).is_dead());
     let mut entries = Vec::new(alloc);
     entries.push((value, half(alloc)?))?;
-    let map = Map { entries };
-    let entries = share_entries(alloc, &map.entries)?;
+    let map = Map {
+        entries: Entries::of(alloc, entries)?,
+    };
+    let entries = map.entries.share(alloc)?;
     assert!(rt; Map { entries } == map);
     Ok(())
 }

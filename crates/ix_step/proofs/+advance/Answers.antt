@@ -436,14 +436,14 @@ quantifiers::advance_at-returns-in_err-advance_side-in-OwnAlphabet = ValueStates
 pub quantifiers::advance_at-returns-then-is_ended : goal.quantifiers::advance_at-returns-then-is_ended
 quantifiers::advance_at-returns-then-is_ended = ValueStates.quantifiers::advance_at-returns-then-is_ended
 
-pub quantifiers::advance_own-returns-in_ok-share_entries-in-empty : goal.quantifiers::advance_own-returns-in_ok-share_entries-in-empty
-quantifiers::advance_own-returns-in_ok-share_entries-in-empty = OwnStates.quantifiers::advance_own-returns-in_ok-share_entries-in-empty
+pub quantifiers::advance_own-returns-in_ok-share-in-empty : goal.quantifiers::advance_own-returns-in_ok-share-in-empty
+quantifiers::advance_own-returns-in_ok-share-in-empty = OwnStates.quantifiers::advance_own-returns-in_ok-share-in-empty
 
 pub quantifiers::advance_own-advance_own_at-requires : goal.quantifiers::advance_own-advance_own_at-requires
 quantifiers::advance_own-advance_own_at-requires = OwnStates.quantifiers::advance_own-advance_own_at-requires
 
-pub quantifiers::advance_own-entries_with-requires : goal.quantifiers::advance_own-entries_with-requires
-quantifiers::advance_own-entries_with-requires = OwnStates.quantifiers::advance_own-entries_with-requires
+pub quantifiers::advance_own-with-requires : goal.quantifiers::advance_own-with-requires
+quantifiers::advance_own-with-requires = OwnStates.quantifiers::advance_own-with-requires
 
 pub quantifiers::advance_own-loop-value-init : goal.quantifiers::advance_own-loop-value-init
 quantifiers::advance_own-loop-value-init = OwnStates.quantifiers::advance_own-loop-value-init
@@ -451,8 +451,8 @@ quantifiers::advance_own-loop-value-init = OwnStates.quantifiers::advance_own-lo
 pub quantifiers::advance_own-advance_own_at-requires-in-loop-value : goal.quantifiers::advance_own-advance_own_at-requires-in-loop-value
 quantifiers::advance_own-advance_own_at-requires-in-loop-value = OwnStates.quantifiers::advance_own-advance_own_at-requires-in-loop-value
 
-pub quantifiers::advance_own-put-requires : goal.quantifiers::advance_own-put-requires
-quantifiers::advance_own-put-requires = OwnStates.quantifiers::advance_own-put-requires
+pub quantifiers::advance_own-with-requires-in-loop-value : goal.quantifiers::advance_own-with-requires-in-loop-value
+quantifiers::advance_own-with-requires-in-loop-value = OwnStates.quantifiers::advance_own-with-requires-in-loop-value
 
 pub quantifiers::advance_own-loop-value-preserved : goal.quantifiers::advance_own-loop-value-preserved
 quantifiers::advance_own-loop-value-preserved = OwnStates.quantifiers::advance_own-loop-value-preserved

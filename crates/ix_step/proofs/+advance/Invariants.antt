@@ -149,9 +149,9 @@ decreases-quantifiers::advance_own l = 8 * form_size (form_of l.body.expr.now) +
 
 abbrev pub invariant-quantifiers::advance_own-loop-value : goal.invariant-quantifiers::advance_own-loop-value
 invariant-quantifiers::advance_own-loop-value l = record {
-  proper : IsProper text_cmp tree_ghosts.eq l.common l.own.items;
-  given : GivesAll l.common (tree_after OwnAlphabet l.body.parameter.now (form_of l.body.expr.now) l.step.env.now l.step.action.now l.common (map plain_entry l.entries)) (drop l.value-index l.later) l.own.items;
-  small : size_of (plain_entries l.own.items) ≤ 1000000 + (l.value-index + 1) * 2000011;
+  proper : IsProper text_cmp tree_ghosts.eq l.common l.own;
+  given : GivesAll l.common (tree_after OwnAlphabet l.body.parameter.now (form_of l.body.expr.now) l.step.env.now l.step.action.now l.common (map plain_entry l.entries)) (drop l.value-index l.later) l.own;
+  small : size_of (plain_entries l.own) ≤ 1000000 + (l.value-index + 1) * 2000011;
 }
 
 abbrev pub decreases-quantifiers::advance_own_at : goal.decreases-quantifiers::advance_own_at

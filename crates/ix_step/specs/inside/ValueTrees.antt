@@ -1,7 +1,6 @@
 -- The trees of an operand under each value of a quantifier's parameter, and what is asked of them before they are moved.
 use Rattle.std.specs.Prelude.{◌≡◌, ◌⊎◌, ℕ, ◌+◌, ◌≤◌, Bool, true, List, ◌++◌, map, flat_map, Some, None, Result, MatchResult}
 use Rattle.std.specs.Map.{keys_of}
-use Rattle.std.proofs.Common.{Global, Vec}
 use Rattle.ix_words.specs.Each.{Each, Member}
 use Rattle.ix_values.specs.PlainAction.{PlainAction}
 use Rattle.ix_expr.specs.Form.{Form}
@@ -78,20 +77,20 @@ pub record TakesIn (y : Form) (p : List ℕ) (a : PlainAction) (entries : List (
   pub seen : (v : List ℕ) → Member v a.values → Member v values ⊎ (¬ Sees y p v a)
 
 -- the entries were made and are within the limit, or with the common tree they are above it, or memory ran out
-abbrev pub MakesEntries : ℕ → Plain → Plain → Result (Vec (List ℕ × Plain) Global) Unbuilt → Type 0
+abbrev pub MakesEntries : ℕ → Plain → Plain → Result (List (List ℕ × Plain)) Unbuilt → Type 0
 MakesEntries limit common entries r =
-    MatchResult r (λ made. (plain_entries made.items ≡ entries) × (size_of entries ≤ limit)) (IsOver limit (more common entries))
+    MatchResult r (λ made. (plain_entries made ≡ entries) × (size_of entries ≤ limit)) (IsOver limit (more common entries))
 
 -- the common tree and the entries were made, or together they are above the limit, or memory ran out
-abbrev pub MakesParts : ℕ → Plain → Plain → Result (Plain × Vec (List ℕ × Plain) Global) Unbuilt → Type 0
+abbrev pub MakesParts : ℕ → Plain → Plain → Result (Plain × List (List ℕ × Plain)) Unbuilt → Type 0
 MakesParts limit common entries r =
-    MatchResult r (λ parts. (parts.0 ≡ common) × (plain_entries parts.1.items ≡ entries) × (size_of common ≤ limit) × (size_of entries ≤ limit))
+    MatchResult r (λ parts. (parts.0 ≡ common) × (plain_entries parts.1 ≡ entries) × (size_of common ≤ limit) × (size_of entries ≤ limit))
     (IsOver limit (more common entries))
 
 -- the entries were made and aren't large beyond measure, or with the common tree they are above the limit, or memory ran out
-abbrev pub MakesOwn : ℕ → Plain → Plain → Result (Vec (List ℕ × Plain) Global) Unbuilt → Type 0
+abbrev pub MakesOwn : ℕ → Plain → Plain → Result (List (List ℕ × Plain)) Unbuilt → Type 0
 MakesOwn limit common entries r =
-    MatchResult r (λ made. (plain_entries made.items ≡ entries) × (size_of entries ≤ 10000000)) (IsOver limit (more common entries))
+    MatchResult r (λ made. (plain_entries made ≡ entries) × (size_of entries ≤ 10000000)) (IsOver limit (more common entries))
 
 -- the tree of one value was made and is within the limit, or the common tree and the entries are above it, or memory ran out
 abbrev pub MakesOne : ℕ → Plain → Plain → Plain → Result Plain Unbuilt → Type 0

@@ -65,7 +65,7 @@ decreases-some_entry_completes l = 4 * count (form_of l.y.now) + 1
 abbrev pub invariant-some_entry_completes-loop-entry : goal.invariant-some_entry_completes-loop-entry
 invariant-some_entry_completes-loop-entry l =
     list_any (λ x. is_final (form_of l.y) (first_part x)) (items_of (plain_entries l.entries))
-    ≡ list_any (λ x. is_final (form_of l.y) (first_part x)) (items_of (plain_entries (drop l.entry-index l.entries)))
+    ≡ list_any (λ x. is_final (form_of l.y) (first_part x)) (items_of (plain_entries l.entry-iterator))
 
 abbrev pub decreases-each_entry_completes : goal.decreases-each_entry_completes
 decreases-each_entry_completes l = 4 * count (form_of l.y.now) + 1
@@ -73,7 +73,7 @@ decreases-each_entry_completes l = 4 * count (form_of l.y.now) + 1
 abbrev pub invariant-each_entry_completes-loop-entry : goal.invariant-each_entry_completes-loop-entry
 invariant-each_entry_completes-loop-entry l =
     list_all (λ x. is_final (form_of l.y) (first_part x)) (items_of (plain_entries l.entries))
-    ≡ list_all (λ x. is_final (form_of l.y) (first_part x)) (items_of (plain_entries (drop l.entry-index l.entries)))
+    ≡ list_all (λ x. is_final (form_of l.y) (first_part x)) (items_of (plain_entries l.entry-iterator))
 
 abbrev pub decreases-some_map_completes : goal.decreases-some_map_completes
 decreases-some_map_completes l = 4 * count (form_of l.y.now) + 2

@@ -1,25 +1,26 @@
 -- What each call behind `can` asks holds.
 use Rattle.std.proofs.Common.{nat_lt, ◌≡◌, ℕ, ◌+◌, List, length, get_or, drop, true≢false, Bool, true, false, ◌&&◌, ◌||◌, map, Some, None, arith, rules, sym, ap, ◌∙◌, subst}
 use Rattle.ix_expr.specs.declared.expr.Expr.TheViews.{the_lemmas}
-use Rattle.ix_expr.specs.Environment.{Environment}
 use Rattle.ix_expr.specs.Form.{Form, opt, seq, star, par, par_star, or, and, couple, any, every, sync, all, times}
 use Rattle.ix_expr.specs.FormFaults.{Fits}
 use Rattle.ix_expr.proofs.LawsOfNames.{fits-names}
 use Rattle.ix_expr.specs.inside.FormOf.{form_of}
 use Rattle.ix_words.specs.Canon.{Ascending}
+use Rattle.ix_words.specs.Each.{Each}
+use Rattle.ix_expr.specs.Environment.{Environment, bind}
 use Rattle.ix_values.specs.Order.{text_cmp}
-use Rattle.ix_tree.specs.Order.{key}
-use Rattle.std.specs.List.{list_any}
+use Rattle.ix_tree.specs.Order.{key, first_part}
+use Rattle.std.specs.List.{list_all, list_any}
 use Rattle.std.proofs.lemmas.List.{at_drop_more}
-use Rattle.ix_tree.specs.Plain.{Plain, dead, listed, items_of, seq as seq_of, star as star_of, par as par_of, par_star as par_star_of, any as any_of, every as every_of, sync as sync_of, all as all_of, times as times_of}
+use Rattle.ix_tree.specs.Plain.{Plain, dead, listed, items_of, seq as seq_of, star as star_of, par as par_of, par_star as par_star_of, all as all_of, times as times_of}
 use Rattle.ix_tree.specs.PlainOf.{plain_pair, plain_bag, plain_map, plain_entry, plain_entries}
 use Rattle.ix_tree.specs.inside.PlainNode.{plain_node}
 use Rattle.ix_tree.proofs.PlainLists.{items_of-listed}
-use Rattle.ix_can.specs.inside.CanAsk.{CanAsk, AreProper, stays, may_own}
+use Rattle.ix_can.specs.inside.CanAsk.{CanAsk, stays, may_or_stays, may_own}
 use Rattle.ix_can.specs.Laws.{IsProper}
 use Rattle.ix_can.specs.inside.May.{may, may_first}
 use Rattle.ix_can.specs.Tests.{in_alphabet}
-use Rattle.ix_can.proofs.Asking.{opt_asked, seq_first, seq_rest, star_rest, par_pairs, par_star_bags, times_bags, or_first, or_second, and_first, and_second, couple_first, couple_second, any_values, every_values, sync_values, all_maps, tree_has, part_has, entries_proper, state_proper, own_proper}
+use Rattle.ix_can.proofs.Asking.{opt_asked, seq_first, seq_rest, star_rest, par_pairs, par_star_bags, times_bags, or_first, or_second, and_first, and_second, couple_first, couple_second, any_values, every_values, sync_values, all_maps, tree_has, part_has, entries_proper, state_proper, own_proper, next_entry}
 use Rattle.ix_can.proofs.Children.{either_then, either_else}
 use Rattle.ix_can.proofs.Keys.{entries_ascend}
 use Rattle.ix_can.proofs.OutsideAlphabet.{outside_next, next_inside}
@@ -92,15 +93,15 @@ goes_on-coupled_go_on-requires t c =
 
 pub goes_on-some_goes_on_for-requires : goal.goes_on-some_goes_on_for-requires
 goes_on-some_goes_on_for-requires t c =
-    (search (rules, the_lemmas), any_values (asked (ap form_of c.in-Any-Any.is-0 ∙ ap (λ v. any c.in-Any-Any.parameter (form_of v)) (sym c.deref-in-Any-Any.ensures)) (sym c.node.ensures ∙ ap plain_node c.in-Any-Any.is-1 ∙ ap (λ v. any_of c.in-Any-Any.common (plain_entries v)) (sym c.deref-in-Any-Any-2.ensures.value)) c.requires))
+    (search (rules, the_lemmas), any_values (asked (ap form_of c.in-Any-Any.is-0 ∙ ap (λ v. any c.in-Any-Any.parameter (form_of v)) (sym c.deref-in-Any-Any.ensures)) (sym c.node.ensures ∙ ap plain_node c.in-Any-Any.is-1) c.requires))
 
 pub goes_on-each_goes_on_for-requires : goal.goes_on-each_goes_on_for-requires
 goes_on-each_goes_on_for-requires t c =
-    (search (rules, the_lemmas), every_values (asked (ap form_of c.in-Every-Every.is-0 ∙ ap (λ v. every c.in-Every-Every.parameter (form_of v)) (sym c.deref-in-Every-Every.ensures)) (sym c.node.ensures ∙ ap plain_node c.in-Every-Every.is-1 ∙ ap (λ v. every_of c.in-Every-Every.common (plain_entries v)) (sym c.deref-in-Every-Every-2.ensures.value)) c.requires))
+    (search (rules, the_lemmas), every_values (asked (ap form_of c.in-Every-Every.is-0 ∙ ap (λ v. every c.in-Every-Every.parameter (form_of v)) (sym c.deref-in-Every-Every.ensures)) (sym c.node.ensures ∙ ap plain_node c.in-Every-Every.is-1) c.requires))
 
 pub goes_on-each_goes_on_or_stays-requires : goal.goes_on-each_goes_on_or_stays-requires
 goes_on-each_goes_on_or_stays-requires t c =
-    (search (rules, the_lemmas), sync_values (asked (ap form_of c.in-Sync-Sync.is-0 ∙ ap (λ v. sync c.in-Sync-Sync.parameter (form_of v)) (sym c.deref-in-Sync-Sync.ensures)) (sym c.node.ensures ∙ ap plain_node c.in-Sync-Sync.is-1 ∙ ap (λ v. sync_of c.in-Sync-Sync.common (plain_entries v)) (sym c.deref-then-in_alphabet.ensures.value)) c.requires))
+    (search (rules, the_lemmas), sync_values (asked (ap form_of c.in-Sync-Sync.is-0 ∙ ap (λ v. sync c.in-Sync-Sync.parameter (form_of v)) (sym c.deref-in-Sync-Sync.ensures)) (sym c.node.ensures ∙ ap plain_node c.in-Sync-Sync.is-1) c.requires))
 
 pub goes_on-some_map_goes_on-requires : goal.goes_on-some_map_goes_on-requires
 goes_on-some_map_goes_on-requires t c =
@@ -165,7 +166,7 @@ goes_on-returns-then-in_alphabet t c =
     let e = c.args.env.now in
     let a = c.args.action.now in
     let shape = ap form_of c.in-Sync-Sync.is-0 ∙ ap (λ v. sync c.in-Sync-Sync.parameter (form_of v)) (sym c.deref-in-Sync-Sync.ensures) in
-    let tree = sym c.node.ensures ∙ ap plain_node c.in-Sync-Sync.is-1 ∙ ap (λ v. sync_of c.in-Sync-Sync.common (plain_entries v)) (sym c.deref-then-in_alphabet.ensures.value) in
+    let tree = sym c.node.ensures ∙ ap plain_node c.in-Sync-Sync.is-1 in
     inside_too (in_alphabet (sync c.in-Sync-Sync.parameter (form_of c.deref-in-Sync-Sync.result.now)) e a) _ c.each_goes_on_or_stays.result (ap (λ x. in_alphabet x e a) (sym shape) ∙ sym c.in_alphabet.ensures ∙ c.if-in_alphabet.true) c.each_goes_on_or_stays.ensures
     ∙ ap (λ s. may (sync c.in-Sync-Sync.parameter (form_of c.deref-in-Sync-Sync.result.now)) e s a) (sym tree)
     ∙ ap (λ x. may x e c.args.state.now a) (sym shape)
@@ -207,16 +208,56 @@ some_bag_goes_on-bag_goes_on-requires t c =
 
 pub some_entry_goes_on-goes_on_at-requires : goal.some_entry_goes_on-goes_on_at-requires
 some_entry_goes_on-goes_on_at-requires t c =
-    (search (rules, the_lemmas), (c.requires.fits, part_has plain_entry c.args.entries.now c.loop-entry.entry-index c.entry-item.result c.requires.proper (omega arith) c.entry-item.is))
+    let G : Plain → Type 0 = λ x. IsProper (form_of c.args.body.expr.now) (first_part x) in
+    (search (rules, the_lemmas), (c.requires.fits, (next_entry {G = G} c.in-Some.ensures.steps c.loop-entry.invariant.1).0))
+
+pub some_entry_goes_on-loop-entry-init : goal.some_entry_goes_on-loop-entry-init
+some_entry_goes_on-loop-entry-init t c =
+    let y = form_of c.args.body.expr.now in
+    let f : Plain → Bool = λ x. may y (bind c.args.body.parameter.now (Some (key x)) c.args.env.now) (first_part x) c.args.action.now in
+    let all = sym (c.into_iter-entry-iterator.ensures.into_iter_gives ∙ c.iter-entry-items.ensures) in
+    (ap (λ es. list_any f (items_of (plain_entries es))) all, subst (λ es. Each (λ x. IsProper y (first_part x)) (items_of (plain_entries es))) all c.requires.proper)
+
+pub some_entry_goes_on-loop-entry-preserved : goal.some_entry_goes_on-loop-entry-preserved
+some_entry_goes_on-loop-entry-preserved t c =
+    let y = form_of c.args.body.expr.now in
+    let f : Plain → Bool = λ x. may y (bind c.args.body.parameter.now (Some (key x)) c.args.env.now) (first_part x) c.args.action.now in
+    let G : Plain → Type 0 = λ x. IsProper y (first_part x) in
+    let out : f (plain_entry c.in-Some.entry.now) ≡ false = sym c.goes_on_at.ensures ∙ c.if-goes_on_at.false in (
+      c.loop-entry.invariant.0
+          ∙ ap (λ es. list_any f (items_of (plain_entries es))) c.in-Some.ensures.steps
+          ∙ ap (λ b. b || list_any f (items_of (plain_entries c.next.new.self))) out,
+      (next_entry {G = G} c.in-Some.ensures.steps c.loop-entry.invariant.1).1,
+    )
 
 pub each_entry_goes_on-goes_on_at-requires : goal.each_entry_goes_on-goes_on_at-requires
 each_entry_goes_on-goes_on_at-requires t c =
-    (search (rules, the_lemmas), (c.requires.fits, part_has plain_entry c.args.entries.now c.loop-entry.entry-index c.entry-item.result c.requires.proper (omega arith) c.entry-item.is))
+    let G : Plain → Type 0 = λ x. IsProper (form_of c.args.body.expr.now) (first_part x) in
+    (search (rules, the_lemmas), (c.requires.fits, (next_entry {G = G} c.in-Some.ensures.steps c.loop-entry.invariant.1).0))
+
+pub each_entry_goes_on-loop-entry-init : goal.each_entry_goes_on-loop-entry-init
+each_entry_goes_on-loop-entry-init t c =
+    let y = form_of c.args.body.expr.now in
+    let f : Plain → Bool = λ x. may_or_stays (stays c.args.outside) y (bind c.args.body.parameter.now (Some (key x)) c.args.env.now) (first_part x) c.args.action.now in
+    let all = sym (c.into_iter-entry-iterator.ensures.into_iter_gives ∙ c.iter-entry-items.ensures) in
+    (ap (λ es. list_all f (items_of (plain_entries es))) all, subst (λ es. Each (λ x. IsProper y (first_part x)) (items_of (plain_entries es))) all c.requires.proper)
+
+pub each_entry_goes_on-loop-entry-preserved : goal.each_entry_goes_on-loop-entry-preserved
+each_entry_goes_on-loop-entry-preserved t c =
+    let y = form_of c.args.body.expr.now in
+    let f : Plain → Bool = λ x. may_or_stays (stays c.args.outside) y (bind c.args.body.parameter.now (Some (key x)) c.args.env.now) (first_part x) c.args.action.now in
+    let G : Plain → Type 0 = λ x. IsProper y (first_part x) in
+    let on : f (plain_entry c.in-Some.entry.now) ≡ true = search (rules, c.goes_on_at.ensures, c.if-not-goes_on_at.false) in (
+      c.loop-entry.invariant.0
+          ∙ ap (λ es. list_all f (items_of (plain_entries es))) c.in-Some.ensures.steps
+          ∙ ap (λ b. b && list_all f (items_of (plain_entries c.next.new.self))) on,
+      (next_entry {G = G} c.in-Some.ensures.steps c.loop-entry.invariant.1).1,
+    )
 
 pub some_map_goes_on-some_owner_goes_on-requires : goal.some_map_goes_on-some_owner_goes_on-requires
 some_map_goes_on-some_owner_goes_on-requires t c =
     let y = form_of c.args.body.expr.now in
-    (search (rules, the_lemmas), (c.requires.fits, (c.requires.named, subst (AreProper y) (sym c.deref.ensures.value) (entries_proper (part_has plain_map c.args.maps.now c.loop-map.map-index c.map-item.result c.requires.proper (omega arith) c.map-item.is)))))
+    (search (rules, the_lemmas), (c.requires.fits, (c.requires.named, (entries_proper (part_has plain_map c.args.maps.now c.loop-map.map-index c.map-item.result c.requires.proper (omega arith) c.map-item.is)))))
 
 pub some_own_goes_on-goes_on_at-requires : goal.some_own_goes_on-goes_on_at-requires
 some_own_goes_on-goes_on_at-requires t c =
@@ -273,3 +314,13 @@ some_owner_goes_on-loop-value-preserved t c =
     ∙ at_drop_more (list_any own) vs c.loop-value.value-index v (omega (arith, ap length c.values-value-items.ensures.value))
     ∙ ap (λ u. own u || list_any own (drop (c.loop-value.value-index + 1) vs)) (sym is)
     ∙ ap (λ b. b || list_any own (drop (c.loop-value.value-index + 1) vs)) out
+
+pub goes_on-returns-in-Every-Every : goal.goes_on-returns-in-Every-Every
+goes_on-returns-in-Every-Every t c =
+    let e = c.args.env.now in
+    let a = c.args.action.now in
+    let shape = ap form_of c.in-Every-Every.is-0 ∙ ap (λ v. every c.in-Every-Every.parameter (form_of v)) (sym c.deref-in-Every-Every.ensures) in
+    let tree = sym c.node.ensures ∙ ap plain_node c.in-Every-Every.is-1 in
+    c.each_goes_on_for.ensures
+    ∙ ap (λ s. may (every c.in-Every-Every.parameter (form_of c.deref-in-Every-Every.result.now)) e s a) (sym tree)
+    ∙ ap (λ x. may x e c.args.state.now a) (sym shape)

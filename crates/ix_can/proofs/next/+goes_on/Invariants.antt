@@ -6,6 +6,8 @@ use Rattle.ix_expr.specs.inside.FormOf.{form_of}
 use Rattle.ix_tree.specs.Order.{key, first_part, second_part}
 use Rattle.ix_tree.specs.Plain.{listed, items_of}
 use Rattle.ix_tree.specs.PlainOf.{plain_pair, plain_bag, plain_map, plain_entries}
+use Rattle.ix_words.specs.Each.{Each}
+use Rattle.ix_can.specs.Laws.{IsProper}
 use Rattle.ix_can.specs.inside.CanAsk.{stays, may_or_stays, may_own}
 use Rattle.ix_can.specs.inside.May.{may, may_first, tree_at}
 use Rattle.ix_can.proofs.Measures.{count}
@@ -68,14 +70,16 @@ decreases-some_entry_goes_on l = 8 * count (form_of l.body.expr.now) + 3
 
 abbrev pub invariant-some_entry_goes_on-loop-entry : goal.invariant-some_entry_goes_on-loop-entry
 invariant-some_entry_goes_on-loop-entry l =
-    list_any (λ x. may (form_of l.body.expr.now) (bind l.body.parameter.now (Some (key x)) l.env) (first_part x) l.action) (items_of (plain_entries l.entries)) ≡ list_any (λ x. may (form_of l.body.expr.now) (bind l.body.parameter.now (Some (key x)) l.env) (first_part x) l.action) (items_of (plain_entries (drop l.entry-index l.entries)))
+    (list_any (λ x. may (form_of l.body.expr.now) (bind l.body.parameter.now (Some (key x)) l.env) (first_part x) l.action) (items_of (plain_entries l.entries)) ≡ list_any (λ x. may (form_of l.body.expr.now) (bind l.body.parameter.now (Some (key x)) l.env) (first_part x) l.action) (items_of (plain_entries l.entry-iterator)))
+    × Each (λ x. IsProper (form_of l.body.expr.now) (first_part x)) (items_of (plain_entries l.entry-iterator))
 
 abbrev pub decreases-each_entry_goes_on : goal.decreases-each_entry_goes_on
 decreases-each_entry_goes_on l = 8 * count (form_of l.body.expr.now) + 3
 
 abbrev pub invariant-each_entry_goes_on-loop-entry : goal.invariant-each_entry_goes_on-loop-entry
 invariant-each_entry_goes_on-loop-entry l =
-    list_all (λ x. may_or_stays (stays l.outside) (form_of l.body.expr.now) (bind l.body.parameter.now (Some (key x)) l.env) (first_part x) l.action) (items_of (plain_entries l.entries)) ≡ list_all (λ x. may_or_stays (stays l.outside) (form_of l.body.expr.now) (bind l.body.parameter.now (Some (key x)) l.env) (first_part x) l.action) (items_of (plain_entries (drop l.entry-index l.entries)))
+    (list_all (λ x. may_or_stays (stays l.outside) (form_of l.body.expr.now) (bind l.body.parameter.now (Some (key x)) l.env) (first_part x) l.action) (items_of (plain_entries l.entries)) ≡ list_all (λ x. may_or_stays (stays l.outside) (form_of l.body.expr.now) (bind l.body.parameter.now (Some (key x)) l.env) (first_part x) l.action) (items_of (plain_entries l.entry-iterator)))
+    × Each (λ x. IsProper (form_of l.body.expr.now) (first_part x)) (items_of (plain_entries l.entry-iterator))
 
 abbrev pub decreases-some_own_goes_on : goal.decreases-some_own_goes_on
 decreases-some_own_goes_on l = 8 * count (form_of l.body.expr.now) + 3

@@ -1,10 +1,10 @@
 -- The moved tree of `all $p y`: each map with one value's tree moved.
-use Rattle.std.proofs.Common.{sym, ap, ◌∙◌, subst, arith, [], map, length, flat_map, get_or, Some, true≢false}
+use Rattle.std.proofs.Common.{refl, sym, ap, ◌∙◌, subst, arith, [], map, length, flat_map, get_or, Some, true≢false}
 use Rattle.std.proofs.lemmas.List.{length-map}
 use Rattle.ix_expr.specs.inside.FormOf.{form_of}
 use Rattle.ix_expr.specs.Environment.{bind}
 use Rattle.ix_tree.specs.Plain.{dead, listed, items_of, all as all_of}
-use Rattle.ix_tree.specs.PlainOf.{plain_map, plain_entries}
+use Rattle.ix_tree.specs.PlainOf.{plain_map}
 use Rattle.ix_tree.specs.Order.{first_part}
 use Rattle.ix_tree.specs.Size.{size_of}
 use Rattle.ix_tree.proofs.Alternatives.{weight_of-list}
@@ -88,14 +88,14 @@ maps::advance_owners-loop-value-preserved t c =
 
 pub maps::advance_owner-or_first-requires : goal.maps::advance_owner-or_first-requires
 maps::advance_owner-or_first-requires t c =
-    map_keys c.args.state.now c.deref.result.now c.deref.ensures.value c.requires.held.beside.ascending
+    map_keys c.args.state.now c.args.state.now.entries refl c.requires.held.beside.ascending
 
 pub maps::advance_owner-advance-requires : goal.maps::advance_owner-advance-requires
 maps::advance_owner-advance-requires t c =
-    let found = c.or_first.ensures ∙ ap (λ l. or_initial c.args.first.now (tree_at c.args.value.now dead (items_of (plain_entries l)))) c.deref.ensures.value in (
+    let found = c.or_first.ensures in (
       omega arith,
       subst (Ready (form_of c.args.body.expr.now) c.bind.new.self) (sym found)
-          (start_ready c.args.state.now c.deref.result.now c.deref.ensures.value c.args.body.parameter.now (form_of c.args.body.expr.now) c.args.step.env.now c.bind.new.self c.args.first.now c.args.value.now c.bind.ensures c.requires.ready c.requires.held),
+          (start_ready c.args.state.now c.args.state.now.entries refl c.args.body.parameter.now (form_of c.args.body.expr.now) c.args.step.env.now c.bind.new.self c.args.first.now c.args.value.now c.bind.ensures c.requires.ready c.requires.held),
     )
 
 pub maps::advance_owner-returns-then-not-sees : goal.maps::advance_owner-returns-then-not-sees
@@ -110,7 +110,7 @@ maps::advance_owner-returns-then-not-sees t c =
 
 pub maps::advance_owner-returns : goal.maps::advance_owner-returns
 maps::advance_owner-returns t c =
-    let found = c.or_first.ensures ∙ ap (λ l. or_initial c.args.first.now (tree_at c.args.value.now dead (items_of (plain_entries l)))) c.deref.ensures.value in
+    let found = c.or_first.ensures in
     let same = ap (λ g. moved (form_of c.args.body.expr.now) g c.or_first.result.now c.args.step.action.now) c.bind.ensures ∙ ap (λ z. moved (form_of c.args.body.expr.now) (bind c.args.body.parameter.now (Some c.args.value.now) c.args.step.env.now) z c.args.step.action.now) found in
     owner_made c.args.step.limit c.larger.result c.args.first.now c.args.value.now (begun_tree c.args.body.parameter.now (form_of c.args.body.expr.now) c.args.step.env.now c.args.step.action.now c.args.first.now (plain_map c.args.state.now) c.args.value.now) (moved (form_of c.args.body.expr.now) c.bind.new.self c.or_first.result.now c.args.step.action.now) (items_of (first_part (plain_map c.args.state.now))) c.advance.result same
     (omega (arith, c.larger.ensures.first, c.args.step.positive)) c.larger.ensures.first (omega (arith, c.larger.ensures.second, c.size.ensures.value))

@@ -2,8 +2,7 @@
 use Rattle.std.proofs.Common.{◌≡◌, refl, sym, ap, ◌∙◌, subst, arith}
 use Rattle.ix_expr.specs.inside.FormOf.{form_of}
 use Rattle.ix_expr.specs.Form.{opt, seq, or, and, couple, any, every, sync}
-use Rattle.ix_tree.specs.Plain.{listed, seq as seq_of, any as any_of, every as every_of, sync as sync_of}
-use Rattle.ix_tree.specs.PlainOf.{plain_entries}
+use Rattle.ix_tree.specs.Plain.{listed, seq as seq_of}
 use Rattle.ix_tree.specs.inside.PlainNode.{plain_node}
 use Rattle.ix_step.specs.inside.Makes.{Makes}
 use Rattle.ix_can.proofs.Spent.{may_ended}
@@ -115,30 +114,30 @@ advance::advance_node-advance_couple-requires t c =
 pub advance::advance_node-advance_any-requires : goal.advance::advance_node-advance_any-requires
 advance::advance_node-advance_any-requires t c =
     let is : form_of c.args.expr.now ≡ any c.in-Any-Any.parameter (form_of c.deref-in-Any-Any.result.now) = ap form_of c.in-Any-Any.is-0 ∙ ap (λ v. any c.in-Any-Any.parameter (form_of v)) (sym c.deref-in-Any-Any.ensures) in
-    let tree = sym c.node.ensures ∙ ap plain_node c.in-Any-Any.is-1 ∙ ap (λ v. any_of c.in-Any-Any.common (plain_entries v)) (sym c.deref-in-Any-Any-2.ensures.value) in
+    let tree = sym c.node.ensures ∙ ap plain_node c.in-Any-Any.is-1 in
     let size = ap form_size is in (
       omega (arith, size),
-      any_ready c.deref-in-Any-Any-2.result.now (asked is refl tree c.requires.ready),
+      any_ready c.in-Any-Any.entries (asked is refl tree c.requires.ready),
     )
 
 pub advance::advance_node-advance_every-requires : goal.advance::advance_node-advance_every-requires
 advance::advance_node-advance_every-requires t c =
     let is : form_of c.args.expr.now ≡ every c.in-Every-Every.parameter (form_of c.deref-in-Every-Every.result.now) = ap form_of c.in-Every-Every.is-0 ∙ ap (λ v. every c.in-Every-Every.parameter (form_of v)) (sym c.deref-in-Every-Every.ensures) in
-    let tree = sym c.node.ensures ∙ ap plain_node c.in-Every-Every.is-1 ∙ ap (λ v. every_of c.in-Every-Every.common (plain_entries v)) (sym c.deref-in-Every-Every-2.ensures.value) in
-    let ready = every_ready c.deref-in-Every-Every-2.result.now (asked is refl tree c.requires.ready) in
+    let tree = sym c.node.ensures ∙ ap plain_node c.in-Every-Every.is-1 in
+    let ready = every_ready c.in-Every-Every.entries (asked is refl tree c.requires.ready) in
     let come = same_passes c.args.step.env.now c.args.step.action.now is tree c.requires.passes in
     let size = ap form_size is in (
       omega (arith, size),
-      (ready, (every_common c.in-Every-Every.parameter (form_of c.deref-in-Every-Every.result.now) c.args.step.env.now c.args.step.action.now c.in-Every-Every.common c.deref-in-Every-Every-2.result.now come, every_each c.in-Every-Every.parameter (form_of c.deref-in-Every-Every.result.now) c.args.step.env.now c.args.step.action.now c.in-Every-Every.common c.deref-in-Every-Every-2.result.now ready come)),
+      (ready, (every_common c.in-Every-Every.parameter (form_of c.deref-in-Every-Every.result.now) c.args.step.env.now c.args.step.action.now c.in-Every-Every.common c.in-Every-Every.entries come, every_each c.in-Every-Every.parameter (form_of c.deref-in-Every-Every.result.now) c.args.step.env.now c.args.step.action.now c.in-Every-Every.common c.in-Every-Every.entries ready come)),
     )
 
 pub advance::advance_node-advance_sync-requires : goal.advance::advance_node-advance_sync-requires
 advance::advance_node-advance_sync-requires t c =
     let is : form_of c.args.expr.now ≡ sync c.in-Sync-Sync.parameter (form_of c.deref-in-Sync-Sync.result.now) = ap form_of c.in-Sync-Sync.is-0 ∙ ap (λ v. sync c.in-Sync-Sync.parameter (form_of v)) (sym c.deref-in-Sync-Sync.ensures) in
-    let tree = sym c.node.ensures ∙ ap plain_node c.in-Sync-Sync.is-1 ∙ ap (λ v. sync_of c.in-Sync-Sync.common (plain_entries v)) (sym c.deref-in-Sync-Sync-2.ensures.value) in
-    let ready = sync_ready c.deref-in-Sync-Sync-2.result.now (asked is refl tree c.requires.ready) in
+    let tree = sym c.node.ensures ∙ ap plain_node c.in-Sync-Sync.is-1 in
+    let ready = sync_ready c.in-Sync-Sync.entries (asked is refl tree c.requires.ready) in
     let come = same_passes c.args.step.env.now c.args.step.action.now is tree c.requires.passes in
     let size = ap form_size is in (
       omega (arith, size),
-      (ready, (sync_common c.in-Sync-Sync.parameter (form_of c.deref-in-Sync-Sync.result.now) c.args.step.env.now c.args.step.action.now c.in-Sync-Sync.common c.deref-in-Sync-Sync-2.result.now come, sync_each c.in-Sync-Sync.parameter (form_of c.deref-in-Sync-Sync.result.now) c.args.step.env.now c.args.step.action.now c.in-Sync-Sync.common c.deref-in-Sync-Sync-2.result.now ready come)),
+      (ready, (sync_common c.in-Sync-Sync.parameter (form_of c.deref-in-Sync-Sync.result.now) c.args.step.env.now c.args.step.action.now c.in-Sync-Sync.common c.in-Sync-Sync.entries come, sync_each c.in-Sync-Sync.parameter (form_of c.deref-in-Sync-Sync.result.now) c.args.step.env.now c.args.step.action.now c.in-Sync-Sync.common c.in-Sync-Sync.entries ready come)),
     )

@@ -29,27 +29,27 @@ use Rattle.ix_step.proofs.SeenValues.{item_among}
 use Rattle.ix_can.proofs.Keys.{entries_ascend}
 use Rattle.ix_step.proofs.+advance.Goals as goal
 
-pub quantifiers::advance_own-returns-in_ok-share_entries-in-empty : goal.quantifiers::advance_own-returns-in_ok-share_entries-in-empty
-quantifiers::advance_own-returns-in_ok-share_entries-in-empty t c =
-    let entries = c.in_ok-share_entries-in-empty.field-0.items in
+pub quantifiers::advance_own-returns-in_ok-share-in-empty : goal.quantifiers::advance_own-returns-in_ok-share-in-empty
+quantifiers::advance_own-returns-in_ok-share-in-empty t c =
+    let entries = c.in_ok-share-in-empty.field-0 in
     let none : c.args.step.action.now.values ≡ [] = nil_from_length c.args.step.action.now.values (omega (arith, c.in-empty.len_below, ap length c.values.ensures.value)) in
-    let proper = copy_proper c.args.common.now entries (map plain_entry c.args.entries.now) (ap (map plain_entry) c.in_ok-share_entries-in-empty.ensures) c.requires.ready.beside in
-    let given = subst (λ l. GivesAll c.args.common.now (tree_after OwnAlphabet c.args.body.parameter.now (form_of c.args.body.expr.now) c.args.step.env.now c.args.step.action.now c.args.common.now (map plain_entry c.args.entries.now)) l entries) none (before_own c.args.body.parameter.now (form_of c.args.body.expr.now) c.args.step.env.now c.args.step.action.now c.args.common.now c.args.entries.now entries c.requires.outside c.in_ok-share_entries-in-empty.ensures) in
+    let proper = copy_proper c.args.common.now entries (map plain_entry c.args.entries.now) (ap (map plain_entry) c.in_ok-share-in-empty.ensures) c.requires.ready.beside in
+    let given = subst (λ l. GivesAll c.args.common.now (tree_after OwnAlphabet c.args.body.parameter.now (form_of c.args.body.expr.now) c.args.step.env.now c.args.step.action.now c.args.common.now (map plain_entry c.args.entries.now)) l entries) none (before_own c.args.body.parameter.now (form_of c.args.body.expr.now) c.args.step.env.now c.args.step.action.now c.args.common.now c.args.entries.now entries c.requires.outside c.in_ok-share-in-empty.ensures) in
     let same = all_given tree_ghosts.eq same_trees c.args.common.now c.args.body.parameter.now (form_of c.args.body.expr.now) c.args.step.env.now c.args.step.action.now c.args.entries.now entries c.requires.ready c.requires.outside proper given in
-    (sym same, omega (arith, ap size_of same, ap (λ l. size_of (plain_entries l)) c.in_ok-share_entries-in-empty.ensures, c.requires.ready.small))
+    (sym same, omega (arith, ap size_of same, ap (λ l. size_of (plain_entries l)) c.in_ok-share-in-empty.ensures, c.requires.ready.small))
 
 pub quantifiers::advance_own-advance_own_at-requires : goal.quantifiers::advance_own-advance_own_at-requires
 quantifiers::advance_own-advance_own_at-requires t c =
     let among = item_among c.args.step.action.now.values 0 c.first-item.result (omega (arith, c.in-len1-up.len_at_least, ap length c.values.ensures.value)) (c.first-item.is ∙ ap (λ l. get_or l 0 c.first-item.result) c.values.ensures.value) in
     (omega arith, (c.requires.ready, (c.requires.outside, (c.requires.each, among))))
 
-pub quantifiers::advance_own-entries_with-requires : goal.quantifiers::advance_own-entries_with-requires
-quantifiers::advance_own-entries_with-requires t c =
+pub quantifiers::advance_own-with-requires : goal.quantifiers::advance_own-with-requires
+quantifiers::advance_own-with-requires t c =
     keys_ascend c.args.entries.now c.requires.ready.beside.ascending
 
 pub quantifiers::advance_own-loop-value-init : goal.quantifiers::advance_own-loop-value-init
 quantifiers::advance_own-loop-value-init t c =
-    let own = c.in_ok-own-in-len1-up.own.items in
+    let own = c.in_ok-own-in-len1-up.own in
     let values = c.args.step.action.now.values in
     let later : drop 1 values ≡ take (length c.values.result.now - 1) (drop 1 c.values.result.now) = ap (drop 1) (sym c.values.ensures.value) ∙ sym (take_rest c.values.result.now 1) in
     let proper = copy_proper c.args.common.now c.args.entries.now (map plain_entry c.args.entries.now) refl c.requires.ready.beside in
@@ -72,19 +72,23 @@ quantifiers::advance_own-advance_own_at-requires-in-loop-value t c =
     let among = item_among c.args.step.action.now.values (1 + i) v (omega (arith, c.in-len1-up.len_at_least, c.loop-value-test.true, ap length c.values.ensures.value)) at in
     (omega arith, (c.requires.ready, (c.requires.outside, (c.requires.each, among))))
 
-pub quantifiers::advance_own-put-requires : goal.quantifiers::advance_own-put-requires
-quantifiers::advance_own-put-requires t c = c.loop-value.invariant.proper
+pub quantifiers::advance_own-with-requires-in-loop-value : goal.quantifiers::advance_own-with-requires-in-loop-value
+quantifiers::advance_own-with-requires-in-loop-value t c = c.loop-value.invariant.proper.ascending
 
 pub quantifiers::advance_own-loop-value-preserved : goal.quantifiers::advance_own-loop-value-preserved
 quantifiers::advance_own-loop-value-preserved t c =
     let later = take (length c.values.result.now - 1) (drop 1 c.values.result.now) in
     let rest : length later ≡ length c.values.result.now - 1 = ap length (take_rest c.values.result.now 1) ∙ length-drop 1 c.values.result.now in
-    let grown = one_more_size tree_ghosts.eq same_trees c.args.common.now c.loop-value.own.items c.value-item.result c.in_ok-tree-in-len1-up-2.tree c.put.new.entries.items (entries_ascend c.loop-value.own.items c.loop-value.invariant.proper.ascending) c.in_ok-put-in-len1-up.ensures.list in
+    let old = c.loop-value.own in
+    let own = c.in_ok-own-in-len1-up-2.own in
+    let proper = c.loop-value.invariant.proper in
+    let k = changed (lists_total nat_cmp_total) tree_ghosts.eq c.args.common.now old c.value-item.result c.in_ok-tree-in-len1-up-2.tree own proper c.in_ok-own-in-len1-up-2.ensures in
+    let grown = one_more_size tree_ghosts.eq same_trees c.args.common.now old c.value-item.result c.in_ok-tree-in-len1-up-2.tree own (entries_ascend old proper.ascending) c.in_ok-own-in-len1-up-2.ensures in
     record {
-      proper = c.put.ensures.proper;
-      given = one_given tree_ghosts.eq same_trees c.args.common.now (tree_after OwnAlphabet c.args.body.parameter.now (form_of c.args.body.expr.now) c.args.step.env.now c.args.step.action.now c.args.common.now (map plain_entry c.args.entries.now)) later c.loop-value.value-index c.value-item.result c.in_ok-tree-in-len1-up-2.tree c.loop-value.own.items c.put.new.entries.items
+      proper = k.proper;
+      given = one_given tree_ghosts.eq same_trees c.args.common.now (tree_after OwnAlphabet c.args.body.parameter.now (form_of c.args.body.expr.now) c.args.step.env.now c.args.step.action.now c.args.common.now (map plain_entry c.args.entries.now)) later c.loop-value.value-index c.value-item.result c.in_ok-tree-in-len1-up-2.tree old own
           (omega (arith, c.loop-value-test.true, rest)) c.value-item.is
-          c.in_ok-tree-in-len1-up-2.ensures.0 c.in_ok-put-in-len1-up.ensures.item c.in_ok-put-in-len1-up.ensures.others c.loop-value.invariant.given;
+          c.in_ok-tree-in-len1-up-2.ensures.0 k.itself k.others c.loop-value.invariant.given;
       small = omega (arith, grown, c.loop-value.invariant.small, ap size_of c.in_ok-tree-in-len1-up-2.ensures.0, c.in_ok-tree-in-len1-up-2.ensures.1, c.args.step.bounded);
     }
 
@@ -94,8 +98,8 @@ quantifiers::advance_own-returns-after-loop-value t c =
     let rest : length later ≡ length c.values.result.now - 1 = ap length (take_rest c.values.result.now 1) ∙ length-drop 1 c.values.result.now in
     let all : c.loop-value.value-index ≡ length later = omega (arith, c.loop-value-test.false, c.loop-value.auto.value-index-end, rest) in
     let none : drop c.loop-value.value-index later ≡ [] = ap (λ n. drop n later) all ∙ drop-length later in
-    let given = subst (λ l. GivesAll c.args.common.now (tree_after OwnAlphabet c.args.body.parameter.now (form_of c.args.body.expr.now) c.args.step.env.now c.args.step.action.now c.args.common.now (map plain_entry c.args.entries.now)) l c.loop-value.own.items) none c.loop-value.invariant.given in
-    let same = all_given tree_ghosts.eq same_trees c.args.common.now c.args.body.parameter.now (form_of c.args.body.expr.now) c.args.step.env.now c.args.step.action.now c.args.entries.now c.loop-value.own.items c.requires.ready c.requires.outside c.loop-value.invariant.proper given in
+    let given = subst (λ l. GivesAll c.args.common.now (tree_after OwnAlphabet c.args.body.parameter.now (form_of c.args.body.expr.now) c.args.step.env.now c.args.step.action.now c.args.common.now (map plain_entry c.args.entries.now)) l c.loop-value.own) none c.loop-value.invariant.given in
+    let same = all_given tree_ghosts.eq same_trees c.args.common.now c.args.body.parameter.now (form_of c.args.body.expr.now) c.args.step.env.now c.args.step.action.now c.args.entries.now c.loop-value.own c.requires.ready c.requires.outside c.loop-value.invariant.proper given in
     (sym same, omega (arith, ap size_of same, c.loop-value.invariant.small, all, rest, ap length c.values.ensures.value, c.values.ensures.valid.few))
 
 pub quantifiers::advance_own_at-state_at-state-requires : goal.quantifiers::advance_own_at-state_at-state-requires

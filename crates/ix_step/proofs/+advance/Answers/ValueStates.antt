@@ -6,7 +6,7 @@ use Rattle.std.proofs.Math.Seq.{take-length}
 use Rattle.ix_expr.specs.inside.FormOf.{form_of}
 use Rattle.ix_expr.specs.Environment.{bind}
 use Rattle.ix_tree.specs.Plain.{listed}
-use Rattle.ix_tree.specs.PlainOf.{plain_entry}
+use Rattle.ix_tree.specs.PlainOf.{plain_entry, plain_entries}
 use Rattle.ix_tree.specs.Size.{size_of}
 use Rattle.ix_tree.specs.contracts.order.KnotPartialEq.TheImpl.{ghosts as tree_ghosts}
 use Rattle.ix_tree.proofs.PlainLists.{items_of-listed}
@@ -108,7 +108,7 @@ quantifiers::advance_entries-returns t c =
     let held = c.loop-value.invariant.held in
     let items = held.items ∙ ap (λ n. entries_put c.args.next.now (tree_after c.args.reach c.args.body.parameter.now (form_of c.args.body.expr.now) c.args.step.env.now c.args.step.action.now c.args.common.now (map plain_entry c.args.entries.now)) (take n c.deref-value-items.result.now)) all ∙ ap (entries_put c.args.next.now (tree_after c.args.reach c.args.body.parameter.now (form_of c.args.body.expr.now) c.args.step.env.now c.args.step.action.now c.args.common.now (map plain_entry c.args.entries.now))) (take-length c.deref-value-items.result.now) in
     let same = ap listed items ∙ sym whole in
-    (same, omega (arith, ap size_of same, held.counted, c.loop-value.invariant.within))
+    (ap plain_entries c.in_ok-of.ensures ∙ same, omega (arith, ap size_of same, held.counted, c.loop-value.invariant.within))
 
 pub quantifiers::advance_at-advance-requires : goal.quantifiers::advance_at-advance-requires
 quantifiers::advance_at-advance-requires t c =

@@ -1,4 +1,4 @@
-use Rattle.std.proofs.Common.{◌≡◌, drop}
+use Rattle.std.proofs.Common.{◌≡◌}
 use Rattle.std.specs.List.{list_all}
 use Rattle.ix_tree.specs.Order.{first_part}
 use Rattle.ix_tree.specs.Plain.{items_of}
@@ -9,4 +9,4 @@ use Rattle.ix_step.proofs.nodes.each_ended.Given as goal
 abbrev pub invariant-loop-entry : goal.invariant-loop-entry
 invariant-loop-entry l =
     list_all (λ x. is_ended (first_part x)) (items_of (plain_entries l.entries))
-    ≡ list_all (λ x. is_ended (first_part x)) (items_of (plain_entries (drop l.entry-index l.entries)))
+    ≡ list_all (λ x. is_ended (first_part x)) (items_of (plain_entries l.entry-iterator))

@@ -18,8 +18,8 @@ returns-in-ParStar c =
 
 pub returns-then-is_dead-3 : goal.returns-then-is_dead-3
 returns-then-is_dead-3 c =
-    c.is_empty-then-is_dead-3.ensures ∙ ap (λ l. length l == 0) c.as_slice-then-is_dead-3.ensures.value ∙ parts_none plain_entry c.in-Any.entries.items
-    ∙ ap (λ b. b && is_none (plain_entries c.in-Any.entries.items)) (sym c.if-is_dead-3.true ∙ c.is_dead-in-Any.ensures)
+    c.is_empty-then-is_dead-3.ensures ∙ parts_none plain_entry c.in-Any.entries
+    ∙ ap (λ b. b && is_none (plain_entries c.in-Any.entries)) (sym c.if-is_dead-3.true ∙ c.is_dead-in-Any.ensures)
     ∙ sym (ap (λ n. has_died (plain_node n)) c.in-Any.is)
 
 pub returns-in-All : goal.returns-in-All

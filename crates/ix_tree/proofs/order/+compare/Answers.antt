@@ -1,5 +1,5 @@
 use Rattle.std.proofs.Common.{◌∙◌, sym}
-use Rattle.ix_tree.specs.PlainOf.{plain_pair, plain_bag, plain_map, plain_entry}
+use Rattle.ix_tree.specs.PlainOf.{plain_pair, plain_bag, plain_map}
 use Rattle.ix_tree.proofs.Ends.{ends, part_ends}
 use Rattle.ix_tree.proofs.order.+compare.Goals as goal
 
@@ -18,7 +18,3 @@ compare_bags-returns t c =
 pub compare_maps-returns : goal.compare_maps-returns
 compare_maps-returns t c =
     c.cmp.ensures ∙ part_ends plain_map _ _ c.loop-i.i c.min-i-end.result c.min-i-end.ensures c.loop-i-test.false c.loop-i.auto.i-end ∙ sym c.loop-i.invariant.0
-
-pub compare_entries-returns : goal.compare_entries-returns
-compare_entries-returns t c =
-    c.cmp.ensures ∙ part_ends plain_entry _ _ c.loop-i.i c.min-i-end.result c.min-i-end.ensures c.loop-i-test.false c.loop-i.auto.i-end ∙ sym c.loop-i.invariant.0

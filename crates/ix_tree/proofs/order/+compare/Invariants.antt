@@ -47,8 +47,8 @@ invariant-compare_maps-loop-i l = (tree_cmp (listed (map plain_map l.left)) (lis
 abbrev pub decreases-compare_entries : goal.decreases-compare_entries
 decreases-compare_entries l = 3 * size_of (plain_entries l.left.now) + 1
 
-abbrev pub invariant-compare_entries-loop-i : goal.invariant-compare_entries-loop-i
-invariant-compare_entries-loop-i l = (tree_cmp (plain_entries l.left) (plain_entries l.right) ≡ tree_cmp (plain_entries (drop l.i l.left)) (plain_entries (drop l.i l.right))) × (size_of (plain_entries (drop l.i l.left)) ≤ size_of (plain_entries l.left))
+abbrev pub invariant-compare_entries-loop-entry : goal.invariant-compare_entries-loop-entry
+invariant-compare_entries-loop-entry l = (tree_cmp (plain_entries l.left) (plain_entries l.right) ≡ tree_cmp (plain_entries l.entry-iterator) (plain_entries l.others)) × (size_of (plain_entries l.entry-iterator) ≤ size_of (plain_entries l.left))
 
 abbrev pub decreases-compare_or : goal.decreases-compare_or
 decreases-compare_or l = 3 * (size_of l.x.now + size_of l.z.now) + 2
