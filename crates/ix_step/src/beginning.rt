@@ -1,10 +1,10 @@
 //! The tree of one action, from that of the empty word.
 
-ghost use Rattle.std.specs.Prelude.{◌≡◌, false, IsTrue, if◌then◌else◌};
+ghost use Rattle.std.specs.Prelude.{◌≡◌, false, IsTrue};
 ghost use Rattle.ix_expr.specs.FormFaults.{Fits};
+ghost use Rattle.ix_expr.specs.Form.{atom as atom_of};
 ghost use Rattle.ix_expr.specs.inside.FormOf.{form_of};
-ghost use Rattle.ix_tree.specs.Plain.{dead, done, or as or_of};
-ghost use Rattle.ix_can.specs.Tests.{is_match};
+ghost use Rattle.ix_tree.specs.Plain.{or as or_of};
 ghost use Rattle.ix_can.specs.inside.May.{may_first};
 ghost use Rattle.ix_step.specs.inside.Initial.{initial_tree};
 ghost use Rattle.ix_step.specs.inside.Makes.{Makes};
@@ -48,16 +48,16 @@ fn advance_first(step: Step, expr: &Expr) -> Result<Knot, Unbuilt>
         step.entry.action.now) result }
 {
     match expr {
-        Expr::Atom(atom) => match_atom(step, atom),
+        Expr::Atom(atom) => advance_atom(step, atom),
         Expr::Or(y, z) => advance_either(step, y, z),
         _ => advance_whole(step, expr),
     }
 }
 
 /// An atom is done with its action.
-fn match_atom(step: Step, atom: &Atom) -> Result<Knot, Unbuilt>
-    ensures { Makes step.entry.limit (if is_match atom.now step.entry.env.now
-        step.entry.action.now then done else dead) result }
+fn advance_atom(step: Step, atom: &Atom) -> Result<Knot, Unbuilt>
+    ensures { Makes step.entry.limit (begun (atom_of atom.now) step.entry.env.now
+        step.entry.action.now) result }
 {
     if !matches(atom, step.env, step.action) {
         return dead_knot(step);

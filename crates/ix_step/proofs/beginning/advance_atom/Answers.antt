@@ -4,7 +4,7 @@ use Rattle.ix_can.specs.Tests.{is_match}
 use Rattle.ix_can.proofs.Lists.{one_test, iff_trans, iff_sym}
 use Rattle.ix_can.proofs.Testing.{match_says}
 use Rattle.ix_step.specs.inside.Makes.{Makes}
-use Rattle.ix_step.proofs.beginning.match_atom.Goals as goal
+use Rattle.ix_step.proofs.beginning.advance_atom.Goals as goal
 
 pub returns-then-not-matches : goal.returns-then-not-matches
 returns-then-not-matches c =
