@@ -473,6 +473,12 @@ begun_or y z e a f =
     ∙ ap (λ t. pruned (or_of (moved y e t a) (moved z e (initial_tree z) a))) (sym (initial_is y []))
     ∙ ap (λ t. pruned (or_of (begun y e a) (moved z e t a))) (sym (initial_is z []))
 
+-- of `any` it is made of the tree of the empty word without its node
+pub begun_any : (p : List ℕ) (y : Form) (e : Environment) (a : PlainAction) → Fits (any p y) e → begun (any p y) e a ≡ pruned (moved_node (any p y) e (any_of (initial_tree y) none) a)
+begun_any p y e a f =
+    ap (λ t. moved (any p y) e t a) (initial_is (any p y) [])
+    ∙ moved_is (any p y) e (any_of (initial_tree y) none) a f refl
+
 -- of a sequence it is made of those of both parts
 module _ (z : Form) (e : Environment) (a : PlainAction) where
   second_ends : (b : Bool) → some_ends z e a (items_of (listed (when b (initial_tree z ∷ [])))) ≡ is_done (begun_again b z e a)

@@ -2,7 +2,7 @@
 
 ghost use Rattle.std.specs.Prelude.{◌≡◌, false, IsTrue};
 ghost use Rattle.ix_expr.specs.FormFaults.{Fits};
-ghost use Rattle.ix_expr.specs.Form.{atom as atom_of};
+ghost use Rattle.ix_expr.specs.Form.{any, atom as atom_of};
 ghost use Rattle.ix_expr.specs.inside.FormOf.{form_of};
 ghost use Rattle.ix_tree.specs.Plain.{or as or_of};
 ghost use Rattle.ix_can.specs.inside.May.{may_first};
@@ -14,16 +14,18 @@ ghost use Rattle.ix_step.specs.inside.Pruned.{pruned};
 ghost use Rattle.ix_step.specs.inside.Ready.{Ready};
 
 use crate::advance::advance;
+use crate::bodies::Body;
 use crate::fault::Unbuilt;
 use crate::first::{first_tree, is_complete};
 use crate::nodes::{dead_knot, done_knot, or_within};
 use crate::one_step::Step;
+use crate::quantifiers::advance_any;
 use crate::sequences::sequence_of;
 use crate::sets::put_open;
 use ix_alts::AltSet;
 use ix_can::can_first;
 use ix_expr::{Atom, Expr, matches};
-use ix_tree::Knot;
+use ix_tree::{Entries, Knot};
 
 /// The tree of a run that begins with the action, dead where no further run may begin.
 #[cycle(advance)]
@@ -94,6 +96,21 @@ fn advance_first_seq(step: Step, y: &Expr, z: &Expr) -> Result<Knot, Unbuilt>
     sequence_of(step, y, z, first, rest, ended)
 }
 
+/// The body's tree of the empty word is moved under outside and under each of the action's values,
+/// and no node is made before that.
+#[cycle(advance)]
+fn advance_first_any(step: Step, body: Body) -> Result<Knot, Unbuilt>
+    requires { Ready (any body.parameter.now (form_of body.expr.now)) step.env.now
+        (initial_tree (any body.parameter.now (form_of body.expr.now))) }
+    ensures { Makes step.entry.limit
+        (begun (any body.entry.parameter.now (form_of body.entry.expr.now)) step.entry.env.now
+        step.entry.action.now) result }
+{
+    let common = first_tree(step.leaves, body.expr)?;
+    let entries = Entries::new(step.alloc);
+    advance_any(step, body, &common, &entries)
+}
+
 /// The tree of the one action of another form, unless the action is refused.
 #[cycle(advance)]
 fn advance_whole(step: Step, expr: &Expr) -> Result<Knot, Unbuilt>
@@ -106,6 +123,7 @@ fn advance_whole(step: Step, expr: &Expr) -> Result<Knot, Unbuilt>
     }
     match expr {
         Expr::Seq(y, z) => advance_first_seq(step, y, z),
+        Expr::Any(parameter, expr) => advance_first_any(step, Body { parameter, expr }),
         _ => advance_built(step, expr),
     }
 }

@@ -140,6 +140,21 @@ beginning::advance_whole-advance_first_seq-requires = Beginnings.beginning::adva
 pub beginning::advance_whole-returns-in-Seq : goal.beginning::advance_whole-returns-in-Seq
 beginning::advance_whole-returns-in-Seq = Beginnings.beginning::advance_whole-returns-in-Seq
 
+pub beginning::advance_first_any-first_tree-requires : goal.beginning::advance_first_any-first_tree-requires
+beginning::advance_first_any-first_tree-requires = Beginnings.beginning::advance_first_any-first_tree-requires
+
+pub beginning::advance_first_any-advance_any-requires : goal.beginning::advance_first_any-advance_any-requires
+beginning::advance_first_any-advance_any-requires = Beginnings.beginning::advance_first_any-advance_any-requires
+
+pub beginning::advance_first_any-returns : goal.beginning::advance_first_any-returns
+beginning::advance_first_any-returns = Beginnings.beginning::advance_first_any-returns
+
+pub beginning::advance_whole-advance_first_any-requires : goal.beginning::advance_whole-advance_first_any-requires
+beginning::advance_whole-advance_first_any-requires = Beginnings.beginning::advance_whole-advance_first_any-requires
+
+pub beginning::advance_whole-returns-in-Any : goal.beginning::advance_whole-returns-in-Any
+beginning::advance_whole-returns-in-Any = Beginnings.beginning::advance_whole-returns-in-Any
+
 pub beginning::advance_built-returns : goal.beginning::advance_built-returns
 beginning::advance_built-returns = Beginnings.beginning::advance_built-returns
 

@@ -67,6 +67,9 @@ decreases-beginning::advance_either l = 8 * form_size (form_of l.y.now) + 8 * fo
 abbrev pub decreases-beginning::advance_first_seq : goal.decreases-beginning::advance_first_seq
 decreases-beginning::advance_first_seq l = 8 * form_size (form_of l.y.now) + 8 * form_size (form_of l.z.now) + 7
 
+abbrev pub decreases-beginning::advance_first_any : goal.decreases-beginning::advance_first_any
+decreases-beginning::advance_first_any l = 8 * form_size (form_of l.body.expr.now) + 8
+
 abbrev pub decreases-beginning::advance_built : goal.decreases-beginning::advance_built
 decreases-beginning::advance_built l = 8 * form_size (form_of l.expr.now) + 3
 

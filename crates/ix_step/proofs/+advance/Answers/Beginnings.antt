@@ -1,9 +1,15 @@
 -- The tree of one action that comes first: of `y | z` and `y - z` by their parts, of another form whole.
-use Rattle.std.proofs.Common.{◌≡◌, refl, sym, ap, ◌∙◌, subst, arith, [], ◌∷◌, ◌++◌}
+use Rattle.std.proofs.Common.{◌≡◌, refl, sym, ap, ◌∙◌, subst, arith, [], ◌∷◌, ◌++◌, map}
 use Rattle.ix_words.specs.Canon.{canon, when}
 use Rattle.ix_expr.specs.inside.FormOf.{form_of}
 use Rattle.ix_expr.specs.FormFaults.{Fits}
-use Rattle.ix_expr.specs.Form.{seq, or}
+use Rattle.ix_expr.specs.Form.{seq, or, any}
+use Rattle.ix_tree.specs.Plain.{any as any_of, none}
+use Rattle.ix_tree.specs.PlainOf.{plain_entry, plain_entries}
+use Rattle.ix_step.specs.inside.MovedNode.{moved_node}
+use Rattle.ix_step.specs.inside.Pruned.{pruned}
+use Rattle.ix_step.specs.inside.ValueTrees.{ReadyInside}
+use Rattle.ix_step.proofs.Quantifying.{any_ready}
 use Rattle.ix_tree.specs.Order.{tree_cmp}
 use Rattle.ix_tree.specs.Size.{size_of}
 use Rattle.ix_can.specs.Nodes.{is_done, unless_done}
@@ -20,7 +26,7 @@ use Rattle.ix_step.proofs.Exits.{exit_over}
 use Rattle.ix_step.proofs.Gathered.{open_over}
 use Rattle.ix_step.proofs.Gathering.{front_of_set}
 use Rattle.ix_step.proofs.Measure.{form_size}
-use Rattle.ix_step.proofs.MovedIs.{begun_dead, begun_or, begun_seq_is}
+use Rattle.ix_step.proofs.MovedIs.{begun_any, begun_dead, begun_or, begun_seq_is}
 use Rattle.ix_step.proofs.Overs.{unless_over, seq_over}
 use Rattle.ix_step.proofs.+advance.Goals as goal
 
@@ -94,6 +100,42 @@ beginning::advance_whole-returns-in-Seq t c =
     subst (λ p. Makes c.args.step.limit p c.advance_first_seq.result)
     (sym (begun_seq_is (form_of c.deref.result.now) (form_of c.deref-in-Seq.result.now) c.args.step.env.now c.args.step.action.now (subst (λ x. Fits x c.args.step.env.now) is c.requires.fits))
     ∙ ap (λ x. begun x c.args.step.env.now c.args.step.action.now) (sym is)) c.advance_first_seq.ensures
+
+pub beginning::advance_first_any-first_tree-requires : goal.beginning::advance_first_any-first_tree-requires
+beginning::advance_first_any-first_tree-requires t c =
+    omega (arith, c.requires.small)
+
+pub beginning::advance_first_any-advance_any-requires : goal.beginning::advance_first_any-advance_any-requires
+beginning::advance_first_any-advance_any-requires t c =
+    let p = c.args.body.parameter.now in
+    let y = form_of c.args.body.expr.now in
+    let e = c.args.step.env.now in
+    let ready : ReadyInside p y e (initial_tree y) (map plain_entry []) = any_ready [] c.requires in
+    (omega arith, subst (λ es. ReadyInside p y e c.in_ok-common.common (map plain_entry es)) (sym c.new-entries.ensures) (subst (λ t. ReadyInside p y e t []) (sym c.in_ok-common.ensures) ready))
+
+pub beginning::advance_first_any-returns : goal.beginning::advance_first_any-returns
+beginning::advance_first_any-returns t c =
+    let p = c.args.body.parameter.now in
+    let y = form_of c.args.body.expr.now in
+    let e = c.args.step.env.now in
+    let a = c.args.step.action.now in
+    let node : pruned (moved_node (any p y) e (any_of c.in_ok-common.common (plain_entries c.new-entries.result)) a) ≡ pruned (moved_node (any p y) e (any_of (initial_tree y) none) a) =
+    (λ i. pruned (moved_node (any p y) e (any_of (c.in_ok-common.ensures i) (plain_entries (c.new-entries.ensures i))) a)) in
+    subst (λ t. Makes c.args.step.limit t c.advance_any.result) (node ∙ sym (begun_any p y e a c.requires.fits)) c.advance_any.ensures
+
+pub beginning::advance_whole-advance_first_any-requires : goal.beginning::advance_whole-advance_first_any-requires
+beginning::advance_whole-advance_first_any-requires t c =
+    let is : form_of c.args.expr.now ≡ any c.in-Any.parameter (form_of c.deref-in-Any.result.now) = ap form_of c.in-Any.is ∙ ap (λ v. any c.in-Any.parameter (form_of v)) (sym c.deref-in-Any.ensures) in
+    let size = ap form_size is in (
+      omega (arith, size),
+      asked is refl (ap initial_tree is) c.requires,
+    )
+
+pub beginning::advance_whole-returns-in-Any : goal.beginning::advance_whole-returns-in-Any
+beginning::advance_whole-returns-in-Any t c =
+    let is : form_of c.args.expr.now ≡ any c.in-Any.parameter (form_of c.deref-in-Any.result.now) = ap form_of c.in-Any.is ∙ ap (λ v. any c.in-Any.parameter (form_of v)) (sym c.deref-in-Any.ensures) in
+    subst (λ p. Makes c.args.step.limit p c.advance_first_any.result)
+    (ap (λ x. begun x c.args.step.env.now c.args.step.action.now) (sym is)) c.advance_first_any.ensures
 
 pub beginning::advance_built-returns : goal.beginning::advance_built-returns
 beginning::advance_built-returns t c =
