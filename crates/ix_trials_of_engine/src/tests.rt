@@ -206,6 +206,48 @@ fn answers_sizes_and_ends(rt: HostRuntime) -> Result<(), Fail> {
     Ok(())
 }
 
+// Values enough for several pieces of a list of entries.
+const VALUES: usize = 70;
+
+// Asks an engine for `s` of each value, in no order of theirs, and then for one action more: how
+// that is answered, and how large the tree is then.
+fn ask_behind_values(alloc: Global, text: &str, last: &str) -> Result<(u8, usize), Fail> {
+    let Ok(mut engine) = Engine::new(alloc, expression(alloc, text)?, 1_000_000) else {
+        return Err("no engine".into());
+    };
+    for index in 0..VALUES {
+        let begun = format!(in alloc; "s(v{})", index * 37 % VALUES)?;
+        if ask(alloc, &mut engine, &action(&begun)?)? != b'y' {
+            return Err("not granted".into());
+        }
+    }
+    let answer = ask(alloc, &mut engine, &action(last)?)?;
+    Ok((answer, engine.nodes()))
+}
+
+// Each value begins once, and each action is one of any value.
+const EACH_ONCE: &str = "every $p ((s($p) - r) @ *(any $q s($q)))";
+
+const SOME_ONCE: &str = "any $p ((s($p) - r) @ *(any $q s($q)))";
+
+#[test]
+fn lists_of_many_entries(rt: HostRuntime) -> Result<(), Fail> {
+    for (text, last, then) in [
+        // The node is 1, the common tree 1 + 1, and each entry 1 with a begun `s - r` of 3.
+        ("sync $p (s($p) - r)", "s(v35)", (b'n', 283)),
+        // The node is 1, its map 1, and each of 69 entries 1 with a round of 1 + 3.
+        ("all $p *(s($p) - r($p))", "r(v35)", (b'y', 347)),
+        // A coupling is 1, an iteration whose runs are over 1, `s - r` 2 and a begun one 3.
+        (EACH_ONCE, "s(v35)", (b'n', 425)),
+        // The value is dead then, and its entry 2.
+        (SOME_ONCE, "s(v35)", (b'y', 421)),
+    ] {
+        let seen = ask_behind_values(rt.alloc(), text, last)?;
+        assert!(rt; seen == then, "{text}");
+    }
+    Ok(())
+}
+
 // Whether the first tree of an expression is above the limit.
 fn is_above(alloc: Global, text: &str, limit: usize) -> Result<bool, Fail> {
     let seen = run_engine(alloc, expression(alloc, text)?, limit, &[])?;
