@@ -1,17 +1,15 @@
 -- A trace so far, and how it goes on.
-use Rattle.std.proofs.Common.{◌≡◌, ℕ, ◌≤◌, List, [], ◌∷◌, ◌++◌, length, map, Option, Some, None, refl, sym, ap, subst}
-use Rattle.std.proofs.Common.{Result, IsErrAnd, ◌∙◌, append_assoc}
+use Rattle.std.proofs.Common.{◌≡◌, ◌≢◌, ℕ, ◌≤◌, List, [], ◌∷◌, ◌++◌, length, map, Option, Some, None, refl, sym, ap, subst}
+use Rattle.std.proofs.Common.{◌∙◌, append_assoc, arith}
 use Rattle.std.specs.Prelude.{codes}
 use Rattle.std.specs.Io.KnownBytes.{append_known}
 use Rattle.std.proofs.lemmas.List.{append-nil, map-append}
-use Rattle.std.proofs.lemmas.Result.{err_from_is_err_and}
 use Rattle.ix_words.specs.Each.{Each, no_item, item}
-use Rattle.ix_words.proofs.Each.{Each-append, Each-tail}
+use Rattle.ix_words.proofs.Each.{Each-append}
 use Rattle.ix_values.specs.Faults.{IsActionText}
 use Rattle.ix_values.specs.PlainAction.{PlainAction, Word, text_of}
 use Rattle.ix_values.specs.Texts.{IsAction}
 use Rattle.ix_expr.specs.Form.{Form}
-use Rattle.ix_engine.specs.inside.Engine.{EngineState}
 use Rattle.ix_outside.specs.Counts.{Rose}
 use Rattle.ix_outside.specs.Sink.{AppendsPart}
 use Rattle.ix_outside.specs.SinkState.{SinkState}
@@ -19,14 +17,14 @@ use Rattle.ix_outside.proofs.Counting.{Rose-earlier}
 use Rattle.ix_manage.specs.ActionLines.{HasActions, line}
 use Rattle.ix_lines.specs.TextLines.{lines_of}
 use Rattle.ix_manage.specs.Trace.{Answers, Verdict, answered, short, lost_answer}
+use Rattle.ix_manage.specs.Ends.{Ended}
 use Rattle.ix_manage.specs.Puts.{LastLine}
 use Rattle.ix_manage.specs.declared.early_end.EarlyEnd.{EarlyEnd}
 use Rattle.ix_manage.specs.declared.early_end.EarlyEnd.TheVariants.{Refused, Words, OtherExpression, Output}
-use Rattle.ix_manage.specs.declared.refusal.Refusal.TheVariants.{Memory}
 use Rattle.ix_manage.specs.inside.Leaves.{AwaitsLine, StopsAfter}
 use Rattle.ix_manage.specs.inside.Refusal.{refusal_line, refusal_status}
-use Rattle.ix_manage.specs.inside.TracesLines.{AnswersOne, PutsAnswer, StopsAnswer, TracesLines}
-use Rattle.ix_manage.proofs.Answering.{answers_same}
+use Rattle.ix_manage.specs.inside.TracesLines.{StopsAnswer, TracesLines}
+use Rattle.ix_manage.proofs.Answering.{answers_none, ends_within}
 use Rattle.ix_lines.proofs.LineLists.{lines_of-none}
 
 pub append_nothing : (known : Option (List ℕ)) → known ≡ append_known known []
@@ -57,6 +55,15 @@ part_on start now after first second behind put part =
 -- the same, with nothing behind
 pub part_last : (start now after : Option (List ℕ)) (first second : List ℕ) → now ≡ append_known start first → AppendsPart now second after → AppendsPart start (first ++ second) after
 part_last start now after first second put part = subst (λ text. AppendsPart start text after) (append-nil (first ++ second)) (part_on start now after first second [] put part)
+
+none_behind : (put held : List ℕ) → put ++ held ≡ [] → held ≡ []
+none_behind [] held none = none
+none_behind (byte ∷ put) held none = absurd (omega (arith, ap length none))
+
+-- an answer more, where some front of what is held with it is put
+pub held_on : (put held text more left : List ℕ) → more ++ left ≡ held ++ text → (put ++ held) ++ text ≡ (put ++ more) ++ left
+held_on put held text more left same =
+    append_assoc put held text ∙ ap (λ bytes. put ++ bytes) (sym same) ∙ sym (append_assoc put more left)
 
 -- the lines before what is left are the texts of these actions
 pub record StandBefore (all rest : List ℕ) (front : Word) : Type 0 where
@@ -118,17 +125,32 @@ module _ (x : Form) (limit : ℕ) (all rest : List ℕ) (front history : Word) (
         no_session = refl;
       }
 
-  -- the put of the next action's line fails
-  trace_lost : (next answer : List ℕ) (action : PlainAction) (after : Word)
-      → StandBefore all next (front ++ action ∷ []) → Each IsActionText (lines_of next)
-      → Answers x limit [] front text history → Answers x limit history (action ∷ []) answer after
-      → TracesLines x limit all 10 text answer None
-  trace_lost next answer action after so_far good answers one =
-      let named = all_actions all next (front ++ action ∷ []) so_far good in record {
-        actions = (front ++ action ∷ []) ++ named.0;
-        has = named.1;
-        traces = lost_answer named.0 (sym (append_assoc front (action ∷ []) named.0)) answers one;
-        no_session = refl;
+  -- the put of the answers that are held fails
+  trace_lost : (start now : SinkState)
+      → StandBefore all rest front → Each IsActionText (lines_of rest)
+      → Answers x limit [] front text history → front ≢ []
+      → AppendsPart start.written text now.written → Rose start.faults now.faults
+      → Ended (TracesLines x limit all) 10 start now
+  trace_lost start now so_far good answers some part rose =
+      let named = all_actions all rest front so_far good in
+      let cut = ends_within answers part.0 part.1 some in record {
+        whole = cut.whole;
+        part = cut.part;
+        session = None;
+        may = record {
+          actions = front ++ named.0;
+          has = named.1;
+          traces = lost_answer (cut.behind ++ named.0)
+              (sym (append_assoc cut.before (cut.action ∷ cut.behind) named.0) ∙ ap (λ word. word ++ named.0) cut.split)
+              cut.answers cut.next;
+          no_session = refl;
+        };
+        puts = (
+          cut.end,
+          cut.is_front,
+          part.2 ∙ ap (λ bytes. append_known start.written bytes) cut.same ∙ sym (append_twice start.written cut.whole cut.end),
+        );
+        put_failed = λ ten. rose;
       }
 
   -- all actions are answered
@@ -143,52 +165,25 @@ module _ (x : Form) (limit : ℕ) (all rest : List ℕ) (front history : Word) (
     no_session = refl;
   }
 
-  -- an action's line isn't put: memory ran out, or its put failed
-  pub trace_stops : (engine : EngineState) (action : PlainAction) (next cut : List ℕ) (start was now : SinkState)
-      → engine.form ≡ x → engine.limit ≡ limit → engine.history ≡ history
-      → lines_of rest ≡ cut ∷ lines_of next → IsAction action → text_of action ≡ cut
+  -- an action isn't answered, since memory ran out, or the put of the answers that are held failed
+  pub trace_stops : (put held : List ℕ) (start was now : SinkState) → put ++ held ≡ text
       → StandBefore all rest front → Each IsActionText (lines_of rest)
       → Answers x limit [] front text history
-      → was.written ≡ append_known start.written text → start.faults ≤ was.faults
-      → (stop : EarlyEnd) → StopsAnswer engine action was now stop
+      → was.written ≡ append_known start.written put → start.faults ≤ was.faults
+      → (stop : EarlyEnd) → StopsAnswer held was now stop
       → StopsAfter (TracesLines x limit all) start now stop
-  trace_stops engine action next cut start was now form most same cuts valid named so_far good answers put_before le (Refused refusal) is =
+  trace_stops put held start was now same so_far good answers put_before le (Refused refusal) is =
       subst (λ r. AwaitsLine (TracesLines x limit all) (refusal_status r) (refusal_line r) start now) (sym is.0)
       (record {
         before = text;
         session = None;
         may = trace_short so_far good answers;
-        put = is.1 ∙ put_before;
+        put = append_on start.written was.written now.written put held put_before is.1 ∙ ap (λ bytes. append_known start.written bytes) same;
       })
-  trace_stops engine action next cut start was now form most same cuts valid named so_far good answers put_before le (Words text) is = absurd is
-  trace_stops engine action next cut start was now form most same cuts valid named so_far good answers put_before le (OtherExpression kept) is = absurd is
-  trace_stops engine action next cut start was now form most same cuts valid named so_far good answers put_before le Output it = record {
-    whole = text;
-    part = it.0;
-    session = None;
-    may = trace_lost next it.0 action it.1
-        (front_step all rest next cut front action cuts valid named so_far)
-        (Each-tail (subst (Each IsActionText) cuts good)) answers
-        (subst (λ h. Answers x limit h (action ∷ []) it.0 it.1) same (answers_same form most it.2));
-    puts = subst (λ known. AppendsPart known it.0 now.written) put_before it.3;
-    put_failed = λ ten. Rose-earlier _ _ _ le it.4;
-  }
-
--- what an action makes of the output where its line isn't put
-module _ {T : Type 0} (r : Result T EarlyEnd) (engine : EngineState) (action : PlainAction) (after : Word) (old new : SinkState) where
-  -- memory ran out
-  pub answer_short : IsErrAnd r (λ e. e ≡ Refused Memory) → new.written ≡ old.written
-      → PutsAnswer engine action after old new r
-  answer_short is still =
-      let p = err_from_is_err_and r is in
-      subst (PutsAnswer engine action after old new) (sym p.1)
-      (subst (StopsAnswer engine action old new) (sym p.2) (refl, still))
-
-  -- its put failed
-  pub answer_unput : (text : List ℕ) (history : Word) → IsErrAnd r (λ e. e ≡ Output)
-      → AnswersOne engine action text history → AppendsPart old.written text new.written
-      → Rose old.faults new.faults → PutsAnswer engine action after old new r
-  answer_unput text history is answers part rose =
-      let p = err_from_is_err_and r is in
-      subst (PutsAnswer engine action after old new) (sym p.1)
-      (subst (StopsAnswer engine action old new) (sym p.2) (text, history, answers, part, rose))
+  trace_stops put held start was now same so_far good answers put_before le (Words text) is = absurd is
+  trace_stops put held start was now same so_far good answers put_before le (OtherExpression kept) is = absurd is
+  trace_stops put held start was now same so_far good answers put_before le Output is =
+      trace_lost start now so_far good answers
+      (λ none. is.0 (none_behind put held (same ∙ answers_none answers none)))
+      (subst (λ bytes. AppendsPart start.written bytes now.written) same (part_last start.written was.written now.written put held put_before is.1))
+      (Rose-earlier start.faults was.faults now.faults le is.2)

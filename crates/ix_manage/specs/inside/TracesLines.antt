@@ -1,5 +1,5 @@
 -- A trace of the bytes of an actions file.
-use Rattle.std.specs.Prelude.{◌≡◌, ℕ, List, [], ◌∷◌, Option, None, Result, Ok, Err}
+use Rattle.std.specs.Prelude.{◌≡◌, ◌≢◌, ℕ, List, [], ◌∷◌, ◌++◌, Option, None}
 use Rattle.std.specs.Io.KnownBytes.{append_known}
 use Rattle.ix_engine.specs.inside.Engine.{EngineState}
 use Rattle.ix_outside.specs.Counts.{Rose}
@@ -26,20 +26,20 @@ abbrev pub AnswersOne : EngineState → PlainAction → List ℕ → Word → Ty
 AnswersOne engine action text after =
     Answers engine.form engine.limit engine.history (action ∷ []) text after
 
--- memory ran out, and nothing was put; or the put of an action's line failed
-abbrev pub StopsAnswer : EngineState → PlainAction → SinkState → SinkState → EarlyEnd → Type 0
-StopsAnswer engine action old new (Refused refusal) =
-    (refusal ≡ Memory) × (new.written ≡ old.written)
-StopsAnswer engine action old new (Words text) = ⊥
-StopsAnswer engine action old new (OtherExpression kept) = ⊥
-StopsAnswer engine action old new Output =
-    (text : List ℕ) × (history : Word) × AnswersOne engine action text history
-    × AppendsPart old.written text new.written × Rose old.faults new.faults
+-- some front of a text was put, and this is left of it
+abbrev pub PutsFront : List ℕ → List ℕ → SinkState → SinkState → Type 0
+PutsFront text left old new =
+    (put : List ℕ) × (put ++ left ≡ text) × (new.written ≡ append_known old.written put)
 
--- an action's line was put, or it stopped there
-abbrev pub PutsAnswer : {T : Type 0} → EngineState → PlainAction → Word → SinkState → SinkState
-    → Result T EarlyEnd → Type 0
-PutsAnswer engine action after old new (Ok done) =
-    (text : List ℕ) × AnswersOne engine action text after
-    × (new.written ≡ append_known old.written text)
-PutsAnswer engine action after old new (Err stop) = StopsAnswer engine action old new stop
+-- the put of the answers that were held failed
+abbrev pub LosesHeld : List ℕ → SinkState → SinkState → Type 0
+LosesHeld held old new =
+    (held ≢ []) × AppendsPart old.written held new.written × Rose old.faults new.faults
+
+-- memory ran out, and the answers that were held were put; or their put failed
+abbrev pub StopsAnswer : List ℕ → SinkState → SinkState → EarlyEnd → Type 0
+StopsAnswer held old new (Refused refusal) =
+    (refusal ≡ Memory) × (new.written ≡ append_known old.written held)
+StopsAnswer held old new (Words text) = ⊥
+StopsAnswer held old new (OtherExpression kept) = ⊥
+StopsAnswer held old new Output = LosesHeld held old new

@@ -94,7 +94,7 @@ fn runs_without_an_answer_end(rt: HostRuntime) -> Result<(), Fail> {
             b"refused file actions\n",
         ),
         (&TRACE, Some(0), 10, b""),
-        (&TRACE, Some(2), 10, b"yes\nyes\n"),
+        (&TRACE, Some(1), 10, b"yes\nyes\n"),
     ];
     for (words, failing, status, bytes) in cases {
         let got = run_on(alloc, words, b"a - b", b"a\nb", failing)?;

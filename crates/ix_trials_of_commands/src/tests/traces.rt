@@ -143,3 +143,35 @@ fn trees_above_the_limit_are_large(rt: HostRuntime) -> Result<(), Fail> {
     }
     Ok(())
 }
+
+fn repeated(alloc: Global, line: &[u8], count: usize) -> Result<Vec<u8>, Fail> {
+    let mut text = Vec::new(alloc);
+    for _ in 0..count {
+        text.extend_from_slice(line)?;
+    }
+    Ok(text)
+}
+
+// A put takes at most 4096 bytes, so that the first one has the answers to 1024 actions.
+#[test]
+fn answers_longer_than_a_put_are_whole(rt: HostRuntime) -> Result<(), Fail> {
+    let alloc = rt.alloc();
+    let actions = repeated(alloc, b"a\n", 1100)?;
+    let cases: [(Option<u64>, u8, usize, &[u8]); 4] = [
+        (None, 0, 1100, b"complete\n"),
+        (Some(0), 10, 0, b""),
+        (Some(1), 10, 1024, b""),
+        (Some(2), 10, 1100, b""),
+    ];
+    for (failing, status, answers, last) in cases {
+        let mut bytes = repeated(alloc, b"yes\n", answers)?;
+        bytes.extend_from_slice(last)?;
+        let got = run_on(alloc, &TRACE, b"*a", &actions, failing)?;
+        assert_eq!(rt; got.status, status);
+        assert!(rt;
+            got.bytes.as_slice() == bytes.as_slice(),
+            "what is put where put {failing:?} fails"
+        );
+    }
+    Ok(())
+}

@@ -1,4 +1,4 @@
-use Rattle.std.proofs.Common.{◌≡◌, ℕ, List, [], length}
+use Rattle.std.proofs.Common.{◌≡◌, ℕ, List, [], ◌++◌, length}
 use Rattle.std.specs.Io.KnownBytes.{append_known}
 use Rattle.ix_words.specs.Each.{Each}
 use Rattle.ix_values.specs.Faults.{IsActionText}
@@ -9,7 +9,7 @@ use Rattle.ix_manage.specs.Trace.{Answers}
 use Rattle.ix_manage.proofs.Tracing.{StandBefore}
 use Rattle.ix_manage.proofs.trace.trace_lines.Given as goal
 
--- the actions before what is left are answered, and their answers put
+-- the actions before what is left are answered, and their answers put but for those that are held
 abbrev pub invariant-loop-rest : goal.invariant-loop-rest
 invariant-loop-rest g l =
     Each IsActionText (lines_of l.rest)
@@ -17,8 +17,8 @@ invariant-loop-rest g l =
     × (l.engine.form ≡ l.fn.engine.form)
     × (l.engine.limit ≡ l.fn.engine.limit)
     × ((front : Word) × StandBefore l.actions l.rest front
-    × ((text : List ℕ) × Answers l.fn.engine.form l.fn.engine.limit [] front text l.engine.history
-    × ((g.K.Sink.state l.out).written ≡ append_known (g.K.Sink.state l.fn.out).written text)))
+    × ((put : List ℕ) × Answers l.fn.engine.form l.fn.engine.limit [] front (put ++ l.held.items) l.engine.history
+    × ((g.K.Sink.state l.out).written ≡ append_known (g.K.Sink.state l.fn.out).written put)))
 
 abbrev pub decreases-loop-rest : goal.decreases-loop-rest
 decreases-loop-rest g l = length l.rest
