@@ -191,11 +191,6 @@ any_over limit room common tree xs entries positive le few lt =
 
 -- Quantifiers
 
--- entries are no more than their Size
-pub entries_count : (es : List (List ℕ × Plain)) → length es ≤ size_of (plain_entries es)
-entries_count [] = omega arith
-entries_count (e ∷ es) = omega (arith, entries_count es)
-
 keys_long : (es : List (List ℕ × Plain)) → length (keys_of es) ≡ length es
 keys_long [] = refl
 keys_long (e ∷ es) = omega (arith, keys_long es)

@@ -3,7 +3,7 @@
 ghost use Rattle.std.specs.Prelude.{◌≡◌, ◌+◌, ◌<◌, ◌≤◌, List, [], ◌∷◌, ◌++◌, suc, length, map};
 ghost use Rattle.std.specs.Prelude.{take};
 ghost use Rattle.std.specs.Prelude.{drop, insert, remove, vec_len, vec_capacity};
-ghost use Rattle.std.specs.Prelude.{IsTrue, IsFalse, IfOk, OnOk};
+ghost use Rattle.std.specs.Prelude.{IsTrue, IsFalse, IfOk};
 ghost use Rattle.ix_tree.specs.Plain.{Plain, bag, listed};
 ghost use Rattle.ix_tree.specs.PlainOf.{plain_bag};
 ghost use Rattle.ix_tree.specs.Size.{size_of};
@@ -16,7 +16,7 @@ ghost use Rattle.ix_step.specs.inside.ParallelMoves.{more_runs, runs_with, begun
 use crate::fault::Unbuilt;
 use crate::sets::put;
 use ix_alts::AltSet;
-use ix_tree::{Bag, Knot, push_shared, share_knots};
+use ix_tree::{Bag, Knot, share_knots, with_shared};
 use std::alloc::{AllocError, Global};
 
 /// The place that keeps the trees in ascending order: before the first that isn't below this one.
@@ -32,18 +32,18 @@ fn place_of(tree: &Knot, others: &[Knot]) -> usize
     others.partition_point(|other| tree.cmp(other).is_gt())
 }
 
-/// Appends the trees with one more in its place among them.
-fn push_with(all: &mut Vec<Knot>, tree: Knot, others: &[Knot]) -> Result<(), AllocError>
+/// The knots, and behind them the trees with one more in its place among them.
+fn with_in_place(all: Vec<Knot>, tree: Knot, others: &[Knot]) -> Result<Vec<Knot>, AllocError>
     requires rising { IsRising others.now }
-    requires room { vec_len all.old + length others.now < vec_capacity all.old }
-    ensures items { OnOk result (all.new.items ≡ all.old.items ++ put_in tree others.now) }
-    ensures len { OnOk result (vec_len all.new ≡ vec_len all.old + length others.now + 1) }
-    ensures capacity { vec_capacity all.new ≡ vec_capacity all.old }
+    requires room { vec_len all + length others.now < vec_capacity all }
+    ensures items { IfOk result (λ v. v.items ≡ all.items ++ put_in tree others.now) }
+    ensures len { IfOk result (λ v. vec_len v ≡ vec_len all + length others.now + 1) }
+    ensures capacity { IfOk result (λ v. vec_capacity v ≡ vec_capacity all) }
 {
     let place = place_of(&tree, others);
-    push_shared(all, &others[..place])?;
+    let mut all = with_shared(all, &others[..place])?;
     all.push_reserved(tree);
-    push_shared(all, &others[place..])
+    with_shared(all, &others[place..])
 }
 
 /// Whether the place of the tree is behind the one at `place`, since it is above the next.
@@ -71,15 +71,11 @@ fn with_moved(
 {
     let front = &items[..place];
     let back = &items[place + 1..];
-    let mut all = Vec::with_capacity(alloc, items.len())?;
+    let all = Vec::with_capacity(alloc, items.len())?;
     if is_behind(&tree, items, place) {
-        push_shared(&mut all, front)?;
-        push_with(&mut all, tree, back)?;
-    } else {
-        push_with(&mut all, tree, front)?;
-        push_shared(&mut all, back)?;
+        return with_in_place(with_shared(all, front)?, tree, back);
     }
-    Ok(all)
+    with_shared(with_in_place(all, tree, front)?, back)
 }
 
 /// The trees with one more in its place.
@@ -87,9 +83,8 @@ fn with_more(alloc: Global, tree: Knot, items: &[Knot]) -> Result<Vec<Knot>, All
     requires { IsRising items.now }
     ensures { IfOk result (λ v. v.items ≡ put_in tree items.now) }
 {
-    let mut all = Vec::with_capacity(alloc, items.len() + 1)?;
-    push_with(&mut all, tree, items)?;
-    Ok(all)
+    let all = Vec::with_capacity(alloc, items.len() + 1)?;
+    with_in_place(all, tree, items)
 }
 
 /// The trees without the one at the place.
@@ -97,10 +92,8 @@ fn without(alloc: Global, items: &[Knot], place: usize) -> Result<Vec<Knot>, All
     requires { place < length items.now }
     ensures { IfOk result (λ v. v.items ≡ remove items.now place) }
 {
-    let mut all = Vec::with_capacity(alloc, items.len())?;
-    push_shared(&mut all, &items[..place])?;
-    push_shared(&mut all, &items[place + 1..])?;
-    Ok(all)
+    let all = Vec::with_capacity(alloc, items.len())?;
+    with_shared(with_shared(all, &items[..place])?, &items[place + 1..])
 }
 
 /// Whether the tree of a run that is done is left out of the bag: it is where any number of runs is

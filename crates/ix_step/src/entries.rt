@@ -1,12 +1,11 @@
 //! The entries of values beside a common tree.
 
-ghost use Rattle.std.specs.Prelude.{◌≡◌, ℕ, ◌≤◌, ◌^◌, ◌++◌, ◌∷◌, [], length, List, IfOk, OnOk};
+ghost use Rattle.std.specs.Prelude.{◌≡◌, ℕ, ◌≤◌, ◌++◌, ◌∷◌, [], List, IfOk, OnOk};
 ghost use Rattle.std.specs.Map.{keys_of};
 ghost use Rattle.ix_values.specs.Order.{text_cmp};
 ghost use Rattle.ix_entries.specs.inside.Entries.{IsProper};
 ghost use Rattle.ix_expr.specs.inside.FormOf.{form_of};
 ghost use Rattle.ix_tree.specs.Plain.{Plain};
-ghost use Rattle.ix_tree.specs.PlainOf.{plain_entries};
 ghost use Rattle.ix_tree.specs.Size.{size_of};
 ghost use Rattle.ix_step.specs.inside.EnterTrees.{HoldTrees, EnterTrees};
 ghost use Rattle.ix_step.specs.inside.Limits.{most_limit};
@@ -52,15 +51,6 @@ pub(crate) fn put_tree(
         return Err(Unbuilt::Over);
     }
     Ok(total + 1 + size)
-}
-
-/// How many entries there are.
-pub(crate) fn count_entries(entries: &Entries) -> usize
-    requires { size_of (plain_entries entries.now) ≤ 2 ^ 32 }
-    ensures number { result ≡ length entries.now }
-    ensures most { result ≤ size_of (plain_entries entries.now) }
-{
-    entries.iter().count()
 }
 
 /// The values that have entries, and those of the action that the body sees. Every other value

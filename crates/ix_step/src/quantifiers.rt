@@ -25,7 +25,7 @@ ghost use Rattle.ix_step.specs.inside.ValueTrees.{MakesParts, MakesOwn};
 use crate::advance::{advance, advance_asked};
 use crate::bodies::{Body, Reach};
 use crate::coupling::advance_side;
-use crate::entries::{count_entries, put_tree, touched_values};
+use crate::entries::{put_tree, touched_values};
 use crate::fault::Unbuilt;
 use crate::nodes::{bounded, dead_knot, is_ended, settled_within, within_if_live};
 use crate::one_step::{Step, larger};
@@ -113,7 +113,7 @@ pub(crate) fn advance_any(
         (any_of common.now (plain_entries entries.now)) step.entry.action.now))
         result }
 {
-    let room = 2 * (count_entries(entries) + step.action.values().len()) + 1;
+    let room = 2 * (entries.len() + step.action.values().len()) + 1;
     let wide = Step {
         action: step.action,
         env: step.env,

@@ -1,5 +1,5 @@
 -- Entries in pieces: where the entry of a value stands, and what changes with it.
-use Rattle.std.proofs.Common.{◌≡◌, ℕ, zero, suc, ◌+◌, ◌<◌, Bool, true, false, cond, Some, List, [], ◌∷◌, ◌++◌, length, get_or, drop, Ordering, Less, Equal, Greater, refl, sym, ap, ◌∙◌, subst, true≢false, arith}
+use Rattle.std.proofs.Common.{◌≡◌, ⊎_elim, ℕ, zero, suc, ◌+◌, ◌<◌, ◌≤◌, Bool, true, false, cond, Some, List, [], ◌∷◌, ◌++◌, length, get_or, drop, Ordering, Less, Equal, Greater, refl, sym, ap, ◌∙◌, subst, true≢false, arith}
 use Rattle.std.specs.BTreeMap.{is_at, insert_entry}
 use Rattle.std.specs.Cmp.{nat_cmp_total, IsTotalOrder}
 use Rattle.std.specs.Cmp.Lexicographic.{lists_total}
@@ -14,7 +14,8 @@ use Rattle.ix_values.specs.Order.{text_cmp}
 use Rattle.ix_tree.specs.Plain.{Plain}
 use Rattle.ix_tree.specs.PlainOf.{plain_entries}
 use Rattle.ix_tree.specs.Size.{size_of}
-use Rattle.ix_tree.specs.inside.Pieces.{HasEntries, IsAround, entries_in, in_pieces, leads}
+use Rattle.ix_tree.specs.inside.Pieces.{HasEntries, IsAround, in_pieces, leads}
+use Rattle.ix_tree.specs.lemmas.Falls.{joined}
 
 abbrev Entry : Type 0
 Entry = List ℕ × Plain
@@ -192,17 +193,6 @@ pub record Parts (v : List ℕ) (whole front es back : List Entry) : Type 0 wher
   pub before : Before v back
   pub ascending : KeysAscend text_cmp es
 
--- where the value stands before all pieces
-pub parts_first : (v : List ℕ) (whole first : List Entry) (later : List (List Entry)) → entries_in first later ≡ whole → KeysAscend text_cmp whole → AllByRecursion HasEntries later → AllByRecursion (λ piece. leads v piece ≡ false) later → Parts v whole [] first (in_pieces later)
-parts_first v whole first later is h some none =
-    let up : KeysAscend text_cmp (first ++ in_pieces later) = subst (KeysAscend text_cmp) (sym is) h in
-    record {
-      joined = is;
-      behind = tt;
-      before = beyond v later some (ascend_right first (in_pieces later) up) none;
-      ascending = ascend_left first (in_pieces later) up;
-    }
-
 pub some_before : (before : List (List Entry)) (piece : List Entry) (behind : List (List Entry)) → AllByRecursion HasEntries (before ++ piece ∷ behind) → AllByRecursion HasEntries before
 some_before [] piece behind h = tt
 some_before (p ∷ before) piece behind h = (h.0, some_before before piece behind h.1)
@@ -221,17 +211,15 @@ led_piece v front [] back h le = absurd (true≢false (sym le))
 led_piece v front (e ∷ es) back h le = led v front e (es ++ back) h le
 
 -- where the value stands in a piece
-pub parts_later : (v : List ℕ) (whole first : List Entry) (later before : List (List Entry)) (piece : List Entry) (behind : List (List Entry)) → entries_in first later ≡ whole → KeysAscend text_cmp whole → AllByRecursion HasEntries later → IsAround v later before piece behind → Parts v whole (first ++ in_pieces before) piece (in_pieces behind)
-parts_later v whole first later before piece behind is h some around =
-    let joined : (first ++ in_pieces before) ++ (piece ++ in_pieces behind) ≡ whole =
-    append_assoc first (in_pieces before) (piece ++ in_pieces behind)
-    ∙ ap (λ l. first ++ l) (sym (flat_map-append (λ p. p) before (piece ∷ behind)) ∙ ap in_pieces (sym around.parts))
-    ∙ is in
-    let up : KeysAscend text_cmp ((first ++ in_pieces before) ++ (piece ++ in_pieces behind)) = subst (KeysAscend text_cmp) (sym joined) h in
-    let rest : KeysAscend text_cmp (piece ++ in_pieces behind) = ascend_right (first ++ in_pieces before) (piece ++ in_pieces behind) up in
+pub parts_around : (v : List ℕ) (pieces before : List (List Entry)) (piece : List Entry) (behind : List (List Entry)) → KeysAscend text_cmp (in_pieces pieces) → AllByRecursion HasEntries pieces → IsAround v pieces before piece behind → Parts v (in_pieces pieces) (in_pieces before) piece (in_pieces behind)
+parts_around v pieces before piece behind h some around =
+    let joined : in_pieces before ++ (piece ++ in_pieces behind) ≡ in_pieces pieces =
+    sym (flat_map-append (λ p. p) before (piece ∷ behind)) ∙ ap in_pieces (sym around.parts) in
+    let up : KeysAscend text_cmp (in_pieces before ++ (piece ++ in_pieces behind)) = subst (KeysAscend text_cmp) (sym joined) h in
+    let rest : KeysAscend text_cmp (piece ++ in_pieces behind) = ascend_right (in_pieces before) (piece ++ in_pieces behind) up in
     record {
       joined = joined;
-      behind = led_piece v (first ++ in_pieces before) piece (in_pieces behind) up around.here;
+      behind = ⊎_elim (led_piece v (in_pieces before) piece (in_pieces behind) up) (λ none. subst (λ ps. Behind v (in_pieces ps)) (sym none) tt) around.here;
       before = beyond v behind (some_behind before piece behind (subst (AllByRecursion HasEntries) around.parts some)) (ascend_right piece (in_pieces behind) rest) around.further;
       ascending = ascend_left piece (in_pieces behind) rest;
     }
@@ -244,17 +232,16 @@ with_parts v whole front es back p eq common x = ap (λ l. with_entry text_cmp e
 
 -- Sizes
 
-pub size_joined : (es fs : List Entry) → size_of (plain_entries (es ++ fs)) ≡ size_of (plain_entries es) + size_of (plain_entries fs)
-size_joined [] fs = omega arith
-size_joined (e ∷ es) fs = omega (arith, size_joined es fs)
+-- each entry counts 1 at least
+pub size_counts : (es : List Entry) → length es ≤ size_of (plain_entries es)
+size_counts [] = omega arith
+size_counts (e ∷ es) = omega (arith, size_counts es)
 
 -- what the pieces from one on are together is that piece and those behind it
 pub size_drop : (pieces : List (List Entry)) (k : ℕ) (d : List Entry) → k < length pieces → size_of (plain_entries (in_pieces (drop k pieces))) ≡ size_of (plain_entries (get_or pieces k d)) + size_of (plain_entries (in_pieces (drop (k + 1) pieces)))
-size_drop pieces k d lt = ap (λ l. size_of (plain_entries (in_pieces l))) (drop_more pieces k d lt) ∙ size_joined (get_or pieces k d) (in_pieces (drop (k + 1) pieces))
+size_drop pieces k d lt = ap (λ l. size_of (plain_entries (in_pieces l))) (drop_more pieces k d lt) ∙ joined (get_or pieces k d) (in_pieces (drop (k + 1) pieces))
 
 -- pieces put together again, with other entries in place of one of them
-pub pieces_again : (first made : List Entry) (before behind put all : List (List Entry)) → in_pieces put ≡ in_pieces before ++ made → all ≡ put ++ behind → entries_in first all ≡ (first ++ in_pieces before) ++ (made ++ in_pieces behind)
-pieces_again first made before behind put all e f =
-    ap (λ l. first ++ l)
-    (ap in_pieces f ∙ flat_map-append (λ p. p) put behind ∙ ap (λ l. l ++ in_pieces behind) e ∙ append_assoc (in_pieces before) made (in_pieces behind))
-    ∙ sym (append_assoc first (in_pieces before) (made ++ in_pieces behind))
+pub pieces_again : (made : List Entry) (before behind put all : List (List Entry)) → in_pieces put ≡ in_pieces before ++ made → all ≡ put ++ behind → in_pieces all ≡ in_pieces before ++ (made ++ in_pieces behind)
+pieces_again made before behind put all e f =
+    ap in_pieces f ∙ flat_map-append (λ p. p) put behind ∙ ap (λ l. l ++ in_pieces behind) e ∙ append_assoc (in_pieces before) made (in_pieces behind)

@@ -1,3 +1,4 @@
 -- What contracts between crates and private ones cite, and no claim of the program or law reaches.
 pub mod PlainNode
 pub mod Pieces
+pub mod HeldEntries

@@ -2,19 +2,17 @@
 
 ghost use Rattle.std.specs.Prelude.{◌≡◌, ◌≤◌, ◌^◌, ◌==◌, [], length, IfOk, MatchOption, None, Some};
 ghost use Rattle.std.specs.BTreeMap.{is_at};
-ghost use Rattle.std.specs.List.{AllByRecursion};
 ghost use Rattle.std.specs.Map.{lookup};
 ghost use Rattle.ix_entries.specs.inside.Entries.{KeysAscend, with_entry};
 ghost use Rattle.ix_values.specs.Order.{text_cmp};
 ghost use Rattle.ix_tree.specs.PlainOf.{plain_entries};
 ghost use Rattle.ix_tree.specs.Size.{size_of};
-ghost use Rattle.ix_tree.specs.inside.Pieces.{HasEntries, entries_in};
 
 use crate::node::Knot;
 use crate::pieces::{
     MOST_IN_PIECE, Piece, around_piece, few_size, pieces_size, push_entries, push_shared_pieces,
 };
-use crate::share::{push_shared_entries, share_entries};
+use crate::share::{share_entries, with_shared_entries};
 use ix_entries::around;
 use ix_values::Value;
 use std::alloc::{AllocError, Global};
@@ -25,14 +23,21 @@ use std::marker::Model;
 #[cycle(tree)]
 #[derive(Drop)]
 pub struct Entries {
-    /// The first few, so that a short list has no piece.
-    first: Vec<(Value, Knot)>,
-    /// Those behind them.
-    later: Vec<Piece>,
+    held: Held,
+}
+
+/// Where the entries of a list stand.
+#[cycle(tree)]
+#[derive(Drop)]
+enum Held {
+    /// In a list of their own: no more than stand in one piece.
+    Few(Vec<(Value, Knot)>),
+    /// In pieces, none of them empty.
+    Cut(Vec<Piece>),
 }
 
 impl Model for Entries {
-    ghost use Rattle.std.specs.Prelude.{ℕ, ◌+◌, ◌*◌, ◌≤◌, List, length};
+    ghost use Rattle.std.specs.Prelude.{ℕ, ◌+◌, ◌*◌, List};
     ghost use Rattle.std.specs.Coded.{coded_list, coded_ℕ, coded×};
     ghost use Rattle.ix_tree.specs.Plain.{Plain};
     ghost use Rattle.ix_tree.specs.lemmas.PlainCode.{plain_code};
@@ -41,22 +46,20 @@ impl Model for Entries {
 
     ghost coded = { coded_list (coded× (coded_list coded_ℕ) plain_code) };
 
-    ghost use Rattle.std.specs.List.{AllByRecursion};
     ghost use Rattle.ix_tree.specs.Size.{size_of};
     ghost use Rattle.ix_tree.specs.PlainOf.{plain_entries};
-    ghost use Rattle.ix_tree.specs.inside.Pieces.{HasEntries, entries_in};
+    ghost use Rattle.ix_tree.specs.inside.HeldEntries.{IsCutWell, entries_of};
 
-    ghost view = { λ e. entries_in e.first.items e.later.items };
+    ghost view = { λ e. entries_of e.held };
 
-    // The first are few, and no piece is empty.
-    ghost invariant = { λ e. (length e.first.items ≤ 32)
-        × AllByRecursion HasEntries e.later.items };
+    // The first few stand in no piece, and no piece is empty.
+    ghost invariant = { λ e. IsCutWell e.held };
 
     ghost size = { λ es. 2 * size_of (plain_entries es) + 1 };
 
-    ghost use Rattle.ix_tree.specs.lemmas.Falls.{depth_le-entries};
+    ghost use Rattle.ix_tree.specs.lemmas.Falls.{depth_le-held};
 
-    ghost size_decreases = { λ e h. depth_le-entries e.first.items e.later.items };
+    ghost size_decreases = { λ e h. depth_le-held e.held };
 }
 
 impl Entries {
@@ -65,8 +68,7 @@ impl Entries {
         ensures { result ≡ [] }
     {
         Entries {
-            first: Vec::new(alloc),
-            later: Vec::new(alloc),
+            held: Held::Few(Vec::new(alloc)),
         }
     }
 
@@ -74,31 +76,15 @@ impl Entries {
     pub fn of(alloc: Global, entries: Vec<(Value, Knot)>) -> Result<Entries, AllocError>
         ensures { IfOk result (λ made. made ≡ entries.items) }
     {
-        Entries::in_front(alloc, entries, &[])
-    }
-
-    /// These entries, and behind them those of the pieces.
-    fn in_front(
-        alloc: Global,
-        entries: Vec<(Value, Knot)>,
-        pieces: &[Piece],
-    ) -> Result<Entries, AllocError>
-        requires { AllByRecursion HasEntries pieces.now }
-        ensures { IfOk result (λ made. made ≡ entries_in entries.items pieces.now) }
-    {
-        let mut later = Vec::with_capacity(alloc, pieces.len())?;
         if entries.len() <= MOST_IN_PIECE {
-            push_shared_pieces(&mut later, pieces)?;
             return Ok(Entries {
-                first: entries,
-                later,
+                held: Held::Few(entries),
             });
         }
-        push_entries(alloc, &mut later, entries)?;
-        push_shared_pieces(&mut later, pieces)?;
+        let mut pieces = Vec::new(alloc);
+        push_entries(alloc, &mut pieces, entries)?;
         Ok(Entries {
-            first: Vec::new(alloc),
-            later,
+            held: Held::Cut(pieces),
         })
     }
 
@@ -109,21 +95,39 @@ impl Entries {
         self.iter().next().is_none()
     }
 
+    /// How many entries there are.
+    pub fn len(&self) -> usize
+        requires { size_of (plain_entries self.now) ≤ 2 ^ 32 }
+        ensures number { result ≡ length self.now }
+        ensures most { result ≤ size_of (plain_entries self.now) }
+    {
+        self.iter().count()
+    }
+
     /// What the entries are together: each counts 1 and the Size of its tree.
     pub fn size(&self) -> usize
         requires { size_of (plain_entries self.now) ≤ 2 ^ 32 }
         ensures { result ≡ size_of (plain_entries self.now) }
     {
-        few_size(&self.first) + pieces_size(&self.later)
+        match &self.held {
+            Held::Few(entries) => few_size(entries),
+            Held::Cut(pieces) => pieces_size(pieces),
+        }
     }
 
     /// The entries in their order.
     pub fn iter(&self) -> EntriesLeft<'_>
         ensures { result ≡ self.now }
     {
-        EntriesLeft {
-            first: &self.first,
-            later: &self.later,
+        match &self.held {
+            Held::Few(entries) => EntriesLeft {
+                first: entries,
+                later: &[],
+            },
+            Held::Cut(pieces) => EntriesLeft {
+                first: &[],
+                later: pieces,
+            },
         }
     }
 
@@ -134,9 +138,12 @@ impl Entries {
             (lookup (is_at (text_cmp value.now)) self.now ≡ None)
             (λ state. lookup (is_at (text_cmp value.now)) self.now ≡ Some state.now) }
     {
-        match around_piece(&self.later, value) {
-            None => state_in(&self.first, value),
-            Some((_before, piece, _behind)) => state_in(piece.entries(), value),
+        match &self.held {
+            Held::Few(entries) => state_in(entries, value),
+            Held::Cut(pieces) => {
+                let (_before, piece, _behind) = around_piece(pieces, value)?;
+                state_in(piece.entries(), value)
+            }
         }
     }
 
@@ -153,20 +160,27 @@ impl Entries {
         ensures { IfOk result (λ made. made
             ≡ with_entry text_cmp ⟦<Knot as PartialEq>⟧.eq common.now self.now value state) }
     {
-        match around_piece(&self.later, &value) {
-            None => {
-                let made = entries_with(alloc, &self.first, common, value, state)?;
-                Entries::in_front(alloc, made, &self.later)
+        match &self.held {
+            Held::Few(entries) => {
+                let made = entries_with(alloc, entries, common, value, state)?;
+                Entries::of(alloc, made)
             }
-            Some((before, piece, behind)) => {
-                let made = entries_with(alloc, piece.entries(), common, value, state)?;
-                let first = share_entries(alloc, &self.first)?;
-                let mut later = Vec::with_capacity(alloc, self.later.len())?;
-                push_shared_pieces(&mut later, before)?;
-                push_entries(alloc, &mut later, made)?;
-                push_shared_pieces(&mut later, behind)?;
-                Ok(Entries { first, later })
-            }
+            Held::Cut(pieces) => match around_piece(pieces, &value) {
+                None => {
+                    let made = entries_with(alloc, &[], common, value, state)?;
+                    Entries::of(alloc, made)
+                }
+                Some((before, piece, behind)) => {
+                    let made = entries_with(alloc, piece.entries(), common, value, state)?;
+                    let mut all = Vec::with_capacity(alloc, pieces.len())?;
+                    push_shared_pieces(&mut all, before)?;
+                    push_entries(alloc, &mut all, made)?;
+                    push_shared_pieces(&mut all, behind)?;
+                    Ok(Entries {
+                        held: Held::Cut(all),
+                    })
+                }
+            },
         }
     }
 
@@ -174,10 +188,18 @@ impl Entries {
     pub fn share(&self, alloc: Global) -> Result<Entries, AllocError>
         ensures { IfOk result (λ made. made ≡ self.now) }
     {
-        let first = share_entries(alloc, &self.first)?;
-        let mut later = Vec::with_capacity(alloc, self.later.len())?;
-        push_shared_pieces(&mut later, &self.later)?;
-        Ok(Entries { first, later })
+        match &self.held {
+            Held::Few(entries) => Ok(Entries {
+                held: Held::Few(share_entries(alloc, entries)?),
+            }),
+            Held::Cut(pieces) => {
+                let mut all = Vec::with_capacity(alloc, pieces.len())?;
+                push_shared_pieces(&mut all, pieces)?;
+                Ok(Entries {
+                    held: Held::Cut(all),
+                })
+            }
+        }
     }
 }
 
@@ -208,13 +230,12 @@ fn entries_with(
         ≡ with_entry text_cmp ⟦<Knot as PartialEq>⟧.eq common.now entries.now value state) }
 {
     let (before, behind) = around(entries, &value);
-    let mut made = Vec::with_capacity(alloc, entries.len().saturating_add(1))?;
-    push_shared_entries(&mut made, before)?;
+    let made = Vec::with_capacity(alloc, entries.len().saturating_add(1))?;
+    let mut made = with_shared_entries(made, before)?;
     if state != *common {
         made.push_reserved((value, state));
     }
-    push_shared_entries(&mut made, behind)?;
-    Ok(made)
+    with_shared_entries(made, behind)
 }
 
 /// The entries that are left, in their order. Contracts see the list of them.

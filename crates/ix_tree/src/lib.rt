@@ -13,7 +13,7 @@ mod weight;
 
 pub use entries::{Entries, EntriesLeft};
 pub use node::{Bag, Knot, Map, Node, Pair};
-pub use share::{push_shared, share_knots};
+pub use share::{share_knots, with_shared};
 pub use tree::Tree;
 
 #[cfg(test)]

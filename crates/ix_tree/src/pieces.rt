@@ -1,6 +1,6 @@
 //! Pieces of lists of entries, which lists share whole.
 
-ghost use Rattle.std.specs.Prelude.{◌≡◌, ◌≤◌, ◌^◌, ◌++◌, false, length, IfOk, OnOk, MatchOption};
+ghost use Rattle.std.specs.Prelude.{◌≡◌, ◌≤◌, ◌^◌, ◌++◌, [], length, IfOk, OnOk, MatchOption};
 ghost use Rattle.std.specs.List.{AllByRecursion};
 ghost use Rattle.std.specs.List.Sorted.{IsPartitionedBy};
 ghost use Rattle.ix_tree.specs.PlainOf.{plain_entries};
@@ -52,6 +52,7 @@ impl Model for Piece {
 }
 
 impl Piece {
+    /// These entries in a piece, with what their Sizes are together.
     fn new(alloc: Global, entries: Vec<(Value, Knot)>) -> Result<Piece, AllocError>
         requires { length entries.items ≤ MOST_IN_PIECE }
         ensures { IfOk result (λ piece. piece ≡ entries.items) }
@@ -63,6 +64,7 @@ impl Piece {
         }
     }
 
+    /// The entries of the piece. Takes no memory.
     pub(crate) fn entries(&self) -> &[(Value, Knot)]
         ensures { result.now ≡ self.now }
     {
@@ -76,6 +78,7 @@ impl Piece {
         self.size
     }
 
+    /// An equal piece of the same entries.
     fn share(&self) -> Result<Piece, AllocError>
         ensures { IfOk result (λ piece. piece ≡ self.now) }
     {
@@ -122,20 +125,24 @@ pub(crate) fn pieces_size(pieces: &[Piece]) -> usize
 }
 
 /// The pieces before the one in which the value's entry stands or would stand, this one, and those
-/// behind it; or None where the entry stands before all pieces. Those whose first value is at most
-/// this one come first.
+/// behind it; or None where there is no piece. Those whose first value is at most this one come
+/// first. Before all pieces an entry would stand in the first one.
 pub(crate) fn around_piece<'a>(
     pieces: &'a [Piece],
     value: &Value,
 ) -> Option<(&'a [Piece], &'a Piece, &'a [Piece])>
     requires { IsPartitionedBy (leads value.now) pieces.now }
     ensures { MatchOption result
-        (AllByRecursion (λ piece. leads value.now piece ≡ false) pieces.now)
+        (pieces.now ≡ [])
         (λ found. IsAround value.now pieces.now found.0.now found.1.now found.2.now) }
 {
-    let behind = pieces.partition_point(|piece| piece.leads(value));
-    let place = behind.checked_sub(1)?;
-    Some((&pieces[..place], &pieces[place], &pieces[behind..]))
+    if pieces.is_empty() {
+        return None;
+    }
+    let place = pieces
+        .partition_point(|piece| piece.leads(value))
+        .saturating_sub(1);
+    Some((&pieces[..place], &pieces[place], &pieces[place + 1..]))
 }
 
 /// Appends equal pieces, in the same order, which share their entries. After an error the first few

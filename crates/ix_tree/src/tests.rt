@@ -143,6 +143,30 @@ fn copies(rt: HostRuntime) -> Result<(), Fail> {
     Ok(())
 }
 
+/// The state `Start` beside each of the values `00` to `69`.
+fn seventy(alloc: Global) -> Result<Vec<(Value, Knot)>, Fail> {
+    let mut entries = Vec::new(alloc);
+    for index in 0..70_u8 {
+        let digits = [b'0' + index / 10, b'0' + index % 10];
+        let value = Value::read(&digits).ok_or("not a value")?;
+        entries.push((value, Knot::new(alloc, Node::Start)?))?;
+    }
+    Ok(entries)
+}
+
+/// More entries than stand in one piece are shared, and none is lost.
+#[test]
+fn many_entries(rt: HostRuntime) -> Result<(), Fail> {
+    let alloc = rt.alloc();
+    let map = Map {
+        entries: Entries::of(alloc, seventy(alloc)?)?,
+    };
+    let entries = map.entries.share(alloc)?;
+    assert!(rt; !entries.is_empty());
+    assert!(rt; Map { entries } == map);
+    Ok(())
+}
+
 /// A list of 1,000,000 trees is no deeper than one.
 #[test]
 fn wide(rt: HostRuntime) -> Result<(), Fail> {
@@ -166,7 +190,7 @@ fn appended(rt: HostRuntime) -> Result<(), Fail> {
     let second = two_sides(alloc)?;
     let mut items = Vec::with_capacity(alloc, 3)?;
     items.push_reserved(second.share()?);
-    push_shared(&mut items, &[first.share()?, second.share()?])?;
+    let items = with_shared(items, &[first.share()?, second.share()?])?;
     assert!(rt; items.len() == 3);
     assert!(rt; items[0] == second && items[1] == first && items[2] == second);
     Ok(())

@@ -6,15 +6,17 @@ use denote.Param.Weighed.{most}
 use Rattle.ix_tree.specs.Plain.{Plain, listed}
 use Rattle.ix_tree.specs.Size.{size_of}
 use Rattle.ix_tree.specs.PlainOf.{plain_pair, plain_bag, plain_map, plain_entry, plain_entries}
-use Rattle.ix_tree.specs.inside.Pieces.{entries_in}
+use Rattle.ix_tree.specs.inside.HeldEntries.{entries_of}
 use Rattle.ix_tree.specs.inside.PlainNode.{plain_node}
 use Rattle.ix_tree.specs.declared.node.Node.{Node}
 use Rattle.ix_tree.specs.declared.node.Node.TheVariants.{Dead, Start, Done, Opt, Seq, Star, Par, ParStar, Or, And, Couple, Any, Every, Sync, All, Times}
 use Rattle.ix_tree.specs.declared.node.Pair.{Pair}
 use Rattle.ix_tree.specs.declared.node.Bag.{Bag}
 use Rattle.ix_tree.specs.declared.node.Map.{Map}
-use Rattle.ix_tree.specs.declared.entries.Entries.TheDeep.{deep-Node, deep-Pair, deep-Bag, deep-Map}
-use Rattle.ix_tree.specs.declared.entries.Entries.TheShapes.{weighed-Entries-first-at-2}
+use Rattle.ix_tree.specs.declared.entries.Entries.TheDeep.{deep-Node, deep-Pair, deep-Bag, deep-Map, deep-Held}
+use Rattle.ix_tree.specs.declared.entries.Held.{Held}
+use Rattle.ix_tree.specs.declared.entries.Held.TheVariants.{Few, Cut}
+use Rattle.ix_tree.specs.declared.entries.Entries.TheShapes.{weighed-Held-Few-0-at-2}
 
 -- a knot counts one more than its measure
 abbrev above : Plain → ℕ
@@ -32,11 +34,11 @@ module _ {A : Type 0} (w : A → ℕ) (f : A → Plain) (h : (x : A) → w x ≤
   parts (x ∷ xs) = omega (arith, h x, parts xs)
 
 -- so with entries
-pub depth_le-piece : (es : List (List ℕ × Plain)) → max (most (weighed-Entries-first-at-2.weight Plain above) es) 0 ≤ 2 * size_of (plain_entries es)
-depth_le-piece es = omega (arith, parts (weighed-Entries-first-at-2.weight Plain above) plain_entry (λ e. omega arith) es)
+pub depth_le-piece : (es : List (List ℕ × Plain)) → max (most (weighed-Held-Few-0-at-2.weight Plain above) es) 0 ≤ 2 * size_of (plain_entries es)
+depth_le-piece es = omega (arith, parts (weighed-Held-Few-0-at-2.weight Plain above) plain_entry (λ e. omega arith) es)
 
 -- some entries and others behind them
-joined : (es fs : List (List ℕ × Plain)) → size_of (plain_entries (es ++ fs)) ≡ size_of (plain_entries es) + size_of (plain_entries fs)
+pub joined : (es fs : List (List ℕ × Plain)) → size_of (plain_entries (es ++ fs)) ≡ size_of (plain_entries es) + size_of (plain_entries fs)
 joined [] fs = omega arith
 joined (e ∷ es) fs = omega (arith, joined es fs)
 
@@ -45,9 +47,10 @@ pieces : (ps : List (List (List ℕ × Plain))) → most (λ p. 2 * size_of (pla
 pieces [] = omega arith
 pieces (p ∷ ps) = omega (arith, pieces ps, joined p (flat_map (λ q. q) ps))
 
--- no knot among entries, and no piece of them, has as large a measure as they have
-pub depth_le-entries : (first : List (List ℕ × Plain)) (later : List (List (List ℕ × Plain))) → max (most (weighed-Entries-first-at-2.weight Plain above) first) (max (most (λ p. 2 * size_of (plain_entries p) + 1) later) 0) ≤ 2 * size_of (plain_entries (entries_in first later)) + 1
-depth_le-entries first later = omega (arith, depth_le-piece first, pieces later, joined first (flat_map (λ p. p) later))
+-- no knot among the entries of a list, and no piece of them, has as large a measure as the list
+pub depth_le-held : (h : Held) → max (deep-Held h) 0 ≤ 2 * size_of (plain_entries (entries_of h)) + 1
+depth_le-held (Few es) = omega (arith, depth_le-piece es.items)
+depth_le-held (Cut ps) = omega (arith, pieces ps.items)
 
 -- so with pairs
 pairs : (ps : List Pair) → most deep-Pair ps ≤ 2 * size_of (listed (each plain_pair ps))

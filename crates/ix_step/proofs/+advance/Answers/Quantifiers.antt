@@ -18,7 +18,7 @@ use Rattle.ix_step.proofs.+advance.Goals as goal
 pub quantifiers::advance_any-invariant_of-wide : goal.quantifiers::advance_any-invariant_of-wide
 quantifiers::advance_any-invariant_of-wide t c = record {
   positive = omega (arith, c.larger.ensures.first, c.args.step.positive);
-  bounded = c.larger.ensures.bound 2000010 c.args.step.bounded (omega (arith, c.count_entries.ensures.most, c.requires.small, c.values.ensures.valid.few, ap length c.values.ensures.value));
+  bounded = c.larger.ensures.bound 2000010 c.args.step.bounded (omega (arith, c.len.ensures.most, c.requires.small, c.values.ensures.valid.few, ap length c.values.ensures.value));
 }
 
 pub quantifiers::advance_any-advance_values-requires : goal.quantifiers::advance_any-advance_values-requires
@@ -29,7 +29,7 @@ pub quantifiers::advance_any-returns-in_err-common : goal.quantifiers::advance_a
 quantifiers::advance_any-returns-in_err-common t c =
     exit_over _ c.from_residual.result _ c.from_residual.ensures.1 c.in_err-common.ensures (λ over.
     any_above c.args.body.parameter.now (form_of c.args.body.expr.now) c.args.step.env.now c.args.step.action.now c.args.common.now c.args.entries.now c.requires c.args.step.limit c.larger.result c.args.step.positive c.larger.ensures.first
-    (omega (arith, c.larger.ensures.second, c.count_entries.ensures.number, ap length c.values.ensures.value)) over)
+    (omega (arith, c.larger.ensures.second, c.len.ensures.number, ap length c.values.ensures.value)) over)
 
 pub quantifiers::advance_any-returns : goal.quantifiers::advance_any-returns
 quantifiers::advance_any-returns t c =
