@@ -4,8 +4,9 @@ ghost use Rattle.std.specs.Prelude.{◌≡◌, ◌≤◌, ◌||◌, true, false,
 ghost use Rattle.std.specs.List.{list_any};
 ghost use Rattle.ix_words.specs.Each.{Each};
 ghost use Rattle.ix_expr.specs.inside.FormOf.{form_of};
-ghost use Rattle.ix_expr.specs.Form.{seq, star};
-ghost use Rattle.ix_tree.specs.Plain.{is_dead, is_done, listed, seq as seq_of, star as star_of};
+ghost use Rattle.ix_expr.specs.Form.{opt, seq, star, or, and};
+ghost use Rattle.ix_tree.specs.Plain.{is_dead, is_done, listed, opt as opt_of, seq as seq_of};
+ghost use Rattle.ix_tree.specs.Plain.{star as star_of, or as or_of, and as and_of};
 ghost use Rattle.ix_can.specs.Tests.{in_alphabet};
 ghost use Rattle.ix_can.specs.TreeOf.{is_final as is_final_by};
 ghost use Rattle.ix_can.specs.inside.May.{may, moves_within};
@@ -86,8 +87,7 @@ pub(crate) fn advance_asked(step: Step, expr: &Expr, tree: &Knot) -> Result<Knot
     advance_node(step, expr, tree)
 }
 
-/// The node of what the parts become, form by form. The flag of `?y` is false: after an action the
-/// word isn't empty.
+/// The node of what the parts become, form by form.
 #[cycle(advance)]
 fn advance_node(step: Step, expr: &Expr, tree: &Knot) -> Result<Knot, Unbuilt>
     requires ready { Ready (form_of expr.now) step.env.now tree.now }
@@ -97,24 +97,13 @@ fn advance_node(step: Step, expr: &Expr, tree: &Knot) -> Result<Knot, Unbuilt>
 {
     match (expr, tree.node()) {
         (Expr::Atom(_), Node::Start) => done_knot(step),
-        (Expr::Opt(y), Node::Opt(_, x)) => {
-            let x = advance(step, y, x)?;
-            within_if_live(step, Node::Opt(false, x))
-        }
+        (Expr::Opt(y), Node::Opt(_, x)) => advance_opt(step, y, x),
         (Expr::Seq(y, z), Node::Seq(first, _, rest)) => advance_seq(step, y, z, first, rest),
         (Expr::Star(y), Node::Star(again, rest)) => advance_star(step, y, *again, rest),
         (Expr::Par(y, z), Node::Par(pairs)) => advance_par(step, y, z, pairs),
         (Expr::ParStar(y), Node::ParStar(bags)) => advance_par_star(step, y, bags),
-        (Expr::Or(y, z), Node::Or(left, right)) => {
-            let left = advance(step, y, left)?;
-            let right = advance(step, z, right)?;
-            or_within(step, left, right)
-        }
-        (Expr::And(y, z), Node::And(left, right)) => {
-            let left = advance_asked(step, y, left)?;
-            let right = advance_asked(step, z, right)?;
-            settled_within(step, Node::And(left, right))
-        }
+        (Expr::Or(y, z), Node::Or(left, right)) => advance_or(step, y, z, left, right),
+        (Expr::And(y, z), Node::And(left, right)) => advance_and(step, y, z, left, right),
         (Expr::Couple(y, z), Node::Couple(left, right)) => {
             advance_couple(step, y, z, left, right)
         }
@@ -135,10 +124,52 @@ fn advance_node(step: Step, expr: &Expr, tree: &Knot) -> Result<Knot, Unbuilt>
     }
 }
 
+/// The flag is false: after an action the word isn't empty.
+#[cycle(advance)]
+#[inline(never)]
+fn advance_opt(step: Step, y: &Expr, x: &Knot) -> Result<Knot, Unbuilt>
+    requires { Ready (form_of y.now) step.env.now x.now }
+    ensures { Makes step.entry.limit (pruned (moved_node (opt (form_of y.now)) step.entry.env.now
+        (opt_of false x.now) step.entry.action.now)) result }
+{
+    let x = advance(step, y, x)?;
+    within_if_live(step, Node::Opt(false, x))
+}
+
+#[cycle(advance)]
+#[inline(never)]
+fn advance_or(step: Step, y: &Expr, z: &Expr, left: &Knot, right: &Knot) -> Result<Knot, Unbuilt>
+    requires first { Ready (form_of y.now) step.env.now left.now }
+    requires second { Ready (form_of z.now) step.env.now right.now }
+    ensures { Makes step.entry.limit (pruned (moved_node (or (form_of y.now) (form_of z.now))
+        step.entry.env.now (or_of left.now right.now) step.entry.action.now)) result }
+{
+    let left = advance(step, y, left)?;
+    let right = advance(step, z, right)?;
+    or_within(step, left, right)
+}
+
+/// Both sides are known to pass.
+#[cycle(advance)]
+#[inline(never)]
+fn advance_and(step: Step, y: &Expr, z: &Expr, left: &Knot, right: &Knot) -> Result<Knot, Unbuilt>
+    requires first { Ready (form_of y.now) step.env.now left.now }
+    requires second { Ready (form_of z.now) step.env.now right.now }
+    requires left { passes (form_of y.now) step.env.now left.now step.action.now ≡ true }
+    requires right { passes (form_of z.now) step.env.now right.now step.action.now ≡ true }
+    ensures { Makes step.entry.limit (pruned (moved_node (and (form_of y.now) (form_of z.now))
+        step.entry.env.now (and_of left.now right.now) step.entry.action.now)) result }
+{
+    let left = advance_asked(step, y, left)?;
+    let right = advance_asked(step, z, right)?;
+    settled_within(step, Node::And(left, right))
+}
+
 /// Beside the moved alternatives for z stands one more where the first part is final: z may begin.
 /// The flag says whether a moved alternative is done, whatever it was before: one that is done
 /// doesn't move.
 #[cycle(advance)]
+#[inline(never)]
 fn advance_seq(step: Step, y: &Expr, z: &Expr, first: &Knot, rest: &[Knot]) -> Result<Knot, Unbuilt>
     requires first { Ready (form_of y.now) step.env.now first.now }
     requires rest { Each (Ready (form_of z.now) step.env.now) rest.now }
@@ -156,6 +187,7 @@ fn advance_seq(step: Step, y: &Expr, z: &Expr, first: &Knot, rest: &[Knot]) -> R
 /// says whether the word is a concatenation of complete words, so that another run may begin. That
 /// is so where an alternative for the last run is done or final.
 #[cycle(advance)]
+#[inline(never)]
 fn advance_star(step: Step, y: &Expr, again: bool, rest: &[Knot]) -> Result<Knot, Unbuilt>
     requires { Ready (star (form_of y.now)) step.env.now (star_of again (listed rest.now)) }
     ensures { Makes step.entry.limit (pruned (moved_node (star (form_of y.now)) step.entry.env.now

@@ -42,6 +42,7 @@ impl Side {
 /// The moved tree of `@`, dead where the action may not come next. The right side is asked before
 /// the left one is moved, so a left side that is above the limit is one of a live tree.
 #[cycle(advance)]
+#[inline(never)]
 pub(crate) fn advance_couple(
     step: Step,
     y: &Expr,

@@ -15,51 +15,60 @@ use ix_expr::{Expr, accepts_empty};
 use ix_tree::{Bag, Entries, Knot, Map, Node, Pair};
 use std::alloc::{AllocError, Global};
 
-/// The tree of the empty word, whatever its Size. The flag of `?y` says that nothing has happened,
-/// and that of `*y` that a run may begin.
+/// The tree of the empty word, whatever its Size. One without parts is shared.
 #[cycle(first)]
 pub(crate) fn first_tree(leaves: &LeafTrees, expr: &Expr) -> Result<Knot, AllocError>
     requires { size_of (initial_tree (form_of expr.now)) ≤ most_size }
     ensures { IfOk result (λ t. t ≡ initial_tree (form_of expr.now)) }
 {
-    let alloc = leaves.alloc();
     match expr {
         Expr::Atom(_) => leaves.start.share(),
+        Expr::Star(_) => leaves.iteration.share(),
+        Expr::Seq(y, z) => first_seq(leaves, y, z),
+        _ => built_tree(leaves, expr),
+    }
+}
+
+/// The tree of the empty word, whose node is made. The flag of `?y` says that nothing has happened,
+/// and that of `*y` that a run may begin.
+#[cycle(first)]
+#[inline(never)]
+fn built_tree(leaves: &LeafTrees, expr: &Expr) -> Result<Knot, AllocError>
+    requires { size_of (initial_tree (form_of expr.now)) ≤ most_size }
+    ensures { IfOk result (λ t. t ≡ initial_tree (form_of expr.now)) }
+{
+    let alloc = leaves.alloc();
+    match expr {
+        Expr::Atom(_) => Knot::new(alloc, Node::Start),
         Expr::Opt(y) => Knot::new(alloc, Node::Opt(true, first_tree(leaves, y)?)),
         Expr::Seq(y, z) => first_seq(leaves, y, z),
-        Expr::Star(_) => leaves.iteration.share(),
+        Expr::Star(_) => Knot::new(alloc, Node::Star(true, Vec::new(alloc))),
         Expr::Par(y, z) => one_pair(alloc, first_tree(leaves, y)?, first_tree(leaves, z)?),
         Expr::ParStar(_) => Knot::new(alloc, Node::ParStar(no_runs(alloc)?)),
         Expr::Or(y, z) => {
-            Knot::new(
-                alloc,
-                Node::Or(first_tree(leaves, y)?, first_tree(leaves, z)?),
-            )
+            let left = first_tree(leaves, y)?;
+            Knot::new(alloc, Node::Or(left, first_tree(leaves, z)?))
         }
         Expr::And(y, z) => {
-            Knot::new(
-                alloc,
-                Node::And(first_tree(leaves, y)?, first_tree(leaves, z)?),
-            )
+            let left = first_tree(leaves, y)?;
+            Knot::new(alloc, Node::And(left, first_tree(leaves, z)?))
         }
         Expr::Couple(y, z) => {
-            Knot::new(
-                alloc,
-                Node::Couple(first_tree(leaves, y)?, first_tree(leaves, z)?),
-            )
+            let left = first_tree(leaves, y)?;
+            Knot::new(alloc, Node::Couple(left, first_tree(leaves, z)?))
         }
-        Expr::Any(_, y) => Knot::new(
-            alloc,
-            Node::Any(first_tree(leaves, y)?, Entries::new(alloc)),
-        ),
-        Expr::Every(_, y) => Knot::new(
-            alloc,
-            Node::Every(first_tree(leaves, y)?, Entries::new(alloc)),
-        ),
-        Expr::Sync(_, y) => Knot::new(
-            alloc,
-            Node::Sync(first_tree(leaves, y)?, Entries::new(alloc)),
-        ),
+        Expr::Any(_, y) => {
+            let common = first_tree(leaves, y)?;
+            Knot::new(alloc, Node::Any(common, Entries::new(alloc)))
+        }
+        Expr::Every(_, y) => {
+            let common = first_tree(leaves, y)?;
+            Knot::new(alloc, Node::Every(common, Entries::new(alloc)))
+        }
+        Expr::Sync(_, y) => {
+            let common = first_tree(leaves, y)?;
+            Knot::new(alloc, Node::Sync(common, Entries::new(alloc)))
+        }
         Expr::All(_, _) => empty_map(alloc),
         Expr::Times(_, _) => Knot::new(alloc, Node::Times(no_runs(alloc)?)),
     }
@@ -67,6 +76,7 @@ pub(crate) fn first_tree(leaves: &LeafTrees, expr: &Expr) -> Result<Knot, AllocE
 
 /// Where the empty word is complete in y, z may begin.
 #[cycle(first)]
+#[inline(never)]
 fn first_seq(leaves: &LeafTrees, y: &Expr, z: &Expr) -> Result<Knot, AllocError>
     requires first { size_of (initial_tree (form_of y.now)) ≤ most_size }
     requires second { accepts (form_of y.now) ≡ true → size_of (initial_tree (form_of z.now)) ≤

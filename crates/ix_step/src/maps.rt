@@ -35,6 +35,7 @@ use ix_values::Value;
 use std::alloc::{AllocError, Global};
 
 #[cycle(advance)]
+#[inline(never)]
 pub(crate) fn advance_all(step: Step, body: Body, maps: &[Map]) -> Result<Knot, Unbuilt>
     requires { Ready (all body.parameter.now (form_of body.expr.now)) step.env.now
         (all_of (listed (map plain_map maps.now))) }

@@ -18,6 +18,11 @@ use crate::one_step::Step;
 use ix_tree::{Entries, Knot, Node, Pair};
 use std::alloc::AllocError;
 
+/// Drops a node that isn't kept. It is a function of its own, so that the ones that make nodes have
+/// few locals, which are cleared at each call.
+#[inline(never)]
+fn dropped(_node: Node) {}
+
 /// The knot of the node, whose Size is known.
 #[inline]
 fn sized(step: Step, node: Node, size: usize) -> Result<Knot, Unbuilt>
@@ -26,6 +31,7 @@ fn sized(step: Step, node: Node, size: usize) -> Result<Knot, Unbuilt>
     ensures { Makes step.entry.limit (plain_node node) result }
 {
     if size > step.limit {
+        dropped(node);
         return Err(Unbuilt::Over);
     }
     Ok(Knot::sized(step.alloc, node, size)?)
@@ -38,6 +44,7 @@ pub(crate) fn settled_within(step: Step, node: Node) -> Result<Knot, Unbuilt>
     ensures { Makes step.entry.limit (settled (plain_node node)) result }
 {
     if is_spent(&node) {
+        dropped(node);
         return done_knot(step);
     }
     let size = node.size();
@@ -87,9 +94,11 @@ pub(crate) fn sized_if_live(step: Step, node: Node, size: usize) -> Result<Knot,
     ensures { Makes step.entry.limit (pruned (plain_node node)) result }
 {
     if has_died(&node) {
+        dropped(node);
         return dead_knot(step);
     }
     if is_spent(&node) {
+        dropped(node);
         return done_knot(step);
     }
     sized(step, node, size)

@@ -37,6 +37,7 @@ use ix_tree::{Bag, Knot, Node, Pair};
 /// The alternatives are built within at least 65, and only the finished node is compared with the
 /// limit: where it becomes done, its alternatives don't count.
 #[cycle(advance)]
+#[inline(never)]
 pub(crate) fn advance_par(step: Step, y: &Expr, z: &Expr, pairs: &[Pair]) -> Result<Knot, Unbuilt>
     requires { Ready (par (form_of y.now) (form_of z.now)) step.env.now
         (par_of (listed (map plain_pair pairs.now))) }
@@ -76,6 +77,7 @@ fn advance_pairs(step: Step, y: &Expr, z: &Expr, pairs: &[Pair]) -> Result<AltSe
 }
 
 #[cycle(advance)]
+#[inline(never)]
 pub(crate) fn advance_par_star(step: Step, y: &Expr, bags: &[Bag]) -> Result<Knot, Unbuilt>
     requires { Ready (par_star (form_of y.now)) step.env.now (par_star_of (listed (map plain_bag
         bags.now))) }
@@ -100,6 +102,7 @@ pub(crate) fn advance_par_star(step: Step, y: &Expr, bags: &[Bag]) -> Result<Kno
 /// only the finished node is compared with the limit. A first run is built only where some bag has
 /// room for it.
 #[cycle(advance)]
+#[inline(never)]
 pub(crate) fn advance_times(step: Step, number: u8, y: &Expr, bags: &[Bag]) -> Result<Knot, Unbuilt>
     requires { Ready (times number (form_of y.now)) step.env.now (times_of (listed (map plain_bag
         bags.now))) }

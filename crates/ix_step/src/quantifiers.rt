@@ -99,6 +99,7 @@ fn advance_entries(
 /// are each dead or done, but together they may be above the limit. So they are built within what
 /// so many of them may take, and only the finished node is compared with the limit.
 #[cycle(advance)]
+#[inline(never)]
 pub(crate) fn advance_any(
     step: Step,
     body: Body,
@@ -127,6 +128,7 @@ pub(crate) fn advance_any(
 
 /// The moved tree of `every`.
 #[cycle(advance)]
+#[inline(never)]
 pub(crate) fn advance_every(
     step: Step,
     body: Body,
@@ -153,6 +155,7 @@ pub(crate) fn advance_every(
 /// The moved tree of `sync`. Where outside isn't in the alphabet, the common state stays, and of
 /// the values only the action's own may move.
 #[cycle(advance)]
+#[inline(never)]
 pub(crate) fn advance_sync(
     step: Step,
     body: Body,

@@ -27,23 +27,17 @@ advance::advance-returns-then-not-passes = Operands.advance::advance-returns-the
 pub advance::advance_asked-returns : goal.advance::advance_asked-returns
 advance::advance_asked-returns = Operands.advance::advance_asked-returns
 
-pub advance::advance_node-advance-requires : goal.advance::advance_node-advance-requires
-advance::advance_node-advance-requires = Operands.advance::advance_node-advance-requires
+pub advance::advance_node-advance_opt-requires : goal.advance::advance_node-advance_opt-requires
+advance::advance_node-advance_opt-requires = Operands.advance::advance_node-advance_opt-requires
+
+pub advance::advance_node-advance_or-requires : goal.advance::advance_node-advance_or-requires
+advance::advance_node-advance_or-requires = Operands.advance::advance_node-advance_or-requires
+
+pub advance::advance_node-advance_and-requires : goal.advance::advance_node-advance_and-requires
+advance::advance_node-advance_and-requires = Operands.advance::advance_node-advance_and-requires
 
 pub advance::advance_node-advance_seq-requires : goal.advance::advance_node-advance_seq-requires
 advance::advance_node-advance_seq-requires = Operands.advance::advance_node-advance_seq-requires
-
-pub advance::advance_node-advance-requires-in-Or-Or : goal.advance::advance_node-advance-requires-in-Or-Or
-advance::advance_node-advance-requires-in-Or-Or = Operands.advance::advance_node-advance-requires-in-Or-Or
-
-pub advance::advance_node-advance-requires-in-Or-Or-2 : goal.advance::advance_node-advance-requires-in-Or-Or-2
-advance::advance_node-advance-requires-in-Or-Or-2 = Operands.advance::advance_node-advance-requires-in-Or-Or-2
-
-pub advance::advance_node-advance_asked-requires : goal.advance::advance_node-advance_asked-requires
-advance::advance_node-advance_asked-requires = Operands.advance::advance_node-advance_asked-requires
-
-pub advance::advance_node-advance_asked-requires-in-And-And : goal.advance::advance_node-advance_asked-requires-in-And-And
-advance::advance_node-advance_asked-requires-in-And-And = Operands.advance::advance_node-advance_asked-requires-in-And-And
 
 pub advance::advance_node-advance_couple-requires : goal.advance::advance_node-advance_couple-requires
 advance::advance_node-advance_couple-requires = Operands.advance::advance_node-advance_couple-requires

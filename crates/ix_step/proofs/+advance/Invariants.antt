@@ -37,6 +37,15 @@ decreases-coupling::advance_met l = 8 * form_size (form_of l.expr.now) + 2
 abbrev pub decreases-coupling::advance_side : goal.decreases-coupling::advance_side
 decreases-coupling::advance_side l = 8 * form_size (form_of l.expr.now) + 3
 
+abbrev pub decreases-advance::advance_opt : goal.decreases-advance::advance_opt
+decreases-advance::advance_opt l = 8 * form_size (form_of l.y.now) + 7
+
+abbrev pub decreases-advance::advance_or : goal.decreases-advance::advance_or
+decreases-advance::advance_or l = 8 * form_size (form_of l.y.now) + 8 * form_size (form_of l.z.now) + 4
+
+abbrev pub decreases-advance::advance_and : goal.decreases-advance::advance_and
+decreases-advance::advance_and l = 8 * form_size (form_of l.y.now) + 8 * form_size (form_of l.z.now) + 4
+
 abbrev pub decreases-advance::advance_seq : goal.decreases-advance::advance_seq
 decreases-advance::advance_seq l = 8 * form_size (form_of l.y.now) + 8 * form_size (form_of l.z.now) + 4
 

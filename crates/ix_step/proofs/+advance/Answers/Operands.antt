@@ -42,8 +42,8 @@ advance::advance_asked-returns t c =
     subst (λ x. Makes c.args.step.limit x c.advance_node.result)
     (sym (moved_is (form_of c.args.expr.now) c.args.step.env.now c.args.tree.now c.args.step.action.now c.requires.ready.fits c.requires.passes)) c.advance_node.ensures
 
-pub advance::advance_node-advance-requires : goal.advance::advance_node-advance-requires
-advance::advance_node-advance-requires t c =
+pub advance::advance_node-advance_opt-requires : goal.advance::advance_node-advance_opt-requires
+advance::advance_node-advance_opt-requires t c =
     let is : form_of c.args.expr.now ≡ opt (form_of c.deref.result.now) = ap form_of c.in-Opt-Opt.is-0 ∙ ap (λ v. opt (form_of v)) (sym c.deref.ensures) in
     let size = ap form_size is in (
       omega (arith, size),
@@ -60,45 +60,36 @@ advance::advance_node-advance_seq-requires t c =
       (seq_first ready, (seq_rest c.deref-in-Seq-Seq-3.result.now ready, second_small ready)),
     )
 
-pub advance::advance_node-advance-requires-in-Or-Or : goal.advance::advance_node-advance-requires-in-Or-Or
-advance::advance_node-advance-requires-in-Or-Or t c =
-    let is : form_of c.args.expr.now ≡ or (form_of c.deref-in-Or-Or.result.now) (form_of c.in-Or-Or.z.value) = ap form_of c.in-Or-Or.is-0 ∙ ap (λ v. or (form_of v) (form_of c.in-Or-Or.z.value)) (sym c.deref-in-Or-Or.ensures) in
+pub advance::advance_node-advance_or-requires : goal.advance::advance_node-advance_or-requires
+advance::advance_node-advance_or-requires t c =
+    let is : form_of c.args.expr.now ≡ or (form_of c.deref-in-Or-Or.result.now) (form_of c.deref-in-Or-Or-2.result.now) = ap form_of c.in-Or-Or.is-0 ∙ ap (λ v. or (form_of v) (form_of c.in-Or-Or.z.value)) (sym c.deref-in-Or-Or.ensures) ∙ ap (λ v. or (form_of c.deref-in-Or-Or.result.now) (form_of v)) (sym c.deref-in-Or-Or-2.ensures) in
+    let ready = asked is refl (sym c.node.ensures ∙ ap plain_node c.in-Or-Or.is-1) c.requires.ready in
     let size = ap form_size is in (
       omega (arith, size),
-      or_first (asked is refl (sym c.node.ensures ∙ ap plain_node c.in-Or-Or.is-1) c.requires.ready),
+      (or_first ready, or_second ready),
     )
 
-pub advance::advance_node-advance-requires-in-Or-Or-2 : goal.advance::advance_node-advance-requires-in-Or-Or-2
-advance::advance_node-advance-requires-in-Or-Or-2 t c =
-    let is : form_of c.args.expr.now ≡ or (form_of c.in-Or-Or.y.value) (form_of c.deref-in-Or-Or-2.result.now) = ap form_of c.in-Or-Or.is-0 ∙ ap (λ v. or (form_of c.in-Or-Or.y.value) (form_of v)) (sym c.deref-in-Or-Or-2.ensures) in
-    let size = ap form_size is in (
-      omega (arith, size),
-      or_second (asked is refl (sym c.node.ensures ∙ ap plain_node c.in-Or-Or.is-1) c.requires.ready),
-    )
-
-pub advance::advance_node-advance_asked-requires : goal.advance::advance_node-advance_asked-requires
-advance::advance_node-advance_asked-requires t c =
-    let is : form_of c.args.expr.now ≡ and (form_of c.deref-in-And-And.result.now) (form_of c.in-And-And.z.value) = ap form_of c.in-And-And.is-0 ∙ ap (λ v. and (form_of v) (form_of c.in-And-And.z.value)) (sym c.deref-in-And-And.ensures) in
+pub advance::advance_node-advance_and-requires : goal.advance::advance_node-advance_and-requires
+advance::advance_node-advance_and-requires t c =
+    let y = form_of c.deref-in-And-And.result.now in
+    let z = form_of c.deref-in-And-And-2.result.now in
+    let e = c.args.step.env.now in
+    let a = c.args.step.action.now in
+    let is : form_of c.args.expr.now ≡ and y z = ap form_of c.in-And-And.is-0 ∙ ap (λ v. and (form_of v) (form_of c.in-And-And.z.value)) (sym c.deref-in-And-And.ensures) ∙ ap (λ v. and y (form_of v)) (sym c.deref-in-And-And-2.ensures) in
     let tree = sym c.node.ensures ∙ ap plain_node c.in-And-And.is-1 in
+    let ready = asked is refl tree c.requires.ready in
+    let come = same_passes e a is tree c.requires.passes in
     let size = ap form_size is in (
       omega (arith, size),
       (
-        and_first (asked is refl tree c.requires.ready),
-        passed (form_of c.deref-in-And-And.result.now) c.args.step.env.now c.in-And-And.left c.args.step.action.now
-            (and_first_may (form_of c.deref-in-And-And.result.now) (form_of c.in-And-And.z.value) c.args.step.env.now c.args.step.action.now c.in-And-And.left c.in-And-And.right (same_passes c.args.step.env.now c.args.step.action.now is tree c.requires.passes)),
-      ),
-    )
-
-pub advance::advance_node-advance_asked-requires-in-And-And : goal.advance::advance_node-advance_asked-requires-in-And-And
-advance::advance_node-advance_asked-requires-in-And-And t c =
-    let is : form_of c.args.expr.now ≡ and (form_of c.in-And-And.y.value) (form_of c.deref-in-And-And-2.result.now) = ap form_of c.in-And-And.is-0 ∙ ap (λ v. and (form_of c.in-And-And.y.value) (form_of v)) (sym c.deref-in-And-And-2.ensures) in
-    let tree = sym c.node.ensures ∙ ap plain_node c.in-And-And.is-1 in
-    let size = ap form_size is in (
-      omega (arith, size),
-      (
-        and_second (asked is refl tree c.requires.ready),
-        passed (form_of c.deref-in-And-And-2.result.now) c.args.step.env.now c.in-And-And.right c.args.step.action.now
-            (and_second_may (form_of c.in-And-And.y.value) (form_of c.deref-in-And-And-2.result.now) c.args.step.env.now c.args.step.action.now c.in-And-And.left c.in-And-And.right (same_passes c.args.step.env.now c.args.step.action.now is tree c.requires.passes)),
+        and_first ready,
+        (
+          and_second ready,
+          (
+            passed y e c.in-And-And.left a (and_first_may y z e a c.in-And-And.left c.in-And-And.right come),
+            passed z e c.in-And-And.right a (and_second_may y z e a c.in-And-And.left c.in-And-And.right come),
+          ),
+        ),
       ),
     )
 
