@@ -47,8 +47,14 @@ pub(crate) fn trace<F: Files, K: Sink>(
     trace_lines(alloc, &mut engine, &actions, out)
 }
 
+/// The most bytes of a line that answers an action.
+const LONGEST_ANSWER: usize = 6;
+
+/// The most bytes that are held.
+const MOST_HELD: usize = 4096;
+
 /// Answers that are put next, all of them with one call of the output.
-type Held = ArrayVec<u8, 4096>;
+type Held = ArrayVec<u8, MOST_HELD>;
 
 /// Puts a line for each action, and then whether the history of the `yes` actions is complete.
 fn trace_lines<K: Sink>(
@@ -113,7 +119,7 @@ fn answer_line(
 ) -> Result<&'static [u8], AllocError>
     ensures answers { IfOk result
         (λ text. AnswersOne engine.old action.now text.now engine.new.history) }
-    ensures short { IfOk result (λ text. length text.now ≤ 6) }
+    ensures short { IfOk result (λ text. length text.now ≤ LONGEST_ANSWER) }
     ensures form { engine.new.form ≡ engine.old.form }
     ensures limit { engine.new.limit ≡ engine.old.limit }
 {
@@ -132,7 +138,7 @@ fn answer_line(
 
 /// Holds the line behind the earlier ones, which are put before where there is no room for it.
 fn hold<K: Sink>(held: &mut Held, line: &[u8], out: &mut K) -> Result<(), Failed>
-    requires { length line.now ≤ 6 }
+    requires { length line.now ≤ LONGEST_ANSWER }
     ensures whole { OnOk result (PutsFront (held.old.items ++ line.now) held.new.items
         (K.state out.old) (K.state out.new)) }
     ensures lost { OnErr result (LosesHeld held.old.items (K.state out.old) (K.state out.new)) }
@@ -142,7 +148,8 @@ fn hold<K: Sink>(held: &mut Held, line: &[u8], out: &mut K) -> Result<(), Failed
         out.put(held)?;
         held.clear();
     }
-    let _ = held.try_extend_from_slice(line);
+    let kept = held.try_extend_from_slice(line);
+    prove!(kept.is_ok());
     Ok(())
 }
 
