@@ -12,6 +12,3 @@ mod whole;
 
 pub use answer::Bound;
 pub use whole::bound;
-
-#[cfg(test)]
-mod tests;

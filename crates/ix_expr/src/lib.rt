@@ -28,6 +28,3 @@ pub use matching::matches;
 pub use names::mentions;
 pub use numbers::has_numbers;
 pub use seen::sees;
-
-#[cfg(test)]
-mod tests;

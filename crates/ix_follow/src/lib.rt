@@ -7,6 +7,3 @@ pub mod laws;
 
 pub use answers::{Fed, FollowFault};
 pub use follower::Follower;
-
-#[cfg(test)]
-mod tests;

@@ -30,9 +30,6 @@ pub use scanning::scan;
 pub use slide::{SLIDE_ROOM, Slid, Slide};
 pub use writing::{Record, header_bytes, record_bytes};
 
-#[cfg(test)]
-mod tests;
-
 /// The byte of an open gate. With any other byte a gate is closed.
 pub const OPEN: u8 = 0xA5;
 

@@ -13,9 +13,6 @@ use arrayvec::ArrayVec;
 use byteorder::{BigEndian, ByteOrder};
 use std::marker::Model;
 
-#[cfg(test)]
-mod tests;
-
 /// The most bytes that a Slide keeps.
 pub const SLIDE_ROOM: usize = 4096;
 

@@ -17,17 +17,13 @@ mod number;
 mod text_lines;
 mod words;
 
+use arrayvec::ArrayVec;
 pub use line_faults::{LineFault, LineGrammar, first_fault};
+use memchr::memchr;
 pub use number::{NumberAnd, number_and, read_number};
+use std::marker::Model;
 pub use text_lines::{FirstLine, first_line};
 pub use words::split_word;
-
-#[cfg(test)]
-mod tests;
-
-use arrayvec::ArrayVec;
-use memchr::memchr;
-use std::marker::Model;
 
 /// The most bytes that a line has, without the byte 10 that ends it.
 pub const LINE_LIMIT: usize = 512;

@@ -23,6 +23,3 @@ pub use site::MemorySite;
 
 /// The most numbers that can be added to those of a site's calls that fail.
 pub const MOST_ADDED: usize = 64;
-
-#[cfg(test)]
-mod tests;

@@ -11,6 +11,3 @@ mod request_fault;
 pub use reply::{Outcome, Reply};
 pub use request::Request;
 pub use request_fault::RequestFault;
-
-#[cfg(test)]
-mod tests;

@@ -197,6 +197,3 @@ fn write_argument(out: &mut Vec<u8>, argument: &Arg) -> Result<(), AllocError>
         }
     }
 }
-
-#[cfg(test)]
-mod tests;

@@ -15,6 +15,3 @@ pub use entries::{Entries, EntriesLeft};
 pub use node::{Bag, Knot, Map, Node, Pair};
 pub use share::{share_knots, with_shared};
 pub use tree::Tree;
-
-#[cfg(test)]
-mod tests;

@@ -10,6 +10,10 @@ use ix_values::Action;
 use std::alloc::Global;
 use std::test::Fail;
 
+mod bounds;
+mod follows;
+mod trees;
+
 fn expression(alloc: Global, text: &str) -> Result<Expression, Fail> {
     match read(alloc, text.as_bytes()) {
         Ok(expression) => Ok(expression),
@@ -209,17 +213,30 @@ fn answers_sizes_and_ends(rt: HostRuntime) -> Result<(), Fail> {
 // Values enough for several pieces of a list of entries.
 const VALUES: usize = 70;
 
-// Asks an engine for `s` of each value, in no order of theirs, and then for one action more: how
-// that is answered, and how large the tree is then.
-fn ask_behind_values(alloc: Global, text: &str, last: &str) -> Result<(u8, usize), Fail> {
+// Asks for this action of each value, in no order of theirs.
+fn ask_of_values(alloc: Global, engine: &mut Engine, name: &str) -> Result<(), Fail> {
+    for index in 0..VALUES {
+        let text = format!(in alloc; "{name}(v{})", index * 37 % VALUES)?;
+        if ask(alloc, engine, &action(&text)?)? != b'y' {
+            return Err("not granted".into());
+        }
+    }
+    Ok(())
+}
+
+// Asks an engine for each of these actions of each value, and then for one action more: how that is
+// answered, and how large the tree is then.
+fn ask_behind_values(
+    alloc: Global,
+    text: &str,
+    names: &[&str],
+    last: &str,
+) -> Result<(u8, usize), Fail> {
     let Ok(mut engine) = Engine::new(alloc, expression(alloc, text)?, 1_000_000) else {
         return Err("no engine".into());
     };
-    for index in 0..VALUES {
-        let begun = format!(in alloc; "s(v{})", index * 37 % VALUES)?;
-        if ask(alloc, &mut engine, &action(&begun)?)? != b'y' {
-            return Err("not granted".into());
-        }
+    for name in names {
+        ask_of_values(alloc, &mut engine, name)?;
     }
     let answer = ask(alloc, &mut engine, &action(last)?)?;
     Ok((answer, engine.nodes()))
@@ -230,19 +247,22 @@ const EACH_ONCE: &str = "every $p ((s($p) - r) @ *(any $q s($q)))";
 
 const SOME_ONCE: &str = "any $p ((s($p) - r) @ *(any $q s($q)))";
 
+// A quantifier, the actions of each value, one action more, its answer, and the size of the tree.
+const MANY_ENTRIES: [(&str, &[&str], &str, (u8, usize)); 4] = [
+    // The node is 1, the common tree 1 + 1, and each entry 1 with a begun `s - r` of 3.
+    ("sync $p (s($p) - r)", &["s"], "s(v35)", (b'n', 283)),
+    // The node is 1, its map 1, and each of 69 entries 1 with a round of 1 + 3.
+    ("all $p *(s($p) - r($p))", &["s"], "r(v35)", (b'y', 347)),
+    // A coupling is 1, an iteration whose runs are over 1, `s - r` 2 and a begun one 3.
+    (EACH_ONCE, &["s"], "s(v35)", (b'n', 425)),
+    // The value is dead then, and its entry 2.
+    (SOME_ONCE, &["s"], "s(v35)", (b'y', 421)),
+];
+
 #[test]
 fn lists_of_many_entries(rt: HostRuntime) -> Result<(), Fail> {
-    for (text, last, then) in [
-        // The node is 1, the common tree 1 + 1, and each entry 1 with a begun `s - r` of 3.
-        ("sync $p (s($p) - r)", "s(v35)", (b'n', 283)),
-        // The node is 1, its map 1, and each of 69 entries 1 with a round of 1 + 3.
-        ("all $p *(s($p) - r($p))", "r(v35)", (b'y', 347)),
-        // A coupling is 1, an iteration whose runs are over 1, `s - r` 2 and a begun one 3.
-        (EACH_ONCE, "s(v35)", (b'n', 425)),
-        // The value is dead then, and its entry 2.
-        (SOME_ONCE, "s(v35)", (b'y', 421)),
-    ] {
-        let seen = ask_behind_values(rt.alloc(), text, last)?;
+    for (text, names, last, then) in MANY_ENTRIES {
+        let seen = ask_behind_values(rt.alloc(), text, names, last)?;
         assert!(rt; seen == then, "{text}");
     }
     Ok(())

@@ -17,6 +17,3 @@ pub use reading::action_texts_have_one_fault;
 pub use tickets::{Ticket, texts_tell_tickets_apart};
 pub use values::Value;
 pub use writing::texts_tell_actions_apart;
-
-#[cfg(test)]
-mod tests;

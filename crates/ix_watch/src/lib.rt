@@ -13,8 +13,6 @@ ghost use Rattle.ix_watch.specs.inside.Added.{Adds};
 
 mod changes;
 mod pairs;
-#[cfg(test)]
-mod tests;
 
 pub use changes::Changes;
 use indexmap::IndexMap;

@@ -35,18 +35,27 @@ fn a_long_journal_is_read_in_pieces(rt: HostRuntime) -> Result<(), Fail> {
     Ok(())
 }
 
+// What two starts on a file answer, of which the first meets a call that fails: a word each, and
+// how long the texts of the second one's history are.
+fn start_twice(
+    alloc: Global,
+    file: &[u8],
+    call: u64,
+) -> Result<(&'static str, &'static str, usize), Fail> {
+    let mut site = site_with(alloc, file, &[call])?;
+    let first = start_at(alloc, &mut site, b"*a")?.word;
+    let again = start_at(alloc, &mut site, b"*a")?;
+    Ok((first, again.word, again.text.len()))
+}
+
 #[test]
 fn a_piece_that_is_not_read_is_a_fault_of_the_disk(rt: HostRuntime) -> Result<(), Fail> {
     // Three pieces have the 3,000 records of 4 bytes. Calls 0 to 4 attach and read the header, and
     // 5 to 7 the pieces.
     let file = long_journal(rt.alloc(), 3)?;
     for call in 5..8 {
-        let mut site = site_with(rt.alloc(), &file, &[call])?;
-        let first = start_at(rt.alloc(), &mut site, b"*a")?;
-        assert_eq!(rt; first.word, "disk", "call {call}");
-        let again = start_at(rt.alloc(), &mut site, b"*a")?;
-        assert_eq!(rt; again.word, "opened", "call {call}");
-        assert_eq!(rt; again.text.len(), 6_000, "call {call}");
+        let seen = start_twice(rt.alloc(), &file, call)?;
+        assert!(rt; seen == ("disk", "opened", 6_000), "call {call}");
     }
     Ok(())
 }

@@ -361,6 +361,13 @@ pub(super) fn action(text: &[u8]) -> Result<Action, Fail> {
     Ok(Action::read(text).map_err(|_| "no action")?)
 }
 
+// Appends the actions of these texts in the same way.
+fn append_texts(alloc: Global, site: &mut MemorySite, texts: [&[u8]; 2]) -> Result<Went, Fail>
+    requires { site.old.attached ≡ true }
+{
+    append_both(alloc, site, &action(texts[0])?, &action(texts[1])?)
+}
+
 // The journal of `a - b` behind a boot in which both were appended.
 const BOTH_SPENT: &[u8] =
     b"\xA5IXJ2\x00\x05a - b\xA5\x00\x06boot 1\xA5\x00\x051-1 a\xA5\x00\x051-2 b\x00";
@@ -369,7 +376,7 @@ const BOTH_SPENT: &[u8] =
 // this history.
 fn appended(alloc: Global, then: &[u8], text: &[u8]) -> Result<(Went, bool), Fail> {
     let mut site = site_with(alloc, b"", &[])?;
-    let went = append_both(alloc, &mut site, &action(b"a")?, &action(b"b")?)?;
+    let went = append_texts(alloc, &mut site, [b"a", b"b"])?;
     let told = start_on(alloc, site.image(), b"a - b")?;
     Ok((went, site.image() == then && told.text.as_slice() == text))
 }
@@ -396,19 +403,24 @@ fn may_keep(alloc: Global, went: Went, history: &[u8], texts: [&[u8]; 2]) -> Res
     })
 }
 
+// Whether this file is opened, behind appends of these texts that went so far, and keeps what it
+// may.
+fn keeps(alloc: Global, file: &[u8], went: Went, texts: [&[u8]; 2]) -> Result<bool, Fail> {
+    let told = start_on(alloc, file, b"a - b")?;
+    Ok(may_keep(alloc, went, told.text.as_slice(), texts)? && told.word == "opened")
+}
+
 // Whether two appends to this file stop at the call of this number, which fails, with no call
 // behind it, and what they leave is opened and keeps what it may.
 fn stops_at(alloc: Global, file: &[u8], texts: [&[u8]; 2], number: u64) -> Result<bool, Fail> {
     let mut site = site_with(alloc, file, &[number])?;
-    let went = append_both(alloc, &mut site, &action(texts[0])?, &action(texts[1])?)?;
+    let went = append_texts(alloc, &mut site, texts)?;
     let stops = if went == Went::AppendedBoth {
         site.calls() <= number
     } else {
         site.calls().saturating_sub(1) == number
     };
-    let told = start_on(alloc, site.image(), b"a - b")?;
-    let keeps = may_keep(alloc, went, told.text.as_slice(), texts)?;
-    Ok(stops && keeps && told.word == "opened")
+    Ok(stops && keeps(alloc, site.image(), went, texts)?)
 }
 
 #[test]

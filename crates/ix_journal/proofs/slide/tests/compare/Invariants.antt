@@ -1,6 +1,0 @@
-use Rattle.std.proofs.Common.{◌<◌, length}
-use Rattle.ix_journal.proofs.SlideSteps.{IsWithin}
-use Rattle.ix_journal.proofs.slide.tests.compare.Given as goal
-
-abbrev pub invariant-loop : goal.invariant-loop
-invariant-loop g l = IsWithin (length l.file) l.read l.slide × (length l.file < 1000000) × (l.length < 1000000)

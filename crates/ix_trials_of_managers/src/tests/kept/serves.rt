@@ -1,0 +1,272 @@
+//! What a serve puts and sends, and what it makes of its journal.
+ghost use Rattle.std.specs.Prelude.{◌≡◌, false, IfOk, OnOk};
+ghost use Rattle.ix_memory.specs.inside.CanCome.{CanAllCome, CanCome, beside, events_beside};
+
+use super::*;
+use ix_outside::{Event, EventKind};
+
+// Where a serve runs: its journal, what comes to its site, the call of the site that fails, and the
+// number of the call from which on all fail.
+#[derive(Clone, Copy)]
+struct Outside<'a> {
+    journal: &'a [u8],
+    coming: &'a [Coming<'a>],
+    call: Option<u64>,
+    fuse: Option<u64>,
+}
+
+// How a serve ended: its status, what it put, what it sent, and its journal then.
+#[derive(Drop)]
+struct Served {
+    status: u8,
+    put: Vec<u8>,
+    sent: Vec<u8>,
+    journal: Vec<u8>,
+}
+
+const SERVE: [&str; 4] = ["serve", "expression", "journal", "socket"];
+
+// The event of a piece, beside its bytes.
+fn event_of(alloc: Global, coming: Coming<'_>) -> Result<(Event, Vec<u8>), Fail>
+    ensures { IfOk result (λ event. CanCome (beside event)) }
+{
+    let (conn, moment, bytes) = coming;
+    if bytes.is_empty() || bytes.len() > 4096 || conn > 63 {
+        return Err("no piece".into());
+    }
+    let event = Event {
+        conn,
+        moment,
+        kind: EventKind::Bytes(bytes.len()),
+    };
+    Ok((event, bytes.to_vec(alloc)?))
+}
+
+fn add_event(event: (Event, Vec<u8>), events: &mut Vec<(Event, Vec<u8>)>) -> Result<(), AllocError>
+    requires one { CanCome (beside event) }
+    requires all { CanAllCome (events_beside events.old.items) }
+    ensures all { OnOk result (CanAllCome (events_beside events.new.items)) }
+{
+    match events.push(event) {
+        Ok(()) => Ok(()),
+        Err(_) => Err(AllocError),
+    }
+}
+
+fn events_of(alloc: Global, coming: &[Coming<'_>]) -> Result<Vec<(Event, Vec<u8>)>, Fail>
+    ensures { IfOk result (λ events. CanAllCome (events_beside events.items)) }
+{
+    let mut events = Vec::new(alloc);
+    for piece in coming {
+        let event = event_of(alloc, *piece)?;
+        add_event(event, &mut events)?;
+    }
+    Ok(events)
+}
+
+fn site_over(alloc: Global, outside: Outside<'_>) -> Result<MemorySite, Fail>
+    ensures { IfOk result (λ s. s.attached ≡ false) }
+{
+    let mut fail = Vec::new(alloc);
+    if let Some(number) = outside.call {
+        fail.push(number)?;
+    }
+    let events = events_of(alloc, outside.coming)?;
+    let image = outside.journal.to_vec(alloc)?;
+    let site = MemorySite::new(alloc, image, events, ROOM, fail, outside.fuse);
+    Ok(site?)
+}
+
+// What is seen of a run that ended so, at its site.
+fn served_at(alloc: Global, ended: Ended, site: &MemorySite) -> Result<Served, Fail> {
+    let sent = sent_by(alloc, site)?;
+    let journal = site.image().to_vec(alloc)?;
+    Ok(Served {
+        status: ended.status,
+        put: ended.bytes,
+        sent,
+        journal,
+    })
+}
+
+fn serve_over(alloc: Global, expression: &[u8], outside: Outside<'_>) -> Result<Served, Fail> {
+    let mut site = site_over(alloc, outside)?;
+    let ended = run_at(alloc, &SERVE, expression, b"", &mut site, None)?;
+    served_at(alloc, ended, &site)
+}
+
+// A serve whose site fails nowhere.
+fn serve_well(
+    alloc: Global,
+    expression: &[u8],
+    journal: &[u8],
+    coming: &[Coming<'_>],
+) -> Result<Served, Fail> {
+    let outside = Outside {
+        journal,
+        coming,
+        call: None,
+        fuse: None,
+    };
+    serve_over(alloc, expression, outside)
+}
+
+#[test]
+fn two_connections_are_served(rt: HostRuntime) -> Result<(), Fail> {
+    let cases: [(&[u8], &[Coming<'_>], &[u8]); 2] = [
+        (
+            PATIENTS,
+            &[
+                (0, 10, b"ask call(p1,x1) 1000\n"),
+                (0, 20, b"confirm 1-1\n"),
+                (0, 25, b"status\n"),
+                (1, 30, b"ask call(p1,x2) 1000\n"),
+                (1, 40, b"ask call(p2,x1) 1000\n"),
+            ],
+            b"0 granted 1-1\n0 confirmed 1\n0 status partial 1 nodes 10\n\
+            1 refused 21 not permitted\n1 granted 1-2\n",
+        ),
+        (
+            BOTH,
+            &[
+                (0, 10, b"ask call(p1,x1) 1000\n"),
+                (0, 20, b"confirm 1-1\n"),
+                (0, 25, b"status\n"),
+                (1, 30, b"ask call(p2,x1) 1000\n"),
+                (1, 40, b"ask call(p2,x2) 1000\n"),
+            ],
+            b"0 granted 1-1\n0 confirmed 1\n0 status partial 1 nodes 21\n\
+            1 refused 21 not permitted\n1 granted 1-2\n",
+        ),
+    ];
+    for (expression, coming, sent) in cases {
+        let served = serve_well(rt.alloc(), expression, b"", coming)?;
+        assert_eq!(rt; served.status, 0);
+        assert!(rt; served.put.as_slice() == b"history 0\n".as_slice());
+        assert!(rt; served.sent.as_slice() == sent, "for {expression:?}");
+    }
+    Ok(())
+}
+
+#[test]
+fn serves_go_on_from_their_journals(rt: HostRuntime) -> Result<(), Fail> {
+    // The expression, the journal, what comes, what is put and sent, and the journal then.
+    let cases: [(&[u8], &[u8], &[Coming<'_>], &[u8], &[u8], &[u8]); 3] = [
+        (
+            b"a",
+            b"",
+            &[(0, 1, b"may a\n")],
+            b"history 0\n",
+            b"0 yes\n",
+            b"\xA5IXJ2\x00\x01a\xA5\x00\x06boot 1\x00",
+        ),
+        (
+            b"a - b",
+            OF_A,
+            &[(0, 5, b"status\n"), (0, 5, b"log 1\n"), (0, 5, b"log 2\n")],
+            b"history 1\n",
+            b"0 status partial 1 nodes 3\n0 entry 1 a\n0 refused 42 no such entry\n",
+            OF_A_BOOTED,
+        ),
+        (
+            b"a - b",
+            BEFORE_A,
+            &[(0, 1, b"ask a 5\n"), (0, 2, b"confirm 1-1\n")],
+            b"history 0\n",
+            b"0 granted 1-1\n0 confirmed 1\n",
+            BOOTED_OF_A,
+        ),
+    ];
+    for (expression, journal, coming, put, sent, left) in cases {
+        let served = serve_well(rt.alloc(), expression, journal, coming)?;
+        assert_eq!(rt; served.status, 0);
+        assert!(rt; served.put.as_slice() == put, "over {journal:?}");
+        assert!(rt; served.sent.as_slice() == sent, "over {journal:?}");
+        assert!(rt; served.journal.as_slice() == left, "over {journal:?}");
+    }
+    Ok(())
+}
+
+// A serve of `a - b` without a journal, in which `a` is asked for and confirmed.
+fn serve_a(alloc: Global, call: Option<u64>, fuse: Option<u64>) -> Result<Served, Fail> {
+    let coming: [Coming<'_>; 2] = [(0, 100, b"ask a 50\n"), (0, 149, b"confirm 1-1\n")];
+    let outside = Outside {
+        journal: b"",
+        coming: &coming,
+        call,
+        fuse,
+    };
+    serve_over(alloc, b"a - b", outside)
+}
+
+#[test]
+fn failed_calls_end_serves_but_for_sends(rt: HostRuntime) -> Result<(), Fail> {
+    // Calls 0 to 8 attach the journal and make it, 9 to 12 append the boot, 13 listens, 14 and 16
+    // take the events, 15 sends `granted`, and 17 to 20 append: 20 is the second sync.
+    let cases: [(u64, u8, &[u8], &[u8], &[u8]); 4] = [
+        (13, 6, b"refused wire\n", b"", NEW),
+        (15, 0, b"history 0\n", b"0 grante", NEW_OF_A),
+        (16, 6, b"history 0\nrefused wire\n", b"0 granted 1-1\n", NEW),
+        (
+            20,
+            5,
+            b"history 0\nrefused disk\n",
+            b"0 granted 1-1\n0 refused 91 disk\n",
+            NEW_OF_A,
+        ),
+    ];
+    for (call, status, put, sent, journal) in cases {
+        let served = serve_a(rt.alloc(), Some(call), None)?;
+        assert_eq!(rt; served.status, status, "call {call}");
+        assert!(rt; served.put.as_slice() == put, "call {call}");
+        assert!(rt; served.sent.as_slice() == sent, "call {call}");
+        assert!(rt; served.journal.as_slice() == journal, "call {call}");
+    }
+    Ok(())
+}
+
+// The status of that serve where the call of this number fails.
+fn status_without(call: u64) -> u8 {
+    match call {
+        // The listen, and the three calls for an event.
+        13 | 14 | 16 | 22 => 6,
+        // The two sends, and the first number that no call has.
+        15 | 21 | 23 => 0,
+        _ => 5,
+    }
+}
+
+#[test]
+fn each_call_of_a_serve_fails_in_turn(rt: HostRuntime) -> Result<(), Fail> {
+    for call in 0..24 {
+        let served = serve_a(rt.alloc(), Some(call), None)?;
+        assert_eq!(rt; served.status, status_without(call), "call {call}");
+    }
+    Ok(())
+}
+
+// Whether a start from the journal that was left finds the action; or finds none, where no byte of
+// `confirmed` was sent.
+fn is_kept(alloc: Global, served: &Served) -> Result<bool, Fail> {
+    let left = Before {
+        journal: &served.journal,
+        call: None,
+        put: None,
+    };
+    let (opened, _) = run_from(alloc, &REPLAY, b"a - b", b"", left)?;
+    let put = opened.bytes.as_slice();
+    let acknowledged = served.sent.as_slice().starts_with(b"0 granted 1-1\n0 c");
+    let found = put == b"history 1\n".as_slice();
+    Ok(found || (put == b"history 0\n".as_slice() && !acknowledged))
+}
+
+#[test]
+fn what_was_acknowledged_is_kept(rt: HostRuntime) -> Result<(), Fail> {
+    for fuse in 0..24 {
+        let served = serve_a(rt.alloc(), None, Some(fuse))?;
+        let kept = is_kept(rt.alloc(), &served)?;
+        assert!(rt; kept, "fuse {fuse}");
+        assert_eq!(rt; served.status == 0, fuse == 23, "fuse {fuse}");
+    }
+    Ok(())
+}
