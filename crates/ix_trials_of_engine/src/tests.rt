@@ -248,9 +248,12 @@ const EACH_ONCE: &str = "every $p ((s($p) - r) @ *(any $q s($q)))";
 const SOME_ONCE: &str = "any $p ((s($p) - r) @ *(any $q s($q)))";
 
 // A quantifier, the actions of each value, one action more, its answer, and the size of the tree.
-const MANY_ENTRIES: [(&str, &[&str], &str, (u8, usize)); 4] = [
+const MANY_ENTRIES: [(&str, &[&str], &str, (u8, usize)); 5] = [
     // The node is 1, the common tree 1 + 1, and each entry 1 with a begun `s - r` of 3.
     ("sync $p (s($p) - r)", &["s"], "s(v35)", (b'n', 283)),
+    // Each value is as at the start, so that no entry is left, and then one begins. The node is 1,
+    // the common tree 1, and the entry 1 with an iteration of 1 + 3.
+    ("sync $p *(s($p) - r($p))", &["s", "r"], "s(v35)", (b'y', 7)),
     // The node is 1, its map 1, and each of 69 entries 1 with a round of 1 + 3.
     ("all $p *(s($p) - r($p))", &["s"], "r(v35)", (b'y', 347)),
     // A coupling is 1, an iteration whose runs are over 1, `s - r` 2 and a begun one 3.
