@@ -1,0 +1,200 @@
+"""The parts of docs/BELIEVE.md that are computed: tables between two marks each, in the order to read."""
+
+from __future__ import annotations
+
+import re
+from dataclasses import dataclass
+from typing import Iterable
+
+from .antt import lines_of
+from .claims import Closure, Reached
+from .digests import declared_kind
+from .names import Declared, Definition, short_path
+from .reading import Reading
+from .tree import PAGE
+
+END = "<!-- end -->"
+WAY_ROW = re.compile(r"(?m)^\| ([^|]*) \| `(\w)` \| ([^|]*) \|")
+FROM_MODULES = re.compile(r"`(\w+)` ((?:[A-Z][\w.]*(?: \([^)]*\))?(?:, )?)+)")
+TRAITS_OF = re.compile(r"the traits of `(\w+)`")
+
+
+class PageFault(Exception):
+    """The page can't be written, and why."""
+
+
+@dataclass
+class Way:
+    """A short way: what a reader wants, its mark, where it begins, and what it reaches."""
+
+    wanted: str
+    mark: str
+    text: str
+    reached: Reached
+
+
+def between(page: str, mark: str) -> str:
+    """What stands between a mark and the next end."""
+    return page.partition("<!-- %s -->" % mark)[2].partition(END)[0]
+
+
+def with_table(page: str, mark: str, table: str) -> str:
+    begin = "<!-- %s -->" % mark
+    front, found, rest = page.partition(begin)
+    if not found:
+        raise PageFault("%s: the mark %s is missing" % (PAGE, begin))
+    return front + begin + "\n" + table + "\n" + END + rest.partition(END)[2]
+
+
+def table(head: str, rows: Iterable[str]) -> str:
+    columns = head.count("|") + 1
+    return "\n".join(["| %s |" % head.replace("|", " | "), "|---" * columns + "|", *rows])
+
+
+# The order to read.
+
+def listed(page: str) -> dict[str, int]:
+    """The places of the modules that the page lists."""
+    rows = re.findall(r"(?m)^\| `(\w+)` \| ([A-Z][\w.]*) \| \d", page)
+    return {"Rattle.%s.specs.%s" % row: place for place, row in enumerate(rows)}
+
+
+def imports_of(reading: Reading, name: str) -> set[str]:
+    """The modules from which a module imports."""
+    found = set()
+    for _, full in reading.names.modules[name].imports:
+        target = reading.names.resolve(full)
+        found.add(target.place.module if isinstance(target.place, Definition) else full)
+    return found - {name}
+
+
+def in_page_order(page: str, names: Iterable[str]) -> list[str]:
+    """The modules as the page lists them; those that it doesn't list come last."""
+    place = listed(page)
+    return sorted(names, key=lambda name: (place.get(name, len(place)), name))
+
+
+def in_reading_order(reading: Reading, page: str, names: list[str]) -> list[str]:
+    """The modules in the order of the page, each behind those from which it imports; one that the page doesn't list
+    comes right behind the last of these."""
+    order = in_page_order(page, names)
+    known = listed(page)
+    ahead = [name for name in order if name in known]
+    for name in (name for name in order if name not in known):
+        needed = [ahead.index(other) for other in imports_of(reading, name) if other in ahead]
+        ahead.insert(max(needed, default=len(ahead) - 1) + 1, name)
+    sorted_names: list[str] = []
+    def put(name: str, above: tuple[str, ...]) -> None:
+        if name in sorted_names or name in above:
+            return
+        for other in sorted(imports_of(reading, name) & set(ahead), key=ahead.index):
+            put(other, (*above, name))
+        sorted_names.append(name)
+    for name in ahead:
+        put(name, ())
+    return sorted_names
+
+
+# The short ways.
+
+def begun(reading: Reading, text: str) -> Reached:
+    """What the words of a way's row reach: modules with the definitions that it begins with, or all of a module's."""
+    closure, reached = Closure(reading.names), Reached()
+    for crate, modules in FROM_MODULES.findall(text):
+        for short, _, wanted in re.findall(r"([A-Z][\w.]*)( \(([^)]*)\))?", modules):
+            module = reading.names.modules.get("Rattle.%s.specs.%s" % (crate, short))
+            names = re.findall(r"[^\s,]+", wanted) or list(module.texts if module else [])
+            missing = [name for name in names if not module or name not in module.texts]
+            if module is None or missing:
+                raise PageFault("%s: `%s` %s has no %s" % (PAGE, crate, short, ", ".join(missing) or "module"))
+            closure.follow([("", (name, reading.names.resolve(module.name + "." + name))) for name in names], reached)
+    traits_of = TRAITS_OF.findall(text)
+    for claim in (claim for part in reading.parts for claim in part.claims):
+        if claim.kind == "trait" and claim.crate in traits_of:
+            closure.follow([("", target) for target in closure.of_rust(claim.path, claim.text, True)[0]], reached)
+    return reached
+
+
+def ways(reading: Reading, page: str) -> list[Way]:
+    return [Way(wanted, mark, text, begun(reading, text))
+            for wanted, mark, text in WAY_ROW.findall(between(page, "The ways"))]
+
+
+def numbers_of(reading: Reading, definitions: set[Definition]) -> str:
+    lines = sum(lines_of(reading.names.modules[place.module].texts[place.name]) for place in definitions)
+    return "%d | %d | %s" % (len({place.module for place in definitions}), len(definitions), format(lines, ","))
+
+
+def table_of_ways(reading: Reading, found: list[Way]) -> str:
+    rows = ["| %s | `%s` | %s | %s |" % (way.wanted, way.mark, way.text, numbers_of(reading, way.reached.definitions))
+            for way in found]
+    rows.append("| all claims | | all that stands below | %s |" % numbers_of(reading, reading.believed))
+    return table("A reader wants|Mark|Begins with|Modules|Definitions|Lines", rows)
+
+
+# The tables.
+
+def table_of_claims(reading: Reading) -> str:
+    rows = []
+    for claim in (claim for part in reading.parts for claim in part.claims if claim.kind in ("claim", "trait")):
+        clauses = len(re.findall(r"\b(?:requires|ensures)\b", claim.text))
+        what = "`%s`" % claim.name if claim.kind == "claim" else "the trait `%s`" % claim.name
+        rows.append("| %s | `%s` | %s | %d |" % (what, claim.crate, short_path(claim.path), clauses))
+    laws = [claim for part in reading.parts for claim in part.claims if claim.kind == "law"]
+    total = "And %d laws, in %d crates." % (len(laws), len({claim.crate for claim in laws}))
+    return table("Claim|Crate|File|Clauses", sorted(rows)) + "\n\n" + total
+
+
+def table_of_modules(reading: Reading, page: str, found: list[Way], names: list[str]) -> str:
+    modules = [reading.names.modules[name] for name in in_reading_order(reading, page, names)]
+    marks = [(way.mark, way.reached.modules()) for way in found]
+    rows = []
+    for module in modules:
+        own = " ".join(mark for mark, reached in marks if module.name in reached)
+        rows.append("| `%s` | %s | %d | %d | %s | %s |" % (
+            module.crate, module.short, len(module.texts), module.lines(), own, module.about))
+    total = "In all %d modules, %d definitions, %d lines." % (
+        len(modules), sum(len(module.texts) for module in modules), sum(module.lines() for module in modules))
+    return table("Crate|Module|Definitions|Lines|Way|What it says", rows) + "\n\n" + total
+
+
+def first_sentence(docs: str) -> str:
+    return re.sub(r"(?<=[.]) .*", "", docs)
+
+
+def docs_of(reading: Reading, place: Declared) -> str:
+    return first_sentence(next((item.docs for item in reading.names.item(place)), ""))
+
+
+def table_of_types(reading: Reading) -> str:
+    rows = []
+    for place in reading.declared:
+        if declared_kind(place) == "type":
+            shown = "`%s`" % place.name + ("" if reading.names.is_exported(place) else ", private")
+            value = "its Value" if any(True for _, _ in reading.closure.models_of(place)) else place.kind
+            rows.append("| `%s` | %s | %s | %s | %s |" % (
+                place.crate, shown, short_path(place.path), value, docs_of(reading, place)))
+    return table("Crate|Type|File|Read|What it is", rows)
+
+
+def table_of_constants(reading: Reading) -> str:
+    rows = []
+    for place in reading.declared:
+        if declared_kind(place) == "constant":
+            text = " ".join(reading.names.item(place)[0].text.split())
+            value = text.partition(" = ")[2].rstrip(";").replace("|", "\\|")
+            rows.append("| `%s` | `%s` | %s | `%s` | %s |" % (
+                place.crate, place.name, short_path(place.path), value, docs_of(reading, place)))
+    return table("Crate|Constant|File|Value|What it is", rows)
+
+
+def rewritten(reading: Reading, page: str) -> str:
+    """The page with its tables as they must be."""
+    found = ways(reading, page)
+    tables = {"The claims": table_of_claims(reading), "The ways": table_of_ways(reading, found)}
+    for part, names in zip(reading.parts, reading.modules_by_part()):
+        tables[part.heading] = table_of_modules(reading, page, found, names)
+    tables.update({"The types": table_of_types(reading), "The constants": table_of_constants(reading)})
+    for mark, text in tables.items():
+        page = with_table(page, mark, text)
+    return page
