@@ -1,0 +1,13 @@
+pub mod Nodes
+pub mod Atoms
+pub mod Counts
+pub mod Never
+pub mod Terms
+pub mod Owners
+pub mod Names
+pub mod Values
+pub mod Apart
+pub mod Keeps
+pub mod Findings
+pub mod Laws
+pub mod inside

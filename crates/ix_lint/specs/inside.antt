@@ -1,0 +1,3 @@
+-- What private contracts cite.
+pub mod Above
+pub mod Search
