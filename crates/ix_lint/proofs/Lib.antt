@@ -6,3 +6,4 @@ pub mod Nevers
 pub mod Aparts
 pub mod Unified
 pub mod Sharing
+pub mod Kept
