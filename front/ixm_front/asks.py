@@ -5,10 +5,14 @@ from __future__ import annotations
 import asyncio
 import time
 from collections import OrderedDict
+from time import monotonic
 from typing import Protocol
 
-from .protocol import BUSY, CANCELLED, CONFIRMED, FAULT, GRANTED, SPENDING, busy_until, number, word
-from .request import Request
+from .client import Client
+from .protocol import BUSY, CANCELLED, CONFIRMED, FAULT, GRANTED, SPENDING, busy_until, number
+from .request import ClientLine, Line
+
+SURE = 0.1  # seconds that a lease has still to last, so that an ask that is sent now is answered 20
 
 
 class Sender(Protocol):
@@ -16,79 +20,97 @@ class Sender(Protocol):
 
     loop: asyncio.AbstractEventLoop
 
-    def can_send(self) -> bool:
-        """Whether the manager can be sent lines now."""
+    def can_ask(self) -> bool:
+        """Whether the manager can be sent asks now."""
 
-    def send(self, request: Request) -> None:
+    def send(self, request: Line) -> None:
         """Sends a line to the manager."""
 
-    def give_up(self, request: Request) -> None:
-        """An ask left the line without being sent, and it can't be sent as its last try."""
+    def give_up(self, request: ClientLine) -> None:
+        """An ask left the line without being sent."""
 
 
 class Asks:
     """Sends one ask after the other, each when the one before is answered and its reservation over.
 
     What it believes of the reservation decides only when an ask is sent. Where it is wrong, the manager answers that
-    ask with 20, and the ask goes back to the front of the line, until the deadline that the reply names."""
+    ask with 20, and the ask goes back to the front of the line, until the deadline that the reply names.
+
+    An ask that may wait no longer passes nobody: it is sent where it can only be answered 20, or where nobody is in the
+    line. Else its turn comes with the next grant, or with the line's end."""
 
     def __init__(self, sender: Sender, again: int) -> None:
         self.sender = sender
         self.again = again / 1000
-        self._waiting: OrderedDict[Request, asyncio.TimerHandle | None] = OrderedDict()
-        self._asked: Request | None = None  # the ask whose reply is to come
+        self.ticket = b""  # the ticket of the open reservation, where it is known
+        self.holder: Client | None = None  # whose it is
+        self.since = 0.0  # when it was granted
+        self._line: OrderedDict[ClientLine, None] = OrderedDict()
+        self._hurried: dict[ClientLine, None] = {}  # those that may wait no longer
+        self._asked: ClientLine | None = None  # the ask whose reply is to come
         self._is_free = True  # no reservation is open, as far as is known
-        self._ticket = b""  # the ticket of the open one, where it is known
+        self._until = 0.0  # until when the open one lasts, as far as is known
+        self._again_at = 0.0  # when the line is tried again
+        self._soonest = float("inf")  # no ask of the line has an earlier deadline
         self._timer: asyncio.TimerHandle | None = None
 
     def __len__(self) -> int:
-        return len(self._waiting)
+        return len(self._line) + len(self._hurried)
 
-    def add(self, request: Request) -> None:
-        """Takes an ask to the end of the line, or sends it at once where it may not wait."""
+    def oldest(self) -> float | None:
+        """When the ask came that has waited longest."""
+        return min((next(iter(asks)).came for asks in (self._line, self._hurried) if asks), default=None)
+
+    def is_open(self) -> bool:
+        """Whether a reservation is open, as far as is known."""
+        return not self._is_free and monotonic() < self._until
+
+    def add(self, request: ClientLine) -> None:
+        """Takes an ask to the end of the line, or sends it at once where nobody is before it."""
         wait = request.client.wait
-        if wait == 0 and self.sender.can_send():
-            self._try_last(request)
+        if wait == 0 or (self.holder is request.client and self._is_sure()):
+            # Who holds the reservation would wait for itself.
+            self._hurry(request)
             return
-        self._waiting[request] = None
+        if not self._line and not self._hurried and self._may_send():
+            self._send_as_next(request)
+            return
+        request.deadline = request.came + wait
+        self._line[request] = None
+        self._soonest = min(self._soonest, request.deadline)
         self.send_next()
-        if request in self._waiting:
-            self._waiting[request] = self.sender.loop.call_later(wait / 1000, self._wait_is_over, request)
 
-    def remove(self, request: Request) -> bool:
+    def remove(self, request: ClientLine) -> bool:
         """Takes an ask out of the line. False where it isn't in it."""
-        if request not in self._waiting:
-            return False
-        timer = self._waiting.pop(request)
-        if timer is not None:
-            timer.cancel()
-        return True
-
-    def remove_all(self) -> list[Request]:
-        """Takes all asks out of the line."""
-        requests = list(self._waiting)
-        for request in requests:
-            self.remove(request)
-        return requests
+        for asks in (self._line, self._hurried):
+            if request in asks:
+                del asks[request]
+                return True
+        return False
 
     def send_next(self) -> None:
         """Sends the first ask of the line if the reservation may be free. Those whose clients are gone leave it."""
-        while self._waiting and self._is_free and self._asked is None and self.sender.can_send():
-            request = next(iter(self._waiting))
-            self.remove(request)
+        while self._line and self._may_send():
+            request, _ = self._line.popitem(last=False)
             if request.client.hung_up():
                 self.sender.give_up(request)
-                continue
-            self._asked = request
-            self.sender.send(request)
+            else:
+                self._send_as_next(request)
+        if self._hurried and self._passes_nobody():
+            hurried, self._hurried = self._hurried, {}
+            for request in hurried:
+                self._hurry(request)
+        if self._line:
+            self._set_timer()
 
-    def is_spent(self, request: Request) -> None:
-        """A confirm or a cancel was sent: if it is of the open reservation, the next ask may follow it at once, since
-        the manager handles it behind."""
-        if self._ticket and word(request.line, 1) == self._ticket:
+    def is_spent(self, ticket: bytes) -> None:
+        """A confirm or a cancel of it was sent: if it is of the open reservation, the next ask may follow it at once,
+        since the manager handles it behind."""
+        if self.ticket and ticket == self.ticket:
             self._free()
+            self.send_next()
 
-    def replied(self, request: Request, reply: bytes) -> bool:
+    def replied(self, request: ClientLine, reply: bytes) -> bool:
         """Learns from a reply. True where the ask waits on, and its client isn't told."""
         if request.verb in SPENDING:
             if reply.startswith((CONFIRMED, CANCELLED)) and self._asked is None:
@@ -96,12 +118,12 @@ class Asks:
             return False
         if request is self._asked:
             self._asked = None
-        now = self.sender.loop.time()
         if reply.startswith(GRANTED):
-            lease = number(word(request.line, 2)) or 0
-            self._hold(word(reply, 1), request.sent + lease / 1000 - now)
+            lease = number(request.line.rpartition(b" ")[2]) or 0
+            self._hold(reply[len(GRANTED):-1], request.client, request.sent + lease / 1000)
+            self.since = monotonic()
         elif reply.startswith(BUSY):
-            self._hold(self._ticket, busy_until(reply) / 1000 - time.time())
+            self._hold(self.ticket, self.holder, monotonic() + busy_until(reply) / 1000 - time.time())
             if not request.is_last_try:
                 self._put_back(request)
                 return True
@@ -110,45 +132,79 @@ class Asks:
             self._free()
         return False
 
-    def is_lost(self, unanswered: list[Request]) -> None:
+    def is_lost(self, unanswered: list[ClientLine]) -> None:
         """The connection to the manager is gone: nothing is known, and these asks are first again."""
         self._asked = None
         self._free()
         for request in reversed(unanswered):
             self._put_back(request)
-
-    def _free(self) -> None:
-        self._is_free, self._ticket = True, b""
-        if self._timer is not None:
-            self._timer.cancel()
-            self._timer = None
-
-    def _hold(self, ticket: bytes, seconds: float) -> None:
-        """A reservation is open for so long, as far as is known. The line is tried again behind it, and if the clock
-        should have been set meanwhile, after `again` at the latest."""
-        self._free()
-        self._is_free, self._ticket = False, ticket
-        self._timer = self.sender.loop.call_later(min(max(seconds, 0.001), self.again), self._try_again)
-
-    def _try_again(self) -> None:
-        self._timer = None
-        self._is_free = True
+        for request in list(self._hurried):
+            self.remove(request)
+            self.sender.give_up(request)
         self.send_next()
 
-    def _put_back(self, request: Request) -> None:
-        request.sent = 0.0
-        left = request.came + request.client.wait / 1000 - self.sender.loop.time()
-        self._waiting[request] = self.sender.loop.call_later(max(left, 0), self._wait_is_over, request)
-        self._waiting.move_to_end(request, last=False)
+    def _may_send(self) -> bool:
+        if not self._is_free and self._again_at <= monotonic():
+            self._is_free = True
+        return self._is_free and self._asked is None and self.sender.can_ask()
 
-    def _wait_is_over(self, request: Request) -> None:
-        """Its reply is the manager's, too: the ask is sent once more, out of its turn."""
-        self.remove(request)
-        if request.client.hung_up() or not self.sender.can_send():
+    def _is_sure(self) -> bool:
+        """Whether an ask that is sent now is answered 20."""
+        return not self._is_free and self._until - monotonic() > SURE
+
+    def _passes_nobody(self) -> bool:
+        return not self._line or self._is_sure() or not self.sender.can_ask()
+
+    def _send_as_next(self, request: ClientLine) -> None:
+        self._asked = request
+        self.sender.send(request)
+
+    def _hurry(self, request: ClientLine) -> None:
+        """The ask is answered as soon as it passes nobody, by the manager's next reply to it."""
+        if not self._passes_nobody():
+            self._hurried[request] = None
+        elif not self.sender.can_ask() or (request.deadline and request.client.hung_up()):
             self.sender.give_up(request)
         else:
-            self._try_last(request)
+            request.is_last_try = True
+            if self._asked is None and not self._is_sure():
+                self._asked = request
+            self.sender.send(request)
 
-    def _try_last(self, request: Request) -> None:
-        request.is_last_try = True
-        self.sender.send(request)
+    def _free(self) -> None:
+        self._is_free, self.ticket, self.holder = True, b"", None
+
+    def _hold(self, ticket: bytes, holder: Client | None, until: float) -> None:
+        """A reservation is open so long, as far as is known. The line is tried again behind it, and if the clock should
+        have been set meanwhile, after `again` at the latest."""
+        self._is_free, self.ticket, self.holder, self._until = False, ticket, holder, until
+        now = monotonic()
+        self._again_at = min(max(until, now + 0.001), now + self.again)
+
+    def _set_timer(self) -> None:
+        """The line is looked at again where a deadline or the reservation's end comes. A timer that comes earlier stays."""
+        when = self._soonest if self._is_free else min(self._soonest, self._again_at)
+        if self._timer is not None:
+            if self._timer.when() <= when:
+                return
+            self._timer.cancel()
+        self._timer = self.sender.loop.call_at(when, self._look)
+
+    def _look(self) -> None:
+        self._timer = None
+        now = monotonic()
+        if self._soonest <= now:
+            over = [request for request in self._line if request.deadline <= now]
+            for request in over:
+                del self._line[request]
+            self._soonest = min((request.deadline for request in self._line), default=float("inf"))
+            for request in over:
+                self._hurry(request)
+        self.send_next()
+
+    def _put_back(self, request: ClientLine) -> None:
+        request.sent = 0.0
+        request.deadline = request.came + request.client.wait
+        self._line[request] = None
+        self._line.move_to_end(request, last=False)
+        self._soonest = min(self._soonest, request.deadline)

@@ -2,32 +2,29 @@
 
 from __future__ import annotations
 
-import asyncio
 import select
 import socket
-import struct
-from typing import Protocol
+from time import monotonic
+from typing import TYPE_CHECKING, Protocol
 
 from .lines import LineReader
+from .loop import TurnSelector
 from .options import Options
-from .protocol import number
-from .request import Request
+from .protocol import LONGEST, number
+from .request import ClientLine
+from .who import Who
+
+if TYPE_CHECKING:
+    from .policy import Permission, Policy
 
 SKIP = 65536  # bytes that are read at once of a line that is too long
-
-
-def peer_of(sock: socket.socket) -> tuple[int, int]:
-    """The process and the user at the other end, as they were when it connected."""
-    credentials = sock.getsockopt(socket.SOL_SOCKET, socket.SO_PEERCRED, struct.calcsize("3i"))
-    pid, uid, _ = struct.unpack("3i", credentials)
-    return pid, uid
 
 
 class Owner(Protocol):
     """What a client needs of the front."""
 
     options: Options
-    loop: asyncio.AbstractEventLoop
+    selector: TurnSelector
 
     def take(self, client: Client, line: bytes) -> None:
         """Takes the client's next line, and calls `answer` for it, at once or later."""
@@ -38,61 +35,80 @@ class Owner(Protocol):
     def is_done(self, client: Client) -> None:
         """All lines of a client that sends no more are answered."""
 
+    def is_blocked(self, client: Client, length: int) -> None:
+        """So many bytes of its replies wait until the client reads them."""
+
 
 class Client:
     """Reads a client's lines and writes its replies. At most `unread` bytes of it are held, and the next line is taken
     only when the one before is answered and its reply handed over to the system."""
 
-    def __init__(self, owner: Owner, sock: socket.socket, pid: int, uid: int) -> None:
+    def __init__(self, owner: Owner, sock: socket.socket, who: Who, number_of_it: int) -> None:
         self.owner = owner
         self.sock = sock
-        self.pid = pid
-        self.uid = uid
-        self.wait = owner.options.wait
-        self.request: Request | None = None  # the line that isn't answered yet
+        self.who = who
+        self.number = number_of_it
+        self.text = f'"client": {number_of_it}, {who.text}'  # what each record of the log tells of it
+        self.wait = owner.options.wait / 1000
+        self.request: ClientLine | None = None  # the line that isn't answered yet
         self.ticket = b""  # the last ticket that was granted to it and that it hasn't used up
+        self.rights: tuple[Permission, ...] = ()
+        self.rights_of: Policy | None = None  # the policy by which these are
         self.is_closed = False
         self.has_hung_up = False  # no reply reaches it any more
         self._poll = select.poll()
         self._poll.register(sock.fileno(), 0)
         self._reader = LineReader()
-        self._out = bytearray()
+        self._out = b""
         self._reads = False
         self._has_ended = False  # it sends no more
-        self._heard = self._begun = self._blocked = owner.loop.time()
+        self._heard = self._begun = self._blocked = monotonic()
 
     def serve(self) -> None:
         """Takes lines as long as none is unanswered, and reads on."""
-        while self.request is None and not self._out and not self.is_closed:
-            line = self._reader.next()
+        reader = self._reader
+        while self.request is None and not self._out and not self.has_hung_up:
+            line = reader.next()
             if line is None:
                 break
             self._begun = self._heard
             self.owner.take(self, line)
         if self.is_closed:
             return
-        if self._has_ended and self.request is None and not self._out:
-            self.owner.is_done(self)
-            return
-        self._read_if(not self._has_ended and self._room() > 0)
+        if self.has_hung_up:
+            self.owner.is_gone(self)
+        elif self._has_ended:
+            if self.request is None and not self._out:
+                self.owner.is_done(self)
+        elif reader.held or not self._reads:
+            self._read_if(self._room() > 0)
 
     def answer(self, reply: bytes) -> bool:
         """Sends the reply to the line that isn't answered. False where it is known that it reaches nobody."""
         self.request = None
-        self._heard = self.owner.loop.time()
-        if self.hung_up():
+        if self.has_hung_up:
             return False
-        self._out += reply
-        self._blocked = self._heard
-        self._write()
-        return not self.has_hung_up
+        self._heard = self._begun = monotonic()
+        try:
+            sent = self.sock.send(reply)
+        except (BlockingIOError, InterruptedError):
+            sent = 0
+        except OSError:
+            self.has_hung_up = True
+            return False
+        if sent < len(reply):
+            self._blocked = self._heard
+            self._out = reply[sent:]
+            self.owner.is_blocked(self, len(self._out))
+            self._watch()
+        return True
 
     def set_wait(self, text: bytes) -> bool:
         """Sets how long its asks may wait, in milliseconds. False where this isn't a number from 0 to 86400000."""
         millis = number(text)
-        if millis is None or millis > 86400000:
+        if millis is None or millis > LONGEST:
             return False
-        self.wait = millis
+        self.wait = millis / 1000
         return True
 
     def hung_up(self) -> bool:
@@ -101,6 +117,23 @@ class Client:
             # It asks for no event, so what is told is that the other end is closed, or an error.
             self.has_hung_up = True
         return self.has_hung_up
+
+    def is_read(self) -> bool:
+        """Whether the loop tells when it hangs up."""
+        return self._reads
+
+    def left(self) -> list[bytes]:
+        """The whole lines that a client that has hung up left behind: of what is held, and of what may be held."""
+        lines: list[bytes] = []
+        room = self._room()
+        if room > 0:
+            try:
+                self._reader.feed(self.sock.recv(room))
+            except OSError:
+                pass
+        while (line := self._reader.next()) is not None:
+            lines.append(line)
+        return lines
 
     def why_late(self, now: float) -> str | None:
         """The limit of time that it has passed, if any."""
@@ -115,10 +148,10 @@ class Client:
 
     def close(self) -> None:
         """Closes the connection. Nothing is read or sent any more."""
-        self._read_if(False)
-        self.owner.loop.remove_writer(self.sock.fileno())
+        self._reads = False
+        self._set_out(b"")
+        self._watch()
         self.is_closed = self.has_hung_up = True
-        self._out.clear()
         self.sock.close()
 
     def _room(self) -> int:
@@ -126,13 +159,16 @@ class Client:
         return SKIP if self._reader.skipping else self.owner.options.unread - len(self._reader.held)
 
     def _read_if(self, wanted: bool) -> None:
-        if wanted and not self._reads:
-            self.owner.loop.add_reader(self.sock.fileno(), self._readable)
-        elif self._reads and not wanted:
-            self.owner.loop.remove_reader(self.sock.fileno())
-        self._reads = wanted
+        if wanted != self._reads:
+            self._reads = wanted
+            self._watch()
+
+    def _watch(self) -> None:
+        self.owner.selector.watch(
+            self.sock.fileno(), self._readable if self._reads else None, self._writable if self._out else None)
 
     def _readable(self) -> None:
+        reader = self._reader
         try:
             data = self.sock.recv(self._room())
         except (BlockingIOError, InterruptedError):
@@ -140,30 +176,29 @@ class Client:
         except OSError:
             data = b""
         if data:
-            self._heard = self.owner.loop.time()
-            if not self._reader.is_unfinished():
+            self._heard = monotonic()
+            if not reader.is_unfinished():
                 self._begun = self._heard
-            self._reader.feed(data)
+            reader.feed(data)
         else:
             self._has_ended = True
             self._read_if(False)
-            if self.hung_up():
-                self.owner.is_gone(self)
+            self.hung_up()
         self.serve()
 
-    def _write(self) -> None:
+    def _set_out(self, out: bytes) -> None:
+        if len(out) != len(self._out):
+            self._out = out
+            self.owner.is_blocked(self, len(out))
+
+    def _writable(self) -> None:
         try:
-            del self._out[:self.sock.send(self._out)]
+            self._set_out(self._out[self.sock.send(self._out):])
         except (BlockingIOError, InterruptedError):
             pass
         except OSError:
             self.has_hung_up = True
-            self._out.clear()
-        if self._out:
-            self.owner.loop.add_writer(self.sock.fileno(), self._writable)
-
-    def _writable(self) -> None:
-        self._write()
+            self._set_out(b"")
         if not self._out:
-            self.owner.loop.remove_writer(self.sock.fileno())
+            self._watch()
             self.serve()

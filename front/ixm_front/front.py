@@ -3,58 +3,93 @@
 from __future__ import annotations
 
 import asyncio
-import os
 import socket
-from collections import Counter
+import time
+from collections import deque
+from collections.abc import Callable
+from functools import partial
+from time import monotonic
 
 from . import protocol
 from .asks import Asks
-from .client import Client, peer_of
+from .client import Client
 from .link import Link
-from .log import Log, text_of
-from .metrics import Metrics
+from .log import Log, quoted
+from .loop import TurnSelector
+from .metrics import Metrics, Now
 from .options import Options
-from .protocol import word
-from .request import Request
+from .places import Places
+from .policy import Policy, PolicyFault, Rights, read_policy
+from .protocol import GRANTED, KEPT, SPENDING, word
+from .records import Records, told
+from .request import ClientLine, Line, OwnLine
 from .watches import Watches
+from .who import Who, peer_of
 
-LOGGED = frozenset((b"ask", b"confirm", b"cancel", b"stop"))
 STUCK = 5.0  # seconds without a reply behind which the manager isn't called well
+LEFT_AT_ONCE = 1000  # lines without a reply, above which no more are taken of clients that are gone
+OFTEN = 20  # the watches of gone clients are looked at in each so manieth sweep
 
 
 class Front:
     """Takes each line of each client, and sees to it that it gets its one reply."""
 
-    def __init__(self, options: Options, loop: asyncio.AbstractEventLoop, log: Log) -> None:
+    def __init__(self, options: Options, loop: asyncio.AbstractEventLoop, selector: TurnSelector, log: Log) -> None:
         self.options = options
         self.loop = loop
+        self.selector = selector
         self.log = log
+        self.records = Records(log, options.log_reads)
         self.metrics = Metrics()
         self.is_ending = False
         self.clients: set[Client] = set()
         self.link = Link(self, options.manager)
-        self._each: Counter[int] = Counter()  # connections by process
+        self.policy_well = True
+        self.unread = 0  # bytes of replies that clients haven't read
+        self._blocked: dict[Client, int] = {}  # whose they are, who has waited longest first
+        self._places = Places(options)
         self._asks = Asks(self, options.again)
         self._watches = Watches()
-        self._held: dict[Request, None] = {}  # lines but asks that came while there was no manager
+        policy = None if options.policy is None else read_policy(options.policy)
+        self._rights = Rights(policy, self._watches, options.lease, options.watches)
+        self._held: dict[ClientLine, None] = {}  # lines but asks that came while there was no manager
         self._asks_status = False
-        self._cut_off: list[Request] = []  # confirms and cancels whose replies were lost with a connection
+        self._cut_off: list[ClientLine] = []  # confirms and cancels whose replies were lost with a connection
+        self._behind_log: deque[tuple[int, Callable[[], None]]] = deque()  # what waits for a record to be written
+        self._count = 0  # of connections
+        self._sweeps = 0
+        log.on_written = self._is_written
 
     # Clients
 
     def accept(self, sock: socket.socket) -> None:
+        """Takes a connection of this machine."""
+        try:
+            who = peer_of(sock)
+        except OSError:
+            sock.close()
+            return
+        self.welcome(sock, who)
+
+    def welcome(self, sock: socket.socket, who: Who) -> None:
         """Takes a connection, or closes it where there are too many."""
         self.metrics.connections += 1
-        pid, uid = peer_of(sock)
-        if len(self.clients) >= self.options.clients or self._each[pid] >= self.options.each:
-            self.metrics.turned_away += 1
+        limit = self._places.take(who)
+        if limit is not None:
+            self.turn_away(limit, told(who))
             sock.close()
             return
         sock.setblocking(False)
-        client = Client(self, sock, pid, uid)
+        self._count += 1
+        client = Client(self, sock, who, self._count)
         self.clients.add(client)
-        self._each[client.pid] += 1
+        self.records.connected(client)
         client.serve()
+
+    def turn_away(self, limit: str, who: str) -> None:
+        """Counts and tells that a connection wasn't taken."""
+        self.metrics.turned_away[limit.partition(":")[0]] += 1
+        self.records.turned_away(limit, who)
 
     def close(self, client: Client, cause: str) -> None:
         """Closes a connection. What the manager was sent of it is handled, and its replies are dropped."""
@@ -63,55 +98,92 @@ class Front:
         request = client.request
         if request is not None:
             self._asks.remove(request)
-            self._held.pop(request, None)
+            if cause != "gone" or request.verb not in KEPT:
+                self._held.pop(request, None)
         client.close()
         self.clients.discard(client)
-        self._each[client.pid] -= 1
-        if not self._each[client.pid]:
-            del self._each[client.pid]
+        self._places.give(client.who)
         self.metrics.closed[cause] += 1
-        if cause != "done":
-            told = text_of(request.line) if request is not None else None
-            self.log.write(closed=cause, pid=client.pid, uid=client.uid, request=told)
+        if cause not in ("done", "gone"):
+            self.records.closed(client, cause, None if request is None else request.line)
+        if client.ticket and self.options.cancel_unspent and self.link.is_up:
+            self._give_back(client.ticket)
 
     def is_done(self, client: Client) -> None:
         """A client that sends no more has had all its replies."""
         self.close(client, "done")
 
     def is_gone(self, client: Client) -> None:
-        """A client reads no more replies: its ask leaves the line. Its other lines are still handled."""
-        if client.request is not None and self._asks.remove(client.request):
-            client.request = None
+        """A client reads no more replies. What it left behind is still handled where it gives something back or tells
+        that something has happened; everything else of it is dropped, and its place is free."""
+        if client.is_closed:
+            return
+        for line in client.left():
+            verb = line.partition(b" ")[0]
+            if verb in KEPT and len(line) <= protocol.LINE_LIMIT and self._may_keep(line):
+                if self._rights.refusal(client, verb, line) is None:
+                    self._pass(ClientLine(line, client, monotonic()))
+        self.close(client, "gone")
+
+    def is_blocked(self, client: Client, length: int) -> None:
+        """So many bytes of a client's replies wait until it reads them."""
+        self.unread += length - self._blocked.get(client, 0)
+        if length:
+            self._blocked[client] = length
+            if self.unread > self.options.unread_all:
+                self.loop.call_soon(self._relieve)
+        else:
+            self._blocked.pop(client, None)
+
+    def _relieve(self) -> None:
+        """Where too much is unread, whoever has read nothing for longest is cut off."""
+        while self.unread > self.options.unread_all and self._blocked:
+            self.close(next(iter(self._blocked)), "unread replies of all")
+
+    def _may_keep(self, line: bytes) -> bool:
+        """Whether a line of a client that is gone is taken: where many wait already, only those of the open ticket."""
+        waiting = max(len(self.link.unanswered), len(self._held))
+        return waiting < LEFT_AT_ONCE or bool(self._asks.ticket and word(line, 1) == self._asks.ticket)
+
+    # Lines
 
     def take(self, client: Client, line: bytes) -> None:
         """Takes a client's line: it is answered here, waits, or goes to the manager."""
         if self.is_ending:
             self.close(client, "front ends")
             return
-        request = client.request = Request(line, client, self.loop.time())
-        reply = self._own_reply(client, request)
-        if reply is not None:
-            self._finish(request, reply)
-        elif request.verb == b"ask":
+        request = client.request = ClientLine(line, client, monotonic())
+        if self._is_answered_here(client, request):
+            return
+        if request.verb == b"ask":
             if client.hung_up():
                 client.request = None
+            elif self.log.is_must and not self.log.is_well():
+                self.give_up(request)
             else:
                 self._asks.add(request)
-        elif not self.link.is_up:
-            self._held[request] = None
         else:
             self._pass(request)
 
-    def _own_reply(self, client: Client, request: Request) -> bytes | None:
-        """The reply to a line that doesn't go to the manager."""
+    def _is_answered_here(self, client: Client, request: ClientLine) -> bool:
+        """Answers a line that doesn't go to the manager."""
         line, verb = request.line, request.verb
+        reply, why = None, ""
         if len(line) > protocol.LINE_LIMIT:
-            return protocol.TOO_LONG
-        if verb == b"front":
-            return self._set_wait(client, line)
-        if line == b"stop" and not self.options.allow_stop:
-            return protocol.NO_SUCH_WORD
-        return None
+            reply = protocol.TOO_LONG
+        elif verb == b"front":
+            reply = self._set_wait(client, line)
+        elif line == b"stop" and not self.options.allow_stop:
+            reply = protocol.NO_SUCH_WORD
+        else:
+            refusal = self._rights.refusal(client, verb, line)
+            if refusal is not None:
+                reply, why = refusal.reply, refusal.why
+                self.metrics.denied[why] += 1
+        if reply is None:
+            return False
+        self._finish(request, reply, why)
+        return True
 
     def _set_wait(self, client: Client, line: bytes) -> bytes:
         """The reply to `front wait MILLIS`, the front's one request of its own."""
@@ -120,136 +192,186 @@ class Front:
             return protocol.WRONG_WORDS
         return protocol.YES if client.set_wait(words[2]) else protocol.BAD_NUMBER
 
-    def _pass(self, request: Request) -> None:
-        self.send(request)
-        if request.verb in protocol.SPENDING:
-            self._asks.is_spent(request)
-            self._asks.send_next()
+    def _pass(self, request: ClientLine) -> None:
+        """Sends a line that is no ask, once the manager is there. Where the log must have it, a confirm stands there
+        before it is sent."""
+        if self.log.is_must and request.verb == b"confirm":
+            number = self.records.sends(request.client, request.line)
+            self._once_written(number, partial(self._pass_on, request))
+        else:
+            self._pass_on(request)
+
+    def _pass_on(self, request: ClientLine) -> None:
+        if not self.link.is_up:
+            self._held[request] = None
+            return
+        self.link.send(request)
+        if request.verb in SPENDING:
+            self._asks.is_spent(word(request.line, 1))
+
+    def _give_back(self, ticket: bytes) -> None:
+        """Cancels a grant that nobody can spend any more."""
+        if self.link.is_up:
+            self.link.send(OwnLine(b"cancel " + ticket, monotonic()))
+            self._asks.is_spent(ticket)
 
     # Asks
 
-    def can_send(self) -> bool:
-        """Whether the manager reads the front's connection."""
-        return self.link.is_up
+    def can_ask(self) -> bool:
+        """Whether the manager can be sent asks now."""
+        return self.link.is_up and (not self.log.is_must or self.log.is_well())
 
-    def send(self, request: Request) -> None:
+    def send(self, request: Line) -> None:
         """Sends a line to the manager."""
         self.link.send(request)
 
-    def give_up(self, request: Request) -> None:
-        """An ask that isn't sent: its client is gone, or its wait is over and no manager is there to answer."""
+    def give_up(self, request: ClientLine) -> None:
+        """An ask that isn't sent: its client is gone, or its wait is over and it can't be asked for."""
         client = request.client
         if client.hung_up():
-            client.request = None
-            client.serve()
-        else:
+            self.is_gone(client)
+        elif not self.link.is_up:
             self.close(client, "no manager")
+        else:
+            self._finish(request, protocol.busy(time.time() + self.options.again / 1000))
+            client.serve()
 
     # Replies
 
-    def replied(self, request: Request, reply: bytes) -> None:
+    def replied(self, request: Line, reply: bytes) -> None:
         """The manager's reply to a line."""
-        self.metrics.manager.add(self.loop.time() - request.sent)
-        if reply.startswith((b"status ", protocol.CONFIRMED)):
-            self._note(reply)
-        if request.verb == b"ask" or request.verb in protocol.SPENDING:
+        self.metrics.manager.add(monotonic() - request.sent)
+        if isinstance(request, OwnLine):
+            self._learn(request, reply)
+        elif request.verb == b"ask" or request.verb in SPENDING:
+            if reply.startswith(protocol.CONFIRMED):
+                self.metrics.history = int(reply[len(protocol.CONFIRMED):])
             if self._asks.replied(request, reply):
                 self.metrics.sent_again += 1
             else:
                 self._answer(request, reply)
             self._asks.send_next()
         else:
-            self._answer(request, reply)
+            told_reply = self._watches.replied(request, reply)
+            if told_reply is None:
+                self.close(request.client, "watch lost")
+            else:
+                self._answer(request, told_reply)
 
-    def _answer(self, request: Request, reply: bytes) -> None:
-        client = request.client
-        if client is None:
-            self._learn(request, reply)
-            return
-        told = self._watches.replied(request, reply)
-        if told is None:
-            self.close(client, "watch lost")
-            return
-        self._finish(request, told)
-        client.serve()
+    def _answer(self, request: ClientLine, reply: bytes) -> None:
+        self._finish(request, reply)
+        request.client.serve()
 
-    def _finish(self, request: Request, reply: bytes) -> None:
+    def _finish(self, request: ClientLine, reply: bytes, why: str = "") -> None:
         """Counts, logs and sends the reply to a client's line, in this order."""
-        client, verb = request.client, request.verb
-        self._count(request, reply)
-        ticket = word(reply, 1) if reply.startswith(protocol.GRANTED) else b""
-        if ticket:
-            client.ticket = ticket
-        elif verb in protocol.SPENDING and word(request.line, 1) == client.ticket:
-            client.ticket = b""
-        if not client.answer(reply) and ticket:
-            # Nobody knows this ticket, so nobody else can give it up.
-            self._pass(Request(b"cancel " + ticket, None, self.loop.time()))
-
-    def _count(self, request: Request, reply: bytes) -> None:
-        verb, took = request.verb, self.loop.time() - request.came
-        name = verb.decode() if verb in protocol.KNOWN else "other"
-        self.metrics.requests[name, protocol.kind_of(reply)] += 1
+        verb, took = request.verb, monotonic() - request.came
+        metrics = self.metrics
+        metrics.requests[verb if verb in protocol.KNOWN else b"other", protocol.kind_of(reply)] += 1
         if verb == b"ask":
-            self.metrics.ask.add(took)
+            metrics.ask.add(took)
         elif verb == b"confirm":
-            self.metrics.confirm.add(took)
-        if verb in LOGGED:
-            client = request.client
-            self.log.write(
-                pid=client.pid if client else os.getpid(), uid=client.uid if client else os.getuid(),
-                request=text_of(request.line), reply=text_of(reply), ms=round(took * 1000, 3))
+            metrics.confirm.add(took)
+        number = self.records.answered(request.client, verb, request.line, reply, took, why)
+        if number and self.log.is_must and not reply.startswith(b"refused "):
+            self._once_written(number, partial(self._send_late, request, reply))
+        else:
+            self._send(request, reply)
 
-    def _learn(self, request: Request, reply: bytes) -> None:
+    def _send(self, request: ClientLine, reply: bytes) -> None:
+        """Sends a reply to its client. A ticket that reaches nobody is given back: nobody else knows it."""
+        client = request.client
+        if reply.startswith(GRANTED):
+            ticket = reply[len(GRANTED):-1]
+            client.ticket = ticket
+            self._rights.granted(ticket, client.who)
+            self._note_boot(ticket)
+            if client.request is not request or not client.answer(reply):
+                client.ticket = b""
+                self._give_back(ticket)
+            return
+        if request.verb in SPENDING and word(request.line, 1) == client.ticket:
+            client.ticket = b""
+        if client.request is request:
+            client.answer(reply)
+
+    def _send_late(self, request: ClientLine, reply: bytes) -> None:
+        self._send(request, reply)
+        request.client.serve()
+
+    def _learn(self, request: OwnLine, reply: bytes) -> None:
         """The reply to one of the front's own lines."""
         if request.verb == b"status":
             self._asks_status = False
+            self._note_status(reply)
         elif request.verb == b"cancel":
-            self._count(request, reply)
+            self.records.own(request.line, reply)
+            self._asks.send_next()
         elif request.verb == b"watch":
             self._watches.set_again(request.line, reply)
-        elif request.verb == b"outcome":
+        elif request.about is not None:
             self._settle(request.about, reply)
 
-    def _note(self, reply: bytes) -> None:
+    def _note_status(self, reply: bytes) -> None:
         words = reply.split()
-        if words[0] == b"confirmed":
-            self.metrics.history = int(words[1])
-        else:
+        if len(words) == 5:
             self.metrics.history, self.metrics.nodes = int(words[2]), int(words[4])
             self.metrics.is_complete = words[1] == b"complete"
+
+    def _note_boot(self, ticket: bytes) -> None:
+        self.metrics.boots = protocol.number(ticket.partition(b"-")[0])
+
+    # What waits for the log
+
+    def _once_written(self, number: int, action: Callable[[], None]) -> None:
+        """Does this once a record is written."""
+        if number <= self.log.written.number:
+            action()
+        else:
+            self._behind_log.append((number, action))
+
+    def _is_written(self, number: int) -> None:
+        """The log's thread has written up to this record."""
+        if self.log.is_must and not self.loop.is_closed():
+            self.loop.call_soon_threadsafe(self._do_written, number)
+
+    def _do_written(self, number: int) -> None:
+        while self._behind_log and self._behind_log[0][0] <= number:
+            self._behind_log.popleft()[1]()
+        self._asks.send_next()
 
     # The manager's end and its next run
 
     def is_up(self) -> None:
         """The manager answers: first what was watched is watched again, then the cut off lines are settled."""
-        now = self.loop.time()
+        now = monotonic()
         self.metrics.manager_starts += 1
-        self.log.write(manager="answers", history=self.metrics.history)
+        self.metrics.boots = None
+        self.records.event("manager answers", f'"history": {self.metrics.history}')
         for line in self._watches.lines():
-            self.send(Request(line, None, now))
+            self.send(OwnLine(line, now))
         for request in self._cut_off:
-            self.send(Request(b"outcome " + word(request.line, 1), None, now, about=request))
+            self.send(OwnLine(b"outcome " + word(request.line, 1), now, about=request))
         self._cut_off.clear()
         held, self._held = self._held, {}
         for request in held:
-            self._pass(request)
+            self._pass_on(request)
         self._asks.send_next()
 
-    def is_lost(self, unanswered: list[Request]) -> None:
+    def is_lost(self, unanswered: list[Line]) -> None:
         """The connection is gone. Only a line that changes nothing by being sent twice may be sent again."""
-        self.log.write(manager="is gone", unanswered=len(unanswered))
+        self.records.event("manager is gone", f'"unanswered": {len(unanswered)}')
         self._asks_status = False
         for client in list(self.clients):
-            if client.ticket and not self._spends(client.request):
+            if client.ticket and not (client.request is not None and self._spends(client.request)):
                 # Its reservation ended with the run, so it has to notice, as it would without a front.
                 self.close(client, "reservation lost")
         asks = []
-        again: dict[Request, None] = {}
+        again: dict[ClientLine, None] = {}
         for request in unanswered:
-            if request.about is not None:
-                self._cut_off.append(request.about)
-            elif request.client is None or request.client.is_closed:
+            if isinstance(request, OwnLine):
+                if request.about is not None:
+                    self._cut_off.append(request.about)
+            elif request.client.is_closed and request.verb not in SPENDING:
                 continue
             elif self._spends(request):
                 self._cut_off.append(request)
@@ -263,15 +385,15 @@ class Front:
         self._held = again | self._held
         self._asks.is_lost(asks)
 
-    def _spends(self, request: Request | None) -> bool:
+    def _spends(self, request: ClientLine) -> bool:
         """Whether this is a confirm or a cancel of some ticket, which was sent."""
-        return (request is not None and request.sent > 0.0 and request.verb in protocol.SPENDING
-                and len(request.line.split(b" ")) == 2)
+        return request.sent > 0.0 and request.verb in SPENDING and len(request.line.split(b" ")) == 2
 
-    def _settle(self, request: Request, reply: bytes) -> None:
-        """What the manager says of the ticket of a confirm or a cancel whose reply was lost."""
+    def _settle(self, request: ClientLine, reply: bytes) -> None:
+        """What the manager says of the ticket of a confirm or a cancel whose reply was lost. One whose client is gone is
+        told to the log alone, and isn't sent again."""
         if reply == b"outcome open\n" and not request.client.is_closed:
-            self._pass(request)
+            self._pass_on(request)
         elif reply == b"outcome never\n" or (reply.startswith(b"outcome confirmed ") and request.verb == b"cancel"):
             self._answer(request, protocol.NO_SUCH_TICKET)
         elif reply.startswith(b"outcome confirmed "):
@@ -283,41 +405,73 @@ class Front:
 
     def sweep(self) -> None:
         """Closes the clients that have passed a limit of time, and lets those go that were found gone."""
-        now = self.loop.time()
+        now = monotonic()
         for client in list(self.clients):
             request = client.request
             cause = client.why_late(now)
             if cause is None and request is not None:
-                since = request.sent or (now if request.verb == b"ask" else request.came)
-                cause = "no reply" if now - since > self.options.manager_time else None
+                since = request.sent or (now if request.verb == b"ask" and now < request.deadline else request.came)
+                cause = "no reply" if now - since > self.options.manager_time + self._spare(request) else None
             if cause is not None:
                 self.close(client, cause)
-            elif request is not None and request.sent == 0.0 and client.hung_up():
+            elif not client.is_read() and client.hung_up():
                 self.is_gone(client)
-                client.serve()
+        self.records.tell_turned_away()
+        self._sweeps += 1
+        if self._sweeps % OFTEN == 0 and self.link.is_up:
+            for line in self._watches.forget(self.options.idle_time):
+                self.send(OwnLine(line, now))
+
+    def _spare(self, request: ClientLine) -> float:
+        """How long an ask that wasn't sent may have waited in the line."""
+        return request.client.wait if request.verb == b"ask" and not request.sent else 0.0
 
     def ask_status(self) -> None:
         """Asks for the metrics' numbers, unless they are asked for already."""
         if self.link.is_up and not self._asks_status:
             self._asks_status = True
-            self.send(Request(b"status", None, self.loop.time()))
+            self.send(OwnLine(b"status", monotonic()))
+
+    def read_policy(self) -> None:
+        """Reads the policy again. A file with a fault changes nothing, and is told."""
+        if self.options.policy is None:
+            return
+        try:
+            policy: Policy = read_policy(self.options.policy)
+        except PolicyFault as fault:
+            self.policy_well = False
+            self.records.event("policy not read", f'"why": {quoted(str(fault))}')
+            return
+        self.policy_well, self._rights.policy = True, policy
+        self.records.event("policy read", f'"lines": {len(policy.lines)}')
 
     def health(self) -> tuple[bool, str]:
         """Whether the manager answers, and what is known of it, without asking it."""
         oldest = self.link.oldest()
-        waits = 0.0 if oldest is None else self.loop.time() - oldest
+        waits = 0.0 if oldest is None else monotonic() - oldest
         is_well = self.link.is_up and waits < STUCK
         what = "answers" if is_well else "doesn't answer" if self.link.is_up else "isn't there or reads another"
-        return is_well, (f"the manager {what}\nhistory {self.metrics.history}\nclients {len(self.clients)}\n"
-                         f"waiting {len(self._asks)}\n")
+        lines = [f"the manager {what}", f"history {self.metrics.history}", f"clients {len(self.clients)}",
+                 f"waiting {len(self._asks)}"]
+        if not self.log.is_well():
+            lines.append("the log isn't written")
+            is_well = is_well and not self.log.is_must
+        place = self.log.written
+        return is_well, "\n".join((*lines, f"log {place.number} {place.chain}", ""))
 
     def metrics_text(self) -> str:
         """The metrics as Prometheus reads them."""
-        return self.metrics.text(self.link.is_up, len(self._asks), len(self.clients), self.log.lost)
+        asks, now = self._asks, monotonic()
+        oldest, holder = asks.oldest(), asks.holder
+        reservation = (holder.who.key if holder else "unknown", now - asks.since) if asks.is_open() else None
+        return self.metrics.text(Now(
+            self.health()[0], self.link.is_up, len(asks), 0.0 if oldest is None else now - oldest, len(self.clients),
+            self.unread, len(self._watches), reservation, self.log.lost, self.log.is_well(), self.log.written.number,
+            self.policy_well, self.options.nodes))
 
     def is_idle(self) -> bool:
         """Whether no client's line is at the manager."""
-        return all(request.client is None for request in self.link.unanswered)
+        return not self._behind_log and all(isinstance(request, OwnLine) for request in self.link.unanswered)
 
     def let_go(self) -> None:
         """Closes the clients whose lines haven't been sent, as the front is about to end, and takes no more lines."""

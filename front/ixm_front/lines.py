@@ -9,7 +9,7 @@ class LineReader:
     __slots__ = ("held", "skipping")
 
     def __init__(self) -> None:
-        self.held = bytearray()
+        self.held = b""
         self.skipping = False
 
     def feed(self, data: bytes) -> None:
@@ -28,16 +28,14 @@ class LineReader:
         held = self.held
         end = held.find(b"\n", 0, LINE_LIMIT + 1)
         if end >= 0:
-            line = bytes(held[:end])
-            del held[:end + 1]
-            return line
+            self.held = held[end + 1:]
+            return held[:end]
         if len(held) <= LINE_LIMIT:
             return None
-        line = bytes(held[:LINE_LIMIT + 1])
         end = held.find(b"\n")
         self.skipping = end < 0
-        del held[:end + 1 if end >= 0 else len(held)]
-        return line
+        self.held = held[end + 1:] if end >= 0 else b""
+        return held[:LINE_LIMIT + 1]
 
     def is_unfinished(self) -> bool:
         """Whether a line was begun and isn't ended."""
@@ -57,6 +55,8 @@ class ReplyReader:
     def feed(self, data: bytes) -> list[bytes]:
         """The replies that these bytes complete, each with its line ends."""
         held = self.held
+        if not held and not data.startswith(b"changes ") and data.find(b"\n") == len(data) - 1:
+            return [data]  # as most are
         held += data
         replies = []
         while (end := held.find(b"\n", self.seen)) >= 0:

@@ -5,10 +5,12 @@ from __future__ import annotations
 import asyncio
 import socket
 from collections import deque
+from time import monotonic
 from typing import Protocol
 
 from .lines import ReplyReader
-from .request import Request
+from .loop import TurnSelector
+from .request import Line, OwnLine
 
 FIRST_PAUSE = 0.02  # seconds between two tries to connect, which double
 LONGEST_PAUSE = 1.0
@@ -17,15 +19,15 @@ LONGEST_PAUSE = 1.0
 class User(Protocol):
     """What is told of the connection."""
 
-    loop: asyncio.AbstractEventLoop
+    selector: TurnSelector
 
     def is_up(self) -> None:
         """The manager has answered a first line on a new connection."""
 
-    def replied(self, request: Request, reply: bytes) -> None:
+    def replied(self, request: Line, reply: bytes) -> None:
         """The reply to the oldest line without one."""
 
-    def is_lost(self, unanswered: list[Request]) -> None:
+    def is_lost(self, unanswered: list[Line]) -> None:
         """The connection is gone, and the replies to these lines with it."""
 
 
@@ -36,11 +38,11 @@ class Link:
         self.user = user
         self.path = path
         self.is_up = False
-        self.unanswered: deque[Request] = deque()
+        self.unanswered: deque[Line] = deque()
         self._sock: socket.socket | None = None
         self._reader = ReplyReader()
         self._out = bytearray()
-        self._will_write = False
+        self._is_full = False  # the system takes no more for now
         self._ended = asyncio.Event()
 
     async def keep(self) -> None:
@@ -53,15 +55,17 @@ class Link:
             await asyncio.sleep(pause)
             pause = min(2 * pause, LONGEST_PAUSE)
 
-    def send(self, request: Request) -> None:
+    def send(self, request: Line) -> None:
         """Sends a line, together with the others that are sent in this turn of the loop."""
-        request.sent = self.user.loop.time()
+        request.sent = monotonic()
         self.unanswered.append(request)
         self._out += request.line
         self._out += b"\n"
-        if not self._will_write:
-            self._will_write = True
-            self.user.loop.call_soon(self._write)
+
+    def flush(self) -> None:
+        """Hands over to the system what was sent in this turn."""
+        if self._out and not self._is_full:
+            self._write()
 
     def oldest(self) -> float | None:
         """When the oldest line without a reply was sent."""
@@ -70,28 +74,32 @@ class Link:
     def close(self) -> None:
         """Closes the connection and tells nobody."""
         if self._sock is not None:
-            self.user.loop.remove_reader(self._sock.fileno())
-            self.user.loop.remove_writer(self._sock.fileno())
+            self.user.selector.watch(self._sock.fileno(), None, None)
             self._sock.close()
             self._sock = None
+        self._is_full = False
+        self._out.clear()
         self.is_up = False
 
     def _connect(self) -> bool:
         """Connects. The first line is the front's own `status`, whose reply shows that the manager reads it."""
-        sock = socket.socket(socket.AF_UNIX, socket.SOCK_STREAM | socket.SOCK_NONBLOCK)
+        try:
+            sock = socket.socket(socket.AF_UNIX, socket.SOCK_STREAM | socket.SOCK_NONBLOCK)
+        except OSError:
+            return False  # no open file is free
         try:
             sock.connect(self.path)
         except OSError:
             sock.close()
             return False
         self._sock, self._reader = sock, ReplyReader()
-        self._out.clear()
         self._ended.clear()
-        self.user.loop.add_reader(sock.fileno(), self._readable)
-        self.send(Request(b"status", None, self.user.loop.time()))
+        self.user.selector.watch(sock.fileno(), self._readable, None)
+        self.send(OwnLine(b"status", monotonic()))
         return True
 
     def _readable(self) -> None:
+        assert self._sock is not None
         try:
             data = self._sock.recv(65536)
         except (BlockingIOError, InterruptedError):
@@ -113,7 +121,6 @@ class Link:
                 self.user.is_up()
 
     def _write(self) -> None:
-        self._will_write = False
         if self._sock is None:
             return
         try:
@@ -123,10 +130,9 @@ class Link:
         except OSError:
             # What it had answered before may still be there to be read, and its end shows behind it.
             self._out.clear()
-        if self._out:
-            self.user.loop.add_writer(self._sock.fileno(), self._write)
-        else:
-            self.user.loop.remove_writer(self._sock.fileno())
+        if self._is_full != bool(self._out):
+            self._is_full = bool(self._out)
+            self.user.selector.watch(self._sock.fileno(), self._readable, self._write if self._is_full else None)
 
     def _lose(self) -> None:
         was_up = self.is_up

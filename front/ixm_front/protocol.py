@@ -6,9 +6,15 @@ LINE_LIMIT = 512
 TOO_LONG = b"refused 10 line too long\n"
 NO_SUCH_WORD = b"refused 11 word\n"
 BAD_NUMBER = b"refused 13 number\n"
+LONG_LEASE = b"refused 14 lease\n"
 WRONG_WORDS = b"refused 15 words\n"
+NOT_PERMITTED = b"refused 21 not permitted\n"
 NO_SUCH_TICKET = b"refused 30 no such ticket\n"
+WATCHES_FULL = b"refused 40 watches full\n"
+NO_SUCH_WATCH = b"refused 41 no such watch\n"
+NOTHING_CHANGED = b"changes 0\n"
 YES = b"yes\n"
+NO = b"no\n"
 
 # The lines that may be sent a second time where the first one's reply was lost: they confirm nothing, give up nothing,
 # and end nothing.
@@ -17,14 +23,23 @@ REPEATABLE = frozenset((b"ask", b"may", b"watch", b"drop", b"poll", b"status", b
 # The requests that use up a ticket.
 SPENDING = frozenset((b"confirm", b"cancel"))
 
-# The requests that are told by their own name in the metrics.
-KNOWN = REPEATABLE | SPENDING | {b"stop", b"front"}
+# The lines of a client that is gone which are still handled: they give back, or tell that something has happened.
+KEPT = SPENDING | {b"drop"}
+
+# The requests of the manager, and with the front's own those that are told by their own name in the metrics.
+REQUESTS = REPEATABLE | SPENDING | {b"stop"}
+KNOWN = REQUESTS | {b"front"}
+
+# The requests that name an action, and their place for it.
+ACTION_AT = {b"ask": 1, b"may": 1, b"watch": 2, b"drop": 2}
 
 FAULT = b"refused 1"  # the codes 10 to 16, of a line that is no request
 BUSY = b"refused 20 "
 GRANTED = b"granted "
 CONFIRMED = b"confirmed "
 CANCELLED = b"cancelled "
+
+LONGEST = 86400000  # milliseconds of a lease and of a wait
 
 
 def word(text: bytes, place: int) -> bytes:
@@ -46,8 +61,12 @@ def busy_until(reply: bytes) -> int:
     return number(reply[:-1].rpartition(b" ")[2]) or 0
 
 
-def kind_of(reply: bytes) -> str:
+def busy(until: float) -> bytes:
+    """A reply 20 that names this moment, in seconds since 1970."""
+    return b"refused 20 busy until %d\n" % int(until * 1000)
+
+
+def kind_of(reply: bytes) -> bytes:
     """What a reply is called in the metrics: the code of a refusal, else its first word."""
-    if reply.startswith(b"refused "):
-        return word(reply, 1).decode("ascii", "replace")
-    return word(reply, 0).decode("ascii", "replace")
+    first, _, rest = reply.partition(b" ")
+    return rest.partition(b" ")[0] if first == b"refused" else first.rstrip(b"\n")

@@ -1,0 +1,7 @@
+"""The tests of the front, which find its modules beside them."""
+
+import os
+import sys
+
+sys.dont_write_bytecode = True
+sys.path.insert(0, os.path.join(os.path.dirname(os.path.abspath(__file__)), ".."))

@@ -1,17 +1,23 @@
 """Whether the replies of a manager's run are those of one run of the machine over the lines that it was sent: `ixm
 replay` over the same lines, compared byte for byte."""
 
+from __future__ import annotations
+
 import shutil
 import subprocess
+import unittest
 
 from .support import IXM
+from .tap import Pairs
 
 
-def moments_of(pairs):
+def moments_of(pairs: Pairs) -> list[int]:
     """A moment for each line at which its reply is the right one. A 20 names the deadline of the reservation, and so
     the moment of its ask; other moments only have to be in front of a deadline or not."""
     inferred = deadlines_told(pairs)
-    moment, deadline, moments = 0, None, []
+    moment = 0
+    deadline: int | None = None
+    moments: list[int] = []
     for place, (line, reply) in enumerate(pairs):
         words = line.split(b" ")
         if reply is None:
@@ -23,28 +29,29 @@ def moments_of(pairs):
             if not reply.startswith(b"refused 20 "):
                 moment, deadline = max(moment, deadline or 0), None
         elif reply == b"refused 31 expired\n":
-            moment = max(moment, deadline)
+            moment = max(moment, deadline or 0)
         elif reply.startswith((b"confirmed ", b"cancelled ")):
             deadline = None
         moments.append(moment)
     return moments
 
 
-def deadlines_told(pairs):
+def deadlines_told(pairs: Pairs) -> dict[int, int]:
     """The moment of each granted ask whose deadline a later 20 names."""
-    told, granted = {}, None
+    told: dict[int, int] = {}
+    granted: int | None = None
     for place, (line, reply) in enumerate(pairs):
         if reply is not None and reply.startswith(b"granted "):
             granted = place
-        elif reply is not None and reply.startswith(b"refused 20 "):
+        elif reply is not None and granted is not None and reply.startswith(b"refused 20 "):
             told[granted] = int(reply.split()[-1]) - int(pairs[granted][0].split(b" ")[2])
     return told
 
 
-def check_run(test, folder, journal, sessions):
+def check_run(test: unittest.TestCase, folder: str, journal: str, sessions: list[Pairs]) -> int:
     """Replays the sessions of one run of the manager, in their order, on the journal that it found."""
     pairs = [pair for session in sessions for pair in session]
-    answered = [pair for pair in pairs if pair[1] is not None]
+    answered = [reply for _, reply in pairs if reply is not None]
     moments = iter(moments_of(pairs))
     script = bytearray()
     for session in sessions:
@@ -63,7 +70,7 @@ def check_run(test, folder, journal, sessions):
     except FileNotFoundError:
         pass
     put = subprocess.run([IXM, "replay", "expression", copy, "script"], cwd=folder, stdout=subprocess.PIPE, check=True)
-    replies = b"".join(reply for _, reply in answered)
+    replies = b"".join(answered)
     wanted = b"".join(b"0 " + line + b"\n" for line in replies.split(b"\n")[:-1])
     got = put.stdout.partition(b"\n")[2]
     # What a manager that was killed had no time to reply may be missing at the end.

@@ -1,25 +1,31 @@
 """What the tests share: a manager and a front as processes, a client, and a place in which their files lie."""
 
+from __future__ import annotations
+
+import json
 import os
+import resource
 import shutil
 import signal
 import socket
 import subprocess
-import sys
 import tempfile
 import time
 import unittest
+from collections.abc import Callable, Mapping
+from typing import Any
 
-sys.dont_write_bytecode = True
 HERE = os.path.dirname(os.path.abspath(__file__))
-sys.path.insert(0, f"{HERE}/..")
 IXM = os.path.abspath(os.environ.get("IXM", f"{HERE}/../../ixm"))
 FRONT = f"{HERE}/../ixm-front"
+AUDIT = f"{HERE}/../audit"
 TIMEOUT = 60.0  # seconds behind which a wait has failed
 EXPRESSION = "*(any $v do($v))"
 
+Record = dict[str, Any]
 
-def wait_until(holds, what):
+
+def wait_until(holds: Callable[[], bool], what: str) -> None:
     """Waits until this holds."""
     end = time.monotonic() + TIMEOUT
     while not holds():
@@ -28,25 +34,54 @@ def wait_until(holds, what):
         time.sleep(0.005)
 
 
-def listens(path):
+def listens(path: str) -> bool:
     """Whether a process listens on a socket."""
     with socket.socket(socket.AF_UNIX) as sock:
         return sock.connect_ex(path) == 0
 
 
-def page(folder, name):
+def page(folder: str, name: str, method: str = "GET") -> str:
     """A page of the front's metrics or health, with the head of the reply."""
     with socket.socket(socket.AF_UNIX) as sock:
         sock.settimeout(TIMEOUT)
         sock.connect(f"{folder}/page")
-        sock.sendall(f"GET {name} HTTP/1.0\r\n\r\n".encode())
-        return sock.makefile().read()
+        sock.sendall(f"{method} {name} HTTP/1.0\r\n\r\n".encode())
+        try:
+            return sock.makefile().read()
+        except ConnectionError:
+            return ""  # turned away
 
 
-def connect(sock, path):
+def metric(folder: str, name: str) -> float | None:
+    """The value of a metric without labels or with these; None where it isn't told."""
+    for line in page(folder, "/metrics").split("\n"):
+        if line.startswith(f"{name} "):
+            return float(line.rpartition(" ")[2])
+    return None
+
+
+def read_records(path: str) -> list[Record]:
+    """The records of a log, torn lines left out."""
+    with open(path, encoding="ascii") as file:
+        return [json.loads(line) for line in file.read().split("\n")[:-1] if line.endswith("}")]
+
+
+def records(folder: str, holds: Callable[[list[Record]], bool]) -> list[Record]:
+    """The records of the log, as soon as this holds of them."""
+    found: list[Record] = []
+
+    def are_there() -> bool:
+        found[:] = read_records(f"{folder}/log")
+        return holds(found)
+
+    wait_until(are_there, "the records")
+    return found
+
+
+def connect(sock: socket.socket, path: str) -> None:
     """Connects within the socket's time limit. One with a limit is refused at once where the queue of connections is
     full, and tries again after a pause."""
-    end = time.monotonic() + sock.gettimeout()
+    end = time.monotonic() + (sock.gettimeout() or 0.0)
     while True:
         try:
             return sock.connect(path)
@@ -59,7 +94,7 @@ def connect(sock, path):
 class Client:
     """A connection that sends bytes and reads whole replies."""
 
-    def __init__(self, path, timeout=TIMEOUT):
+    def __init__(self, path: str, timeout: float = TIMEOUT) -> None:
         self.sock = socket.socket(socket.AF_UNIX)
         self.sock.settimeout(timeout)
         try:
@@ -69,16 +104,17 @@ class Client:
             raise
         self.file = self.sock.makefile("rb")
 
-    def __enter__(self):
+    def __enter__(self) -> Client:
         return self
 
-    def __exit__(self, *_):
+    def __exit__(self, *_: object) -> None:
         self.close()
 
-    def send(self, *lines):
+    def send(self, *lines: str) -> None:
+        """Sends lines."""
         self.sock.sendall(b"".join(line.encode() + b"\n" for line in lines))
 
-    def reply(self):
+    def reply(self) -> str | None:
         """One reply without its last line end, or None where the connection is closed in front of its end."""
         try:
             first = self.file.readline()
@@ -91,11 +127,27 @@ class Client:
             return None
         return b"".join(lines)[:-1].decode()
 
-    def request(self, line):
+    def request(self, line: str) -> str | None:
+        """Sends a line, and gives its reply."""
         self.send(line)
         return self.reply()
 
-    def close(self):
+    def told(self, line: str) -> str:
+        """The same, where a closed connection is an OSError."""
+        reply = self.request(line)
+        if reply is None:
+            raise ConnectionError(f"closed behind {line}")
+        return reply
+
+    def ticket(self, action: str, lease: int = 60000) -> str:
+        """The ticket under which an action is granted."""
+        reply = self.told(f"ask {action} {lease}")
+        if not reply.startswith("granted "):
+            raise AssertionError(f"{action} -> {reply}")
+        return reply.split()[1]
+
+    def close(self) -> None:
+        """Closes the connection."""
         self.file.close()
         self.sock.close()
 
@@ -103,13 +155,14 @@ class Client:
 class Manager:
     """`ixm serve` in a folder. `runs` holds for each start the journal as it was found."""
 
-    def __init__(self, folder):
+    def __init__(self, folder: str) -> None:
         self.folder = folder
         self.path = f"{folder}/manager"
-        self.process = None
-        self.runs = []
+        self.process: subprocess.Popen[bytes] | None = None
+        self.runs: list[str] = []
 
-    def start(self):
+    def start(self) -> Manager:
+        """Starts it, and waits until it listens."""
         if os.path.exists(self.path):
             os.remove(self.path)
         kept = f"{self.folder}/journal.{len(self.runs)}"
@@ -118,15 +171,29 @@ class Manager:
         self.runs.append(kept)
         words = [IXM, "serve", "expression", "journal", "manager"]
         self.process = subprocess.Popen(words, cwd=self.folder, stdout=subprocess.PIPE)
+        assert self.process.stdout is not None
         first = self.process.stdout.readline()
         if not first.startswith(b"history "):
-            raise AssertionError(f"the manager put {first}")
+            raise AssertionError(f"the manager put {first!r}")
         return self
 
-    def kill(self):
+    @property
+    def pid(self) -> int:
+        """Its process."""
+        assert self.process is not None
+        return self.process.pid
+
+    def wait(self) -> int:
+        """Its status, once it has ended."""
+        assert self.process is not None
+        return self.process.wait(TIMEOUT)
+
+    def kill(self) -> None:
+        """Ends it with -9."""
         if self.process is not None:
             self.process.kill()
             self.process.wait()
+            assert self.process.stdout is not None
             self.process.stdout.close()
             self.process = None
 
@@ -134,25 +201,47 @@ class Manager:
 class Front:
     """The front in a folder, with its log in the file `log`."""
 
-    def __init__(self, folder, manager, *options):
+    def __init__(self, folder: str, manager: str, *options: str) -> None:
         self.folder = folder
         self.path = f"{folder}/front"
         self.words = [FRONT, manager, self.path, "--log", f"{folder}/log", *options]
-        self.process = None
+        self.process: subprocess.Popen[bytes] | None = None
+        self.environment: Mapping[str, str] = os.environ
+        self.stderr: int | None = None
 
-    def start(self):
-        self.process = subprocess.Popen(self.words)
-        wait_until(lambda: listens(self.path) or self.process.poll() is not None, "the front listens")
-        if self.process.poll() is not None:
-            raise AssertionError(f"the front ended with {self.process.returncode}")
+    def start(self) -> Front:
+        """Starts it, and waits until it listens."""
+        self.process = subprocess.Popen(self.words, env=self.environment, stderr=self.stderr)
+        process = self.process
+        wait_until(lambda: listens(self.path) or process.poll() is not None, "the front listens")
+        if process.poll() is not None:
+            raise AssertionError(f"the front ended with {process.returncode}")
         return self
 
-    def memory(self):
+    @property
+    def pid(self) -> int:
+        """Its process."""
+        assert self.process is not None
+        return self.process.pid
+
+    def status(self) -> int | None:
+        """Its status where it has ended."""
+        assert self.process is not None
+        return self.process.poll()
+
+    def memory(self) -> int:
         """The most memory that it ever had, in bytes."""
-        with open(f"/proc/{self.process.pid}/status") as file:
+        with open(f"/proc/{self.pid}/status") as file:
             return next(int(line.split()[1]) * 1024 for line in file if line.startswith("VmHWM"))
 
-    def stop(self, number=signal.SIGTERM):
+    def allow(self, what: int, soft: int) -> int:
+        """Sets a limit of the running process, and gives the one before."""
+        before, hard = resource.prlimit(self.pid, what)
+        resource.prlimit(self.pid, what, (soft, hard))
+        return before
+
+    def stop(self, number: int = signal.SIGTERM) -> int | None:
+        """Ends it, and gives its status."""
         if self.process is not None:
             self.process.send_signal(number)
             status = self.process.wait(TIMEOUT)
@@ -166,24 +255,32 @@ class Place(unittest.TestCase):
 
     expression = EXPRESSION
 
-    def setUp(self):
+    def setUp(self) -> None:
         parent = "/dev/shm" if os.access("/dev/shm", os.W_OK) else None
         self.folder = tempfile.mkdtemp(prefix="front-", dir=parent)
-        self.addCleanup(shutil.rmtree, self.folder)
+        os.chmod(self.folder, 0o755)  # for clients of other users
+        self.addCleanup(shutil.rmtree, self.folder, ignore_errors=True)
         with open(f"{self.folder}/expression", "w") as file:
             file.write(self.expression)
 
-    def manager(self):
+    def manager(self) -> Manager:
+        """A manager that runs."""
         manager = Manager(self.folder)
         self.addCleanup(manager.kill)
         return manager.start()
 
-    def front(self, manager, *options):
+    def front(self, manager: str, *options: str) -> Front:
+        """A front that runs."""
         front = Front(self.folder, manager, *options)
         self.addCleanup(front.stop, signal.SIGKILL)
         return front.start()
 
-    def client(self, path):
+    def paged(self, manager: str, *options: str) -> Front:
+        """A front that runs, with a page."""
+        return self.front(manager, "--page", f"{self.folder}/page", *options)
+
+    def client(self, path: str) -> Client:
+        """A client that is closed at the end."""
         client = Client(path)
         self.addCleanup(client.close)
         return client

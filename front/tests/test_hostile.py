@@ -1,12 +1,18 @@
 """Clients that mean no good cost the others nothing: the front's memory is bounded, and others are answered."""
 
+from __future__ import annotations
+
 import multiprocessing
 import os
 import resource
 import socket
 import time
+from collections.abc import Callable
+from multiprocessing.synchronize import Event
 
-from .support import Client, Place, wait_until
+from .support import Client, Place, records
+
+Hostility = Callable[[str, Event], None]
 
 WITHIN = 0.1  # seconds in which others are answered, beside what they take without anybody hostile
 TRIES = 10
@@ -14,7 +20,7 @@ MEMORY = 40 << 20  # bytes by which the front may grow
 GIGABYTE = 1 << 30
 
 
-def open_files(wanted):
+def open_files(wanted: int) -> int:
     """Lets this process have so many open files, or as many as it may; gives how many."""
     _, hard = resource.getrlimit(resource.RLIMIT_NOFILE)
     allowed = wanted if hard == resource.RLIM_INFINITY else min(wanted, hard)
@@ -22,7 +28,7 @@ def open_files(wanted):
     return allowed
 
 
-def endless_line(path, ready):
+def endless_line(path: str, ready: Event) -> None:
     """Sends a gigabyte with no line end."""
     data = b"x" * (1 << 20)
     with socket.socket(socket.AF_UNIX) as sock:
@@ -37,7 +43,7 @@ def endless_line(path, ready):
             raise SystemExit("a gigabyte was answered otherwise")
 
 
-def connect_often(path, ready):
+def connect_often(path: str, ready: Event) -> None:
     """Opens ten thousand connections and keeps them."""
     count = min(10000, open_files(10100) - 100)
     kept = []
@@ -52,7 +58,7 @@ def connect_often(path, ready):
         sock.close()
 
 
-def read_slowly(path, ready):
+def read_slowly(path: str, ready: Event) -> None:
     """Asks for much and reads a byte at a time."""
     socks = [socket.socket(socket.AF_UNIX) for _ in range(5)]
     for sock in socks:
@@ -74,7 +80,7 @@ def read_slowly(path, ready):
         sock.close()
 
 
-def send_slowly(path, ready):
+def send_slowly(path: str, ready: Event) -> None:
     """Sends a byte at a time, and half lines, and lines of 513 bytes."""
     socks = [socket.socket(socket.AF_UNIX) for _ in range(50)]
     for sock in socks:
@@ -92,22 +98,22 @@ def send_slowly(path, ready):
 
 
 class Hostile(Place):
-    def setUp(self):
+    def setUp(self) -> None:
         super().setUp()
         self.through = self.front(self.manager().path, "--line-time", "30", "--read-time", "30")
 
-    def answered(self, holds):
+    def answered(self, holds: Callable[[], bool]) -> list[float]:
         """How long requests of another take as long as this holds, one each 5 milliseconds."""
         took = []
         with Client(self.through.path) as client:
             while holds():
                 start = time.monotonic()
-                self.assertTrue(client.request("status").startswith("status "))
+                self.assertTrue(client.told("status").startswith("status "))
                 took.append(time.monotonic() - start)
                 time.sleep(0.005)
         return took
 
-    def attack(self, hostile):
+    def attack(self, hostile: Hostility) -> None:
         """The front's memory is bounded, and others are answered soon enough. The machine may be busy with other things,
         so the times are measured up to ten times."""
         for _ in range(TRIES):
@@ -116,7 +122,7 @@ class Hostile(Place):
                 return
         self.fail(f"others were answered {late} seconds later than without it")
 
-    def slowest(self, hostile):
+    def slowest(self, hostile: Hostility) -> float:
         """How much later others were answered at worst than without the hostile process."""
         end = time.monotonic() + 0.5
         before = self.answered(lambda: time.monotonic() < end)
@@ -133,19 +139,19 @@ class Hostile(Place):
         self.assertLess(self.through.memory() - memory, MEMORY)
         return max(meanwhile) - max(before)
 
-    def test_a_gigabyte_with_no_line_end(self):
+    def test_a_gigabyte_with_no_line_end(self) -> None:
         self.attack(endless_line)
 
-    def test_ten_thousand_connections(self):
+    def test_ten_thousand_connections(self) -> None:
         self.attack(connect_often)
 
-    def test_replies_that_are_read_a_byte_at_a_time(self):
+    def test_replies_that_are_read_a_byte_at_a_time(self) -> None:
         self.attack(read_slowly)
 
-    def test_bytes_that_come_one_at_a_time_and_lines_too_long(self):
+    def test_bytes_that_come_one_at_a_time_and_lines_too_long(self) -> None:
         self.attack(send_slowly)
 
-    def test_replies_that_nobody_reads_end_the_connection(self):
+    def test_replies_that_nobody_reads_end_the_connection(self) -> None:
         self.through.stop()
         front = self.front(self.through.words[1], "--read-time", "0.5")
         with Client(front.path) as client:
@@ -158,6 +164,5 @@ class Hostile(Place):
                     time.sleep(0.001)
             # The system's buffers hold some hundred kilobytes.
             self.assertLess(taken, 1 << 20)
-            with open(f"{self.folder}/log") as log:
-                wait_until(lambda: '"unread replies"' in log.read(), "it is closed")
+            records(self.folder, lambda found: any(it.get("cause") == "unread replies" for it in found))
         self.assertTrue(os.path.exists(front.path))

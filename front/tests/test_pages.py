@@ -1,36 +1,36 @@
 """The log, the metrics and the health, how the front starts and ends, and its limits."""
 
-import json
+from __future__ import annotations
+
 import os
 import signal
 import subprocess
 import time
 
-from .support import Client, Place, listens, page, wait_until
+from .support import Client, Place, listens, page, records, wait_until
 
 
 class Pages(Place):
-    def test_who_did_what(self):
+    def test_who_did_what(self) -> None:
         front = self.front(self.manager().path)
         with Client(front.path) as client:
             client.request("may do(a)")
-            ticket = client.request("ask do(a) 1000").split()[1]
+            ticket = client.ticket("do(a)", 1000)
             client.request(f"confirm {ticket}")
             client.request("cancel 1-99")
             client.request("ask \u00e4 1")
-        with open(f"{self.folder}/log") as file:
-            lines = [json.loads(line) for line in file]
+        lines = records(self.folder, lambda found: sum("reply" in it for it in found) == 4)
         told = [(line["pid"], line["uid"], line["request"], line["reply"]) for line in lines if line.get("reply")]
         rows = (("ask do(a) 1000", f"granted {ticket}"), (f"confirm {ticket}", "confirmed 1"),
                 ("cancel 1-99", "refused 30 no such ticket"), ("ask \\xc3\\xa4 1", "refused 12 action"))
         self.assertEqual(told, [(os.getpid(), os.getuid(), *row) for row in rows])
         self.assertTrue(all(line["ms"] >= 0 and line["time"].endswith("Z") for line in lines if line.get("reply")))
 
-    def test_metrics_and_health(self):
+    def test_metrics_and_health(self) -> None:
         manager = self.manager()
         front = self.front(manager.path, "--page", f"{self.folder}/page", "--file", f"{self.folder}/file", "--every", "0.1")
         with Client(front.path) as client:
-            ticket = client.request("ask do(a) 1000").split()[1]
+            ticket = client.ticket("do(a)", 1000)
             client.request(f"confirm {ticket}")
             client.request("confirm 1-99")
             wait_until(lambda: "\nixm_history_length 1\n" in page(self.folder, "/metrics"), "the status is asked for")
@@ -48,7 +48,7 @@ class Pages(Place):
                 self.assertIn("ixm_front_up 1\n", file.read())
             self.assertIn("the manager answers\n", page(self.folder, "/health"))
             self.assertIn(" 404 ", page(self.folder, "/other"))
-            os.kill(manager.process.pid, signal.SIGSTOP)
+            os.kill(manager.pid, signal.SIGSTOP)
             try:
                 client.send("may do(b)")
                 # It is told without the manager, which answers nothing now.
@@ -56,16 +56,16 @@ class Pages(Place):
                 page(self.folder, "/health")
                 self.assertLess(time.monotonic() - start, 2)
             finally:
-                os.kill(manager.process.pid, signal.SIGCONT)
+                os.kill(manager.pid, signal.SIGCONT)
             self.assertEqual(client.reply(), "yes")
             manager.kill()
             wait_until(lambda: " 503 " in page(self.folder, "/health"), "the manager is gone")
 
-    def test_its_end_and_another_start(self):
+    def test_its_end_and_another_start(self) -> None:
         manager = self.manager()
         front = self.front(manager.path)
         with Client(front.path) as client:
-            ticket = client.request("ask do(a) 60000").split()[1]
+            ticket = client.ticket("do(a)")
             second = subprocess.run(front.words, stderr=subprocess.DEVNULL, timeout=60)
             self.assertEqual(second.returncode, 1)
             self.assertEqual(front.stop(), 0)
@@ -79,7 +79,7 @@ class Pages(Place):
             # A reservation outlives the front, since it belongs to whoever presents its ticket.
             self.assertEqual(client.request(f"confirm {ticket}"), "confirmed 1")
 
-    def test_stop_goes_through_where_it_is_allowed(self):
+    def test_stop_goes_through_where_it_is_allowed(self) -> None:
         manager = self.manager()
         front = self.front(manager.path)
         with Client(front.path) as client:
@@ -88,9 +88,9 @@ class Pages(Place):
         front.stop()
         with Client(self.front(manager.path, "--allow-stop").path) as client:
             self.assertEqual(client.request("stop"), "stopping")
-        self.assertEqual(manager.process.wait(), 0)
+        self.assertEqual(manager.wait(), 0)
 
-    def test_limits_of_clients_and_of_time(self):
+    def test_limits_of_clients_and_of_time(self) -> None:
         front = self.front(self.manager().path, "--clients", "5", "--each", "3", "--line-time", "0.5", "--idle-time", "3",
                            "--page", f"{self.folder}/page")
         wait_until(lambda: "clients 0\n" in page(self.folder, "/health"), "the first connection of this test is over")

@@ -1,0 +1,115 @@
+"""The loop of the front: asyncio's, with a selector that sends what a turn has gathered before it waits, and that itself
+calls whoever reads and writes lines, since that is most of what happens."""
+
+from __future__ import annotations
+
+import asyncio
+import select
+import selectors
+from collections.abc import Callable, Mapping
+from typing import Any
+
+READ, WRITE = selectors.EVENT_READ, selectors.EVENT_WRITE
+AT_ONCE = 256  # events that one turn takes; the others come in the next, in their order
+Keys = list[tuple[selectors.SelectorKey, int]]
+Call = Callable[[], None]
+
+
+def number_of(file: Any) -> int:
+    """The number of an open file, which may be given by itself."""
+    return file if isinstance(file, int) else int(file.fileno())
+
+
+def flags_of(events: int) -> int:
+    """What epoll calls these events."""
+    return (select.EPOLLIN if events & READ else 0) | (select.EPOLLOUT if events & WRITE else 0)
+
+
+class TurnSelector(selectors.BaseSelector):
+    """The system's epoll. `flush` is called before each wait, and may change what is waited for."""
+
+    def __init__(self) -> None:
+        self.flush: Call = lambda: None
+        self._epoll = select.epoll()
+        self._keys: dict[int, selectors.SelectorKey] = {}
+        self._calls: dict[int, tuple[Call | None, Call | None]] = {}
+
+    def watch(self, fd: int, read: Call | None, write: Call | None) -> None:
+        """Calls these from now on, where the file can be read and written; where both are None, it isn't looked at."""
+        flags = (select.EPOLLIN if read else 0) | (select.EPOLLOUT if write else 0)
+        if fd not in self._calls:
+            if flags:
+                self._epoll.register(fd, flags)
+        elif flags:
+            self._epoll.modify(fd, flags)
+        else:
+            del self._calls[fd]
+            self._epoll.unregister(fd)
+        if flags:
+            self._calls[fd] = read, write
+
+    def register(self, fileobj: Any, events: int, data: Any = None) -> selectors.SelectorKey:
+        """Waits for these events of a file from now on."""
+        fd = number_of(fileobj)
+        if fd in self._keys:
+            raise KeyError(f"{fileobj} is registered already")
+        self._epoll.register(fd, flags_of(events))
+        key = self._keys[fd] = selectors.SelectorKey(fileobj, fd, events, data)
+        return key
+
+    def unregister(self, fileobj: Any) -> selectors.SelectorKey:
+        """Waits for nothing of a file from now on."""
+        key = self._keys.pop(number_of(fileobj))
+        try:
+            self._epoll.unregister(key.fd)
+        except OSError:
+            pass  # it was closed before
+        return key
+
+    def modify(self, fileobj: Any, events: int, data: Any = None) -> selectors.SelectorKey:
+        """Waits for these events of a file in place of those before."""
+        fd = number_of(fileobj)
+        if self._keys[fd].events != events:
+            self._epoll.modify(fd, flags_of(events))
+        key = self._keys[fd] = selectors.SelectorKey(fileobj, fd, events, data)
+        return key
+
+    def select(self, timeout: float | None = None) -> Keys:
+        """Sends what there is to be sent, waits, calls those who watch, and gives what else has happened."""
+        self.flush()
+        found: Keys = []
+        for fd, flags in self._epoll.poll(timeout, AT_ONCE):
+            calls = self._calls.get(fd)
+            if calls is None:
+                key = self._keys.get(fd)
+                if key is not None:
+                    # An error or a hang-up is told to whoever waits for anything.
+                    events = (READ if flags & ~select.EPOLLOUT else 0) | (WRITE if flags & ~select.EPOLLIN else 0)
+                    found.append((key, events & key.events))
+                continue
+            read, write = calls
+            if write is not None and flags & ~select.EPOLLIN:
+                write()
+                read = self._calls.get(fd, (None, None))[0]
+            if read is not None and flags & ~select.EPOLLOUT:
+                read()
+        return found
+
+    def get_key(self, fileobj: Any) -> selectors.SelectorKey:
+        """What a file is waited for."""
+        return self._keys[number_of(fileobj)]
+
+    def get_map(self) -> Mapping[Any, selectors.SelectorKey]:
+        """All files that are waited for."""
+        return self._keys
+
+    def close(self) -> None:
+        """Waits for nothing any more."""
+        self._epoll.close()
+        self._keys.clear()
+
+
+def new_loop() -> tuple[asyncio.SelectorEventLoop, TurnSelector]:
+    """A loop and its selector."""
+    selector = TurnSelector()
+    return asyncio.SelectorEventLoop(selector), selector

@@ -1,0 +1,47 @@
+"""What systemd hands over, and is told: sockets, readiness, and that the loop still turns."""
+
+from __future__ import annotations
+
+import os
+import socket
+
+FIRST_HANDED = 3  # the number of the first open file that is handed over
+NAMES = ("front", "page", "tls")
+
+
+def handed_over() -> dict[str, list[socket.socket]]:
+    """The sockets that listen already, by what they are for. One whose name says nothing else is the front's."""
+    found: dict[str, list[socket.socket]] = {name: [] for name in NAMES}
+    count, process = os.environ.pop("LISTEN_FDS", "0"), os.environ.pop("LISTEN_PID", "")
+    names = os.environ.pop("LISTEN_FDNAMES", "").split(":")
+    if process != str(os.getpid()) or not count.isdigit():
+        return found
+    for place in range(int(count)):
+        sock = socket.socket(fileno=FIRST_HANDED + place)
+        sock.setblocking(False)
+        os.set_inheritable(sock.fileno(), False)
+        name = names[place] if place < len(names) else ""
+        found[name if name in NAMES else "front"].append(sock)
+    return found
+
+
+def watchdog_seconds() -> float | None:
+    """How often systemd has to be told that the loop turns: twice in its limit. None where it doesn't ask for it."""
+    micros = os.environ.get("WATCHDOG_USEC", "")
+    if not micros.isdigit() or int(micros) == 0 or os.environ.get("WATCHDOG_PID", str(os.getpid())) != str(os.getpid()):
+        return None
+    return int(micros) / 2e6
+
+
+def notify(*lines: str) -> None:
+    """Tells systemd these lines, where it listens."""
+    path = os.environ.get("NOTIFY_SOCKET", "")
+    if not path:
+        return
+    address = "\0" + path[1:] if path.startswith("@") else path
+    try:
+        with socket.socket(socket.AF_UNIX, socket.SOCK_DGRAM) as sock:
+            sock.setblocking(False)
+            sock.sendto("\n".join(lines).encode(), address)
+    except OSError:
+        pass
