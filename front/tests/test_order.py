@@ -2,10 +2,13 @@
 
 from __future__ import annotations
 
+import os
 import select
+import subprocess
+import sys
 import time
 
-from .support import Client, Place, page, wait_until
+from .support import HERE, Client, Place, page, wait_until
 
 
 class Order(Place):
@@ -68,6 +71,26 @@ class Order(Place):
             self.assertEqual(client.reply(), "confirmed 1")
             self.assertLess(time.monotonic() - start, 20)
             self.assertTrue((other.reply() or "").startswith("granted "))
+
+    def test_an_engine_on_the_module_keeps_its_place(self) -> None:
+        """Its ask waits longer than another reply may take, and is served before one that came later."""
+        front = self.paged(self.manager().path)
+        engine = f"""
+import sys
+sys.path.insert(0, {os.path.join(HERE, "../../examples/serve")!r})
+import manager
+manager.REPLY = 0.5
+print(manager.Engine({front.path!r}, "e").do("do(e)"))
+"""
+        with Client(front.path) as holder, Client(front.path) as later:
+            ticket = holder.ticket("do(a)")
+            process = subprocess.Popen([sys.executable, "-c", engine], stdout=subprocess.PIPE, text=True)
+            wait_until(lambda: "waiting 1\n" in page(self.folder, "/health"), "its ask waits")
+            later.send("ask do(b) 60000")
+            time.sleep(1.5)
+            holder.request(f"confirm {ticket}")
+            self.assertEqual(process.communicate(timeout=60)[0], "2\n")
+            self.assertTrue((later.reply() or "").startswith("granted "))
 
     def test_a_half_line_behind_a_long_wait_costs_nothing(self) -> None:
         front = self.front(self.manager().path, "--line-time", "1")

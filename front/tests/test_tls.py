@@ -11,7 +11,7 @@ import subprocess
 import time
 import unittest
 
-from .support import Client, Front, Manager, Place, records, wait_until
+from .support import Client, Front, Manager, Place, listens, records, wait_until
 from .test_monitoring import free_port
 
 AUTHORITY = """
@@ -170,6 +170,25 @@ class Tls(Place):
         shutil.copy(f"{self.folder}/foreign/lab.key", f"{self.at}/foreign.key")
         self.refused("foreign", "")
         self.assertTrue(self.of("lab").told("status").startswith("status "))
+
+    @unittest.skipUnless(shutil.which("stunnel"), "stunnel isn't installed")
+    def test_a_client_of_a_unix_socket_through_stunnel(self) -> None:
+        """As docs/engines.md shows it."""
+        with open(f"{self.folder}/stunnel.conf", "w") as file:
+            file.write(f"foreground = yes\npid =\n[ixm]\nclient = yes\naccept = {self.folder}/lab\n"
+                       f"connect = 127.0.0.1:{self.port}\ncert = {self.at}/lab.pem\nkey = {self.at}/lab.key\n"
+                       f"CAfile = {self.at}/ca.pem\nverifyChain = yes\n")
+        process = subprocess.Popen(["stunnel", f"{self.folder}/stunnel.conf"], stderr=subprocess.DEVNULL)
+        try:
+            wait_until(lambda: listens(f"{self.folder}/lab"), "stunnel listens")
+            with Client(f"{self.folder}/lab") as client:
+                ticket = client.ticket("do(a)")
+                self.assertEqual(client.request(f"confirm {ticket}"), "confirmed 1")
+        finally:
+            process.kill()
+            process.wait()
+        found = records(self.folder, lambda found: any(it.get("reply") == "confirmed 1" for it in found))
+        self.assertEqual({it["cert"] for it in found if "reply" in it}, {"lab.example"})
 
     def test_one_that_is_revoked_is_cut_off(self) -> None:
         lab, ward = self.of("lab"), self.of("ward")
