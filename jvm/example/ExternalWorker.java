@@ -30,7 +30,8 @@ final class ExternalWorker {
 
     private ExternalWorker(String url, String socket, String folder, long lock) {
         this.url = url;
-        this.engine = new Engine(List.of(UnixDomainSocketAddress.of(socket)), Engine.Settings.standard());
+        UnixDomainSocketAddress address = UnixDomainSocketAddress.of(socket);
+        this.engine = new Engine(List.of(address), Engine.Settings.standard());
         this.folder = Path.of(folder);
         this.lock = lock;
     }
@@ -40,7 +41,8 @@ final class ExternalWorker {
             System.err.println("ExternalWorker URL SOCKET FOLDER LOCK");
             System.exit(2);
         }
-        ExternalWorker worker = new ExternalWorker(words[0], words[1], words[2], Long.parseLong(words[3]));
+        long lock = Long.parseLong(words[3]);
+        ExternalWorker worker = new ExternalWorker(words[0], words[1], words[2], lock);
         while (true) {
             if (!worker.takeOne()) {
                 Thread.sleep(100);
@@ -51,10 +53,12 @@ final class ExternalWorker {
     /** Whether there was a task. */
     private boolean takeOne() throws IOException, InterruptedException {
         Map<String, Object> topic = Map.of("topicName", "ixm", "lockDuration", lock);
-        Map<String, Object> request = Map.of("workerId", "worker", "maxTasks", 1L, "topics", List.of(topic));
+        Map<String, Object> request =
+                Map.of("workerId", "worker", "maxTasks", 1L, "topics", List.of(topic));
         List<?> tasks = (List<?>) Json.read(post("fetchAndLock", Json.write(request)).body());
         for (Object task : tasks) {
-            work((String) Json.at(task, "id"), (String) Json.at(Json.at(Json.at(task, "variables"), "action"), "value"));
+            Object action = Json.at(Json.at(task, "variables"), "action");
+            work((String) Json.at(task, "id"), (String) Json.at(action, "value"));
         }
         return !tasks.isEmpty();
     }
@@ -72,7 +76,8 @@ final class ExternalWorker {
         }
     }
 
-    private HttpResponse<String> post(String call, String body) throws IOException, InterruptedException {
+    private HttpResponse<String> post(String call, String body)
+            throws IOException, InterruptedException {
         HttpRequest request = HttpRequest.newBuilder(URI.create(url + "/external-task/" + call))
                 .header("Content-Type", "application/json")
                 .POST(HttpRequest.BodyPublishers.ofString(body))

@@ -31,7 +31,10 @@ final class Json {
         if (value instanceof List<?> list) {
             return "[" + String.join(",", list.stream().map(Json::write).toList()) + "]";
         }
-        return value instanceof String word ? '"' + word.replace("\"", "\\\"") + '"' : String.valueOf(value);
+        if (value instanceof String word) {
+            return '"' + word.replace("\"", "\\\"") + '"';
+        }
+        return String.valueOf(value);
     }
 
     /** The member of an object. */

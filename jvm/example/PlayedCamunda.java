@@ -38,7 +38,8 @@ final class PlayedCamunda {
 
     public static void main(String[] actions) throws IOException {
         PlayedCamunda engine = new PlayedCamunda(actions);
-        HttpServer server = HttpServer.create(new InetSocketAddress(InetAddress.getLoopbackAddress(), 0), 0);
+        InetSocketAddress address = new InetSocketAddress(InetAddress.getLoopbackAddress(), 0);
+        HttpServer server = HttpServer.create(address, 0);
         server.createContext("/engine-rest/external-task/", engine::answer);
         server.start();
         System.out.println(server.getAddress().getPort());

@@ -8,6 +8,7 @@ import contextlib
 import fcntl
 import os
 import sqlite3
+import threading
 from collections.abc import Iterator
 from dataclasses import dataclass
 from typing import Literal, Protocol, get_args
@@ -62,15 +63,17 @@ class MemoryStore:
 
     def __init__(self, text: str | None = None) -> None:
         self.text = text
+        self.lock = threading.Lock()
 
     def load(self) -> str | None:
         return self.text
 
     def swap(self, old: str | None, new: str) -> bool:
-        if self.text != old:
-            return False
-        self.text = new
-        return True
+        with self.lock:
+            if self.text != old:
+                return False
+            self.text = new
+            return True
 
 
 class FileStore:

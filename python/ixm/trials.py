@@ -67,6 +67,22 @@ def folder(parent: str | None = None) -> Iterator[str]:
         shutil.rmtree(made)
 
 
+def make_certificate(folder: str) -> str | None:
+    """A file with a certificate of localhost that signs itself, and its key. None if openssl isn't
+    here."""
+    path = f"{folder}/certificate"
+    words = ["openssl", "req", "-x509", "-newkey", "ec", "-pkeyopt", "ec_paramgen_curve:prime256v1"]
+    words += ["-nodes", "-keyout", path, "-out", f"{path}.part", "-days", "2", "-subj", "/CN=localhost"]
+    words += ["-addext", "subjectAltName=DNS:localhost"]
+    try:
+        subprocess.run(words, check=True, capture_output=True)
+    except FileNotFoundError:
+        return None
+    with open(f"{path}.part") as made, open(path, "a") as file:
+        file.write(made.read())
+    return path
+
+
 class Manager:
     """`ixm serve` in a folder, with the files `expression`, `journal` and `socket` there.
 

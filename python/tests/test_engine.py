@@ -3,9 +3,9 @@ table, connection by connection, and it answers by the table."""
 
 import asyncio
 import contextlib
+import itertools
 import os
 import ssl
-import subprocess
 import tempfile
 import threading
 import time
@@ -13,10 +13,13 @@ import unittest
 from collections.abc import Callable
 from typing import Any, Protocol
 
+from ixm import trials
 from ixm.engine import (
     Address, AsyncEngine, Connection, Engine, FileStore, ForPeople, MemoryStore, NotKept, SqliteStore, Store, TooLate,
 )
-from ixm.played import CLOSE, SILENCE, UNHEARD, Faulty, Machine, Played, Rows
+from ixm.played import (
+    CLOSE, KILLED, KILLED_BEHIND, LOST as LOST_LINE, SILENCE, UNHEARD, Faulty, Machine, Played, Rows,
+)
 from ixm.store import Record, read_record
 
 Row = list[tuple[str, str]]
@@ -238,6 +241,14 @@ class TestEngine(Place):
         # A front is told how long there is.
         self.assertLessEqual(int(plays.heard[0][0].removeprefix("front wait ")), 300)
 
+    def test_a_manager_that_dies_at_each_line(self) -> None:
+        for place, fate in itertools.product(range(1, 8), (LOST_LINE, UNHEARD, KILLED, KILLED_BEHIND)):
+            machine, store = Machine(), MemoryStore()
+            plays = Faulty(machine, lambda number, line: fate if number == place else None)
+            with self.subTest((place, fate)), Played(self.path, plays):
+                self.assertEqual(self.engine(lease=50).activity(A, store=store, within=20), 1)
+                self.assertEqual(machine.actions, [A])
+
     def test_a_turn_isn_t_waited_for_beyond_the_caller_s_time(self) -> None:
         begun = time.monotonic()
         with Played(self.path, Rows([[("status", SILENCE)]])), Connection(self.path) as first:
@@ -276,11 +287,11 @@ class TestEngine(Place):
             self.play([[TURN]], lambda engine: engine.do("call(anna)\nstop"))
 
     def test_over_tls(self) -> None:
-        certificate = make_certificate(self.folder)
+        certificate = trials.make_certificate(self.folder)
         if certificate is None:
             self.skipTest("openssl isn't here")
         context = ssl.SSLContext(ssl.PROTOCOL_TLS_SERVER)
-        context.load_cert_chain(certificate, self.folder + "/key")
+        context.load_cert_chain(certificate)
         machine = Machine()
         with Played("127.0.0.1", Faulty(machine), is_far=True, tls=context) as played:
             address = ("localhost", played.port)
@@ -402,19 +413,6 @@ class TestStores(Place):
     def test_a_record_is_read_as_it_was_written(self) -> None:
         for record in (Record("open", "1-3", A), Record("never", "1-3", A), Record("done", "1-3", A, 2**64 - 1)):
             self.assertEqual(read_record(record.text()), record)
-
-
-def make_certificate(folder: str) -> str | None:
-    """A certificate of localhost that signs itself, with its key beside it, or None if openssl
-    isn't here."""
-    words = ["openssl", "req", "-x509", "-newkey", "ec", "-pkeyopt", "ec_paramgen_curve:prime256v1", "-nodes",
-             "-keyout", f"{folder}/key", "-out", f"{folder}/certificate", "-days", "2", "-subj", "/CN=localhost",
-             "-addext", "subjectAltName=DNS:localhost"]
-    try:
-        subprocess.run(words, check=True, capture_output=True)
-    except FileNotFoundError:
-        return None
-    return f"{folder}/certificate"
 
 
 if __name__ == "__main__":

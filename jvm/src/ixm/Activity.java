@@ -15,7 +15,7 @@ final class Activity {
     private final String action;
     private final int lease;
     private final Store store;
-    private Optional<String> text = Optional.empty(); // what the store held when it was last looked at
+    private Optional<String> text = Optional.empty(); // what the store held when it was last read
     private Kept kept = new Kept.Nothing(); // what that says
 
     Activity(String action, int lease, Store store) {
@@ -120,7 +120,8 @@ final class Activity {
 
     /** Keeps that the action is done, after a look into the log: a journal that was put back from a
      * backup may have granted the same ticket again, for another action. */
-    private void believe(Talk talk, String ticket, String number, boolean isOwn) throws IOException, NotDone {
+    private void believe(Talk talk, String ticket, String number, boolean isOwn)
+            throws IOException, NotDone {
         if (!isOwn) {
             String entry = talk.ask("log " + number);
             if (!entry.equals("entry " + number + " " + action)) {
@@ -129,8 +130,8 @@ final class Activity {
         }
         Kept done = new Kept.Done(ticket, new BigInteger(number), action);
         if (!keep(done) && !kept.equals(done)) {
-            throw new NotDone(NotDone.Kind.FOR_PEOPLE, action, "confirmed " + number + ", but the store says " + text,
-                    Optional.of(ticket), null);
+            String reason = "confirmed " + number + ", but the store says " + text;
+            throw new NotDone(NotDone.Kind.FOR_PEOPLE, action, reason, Optional.of(ticket), null);
         }
     }
 

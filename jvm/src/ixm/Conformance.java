@@ -19,7 +19,8 @@ final class Conformance {
             BigInteger number = engine.activity(words[1], new FileStore(Path.of(words[3])), within);
             System.out.println("done " + number);
         } catch (NotDone error) {
-            System.out.println(error.ticket().map(it -> "unsure " + it).orElse("not done: " + error.getMessage()));
+            String neither = "not done: " + error.getMessage();
+            System.out.println(error.ticket().map(it -> "unsure " + it).orElse(neither));
         }
     }
 }

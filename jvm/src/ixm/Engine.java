@@ -24,9 +24,11 @@ public final class Engine {
      * confirm; how long it waits for its turn; the milliseconds for which an ask may wait in the
      * line of a front; the longest pause between two tries; and what secures a connection to a
      * host. */
-    public record Settings(int lease, Duration turn, int frontWait, Duration pause, Optional<SSLContext> tls) {
+    public record Settings(
+            int lease, Duration turn, int frontWait, Duration pause, Optional<SSLContext> tls) {
         public static Settings standard() {
-            return new Settings(5000, Duration.ofSeconds(60), 8000, Duration.ofSeconds(2), Optional.empty());
+            Duration turn = Duration.ofSeconds(60);
+            return new Settings(5000, turn, 8000, Duration.ofSeconds(2), Optional.empty());
         }
 
         public Settings withLease(int millis) {
@@ -53,7 +55,8 @@ public final class Engine {
      * if that was killed or interrupted: if the action is done already, its number is given again.
      * It is confirmed as soon as it is granted, so it has to be an instant: a beginning, an end, a
      * decision. After the time, no further try is made. */
-    public BigInteger activity(String action, Store store, Duration within) throws NotDone, InterruptedException {
+    public BigInteger activity(String action, Store store, Duration within)
+            throws NotDone, InterruptedException {
         Activity activity = new Activity(action, settings.lease(), store);
         long end = System.nanoTime() + within.toNanos();
         Duration pause = FIRST_PAUSE;

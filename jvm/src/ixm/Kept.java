@@ -37,7 +37,9 @@ sealed interface Kept {
             return Optional.of(new Nothing());
         }
         String[] words = line.get().split(" ", -1);
-        boolean isOfIt = words.length > 2 && Reply.isTicket(words[1]) && words[words.length - 1].equals(action);
+        boolean isOfIt = words.length > 2
+                && Reply.isTicket(words[1])
+                && words[words.length - 1].equals(action);
         if (isOfIt && words.length == 3 && words[0].equals("open")) {
             return Optional.of(new Open(words[1], action));
         }

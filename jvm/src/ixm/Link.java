@@ -40,8 +40,12 @@ final class Link implements Closeable {
     }
 
     /** Connects to a Unix socket, or to a host and a port, over TLS if there is a context. */
-    static Link open(SocketAddress address, Optional<SSLContext> tls, Duration limit) throws IOException {
-        return new Link(address instanceof InetSocketAddress far ? new Far(far, tls, limit) : new Near(address));
+    static Link open(SocketAddress address, Optional<SSLContext> tls, Duration limit)
+            throws IOException {
+        if (address instanceof InetSocketAddress far) {
+            return new Link(new Far(far, tls, limit));
+        }
+        return new Link(new Near(address));
     }
 
     @Override
@@ -141,10 +145,12 @@ final class Link implements Closeable {
     private static final class Far implements Wire {
         private final Socket socket;
 
-        Far(InetSocketAddress address, Optional<SSLContext> tls, Duration limit) throws IOException {
+        Far(InetSocketAddress address, Optional<SSLContext> tls, Duration limit)
+                throws IOException {
             Socket plain = new Socket();
             try {
-                plain.connect(new InetSocketAddress(address.getHostString(), address.getPort()), millis(limit));
+                String host = address.getHostString();
+                plain.connect(new InetSocketAddress(host, address.getPort()), millis(limit));
                 plain.setTcpNoDelay(true);
                 plain.setSoTimeout(millis(limit));
                 socket = tls.isPresent() ? secured(plain, address, tls.get()) : plain;
@@ -154,7 +160,8 @@ final class Link implements Closeable {
             }
         }
 
-        private static Socket secured(Socket plain, InetSocketAddress address, SSLContext tls) throws IOException {
+        private static Socket secured(Socket plain, InetSocketAddress address, SSLContext tls)
+                throws IOException {
             SSLSocket socket = (SSLSocket) tls.getSocketFactory()
                     .createSocket(plain, address.getHostString(), address.getPort(), true);
             SSLParameters parameters = socket.getSSLParameters();

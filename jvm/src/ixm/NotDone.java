@@ -20,9 +20,13 @@ public final class NotDone extends Exception {
     private final String ticket;
 
     NotDone(Kind kind, String action, String reason, Optional<String> ticket, Throwable cause) {
-        super(action + ": " + reason + ticket.map(it -> ", and it may have happened by " + it).orElse(""), cause);
+        super(action + ": " + reason + tail(ticket), cause);
         this.kind = kind;
         this.ticket = ticket.orElse(null);
+    }
+
+    private static String tail(Optional<String> ticket) {
+        return ticket.map(it -> ", and it may have happened by " + it).orElse("");
     }
 
     public Kind kind() {
