@@ -15,10 +15,12 @@ from typing import Any, Protocol
 
 from ixm import trials
 from ixm.engine import (
-    Address, AsyncEngine, Connection, Engine, FileStore, ForPeople, MemoryStore, NotKept, SqliteStore, Store, TooLate,
+    Address, AsyncConnection, AsyncEngine, Connection, Engine, FileStore, ForPeople, MemoryStore,
+    NotKept, SqliteStore, Store, TooLate,
 )
 from ixm.played import (
-    CLOSE, KILLED, KILLED_BEHIND, LOST as LOST_LINE, SILENCE, UNHEARD, Faulty, Machine, Played, Rows,
+    CLOSE, KILLED, KILLED_BEHIND, LOST as LOST_LINE, SILENCE, UNHEARD, Fate, Faulty, Machine, Played,
+    Rows,
 )
 from ixm.store import Record, read_record
 
@@ -357,6 +359,26 @@ class TestBlocking(Place):
         first, second = core.take_name(), core.take_name()
         core.give_name(first)
         self.assertEqual((first, second, core.take_name()), ("e_1", "e_2", "e_1"))
+
+    def test_a_late_reply_is_never_taken_for_another_one(self) -> None:
+        async def twice() -> None:
+            connection = await AsyncConnection.open(self.path)
+            with self.assertRaises(OSError):
+                await connection.request("status", 0.05)
+            await asyncio.sleep(0.3)
+            with self.assertRaises(OSError):
+                await connection.request("log 1", 1.0)
+            await connection.close()
+
+        late = Fate(waits=0.2)
+        with Played(self.path, Faulty(Machine(), lambda number, line: late if line == "status" else None)):
+            with Connection(self.path, 0.05) as connection:
+                with self.assertRaises(OSError):
+                    connection.request("status")
+                time.sleep(0.3)
+                with self.assertRaises(OSError):
+                    connection.request("log 1")
+            asyncio.run(twice())
 
     def test_many_threads(self) -> None:
         machine, numbers = Machine(), list[int]()
