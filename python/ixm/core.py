@@ -127,6 +127,8 @@ class Core:
         self.driver, self.name, self.tls, self.lease = driver, name, tls, lease
         self.limit, self.front_wait, self.longest_pause = turn, wait, pause
         self.sockets = list(sockets) if isinstance(sockets, list) else [sockets]
+        if not self.sockets:
+            raise ValueError("an engine has at least one socket")
         self.first = 0  # the place of the socket that is tried first
         self.tell: Tell = tell or (lambda line, reply: None)
         self.waiting: set[str] = set()
@@ -140,9 +142,11 @@ class Core:
         kept = None if ticket is None else Record("open", ticket, action).text()
         return await self.activity(action, MemoryStore(kept), within)
 
-    async def request(self, line: str) -> list[str]:
-        async with self._connected(self.limit) as link:
-            return await Talk(link, self.tell, 0.0).request(line, self.limit)
+    async def request(self, line: str, limit: float | None = None) -> list[str]:
+        """One request on a connection of its own, which is waited for so many seconds, or a turn."""
+        limit = self.limit if limit is None else limit
+        async with self._connected(limit) as link:
+            return await Talk(link, self.tell, 0.0).request(line, limit)
 
     async def length(self) -> int:
         return int((await self.request("status"))[0].split()[2])
@@ -197,16 +201,16 @@ class Core:
                 try:
                     if await self._is_told(name, action, pause):
                         return
-                except OSError:  # the watch may be gone, and what a poll told without its reply is lost
+                except OSError:  # the watch may be gone, and what a poll told is lost with its reply
                     await pause.wait()
         finally:
             with contextlib.suppress(OSError):
-                await self.request(f"drop {name} {action}")
+                await self.request(f"drop {name} {action}", min(self.limit, REPLY))
             self.give_name(name)
 
     async def _is_told(self, name: str, action: str, pause: Pause) -> bool:
         """Whether a watch, or one of some polls behind it, tells that the action is allowed."""
-        reply = await self.request(f"watch {name} {action}")
+        reply = await self.request(f"watch {name} {action}", pause.within(self.limit))
         if reply[0] == "refused 40 watches full":  # ask again now and then
             await pause.wait()
             return True
@@ -218,7 +222,7 @@ class Core:
             if pause.is_over():
                 break
             await pause.wait()
-            reply = await self.request(f"poll {name}")
+            reply = await self.request(f"poll {name}", pause.within(self.limit))
             if not reply[0].startswith("changes "):
                 raise ForPeople(action, reply[0])
             if f"yes {action}" in reply:

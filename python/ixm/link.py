@@ -22,6 +22,9 @@ T = TypeVar("T")
 Address = str | os.PathLike[str] | tuple[str, int]
 
 
+GOODBYE = 1.0  # seconds in which the other side of a TLS connection may say that it has heard the end
+
+
 class Requests(Protocol):
     """Whatever sends a request and gives the lines of its reply; OSError says that the reply is
     lost."""
@@ -151,7 +154,7 @@ class AsyncConnection:
     async def close(self) -> None:
         self.writer.close()
         with contextlib.suppress(OSError):
-            await self.writer.wait_closed()
+            await _within(GOODBYE, self.writer.wait_closed())
 
     async def request(self, line: str, limit: float | None = None) -> list[str]:
         """As `Connection.request`; the whole reply has to come within `limit` seconds."""

@@ -76,7 +76,7 @@ class TestEngine(Place):
     make: Callable[..., Engines] = Engine
 
     def engine(self, sockets: Address | list[Address] | None = None, **options: Any) -> Engines:
-        return type(self).make(sockets or self.path, "e", **{"pause": 0.01, "turn": 5.0, **options})
+        return type(self).make(self.path if sockets is None else sockets, "e", **{"pause": 0.01, "turn": 5.0, **options})
 
     def play(self, rows: list[Row], run: Callable[[Engines], Any], **options: Any) -> Any:
         """What `run` gives over an engine whose manager is played by the rows, all of which have to
@@ -258,6 +258,17 @@ class TestEngine(Place):
             with self.assertRaises(TooLate):
                 self.engine(turn=60.0).do(A, within=0.3)
         self.assertLess(time.monotonic() - begun, 10)
+
+    def test_a_rule_is_waited_for_no_longer_than_the_caller_says(self) -> None:
+        machine = Machine(permits=lambda history, action: False)
+        with Played(self.path, Faulty(machine)), self.assertRaises(TooLate) as raised:
+            self.engine().do(A, within=0.3)
+        self.assertIsNone(raised.exception.ticket)
+        self.assertEqual(machine.watched, {}, "its watch is dropped")
+
+    def test_an_engine_has_a_socket(self) -> None:
+        with self.assertRaises(ValueError):
+            self.engine([])
 
     def test_a_manager_that_comes_later(self) -> None:
         with Played(self.path + "2", Rows([DONE])):

@@ -12,8 +12,8 @@ import java.nio.file.StandardCopyOption;
 import java.nio.file.StandardOpenOption;
 import java.util.Optional;
 
-/** A store in a file of its own, which is replaced as a whole and brought to the disk. Its folder
- * is there before. */
+/** A store in a file of its own, which is replaced as a whole and brought to the disk. Its folder is
+ * there before. Beside the file are its name with {@code .lock} and, for a moment, with {@code .new}. */
 public final class FileStore implements Store {
     // A lock on a file keeps other processes out, and not other threads.
     private static final Object THREADS = new Object();

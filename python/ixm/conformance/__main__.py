@@ -27,7 +27,7 @@ def main() -> int:
     parser = argparse.ArgumentParser(prog="python -m ixm.conformance", usage=usage)
     parser.add_argument("--keeps-nothing", action="store_true")
     parser.add_argument("--kills", type=int, default=0, metavar="N")
-    parser.add_argument("--seconds", type=int, default=3, metavar="N")
+    parser.add_argument("--seconds", type=int, default=5, metavar="N")
     parser.add_argument("--seed", type=int, default=1, metavar="N")
     parser.add_argument("command", nargs=argparse.REMAINDER)
     words = parser.parse_args()
