@@ -3,7 +3,7 @@ ghost use Rattle.std.specs.Prelude.{◌≡◌, ◌≤◌};
 ghost use Rattle.ix_real.specs.inside.Untold.{one_more};
 
 /// Counts one failure more, up to 2^64 - 1.
-pub(crate) fn count_fault(faults: &mut u64)
+pub fn count_fault(faults: &mut u64)
     ensures value { faults.new ≡ one_more faults.old }
     ensures no_fewer { faults.old ≤ faults.new }
 {

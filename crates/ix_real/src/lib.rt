@@ -7,6 +7,8 @@
 //! Nothing is written to standard error.
 #![tactic(auto)]
 
+mod clock;
+mod disk;
 mod faults;
 mod files;
 mod journal;
@@ -14,6 +16,9 @@ mod sink;
 mod site;
 mod wire;
 
+pub use clock::moment;
+pub use disk::Disk;
+pub use faults::count_fault;
 pub use files::RealFiles;
 pub use sink::RealSink;
 pub use site::RealSite;

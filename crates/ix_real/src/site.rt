@@ -1,7 +1,5 @@
 //! A Unix socket, and one file.
-ghost use Rattle.std.specs.Prelude.{◌≡◌, ◌≤◌, ◌<◌, ◌/◌, ◌^◌, ◌-◌, min, true, false, length};
-ghost use Rattle.std.specs.Prelude.{IfOk, OnErr, refl};
-ghost use Rattle.std.specs.Duration.{as_nanos};
+ghost use Rattle.std.specs.Prelude.{◌≡◌, ◌≤◌, ◌<◌, false, length, IfOk, OnErr, refl};
 ghost use Rattle.ix_outside.specs.Contents.{Gives};
 ghost use Rattle.ix_outside.specs.Counts.{Rose};
 ghost use Rattle.ix_outside.specs.Crashes.{LeavesTheSame, OneCall, nothing_left, stretch_of};
@@ -9,52 +7,46 @@ ghost use Rattle.ix_outside.specs.Event.{FitsBuffer};
 ghost use Rattle.ix_outside.specs.SiteState.{OnlyWire};
 ghost use Rattle.ix_outside.specs.lemmas.Untold.{untold_is_lawful};
 ghost use Rattle.ix_real.specs.inside.Piece.{IsServed};
-ghost use Rattle.ix_real.specs.inside.Untold.{untold_site, with_disk_fault, with_wire_fault};
-ghost use Rattle.ix_real.specs.inside.Untold.{with_send_fault};
+ghost use Rattle.ix_real.specs.inside.Untold.{untold_site, with_wire_fault, with_send_fault};
 
+use crate::clock::moment;
+use crate::disk::Disk;
 use crate::faults::count_fault;
-use crate::{journal, wire};
+use crate::wire;
 use ix_outside::{DiskFailed, Event, EventKind, Gone, Site, WireFailed};
 use std::fs::File;
 use std::io::Write;
 use std::marker::Model;
 use std::net::Net;
-use std::os::unix::fs::FileExt;
 use std::os::unix::net::{UnixListener, UnixStream};
+use std::rt;
 use std::rt::Clock;
-use std::time::Duration;
-use std::{io, rt};
 
 /// A Unix socket that takes one connection after the other, and one file that no other process
-/// writes meanwhile.
+/// writes meanwhile (`Disk`).
 ///
 /// Every connection is connection 0. The next one is taken once the one before was closed, by its
 /// peer or since a read of it failed; until then others wait. `next` and `send` wait for the peer,
 /// however long it takes. A peer that is gone doesn't end the program: a send to it answers Gone.
-///
-/// The file is locked while it is attached, so that a second manager can't attach it. A read or a
-/// write that was interrupted, or that did a part, goes on.
 #[derive(Drop)]
 pub struct RealSite<'a, R> {
     rt: &'a R,
     listener: Option<UnixListener>,
     stream: Option<UnixStream>,
-    file: Option<File>,
-    disk: u64,
+    disk: Disk<'a, R>,
     wire: u64,
     send: u64,
 }
 
 /// Contracts see the counts, and whether a file is attached.
 impl<'a, R> Model for RealSite<'a, R> {
-    ghost use Rattle.std.specs.Prelude.{is_some};
     ghost use Rattle.ix_real.specs.inside.Untold.{RealSiteState};
 
     ghost Value = { RealSiteState };
 
     ghost view = { λ site. record {
-      counts = record { disk = site.disk; wire = site.wire; send = site.send };
-      attached = is_some site.file;
+      counts = record { disk = site.disk.faults; wire = site.wire; send = site.send };
+      attached = site.disk.attached;
     } };
 }
 
@@ -68,20 +60,9 @@ impl<'a, R> RealSite<'a, R> {
             rt,
             listener: None,
             stream: None,
-            file: None,
-            disk: 0,
+            disk: Disk::new(rt),
             wire: 0,
             send: 0,
-        }
-    }
-
-    // The file that is attached.
-    fn file(&self) -> &File
-        requires { self.now.attached ≡ true }
-    {
-        match &self.file {
-            Some(file) => file,
-            None => unreachable!(),
         }
     }
 
@@ -94,15 +75,6 @@ impl<'a, R> RealSite<'a, R> {
             None => wire::accept(self.listener.as_ref()?).ok(),
             open => open,
         }
-    }
-
-    // A call of the disk failed.
-    fn disk_fault(&mut self) -> DiskFailed
-        ensures fault { self.new ≡ with_disk_fault self.old }
-        ensures no_fewer { self.old.counts.disk ≤ self.new.counts.disk }
-    {
-        count_fault(&mut self.disk);
-        DiskFailed
     }
 
     // A call of `listen` or `next` failed.
@@ -121,18 +93,6 @@ impl<'a, R> RealSite<'a, R> {
     {
         count_fault(&mut self.send);
         Gone
-    }
-}
-
-/// The moment that a clock told: milliseconds since 1970, and 0 where the clock can't be read or
-/// stands before that: no moment that a manager knows goes back by it.
-fn moment(told: io::Result<Duration>) -> u64
-    ensures told { IfOk told (λ time. result ≡ min (as_nanos time / 1_000_000) (2 ^ 64 - 1)) }
-    ensures untold { OnErr told (result ≡ 0) }
-{
-    match told {
-        Ok(time) => u64::try_from(time.as_millis()).unwrap_or(u64::MAX),
-        Err(_) => 0,
     }
 }
 
@@ -193,48 +153,27 @@ impl<R: rt::Files<File = File> + Net + Clock> Site for RealSite<'_, R> {
 
     /// Fails also where another process has attached the file, which stays as it is.
     fn attach(&mut self, name: &str) -> Result<(), DiskFailed> {
-        match journal::open(self.rt, name) {
-            Ok(file) => {
-                self.file = Some(file);
-                Ok(())
-            }
-            Err(_) => Err(self.disk_fault()),
-        }
+        self.disk.attach(name)
     }
 
     fn length(&mut self) -> Result<u64, DiskFailed> {
-        match self.file().metadata() {
-            Ok(metadata) => Ok(metadata.len()),
-            Err(_) => Err(self.disk_fault()),
-        }
+        self.disk.length()
     }
 
     fn read_at(&mut self, at: u64, buf: &mut [u8]) -> Result<usize, DiskFailed> {
-        match journal::fill_at(self.file(), at, buf) {
-            Ok(count) => Ok(count),
-            Err(_) => Err(self.disk_fault()),
-        }
+        self.disk.read_at(at, buf)
     }
 
     fn write_at(&mut self, at: u64, bytes: &[u8]) -> Result<(), DiskFailed> {
-        match self.file().write_all_at(bytes, at) {
-            Ok(()) => Ok(()),
-            Err(_) => Err(self.disk_fault()),
-        }
+        self.disk.write_at(at, bytes)
     }
 
     fn cut(&mut self, length: u64) -> Result<(), DiskFailed> {
-        match self.file().set_len(length) {
-            Ok(()) => Ok(()),
-            Err(_) => Err(self.disk_fault()),
-        }
+        self.disk.cut(length)
     }
 
     fn sync(&mut self) -> Result<(), DiskFailed> {
-        match self.file().sync_data() {
-            Ok(()) => Ok(()),
-            Err(_) => Err(self.disk_fault()),
-        }
+        self.disk.sync()
     }
 }
 

@@ -35,9 +35,14 @@ untold_site site = record {
 abbrev pub one_more : ℕ → ℕ
 one_more count = min (count + 1) (2 ^ 64 - 1)
 
--- with one more failed call of the disk
-abbrev pub with_disk_fault : RealSiteState → RealSiteState
-with_disk_fault site = record site { counts = record site.counts { disk = one_more site.counts.disk } }
+-- the count of a disk, and whether a file is attached
+pub record DiskState : Type 0 where
+  pub faults : ℕ
+  pub attached : Bool
+
+-- with one more failed call
+abbrev pub with_fault : DiskState → DiskState
+with_fault disk = record disk { faults = one_more disk.faults }
 
 -- with one more failed call of the wire
 abbrev pub with_wire_fault : RealSiteState → RealSiteState

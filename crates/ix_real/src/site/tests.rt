@@ -85,7 +85,7 @@ fn one_client_comes_after_the_other(rt: HostRuntime) -> Result<(), Fail> {
         assert_eq!(rt; next_kind(&mut site, &mut buf), Some(EventKind::Closed));
         assert!(rt; site.send(0, b"no\n").is_err());
     }
-    assert_eq!(rt; (site.disk, site.wire, site.send), (0, 2, 4));
+    assert_eq!(rt; (site.disk.faults, site.wire, site.send), (0, 2, 4));
     fs::remove_dir_all(&rt, &folder)?;
     Ok(())
 }
@@ -108,7 +108,7 @@ fn a_file_keeps_what_is_written_and_is_attached_once(rt: HostRuntime) -> Result<
     assert!(rt; site.read_at(5, &mut buf) == Ok(0));
     let mut second = RealSite::new(&rt);
     assert!(rt; second.attach(&journal).is_err());
-    assert_eq!(rt; (second.disk, second.wire, second.send), (1, 0, 0));
+    assert_eq!(rt; (second.disk.faults, second.wire, second.send), (1, 0, 0));
     assert!(rt; fs::read_to_string(&rt, &journal)?.as_str() == "abcde");
     drop(site);
     assert!(rt; second.attach(&journal).is_ok());
