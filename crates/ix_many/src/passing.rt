@@ -1,0 +1,87 @@
+//! The calls of a stream that doesn't wait.
+ghost use Rattle.std.specs.Prelude.{◌≤◌, [], length, take, IfSome, IfNone, IfOk, OnErr};
+ghost use Rattle.std.specs.Io.KnownBytes.{Appends, Consumes};
+ghost use Rattle.ix_outside.specs.Contents.{piece_of};
+ghost use Rattle.ix_many.specs.inside.Passing.{AppendsFront, IsPiece};
+
+use ix_outside::EventKind;
+use std::io;
+use std::io::{ErrorKind, Read, Write};
+
+/// What comes next: bytes, which stand at the front of `buf`, or the end. A read that fails is the
+/// end too. None where nothing is there yet. No byte is lost.
+pub(crate) fn receive<S: Read>(stream: &mut S, buf: &mut [u8]) -> Option<EventKind>
+    ensures piece { IfSome result (IsPiece (length buf.old)) }
+    ensures bytes { IfSome result (λ kind. Consumes (S.remaining stream.old) (S.remaining stream.new)
+        (piece_of kind buf.new)) }
+    ensures none { IfNone result (Consumes (S.remaining stream.old) (S.remaining stream.new) []) }
+{
+    for _ in 0..u64::MAX {
+        match stream.read(buf) {
+            Ok(0) => return Some(EventKind::Closed),
+            Ok(count) => return Some(EventKind::Bytes(count)),
+            Err(error) if error.kind() == ErrorKind::Interrupted => {}
+            Err(error) if error.kind() == ErrorKind::WouldBlock => return None,
+            Err(_) => return Some(EventKind::Closed),
+        }
+    }
+    Some(EventKind::Closed)
+}
+
+/// Writes as many of the bytes as go out without waiting, and gives their number.
+pub(crate) fn put<W: Write>(stream: &mut W, bytes: &[u8]) -> io::Result<usize>
+    ensures bound { IfOk result (λ count. count ≤ length bytes.now) }
+    ensures bytes { IfOk result (λ count.
+        Appends (W.contents stream.old) (W.contents stream.new) (take count bytes.now)) }
+    ensures part { OnErr result (AppendsFront (W.contents stream.old) bytes.now (W.contents stream.new)) }
+{
+    let mut count = 0;
+    for _ in 0..u64::MAX {
+        if count == bytes.len() {
+            break;
+        }
+        match stream.write(&bytes[count..]) {
+            Ok(0) => break,
+            Ok(more) => count += more,
+            Err(error) if error.kind() == ErrorKind::Interrupted => {}
+            Err(error) if error.kind() == ErrorKind::WouldBlock => break,
+            Err(error) => return Err(error),
+        }
+    }
+    Ok(count)
+}
+
+#[cfg(test)]
+mod tests {
+    use super::*;
+
+    /// Fails once in this way, and then gives a byte at each read.
+    #[derive(Drop)]
+    struct Faulty(Option<ErrorKind>);
+
+    impl Read for Faulty {
+        fn read(&mut self, buf: &mut [u8]) -> io::Result<usize> {
+            match self.0.take() {
+                Some(kind) => Err(io::Error::from(kind)),
+                None if buf.is_empty() => Ok(0),
+                None => {
+                    buf[0] = b'x';
+                    Ok(1)
+                }
+            }
+        }
+    }
+
+    #[test]
+    fn what_a_failed_read_gives(rt: HostRuntime) {
+        let cases = [
+            (ErrorKind::Interrupted, Some(EventKind::Bytes(1))),
+            (ErrorKind::WouldBlock, None),
+            (ErrorKind::ConnectionReset, Some(EventKind::Closed)),
+        ];
+        for (kind, came) in cases {
+            let mut buf = [0; 4];
+            assert_eq!(rt; receive(&mut Faulty(Some(kind)), &mut buf), came);
+        }
+    }
+}
