@@ -1,6 +1,7 @@
 -- `apart`: a `&` of which one side has an atom whose name and number of arguments no atom of the other
 -- has.
-use Rattle.std.specs.Prelude.{Bool, false, List, [], ◌∷◌, ◌++◌, length, Option, Some, None, if◌then◌else◌}
+use Rattle.std.specs.Prelude.{Bool, false, List, [], ◌∷◌, ◌++◌, length, Option, Some, None}
+use Rattle.std.specs.Prelude.{if◌then◌else◌}
 use Rattle.std.specs.List.{list_any, flat_map}
 use Rattle.ix_expr.specs.Form.{PlainAtom, Form, atom, and}
 use Rattle.ix_lint.specs.declared.finding.FindingKind.{FindingKind}

@@ -1,5 +1,6 @@
 -- `owners`: an `all` under which two values can own one action.
-use Rattle.std.specs.Prelude.{ℕ, ◌+◌, Bool, ◌&&◌, ◌==◌, List, [], ◌∷◌, map, length, Option, Some, None, if◌then◌else◌}
+use Rattle.std.specs.Prelude.{ℕ, ◌+◌, Bool, ◌&&◌, ◌==◌, List, [], ◌∷◌, map, length, Option, Some}
+use Rattle.std.specs.Prelude.{None, if◌then◌else◌}
 use Rattle.std.specs.List.{flat_map, zip}
 use Rattle.ix_values.specs.Order.{text_eq}
 use Rattle.ix_expr.specs.declared.arg.Arg.{Arg}

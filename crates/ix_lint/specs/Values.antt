@@ -1,5 +1,6 @@
 -- `value`: a fixed argument that is the name of a parameter in scope.
-use Rattle.std.specs.Prelude.{ℕ, Bool, false, not, ◌&&◌, List, take, slice_get, Option, Some, None, if◌then◌else◌}
+use Rattle.std.specs.Prelude.{ℕ, Bool, false, not, ◌&&◌, List, take, slice_get, Option, Some, None}
+use Rattle.std.specs.Prelude.{if◌then◌else◌}
 use Rattle.std.specs.List.{list_any}
 use Rattle.ix_values.specs.Order.{text_eq}
 use Rattle.ix_expr.specs.declared.arg.Arg.{Arg}

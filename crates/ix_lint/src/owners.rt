@@ -111,7 +111,8 @@ fn find_partner(parameter: &Name, first: &Held, part: &Expr, above: &Above, node
 /// nodes of the part are numbered from `node`, and these are above it.
 #[tactic(auto, using(crate::proofs::Numbers::pair_one, crate::proofs::Numbers::pair_left, crate::proofs::Numbers::pair_right,))]
 fn find_pair(parameter: &Name, body: &Body, part: &Expr, above: &Above, node: usize) -> Pair
-    requires body { body.now.node + length (spots (forms_of body.now.above.now) (form_of body.now.expr.now)) < 2 ^ 64 }
+    requires body { body.now.node
+        + length (spots (forms_of body.now.above.now) (form_of body.now.expr.now)) < 2 ^ 64 }
     requires part { node + length (spots (forms_of above.now) (form_of part.now)) < 2 ^ 64 }
     ensures { IsPair
         (spec.pairs parameter.now

@@ -1,5 +1,6 @@
 -- Whose turn it is: round by round, each place that wants one has it once in a round.
-use Rattle.std.specs.Prelude.{◌≡◌, ◌≢◌, ℕ, ◌<◌, ◌≤◌, ◌+◌, List, [], ◌∷◌, length, Bool, true, false, get_or, Option, None, Some}
+use Rattle.std.specs.Prelude.{◌≡◌, ◌≢◌, ℕ, ◌<◌, ◌≤◌, ◌+◌, List, [], ◌∷◌, length, Bool, true, false}
+use Rattle.std.specs.Prelude.{get_or, Option, None, Some}
 
 -- the first place at or behind this one where a turn is wanted; or there is none
 abbrev pub IsNext : List Bool → ℕ → Option ℕ → Type 0

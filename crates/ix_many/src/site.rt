@@ -1,5 +1,6 @@
 //! A Unix socket with many connections, and one file.
-ghost use Rattle.std.specs.Prelude.{◌≡◌, ◌≤◌, ◌<◌, ◌-◌, [], refl, true, false, length, min, take, drop};
+ghost use Rattle.std.specs.Prelude.{◌≡◌, ◌≤◌, ◌<◌, ◌-◌, [], refl, true, false, length, min, take};
+ghost use Rattle.std.specs.Prelude.{drop};
 ghost use Rattle.std.specs.Prelude.{length as list_length};
 ghost use Rattle.std.specs.Prelude.{is_ok, IfOk, OnOk, OnErr};
 ghost use Rattle.ix_outside.specs.Contents.{Gives, Listens, SendsBytes};
