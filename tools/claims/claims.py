@@ -1,7 +1,8 @@
 """The claims, and what they reach.
 
 A claim is a contract: of each function of ours that a program's main names, of the traits that these functions range
-over, and of the laws, which are the public functions whose body is empty or only calls others without arguments."""
+over, of calls that are promised of a library alone, and of the laws, which are the public functions whose body is empty
+or only calls others without arguments."""
 
 from __future__ import annotations
 
@@ -13,6 +14,8 @@ from . import antt, rust
 from .names import Declared, Definition, Names, Target
 
 Targets = list[tuple[str, Target]]
+# The calls that docs/promises.md promises to whoever uses the libraries, and that no program makes.
+LIBRARY = {("ix_lint", "lint")}
 LAW = re.compile(r"\{\s*(?:\w+\(\);\s*)*\}$")
 
 
@@ -185,6 +188,11 @@ def law_claims(names: Names) -> list[Claim]:
             for item in source.items if item.kind == "fn" and item.is_public and LAW.match(item.body.strip())]
 
 
+def library_claims(names: Names) -> list[Claim]:
+    return [Claim("claim", path, item.name, item.text) for path, source in sorted(names.sources.items())
+            for item in source.items if item.kind == "fn" and (source.crate, item.name) in LIBRARY]
+
+
 def parts_of(names: Names) -> tuple[list[Part], Closure]:
     """The three parts of the page, each with what it reaches."""
     closure = Closure(names)
@@ -202,7 +210,7 @@ def parts_of(names: Names) -> tuple[list[Part], Closure]:
             # A bound of a trait stands in its head; those of its calls are of no other traits.
             ahead |= follow_claims(closure, step, True, re.compile(r"^[^{]*"))
     devices.claims = [traits[place] for place in sorted(traits)]
-    laws = Part("The laws", law_claims(names))
+    laws = Part("The laws", [*library_claims(names), *law_claims(names)])
     follow_claims(closure, laws, True)
     return [program, devices, laws], closure
 
