@@ -268,6 +268,12 @@ HIDING = {
         (MANAGE, whole_manage(), "macro_rules! claim {\n    () => {\n" + whole_manage() + "    };\n}\n")], HIDES),
     "the claim isn't there where the program is built": Way([
         (MANAGE, "pub fn manage<", "#[cfg(test)]\npub fn manage<")], HIDES),
+    "laws aren't there, in a module that is called tests": Way([
+        ("crates/ix_manager/src/lib.rt", "pub mod laws;", "#[cfg(any())]\npub mod tests;\npub mod laws;")], HIDES),
+    "a whole crate isn't there": Way([(MAIN, "#![tactic(auto)]", "#![tactic(auto)]\n#![cfg(any())]")], HIDES),
+    "laws are there for tests alone": Way([
+        ("crates/ix_manager/src/lib.rt", "pub mod laws;", "#[cfg(test)]\npub mod laws;")],
+        "nothing is law ix_manager over_tickets_stay_over any more", stays=False),
     "a module's file is another one": Way([
         (MANAGE, "pub mod laws;", '#[path = "other.rt"]\npub mod laws;')], HIDES),
     "a module stands within a file": Way([

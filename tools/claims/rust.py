@@ -197,20 +197,24 @@ def hidden_in(item: Item) -> Iterator[str]:
     """What no claim may hide in."""
     if item.kind in HIDING:
         yield HIDING[item.kind]
-    if re.search(r"#\[\s*(cfg_attr|path|macro_use)\b", item.attributes):
+    if re.search(r"#!?\[\s*(cfg_attr|path|macro_use)\b", item.attributes):
         yield "an attribute that changes what is read"
-    is_tests = item.kind == "mod" and item.name == "tests"
-    if re.search(r"#\[\s*cfg\b", item.attributes) and not is_tests:
-        yield "a cfg elsewhere than at tests"
-    if item.kind == "mod" and "{" in item.text and not (is_tests and "cfg(test)" in item.attributes):
+    if re.search(r"#!?\[\s*cfg\b", item.attributes):
+        yield "a cfg elsewhere than at a module of tests"
+    if item.kind == "mod" and "{" in item.text:
         yield "a module within a file"
+
+
+def is_of_tests(item: Item) -> bool:
+    """Whether the item is a module that is there for tests alone."""
+    return item.kind == "mod" and re.search(r"#\[\s*cfg\(test\)\s*\]", item.attributes) is not None
 
 
 @functools.lru_cache(maxsize=None)
 def parse(path: str, text: str) -> Source:
     """The file of this path with this text."""
     bare, code, has_block = blanked(text)
-    items = [item for item in items_of(text, bare, code) if item.kind != "mod" or "cfg(test)" not in item.attributes]
+    items = [item for item in items_of(text, bare, code) if not is_of_tests(item)]
     faults = ["a block comment"] if has_block else []
     ghosts: list[tuple[str, str]] = []
     for found in re.finditer(r"\bghost\s+use\s+([^;]*);", code):
