@@ -15,7 +15,7 @@ KINDS = ("abbrev pub ", "unfoldable pub ", "pub data ", "pub record ", "pub ", "
          "record ")
 LISTS = ("Lib", "inside", "lemmas")
 # Letters that definitions may have beside those of ASCII. Others may look like these and be read as other names.
-LETTERS = "λℕℤ₁𝓛"
+LETTERS = "λℕℤℚℝ𝓛"
 Scope = Mapping[str, frozenset[str]]
 
 
