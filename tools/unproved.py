@@ -179,8 +179,9 @@ def find(name: str, folder: str) -> str | None:
 
 
 def main(name: str) -> None:
-    # So that what was begun is removed.
-    signal.signal(signal.SIGTERM, lambda *_: sys.exit(128 + signal.SIGTERM))
+    for number in (signal.SIGINT, signal.SIGTERM):
+        # So that what was begun is removed.
+        signal.signal(number, lambda got, _: sys.exit(128 + got))
     folder = f"{os.environ.get('XDG_CACHE_HOME') or os.path.expanduser('~/.cache')}/ixm"
     try:
         os.makedirs(folder, mode=0o700, exist_ok=True)
