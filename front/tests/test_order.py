@@ -77,10 +77,11 @@ class Order(Place):
         front = self.paged(self.manager().path)
         engine = f"""
 import sys
-sys.path.insert(0, {os.path.join(HERE, "../../examples/serve")!r})
-import manager
-manager.REPLY = 0.5
-print(manager.Engine({front.path!r}, "e").do("do(e)"))
+sys.path.insert(0, {os.path.join(HERE, "../../python")!r})
+import ixm.core
+from ixm.engine import Engine
+ixm.core.REPLY = 0.5
+print(Engine({front.path!r}, "e").do("do(e)"))
 """
         with Client(front.path) as holder, Client(front.path) as later:
             ticket = holder.ticket("do(a)")
