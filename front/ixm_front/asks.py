@@ -9,6 +9,7 @@ from time import monotonic
 from typing import Protocol
 
 from .client import Client
+from .loop import TurnSelector
 from .protocol import BUSY, CANCELLED, CONFIRMED, FAULT, GRANTED, SPENDING, busy_until, number
 from .request import ClientLine, Line
 
@@ -19,6 +20,7 @@ class Sender(Protocol):
     """What the line needs of the front."""
 
     loop: asyncio.AbstractEventLoop
+    selector: TurnSelector
 
     def can_ask(self) -> bool:
         """Whether the manager can be sent asks now."""
@@ -189,6 +191,7 @@ class Asks:
                 return
             self._timer.cancel()
         self._timer = self.sender.loop.call_at(when, self._look)
+        self.sender.selector.give_way()
 
     def _look(self) -> None:
         self._timer = None

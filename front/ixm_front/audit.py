@@ -87,7 +87,7 @@ class Reader:
         if found is None:
             return  # torn: its record stands again behind it, or its number is missing
         self._line = line
-        text, number, chain = found[1].decode(), int(found[2]), found[3].decode()
+        text, number, chain = found[1], int(found[2]), found[3].decode()
         faults = self.evidence.faults
         if number == 1 and chained("", text) == chain:
             # A log of its own, as on a standard output that each start has anew.
@@ -101,7 +101,7 @@ class Reader:
             self._number, self._chain = number, chain
             return
         self._number, self._chain = number, chain
-        self._learn(json.loads(f"{text}}}"))
+        self._learn(json.loads(text + b"}"))
 
     def _learn(self, record: dict[str, Any]) -> None:
         request, reply = str(record.get("request", "")).split(" "), str(record.get("reply", "")).split(" ")

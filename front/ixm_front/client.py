@@ -48,7 +48,7 @@ class Client:
         self.sock = sock
         self.who = who
         self.number = number_of_it
-        self.text = f'"client": {number_of_it}, {who.text}'  # what each record of the log tells of it
+        self.text = f'"client": {number_of_it}, {who.text}'.encode()  # what each record of the log tells of it
         self.wait = owner.options.wait / 1000
         self.request: ClientLine | None = None  # the line that isn't answered yet
         self.ticket = b""  # the last ticket that was granted to it and that it hasn't used up

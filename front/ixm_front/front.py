@@ -132,6 +132,7 @@ class Front:
             self._blocked[client] = length
             if self.unread > self.options.unread_all:
                 self.loop.call_soon(self._relieve)
+                self.selector.give_way()
         else:
             self._blocked.pop(client, None)
 
@@ -250,7 +251,8 @@ class Front:
                 self.metrics.sent_again += 1
             else:
                 self._answer(request, reply)
-            self._asks.send_next()
+            if self._asks:
+                self._asks.send_next()
         else:
             told_reply = self._watches.replied(request, reply)
             if told_reply is None:

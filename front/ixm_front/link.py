@@ -140,5 +140,6 @@ class Link:
         unanswered = list(self.unanswered)
         self.unanswered.clear()
         self._ended.set()
+        self.user.selector.give_way()
         if was_up:
             self.user.is_lost(unanswered)

@@ -18,11 +18,13 @@ from time import monotonic
 from typing import NamedTuple
 
 HELD = 10000  # records that are handed over and not yet written, at most
-LINGER = 0.005  # seconds in which records gather before they are written, where no reply waits for them
+LINGER = 0.01  # seconds in which records gather before they are written, where no reply waits for them
 RETRY = 0.5  # seconds before a write that failed is tried again
 SLOW = 1.0  # seconds behind which a write that hasn't ended counts as failing
 TAIL = 1 << 16  # bytes of a file's end in which its last record is looked for
 CHAIN = re.compile(rb'(\{"n": ([0-9]+), .*), "chain": "([0-9a-f]{32})"\}')
+
+PLAIN = re.compile(rb"[ !#-\[\]-~]*")  # what stands in JSON as it is
 
 quoted = json.JSONEncoder().encode
 
@@ -32,7 +34,7 @@ class Record(NamedTuple):
 
     number: int
     moment: float
-    text: str
+    text: bytes
 
 
 class Place(NamedTuple):
@@ -47,14 +49,17 @@ END = "end"
 Item = Record | str
 
 
-def text_of(line: bytes) -> str:
-    """A line or a reply as it stands in the log: bytes that aren't ASCII as \\xNN."""
-    return line.decode("ascii", "backslashreplace").rstrip("\n")
+def line_text(line: bytes) -> bytes:
+    """A line or a reply as JSON, without its line end: bytes that aren't ASCII as \\xNN."""
+    line = line.rstrip(b"\n")
+    if PLAIN.fullmatch(line):
+        return b'"%b"' % line
+    return quoted(line.decode("ascii", "backslashreplace")).encode()
 
 
-def chained(before: str, text: str) -> str:
+def chained(before: str, text: bytes) -> str:
     """The chain of a record with this text, behind the chain of the one before it."""
-    return hashlib.sha256((before + text).encode()).hexdigest()[:32]
+    return hashlib.sha256(before.encode() + text).hexdigest()[:32]
 
 
 class Stamp:
@@ -62,14 +67,15 @@ class Stamp:
 
     def __init__(self) -> None:
         self._second = -1
-        self._text = ""
+        self._text = b""
 
-    def of(self, moment: float) -> str:
+    def of(self, moment: float) -> bytes:
         """A moment in UTC, to the millisecond."""
         second = int(moment)
         if second != self._second:
-            self._second, self._text = second, time.strftime("%Y-%m-%dT%H:%M:%S", time.gmtime(second))
-        return f"{self._text}.{int(moment * 1000) % 1000:03d}Z"
+            text = time.strftime("%Y-%m-%dT%H:%M:%S", time.gmtime(second))
+            self._second, self._text = second, text.encode()
+        return b"%b.%03dZ" % (self._text, int(moment * 1000) % 1000)
 
 
 def last_place(file: int) -> Place | None:
@@ -114,9 +120,10 @@ class LogFile:
 
     def rendered(self, record: Record) -> bytes:
         """A record's line. Its chain goes on from the record that was rendered before."""
-        text = f'{{"n": {record.number}, "time": "{self._stamp.of(record.moment)}", {record.text}'
-        self.place = Place(record.number, chained(self.place.chain, text))
-        return f'{text}, "chain": "{self.place.chain}"}}\n'.encode()
+        text = b'{"n": %d, "time": "%b", %b' % (record.number, self._stamp.of(record.moment), record.text)
+        chain = chained(self.place.chain, text)
+        self.place = Place(record.number, chain)
+        return b'%b, "chain": "%b"}\n' % (text, chain.encode())
 
     def put(self, lines: list[bytes]) -> int:
         """Writes lines and gives how many are whole in the file. Where a call fails fewer are: behind a sync that failed
@@ -178,7 +185,7 @@ class Log:
         self._thread = threading.Thread(target=self._run, name="log", daemon=True)
         self._thread.start()
 
-    def write(self, text: str, is_minor: bool = False) -> int:
+    def write(self, text: bytes, is_minor: bool = False) -> int:
         """Hands over a record with these members, and gives its number. One of minor importance leaves room to the
         others."""
         self.number += 1

@@ -7,6 +7,7 @@ import asyncio
 import select
 import selectors
 from collections.abc import Callable, Mapping
+from time import monotonic
 from typing import Any
 
 READ, WRITE = selectors.EVENT_READ, selectors.EVENT_WRITE
@@ -33,6 +34,7 @@ class TurnSelector(selectors.BaseSelector):
         self._epoll = select.epoll()
         self._keys: dict[int, selectors.SelectorKey] = {}
         self._calls: dict[int, tuple[Call | None, Call | None]] = {}
+        self._is_wanted = False
 
     def watch(self, fd: int, read: Call | None, write: Call | None) -> None:
         """Calls these from now on, where the file can be read and written; where both are None, it isn't looked at."""
@@ -47,6 +49,10 @@ class TurnSelector(selectors.BaseSelector):
             self._epoll.unregister(fd)
         if flags:
             self._calls[fd] = read, write
+
+    def give_way(self) -> None:
+        """The loop has something new to do, as a timer that was set by one of those that watch."""
+        self._is_wanted = True
 
     def register(self, fileobj: Any, events: int, data: Any = None) -> selectors.SelectorKey:
         """Waits for these events of a file from now on."""
@@ -75,24 +81,38 @@ class TurnSelector(selectors.BaseSelector):
         return key
 
     def select(self, timeout: float | None = None) -> Keys:
-        """Sends what there is to be sent, waits, calls those who watch, and gives what else has happened."""
-        self.flush()
+        """Sends what there is to be sent, waits, calls those who watch, and so on until something else has happened, the
+        loop has something new to do, or the time is over."""
+        end = None if timeout is None else monotonic() + timeout
+        self._is_wanted = False
+        while True:
+            self.flush()
+            events = self._epoll.poll(timeout, AT_ONCE)
+            found = self._called(events)
+            if found or self._is_wanted or not events:
+                return found
+            if end is not None:
+                timeout = end - monotonic()
+                if timeout <= 0:
+                    return found
+
+    def _called(self, events: list[tuple[int, int]]) -> Keys:
+        """Calls those who watch, and gives what is for the loop. An error or a hang-up is told to whoever waits for
+        anything."""
         found: Keys = []
-        for fd, flags in self._epoll.poll(timeout, AT_ONCE):
+        for fd, flags in events:
             calls = self._calls.get(fd)
-            if calls is None:
-                key = self._keys.get(fd)
-                if key is not None:
-                    # An error or a hang-up is told to whoever waits for anything.
-                    events = (READ if flags & ~select.EPOLLOUT else 0) | (WRITE if flags & ~select.EPOLLIN else 0)
-                    found.append((key, events & key.events))
-                continue
-            read, write = calls
-            if write is not None and flags & ~select.EPOLLIN:
-                write()
-                read = self._calls.get(fd, (None, None))[0]
-            if read is not None and flags & ~select.EPOLLOUT:
-                read()
+            if calls is not None:
+                read, write = calls
+                if write is not None and flags & ~select.EPOLLIN:
+                    write()
+                    read = self._calls.get(fd, (None, None))[0]
+                if read is not None and flags & ~select.EPOLLOUT:
+                    read()
+            elif fd in self._keys:
+                key = self._keys[fd]
+                ready = (READ if flags & ~select.EPOLLOUT else 0) | (WRITE if flags & ~select.EPOLLIN else 0)
+                found.append((key, ready & key.events))
         return found
 
     def get_key(self, fileobj: Any) -> selectors.SelectorKey:

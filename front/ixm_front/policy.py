@@ -182,6 +182,8 @@ class Rights:
 
     def granted(self, ticket: bytes, who: Who) -> None:
         """They got this ticket."""
+        if self.policy is None:
+            return
         self._tickets[ticket] = who.key
         if len(self._tickets) > TICKETS:
             self._tickets.popitem(last=False)
@@ -189,7 +191,10 @@ class Rights:
     def refusal(self, client: Client, verb: bytes, line: bytes) -> Refusal | None:
         """How a line is refused here; none where the manager decides."""
         permissions: tuple[Permission, ...] | None = None
-        if self.policy is not None and verb in REQUESTS:
+        if self.policy is None:
+            if verb in SPENDING or (verb == b"ask" and self.lease == LONGEST):
+                return None  # as most are
+        elif verb in REQUESTS:
             permissions = tuple(each for each in self._of(client, self.policy) if verb in each.requests)
             if not permissions:
                 return Refusal(protocol.NO_SUCH_WORD, "request")

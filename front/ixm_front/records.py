@@ -6,7 +6,7 @@ import os
 from collections import Counter
 
 from .client import Client
-from .log import Log, quoted, text_of
+from .log import Log, line_text, quoted
 from .version import version
 from .who import Who, cgroup_of, sees_all_users
 
@@ -24,7 +24,7 @@ class Records:
 
     def event(self, event: str, more: str = "", is_minor: bool = False) -> int:
         """Something that happened."""
-        return self.log.write(f'"event": {quoted(event)}{", " if more else ""}{more}', is_minor)
+        return self.log.write(f'"event": {quoted(event)}{", " if more else ""}{more}'.encode(), is_minor)
 
     def starts(self) -> None:
         """The front begins. Where it can't tell users apart, the log says so."""
@@ -35,7 +35,7 @@ class Records:
         """A client was let in."""
         who = client.who
         cgroup = f', "cgroup": {quoted(cgroup_of(who.pid))}' if who.pid else ""
-        self.event("connected", client.text + cgroup, is_minor=True)
+        self.event("connected", client.text.decode() + cgroup, is_minor=True)
 
     def turned_away(self, limit: str, who: str) -> None:
         """A connection was closed at once. It is told with the next ones."""
@@ -52,12 +52,12 @@ class Records:
 
     def closed(self, client: Client, cause: str, line: bytes | None) -> None:
         """The front closed a connection."""
-        request = "" if line is None else f', "request": {quoted(text_of(line))}'
-        self.event("closed", f'{client.text}, "cause": {quoted(cause)}{request}')
+        request = "" if line is None else f', "request": {line_text(line).decode()}'
+        self.event("closed", f'{client.text.decode()}, "cause": {quoted(cause)}{request}')
 
     def sends(self, client: Client, line: bytes) -> int:
         """A line is about to be sent."""
-        return self.event("sends", f'{client.text}, "request": {quoted(text_of(line))}')
+        return self.event("sends", f'{client.text.decode()}, "request": {line_text(line).decode()}')
 
     def answered(self, client: Client, verb: bytes, line: bytes, reply: bytes, took: float, why: str) -> int:
         """A client's line has its reply; 0 where such a line isn't logged."""
@@ -66,13 +66,13 @@ class Records:
             if not why and not (self.has_reads and verb != b"front"):
                 return 0
             reply = reply.partition(b"\n")[0]
-        denied = f', "denied": "{why}"' if why else ""
-        return self.log.write(f'{client.text}, "request": {quoted(text_of(line))}, "reply": {quoted(text_of(reply))}, '
-                              f'"ms": {took * 1000:.3f}{denied}', is_read)
+        denied = b', "denied": "%b"' % why.encode() if why else b""
+        return self.log.write(b'%b, "request": %b, "reply": %b, "ms": %.3f%b' % (
+            client.text, line_text(line), line_text(reply), took * 1000, denied), is_read)
 
     def own(self, line: bytes, reply: bytes) -> None:
         """A line of the front's own that gave something up has its reply."""
-        self.log.write(f'"front": {os.getpid()}, "request": {quoted(text_of(line))}, "reply": {quoted(text_of(reply))}')
+        self.log.write(b'"front": %d, "request": %b, "reply": %b' % (os.getpid(), line_text(line), line_text(reply)))
 
 
 def told(who: Who) -> str:

@@ -66,6 +66,11 @@ def read_records(path: str) -> list[Record]:
         return [json.loads(line) for line in file.read().split("\n")[:-1] if line.endswith("}")]
 
 
+def last_record(path: str) -> Record:
+    """The last record of a log; an empty one where there is none."""
+    return (read_records(path) or [{}])[-1]
+
+
 def records(folder: str, holds: Callable[[list[Record]], bool]) -> list[Record]:
     """The records of the log, as soon as this holds of them."""
     found: list[Record] = []

@@ -9,7 +9,7 @@ import signal
 import subprocess
 import time
 
-from .support import AUDIT, Client, Front, Manager, Place, metric, page, read_records, records, wait_until
+from .support import AUDIT, Client, Front, Manager, Place, last_record, metric, page, read_records, records, wait_until
 
 
 def audit(*words: str) -> tuple[int, list[str]]:
@@ -62,12 +62,11 @@ class Logged(Place):
         os.mkdir(self.logged())  # so that it can't be opened
         os.kill(front.pid, signal.SIGHUP)
         kept = f"{self.folder}/old/log"
-        wait_until(lambda: read_records(kept)[-1].get("event") == "log not opened again", "it is told")
+        wait_until(lambda: last_record(kept).get("event") == "log not opened again", "it is told")
         self.act(front, "do(b)")
-        wait_until(lambda: read_records(kept)[-1].get("reply") == "confirmed 2", "it goes on in the old file")
+        wait_until(lambda: last_record(kept).get("reply") == "confirmed 2", "it goes on in the old file")
         os.rmdir(self.logged())
         os.kill(front.pid, signal.SIGHUP)
-        records(self.folder, lambda found: True) if os.path.exists(self.logged()) else None
         wait_until(lambda: os.path.exists(self.logged()), "the new file")
         self.act(front, "do(c)")
         records(self.folder, lambda found: found[-1].get("reply") == "confirmed 3")
@@ -77,7 +76,7 @@ class Logged(Place):
     def test_a_full_disk_tears_one_line_and_loses_none(self) -> None:
         front = self.paged(self.run_of.path)
         self.act(front, "do(a)")
-        wait_until(lambda: read_records(self.logged())[-1].get("reply") == "confirmed 1", "it is written")
+        wait_until(lambda: last_record(self.logged()).get("reply") == "confirmed 1", "it is written")
         front.allow(resource.RLIMIT_FSIZE, os.path.getsize(self.logged()) + 100)
         self.act(front, *[f"do(b{number})" for number in range(20)])
         wait_until(lambda: metric(self.folder, "ixm_front_log_well") == 0, "it is told that the log isn't written")
@@ -189,7 +188,7 @@ class Logged(Place):
         front = self.front(self.run_of.path)
         for turn in range(3):
             self.act(front, f"do(a{turn})")
-            wait_until(lambda: read_records(self.logged())[-1].get("reply") == f"confirmed {turn + 1}", "it is written")
+            wait_until(lambda: last_record(self.logged()).get("reply") == f"confirmed {turn + 1}", "it is written")
             front.stop(signal.SIGKILL if turn else signal.SIGTERM)
             with open(self.logged(), "a") as file:
                 file.write('{"n": 9, "ti')  # torn by a loss of power
