@@ -17,7 +17,7 @@ from pathlib import Path
 HERE = Path(__file__).resolve().parent
 GUARD = HERE.parent / "guard"
 REPOSITORY_IXM = HERE.parent.parent / "ixm"
-FOUND = str(REPOSITORY_IXM) if REPOSITORY_IXM.exists() else shutil.which("ixm") or "ixm"
+FOUND = str(REPOSITORY_IXM) if REPOSITORY_IXM.is_file() else shutil.which("ixm") or "ixm"
 IXM = os.path.abspath(os.environ.get("IXM", FOUND))
 RULES = "*(any $v do($v))"
 LIMIT = 60.0  # seconds for each reply
