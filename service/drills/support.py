@@ -70,7 +70,7 @@ def guard(journal: Path, kept: Path | None = None) -> str:
     """What the guard says against a journal, and nothing where it accepts it."""
     ended = subprocess.run([GUARD, journal, *([] if kept is None else [kept])], stdout=subprocess.DEVNULL, stderr=subprocess.PIPE, text=True)
     check(ended.returncode in (0, 1), f"the guard ended with {ended.returncode}: {ended.stderr}")
-    return ended.stderr if ended.returncode else ""
+    return ended.stderr.strip() if ended.returncode else ""
 
 
 class Manager:
