@@ -118,6 +118,10 @@ class Client:
             self.has_hung_up = True
         return self.has_hung_up
 
+    def rest(self) -> None:
+        """Reads nothing for now."""
+        self._read_if(False)
+
     def is_read(self) -> bool:
         """Whether the loop tells when it hangs up."""
         return self._reads

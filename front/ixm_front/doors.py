@@ -11,7 +11,7 @@ import stat
 import sys
 from collections.abc import Callable
 
-AT_ONCE = 16  # connections that are taken in one turn of the loop
+AT_ONCE = 8  # connections that are taken in one turn of the loop
 PAUSE = 0.1  # seconds without taking connections where the system has no more open files
 QUEUE = 1024
 

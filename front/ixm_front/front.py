@@ -28,6 +28,7 @@ from .who import Who, peer_of
 
 STUCK = 5.0  # seconds without a reply behind which the manager isn't called well
 LEFT_AT_ONCE = 1000  # lines without a reply, above which no more are taken of clients that are gone
+GONE_AT_ONCE = 16  # clients that are gone which are dealt with in one turn, so that others aren't kept waiting
 OFTEN = 20  # the watches of gone clients are looked at in each so manieth sweep
 
 
@@ -47,6 +48,7 @@ class Front:
         self.policy_well = True
         self.unread = 0  # bytes of replies that clients haven't read
         self._blocked: dict[Client, int] = {}  # whose they are, who has waited longest first
+        self._gone: dict[Client, None] = {}  # those that are to be let go
         self._places = Places(options)
         self._asks = Asks(self, options.again)
         self._watches = Watches()
@@ -101,6 +103,7 @@ class Front:
             if cause != "gone" or request.verb not in KEPT:
                 self._held.pop(request, None)
         client.close()
+        self._gone.pop(client, None)
         self.clients.discard(client)
         self._places.give(client.who)
         self.metrics.closed[cause] += 1
@@ -114,10 +117,22 @@ class Front:
         self.close(client, "done")
 
     def is_gone(self, client: Client) -> None:
-        """A client reads no more replies. What it left behind is still handled where it gives something back or tells
-        that something has happened; everything else of it is dropped, and its place is free."""
-        if client.is_closed:
-            return
+        """A client reads no more replies. It is let go in one of the next turns."""
+        if not client.is_closed:
+            client.rest()
+            self._gone[client] = None
+
+    def turn(self) -> bool:
+        """Ends a turn of the loop: sends what was gathered in it, and lets some of those go that are gone. Gives whether
+        there are more of them."""
+        for _ in range(min(len(self._gone), GONE_AT_ONCE)):
+            self._let_go_of(next(iter(self._gone)))
+        self.link.flush()
+        return bool(self._gone)
+
+    def _let_go_of(self, client: Client) -> None:
+        """What a client that is gone left behind is still handled where it gives something back or tells that something
+        has happened; everything else of it is dropped, and its place is free."""
         for line in client.left():
             verb = line.partition(b" ")[0]
             if verb in KEPT and len(line) <= protocol.LINE_LIMIT and self._may_keep(line):

@@ -27,10 +27,11 @@ def flags_of(events: int) -> int:
 
 
 class TurnSelector(selectors.BaseSelector):
-    """The system's epoll. `flush` is called before each wait, and may change what is waited for."""
+    """The system's epoll. `flush` is called before each wait, and may change what is waited for; where it says that it
+    has more to do, there is no wait."""
 
     def __init__(self) -> None:
-        self.flush: Call = lambda: None
+        self.flush: Callable[[], bool] = lambda: False
         self._epoll = select.epoll()
         self._keys: dict[int, selectors.SelectorKey] = {}
         self._calls: dict[int, tuple[Call | None, Call | None]] = {}
@@ -86,10 +87,10 @@ class TurnSelector(selectors.BaseSelector):
         end = None if timeout is None else monotonic() + timeout
         self._is_wanted = False
         while True:
-            self.flush()
-            events = self._epoll.poll(timeout, AT_ONCE)
+            has_more = self.flush()
+            events = self._epoll.poll(0 if has_more else timeout, AT_ONCE)
             found = self._called(events)
-            if found or self._is_wanted or not events:
+            if found or self._is_wanted or not (events or has_more):
                 return found
             if end is not None:
                 timeout = end - monotonic()

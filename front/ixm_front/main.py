@@ -62,7 +62,7 @@ class Program:
         self.guests: Guests | None = None
         self.doors: list[Door] = []
         self.tasks: list[asyncio.Task[None]] = []
-        selector.flush = self.front.link.flush
+        selector.flush = self.front.turn
         loop.set_exception_handler(self.handle)
         self.log.on_fault = lambda fault: self.from_thread(self.fail, fault)
         self.log.on_opened = lambda why: self.from_thread(self.log_opened, why)

@@ -3,6 +3,7 @@
 from __future__ import annotations
 
 import json
+import os
 import socket
 import struct
 from dataclasses import dataclass, field
@@ -51,10 +52,16 @@ def peer_of(sock: socket.socket) -> Who:
 def cgroup_of(pid: int) -> str:
     """The control group of a process, which under systemd names its unit or its session; empty where it can't be read."""
     try:
-        with open(f"/proc/{pid}/cgroup", encoding="ascii", errors="backslashreplace") as file:
-            return file.readline(4096).rpartition(":")[2].rstrip("\n")
+        file = os.open(f"/proc/{pid}/cgroup", os.O_RDONLY | os.O_CLOEXEC)
     except OSError:
         return ""
+    try:
+        text = os.read(file, 4096).decode("ascii", "backslashreplace")
+    except OSError:
+        return ""
+    finally:
+        os.close(file)
+    return text.partition("\n")[0].rpartition(":")[2]
 
 
 def sees_all_users() -> bool:

@@ -97,6 +97,14 @@ def send_slowly(path: str, ready: Event) -> None:
         sock.close()
 
 
+def busy(path: str, ready: Event) -> None:
+    """Takes as much of a processor as a hostile client, and connects to nobody."""
+    ready.set()
+    end = time.monotonic() + 1
+    while time.monotonic() < end:
+        socket.socket(socket.AF_UNIX).close()
+
+
 class Hostile(Place):
     def setUp(self) -> None:
         super().setUp()
@@ -123,21 +131,25 @@ class Hostile(Place):
         self.fail(f"others were answered {late} seconds later than without it")
 
     def slowest(self, hostile: Hostility) -> float:
-        """How much later others were answered at worst than without the hostile process."""
-        end = time.monotonic() + 0.5
-        before = self.answered(lambda: time.monotonic() < end)
+        """How much later others were answered at worst than while a process that means no harm is as busy."""
+        before = self.answered_beside(busy)
         memory = self.through.memory()
-        fork = multiprocessing.get_context("fork")
-        ready = fork.Event()
-        process = fork.Process(target=hostile, args=(self.through.path, ready))
-        process.start()
-        self.assertTrue(ready.wait(30))
-        meanwhile = self.answered(process.is_alive)
-        process.join()
-        self.assertEqual(process.exitcode, 0)
+        meanwhile = self.answered_beside(hostile)
         self.assertGreater(len(meanwhile), 5)
         self.assertLess(self.through.memory() - memory, MEMORY)
         return max(meanwhile) - max(before)
+
+    def answered_beside(self, other: Hostility) -> list[float]:
+        """How long requests take while another process runs."""
+        fork = multiprocessing.get_context("fork")
+        ready = fork.Event()
+        process = fork.Process(target=other, args=(self.through.path, ready))
+        process.start()
+        self.assertTrue(ready.wait(30))
+        took = self.answered(process.is_alive)
+        process.join()
+        self.assertEqual(process.exitcode, 0)
+        return took
 
     def test_a_gigabyte_with_no_line_end(self) -> None:
         self.attack(endless_line)
