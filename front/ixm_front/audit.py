@@ -5,11 +5,12 @@ from __future__ import annotations
 import argparse
 import json
 import sys
+from collections import OrderedDict
 from collections.abc import Iterator
 from dataclasses import dataclass, field
 from typing import Any
 
-from .log import CHAIN, chained
+from .log import CHAIN, HELD, chained
 from .version import version
 
 OPEN = 0xA5
@@ -73,22 +74,26 @@ class Reader:
         self.evidence = Evidence()
         self._number = 0
         self._chain: str | None = None  # none: at the begin, where any may stand
-        self._line = b""
+        self._last: OrderedDict[int, str] = OrderedDict()  # the chains of the last records, by their numbers
 
     def read(self, path: str) -> None:
         """Reads a file."""
         with open(path, "rb") as file:
             for line in file:
-                if line.endswith(b"\n") and line != self._line:
+                if line.endswith(b"\n"):
                     self._take(line)
 
     def _take(self, line: bytes) -> None:
         found = CHAIN.fullmatch(line[:-1])
         if found is None:
             return  # torn: its record stands again behind it, or its number is missing
-        self._line = line
         text, number, chain = found[1], int(found[2]), found[3].decode()
         faults = self.evidence.faults
+        if self._last.get(number) == chain:
+            return  # written again behind a sync that failed
+        self._last[number] = chain
+        if len(self._last) > 2 * HELD:
+            self._last.popitem(last=False)
         if number == 1 and chained("", text) == chain:
             # A log of its own, as on a standard output that each start has anew.
             self._chain, self._number = None, 0

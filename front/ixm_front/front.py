@@ -5,14 +5,13 @@ from __future__ import annotations
 import asyncio
 import socket
 import time
-from collections import deque
-from collections.abc import Callable
 from functools import partial
 from time import monotonic
 
 from . import protocol
 from .asks import Asks
 from .client import Client
+from .gate import Gate
 from .link import Link
 from .log import Log, quoted
 from .loop import TurnSelector
@@ -23,6 +22,7 @@ from .policy import Policy, PolicyFault, Rights, read_policy
 from .protocol import GRANTED, KEPT, SPENDING, word
 from .records import Records, told
 from .request import ClientLine, Line, OwnLine
+from .unread import Unread
 from .watches import Watches
 from .who import Who, peer_of
 
@@ -46,8 +46,7 @@ class Front:
         self.clients: set[Client] = set()
         self.link = Link(self, options.manager)
         self.policy_well = True
-        self.unread = 0  # bytes of replies that clients haven't read
-        self._blocked: dict[Client, int] = {}  # whose they are, who has waited longest first
+        self._unread = Unread(options.unread_all)
         self._gone: dict[Client, None] = {}  # those that are to be let go
         self._places = Places(options)
         self._asks = Asks(self, options.again)
@@ -57,10 +56,9 @@ class Front:
         self._held: dict[ClientLine, None] = {}  # lines but asks that came while there was no manager
         self._asks_status = False
         self._cut_off: list[ClientLine] = []  # confirms and cancels whose replies were lost with a connection
-        self._behind_log: deque[tuple[int, Callable[[], None]]] = deque()  # what waits for a record to be written
         self._count = 0  # of connections
         self._sweeps = 0
-        log.on_written = self._is_written
+        self._gate = Gate(log, loop, self._asks.send_next)
 
     # Clients
 
@@ -142,19 +140,14 @@ class Front:
 
     def is_blocked(self, client: Client, length: int) -> None:
         """So many bytes of a client's replies wait until it reads them."""
-        self.unread += length - self._blocked.get(client, 0)
-        if length:
-            self._blocked[client] = length
-            if self.unread > self.options.unread_all:
-                self.loop.call_soon(self._relieve)
-                self.selector.give_way()
-        else:
-            self._blocked.pop(client, None)
+        if self._unread.set(client, length):
+            self.loop.call_soon(self._relieve)
+            self.selector.give_way()
 
     def _relieve(self) -> None:
         """Where too much is unread, whoever has read nothing for longest is cut off."""
-        while self.unread > self.options.unread_all and self._blocked:
-            self.close(next(iter(self._blocked)), "unread replies of all")
+        while (client := self._unread.worst()) is not None:
+            self.close(client, "unread replies of all")
 
     def _may_keep(self, line: bytes) -> bool:
         """Whether a line of a client that is gone is taken: where many wait already, only those of the open ticket."""
@@ -213,7 +206,7 @@ class Front:
         before it is sent."""
         if self.log.is_must and request.verb == b"confirm":
             number = self.records.sends(request.client, request.line)
-            self._once_written(number, partial(self._pass_on, request))
+            self._gate.once_written(number, partial(self._pass_on, request))
         else:
             self._pass_on(request)
 
@@ -290,7 +283,7 @@ class Front:
             metrics.confirm.add(took)
         number = self.records.answered(request.client, verb, request.line, reply, took, why)
         if number and self.log.is_must and not reply.startswith(b"refused "):
-            self._once_written(number, partial(self._send_late, request, reply))
+            self._gate.once_written(number, partial(self._send_late, request, reply))
         else:
             self._send(request, reply)
 
@@ -336,25 +329,6 @@ class Front:
 
     def _note_boot(self, ticket: bytes) -> None:
         self.metrics.boots = protocol.number(ticket.partition(b"-")[0])
-
-    # What waits for the log
-
-    def _once_written(self, number: int, action: Callable[[], None]) -> None:
-        """Does this once a record is written."""
-        if number <= self.log.written.number:
-            action()
-        else:
-            self._behind_log.append((number, action))
-
-    def _is_written(self, number: int) -> None:
-        """The log's thread has written up to this record."""
-        if self.log.is_must and not self.loop.is_closed():
-            self.loop.call_soon_threadsafe(self._do_written, number)
-
-    def _do_written(self, number: int) -> None:
-        while self._behind_log and self._behind_log[0][0] <= number:
-            self._behind_log.popleft()[1]()
-        self._asks.send_next()
 
     # The manager's end and its next run
 
@@ -483,12 +457,12 @@ class Front:
         reservation = (holder.who.key if holder else "unknown", now - asks.since) if asks.is_open() else None
         return self.metrics.text(Now(
             self.health()[0], self.link.is_up, len(asks), 0.0 if oldest is None else now - oldest, len(self.clients),
-            self.unread, len(self._watches), reservation, self.log.lost, self.log.is_well(), self.log.written.number,
+            self._unread.bytes, len(self._watches), reservation, self.log.lost, self.log.is_well(), self.log.written.number,
             self.policy_well, self.options.nodes))
 
     def is_idle(self) -> bool:
         """Whether no client's line is at the manager."""
-        return not self._behind_log and all(isinstance(request, OwnLine) for request in self.link.unanswered)
+        return not self._gate and all(isinstance(request, OwnLine) for request in self.link.unanswered)
 
     def let_go(self) -> None:
         """Closes the clients whose lines haven't been sent, as the front is about to end, and takes no more lines."""

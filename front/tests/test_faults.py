@@ -101,7 +101,10 @@ class Faults(Place):
         wait_until(lambda: " 200 OK" in page(self.folder, "/health"), "the page has places again")
 
     def test_the_file_of_its_socket_is_gone(self) -> None:
-        front = self.front(self.run_of.path)
+        front = Front(self.folder, self.run_of.path)
+        front.stderr = subprocess.DEVNULL
+        self.addCleanup(front.stop, signal.SIGKILL)
+        front.start()
         os.unlink(front.path)
         wait_until(lambda: front.status() == 1, "it ends, since nobody finds it")
         front.process = None

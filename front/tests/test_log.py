@@ -155,6 +155,7 @@ class Logged(Place):
             ([*lines[:asked], lines[asked].replace("do(a1)", "do(a7)"), *lines[asked + 1:]],
              [f"2 {tickets[1]} do(a1): no ask in the log", f"record {asked + 1} was changed, or one before it", *whole]),
             (lines[2:], whole),
+            ([*lines[:4], *lines[1:4], *lines[4:]], whole),  # a batch written again behind a sync that failed
         )
         for changed, wanted in rows:
             with self.subTest(wanted[0]):

@@ -2,6 +2,7 @@
 
 from __future__ import annotations
 
+import contextlib
 import socket
 import threading
 
@@ -34,7 +35,7 @@ class StandIn:
                 return
             lines: list[str] = []
             self.heard.append(lines)
-            with sock, sock.makefile("rb") as file:
+            with contextlib.suppress(ConnectionError), sock, sock.makefile("rb") as file:
                 for line in file:
                     lines.append(line.decode().rstrip("\n"))
                     reply = "status complete 0 nodes 1" if lines[-1] == "status" else self.answers.get(lines[-1])
