@@ -15,6 +15,29 @@ def judged(way: str, case: Case) -> Judge:
     return run_case(Client([sys.executable, "tests/wrong.py", way], keeps=True, seconds=2), case)
 
 
+class TestJudge(unittest.TestCase):
+    def test_what_a_client_may_put(self) -> None:
+        granted, lost = ("ask a 1", b"granted 1-1\n"), ("confirm 1-1", b"")
+        outcome = ("outcome 1-1", b"outcome confirmed 1\n")
+        rows: list[tuple[list[tuple[str, bytes]], set[str]]] = [
+            ([granted], set()),
+            ([granted, ("confirm 1-1", b"confirmed 1\n")], {"done 1"}),
+            ([granted, ("confirm 1-1", b"refused 31 expired\n")], set()),
+            ([granted, lost], {"unsure 1-1"}),
+            ([granted, lost, ("outcome 1-1", b"outcome never\n")], set()),
+            ([granted, lost, ("outcome 1-1", b"outcome open\n")], {"unsure 1-1"}),
+            ([granted, lost, outcome], {"done 1", "unsure 1-1"}),
+            ([granted, lost, outcome, ("log 1", b"entry 1 a\n")], {"done 1"}),
+            ([granted, lost, outcome, ("log 1", b"entry 1 b\n")], {"unsure 1-1"}),
+        ]
+        for lines, wanted in rows:
+            judge = Judge("a")
+            for line, sent in lines:
+                judge.hear(line, sent)
+            with self.subTest(str(lines)):
+                self.assertEqual((judge.wanted(), judge.broken), (wanted, []))
+
+
 class TestConformance(unittest.TestCase):
     def test_each_wrong_way_is_seen(self) -> None:
         named = {it.name: it for it in cases()}

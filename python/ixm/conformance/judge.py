@@ -32,6 +32,7 @@ class Ticket:
     phase: Phase = Phase.GRANTED
     was_confirmed: bool = False  # a confirm was sent, so it may be in the history
     number: str = ""
+    is_to_check: bool = False  # done by an outcome, and the log wasn't heard yet
 
 
 @dataclass
@@ -112,6 +113,7 @@ class Judge:
     def hear_outcome(self, ticket: Ticket, reply: str | None) -> None:
         self.met.add(4)
         self.outcomes += 1
+        ticket.is_to_check = True
         number = protocol.OUTCOME_CONFIRMED.read(reply)
         if number is not None:
             ticket.phase, ticket.number = Phase.DONE, number
@@ -121,11 +123,12 @@ class Judge:
             ticket.phase = Phase.GRANTED
 
     def hear_entry(self, reply: str) -> None:
-        """An entry of another action: what was told of its number isn't about this one."""
+        """If an entry is another action's, what was told of its number isn't about this one."""
         for it in self.tickets.values():
             told = f"entry {it.number} "
-            if it.phase is Phase.DONE and reply.startswith(told) and reply != told + self.action:
-                it.phase = Phase.MIXED
+            if it.phase is Phase.DONE and reply.startswith(told):
+                it.is_to_check = False
+                it.phase = Phase.DONE if reply == told + self.action else Phase.MIXED
 
     def end(self, put: str, rule: int) -> None:
         """The client ended by itself, and put this. If that isn't what it was told, this rule is
@@ -142,8 +145,10 @@ class Judge:
     def wanted(self) -> set[str]:
         """The lines that it may put; none of them where it may put any line that says neither."""
         confirmed = {name: it for name, it in self.tickets.items() if it.was_confirmed}
-        done = {f"done {it.number}" for it in confirmed.values() if it.phase is Phase.DONE}
-        return done or {f"unsure {name}" for name, it in confirmed.items() if it.phase is not Phase.NEVER}
+        done = [name for name, it in confirmed.items() if it.phase is Phase.DONE]
+        open_ones = [name for name, it in confirmed.items() if it.phase is not Phase.NEVER]
+        unsure = [name for name in done or open_ones if confirmed[name].is_to_check or not done]
+        return {f"done {confirmed[it].number}" for it in done} | {f"unsure {it}" for it in unsure}
 
 
 def whole_line(sent: bytes) -> str | None:
