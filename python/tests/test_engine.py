@@ -28,7 +28,7 @@ Row = list[tuple[str, str]]
 
 A = "call(anna,xray)"
 ASK = f"ask {A} 5000"
-TURN = ("front wait 8000", "refused 11 word")
+TURN = ("front wait 60000", "refused 11 word")
 WATCH = f"watch e_1 {A}"
 DROPPED = [(f"drop e_1 {A}", "dropped")]
 DONE = [TURN, (ASK, "granted 1-3"), ("confirm 1-3", "confirmed 8")]
@@ -92,7 +92,7 @@ class TestEngine(Place):
     def test_an_action_is_done_over_all_that_may_pass(self) -> None:
         rows = [
             ("at once", [DONE], 8),
-            ("behind a front", [[("front wait 8000", "yes"), *DONE[1:]]], 8),
+            ("behind a front", [[("front wait 60000", "yes"), *DONE[1:]]], 8),
             ("busy", [[TURN, (ASK, "refused 20 busy until 9")], DONE], 8),
             ("not permitted until a poll tells", [
                 REFUSED, [(WATCH, "watching no")], [("poll e_1", "changes 0")], [("poll e_1", f"changes 1\nyes {A}")],
@@ -130,7 +130,7 @@ class TestEngine(Place):
         for name, connections, number in rows:
             with self.subTest(name):
                 store = MemoryStore()
-                done = self.play(connections, lambda engine: engine.activity(A, store=store, within=20))
+                done = self.play(connections, lambda engine: engine.activity(A, store=store, within=100))
                 self.assertEqual(done, number)
                 kept = read_record(store.text or "")
                 self.assertEqual((kept.state, kept.number) if kept else None, ("done", number))
@@ -148,7 +148,7 @@ class TestEngine(Place):
         for row, ticket in rows:
             store = MemoryStore()
             with self.subTest(row[-1]), self.assertRaises(ForPeople) as raised:
-                self.play([row], lambda engine: engine.activity(A, store=store, within=20))
+                self.play([row], lambda engine: engine.activity(A, store=store, within=100))
             self.assertEqual((raised.exception.ticket, raised.exception.may_count), (ticket, ticket is not None))
             self.assertEqual(store.text, OPEN if ticket else None)
 
@@ -164,7 +164,7 @@ class TestEngine(Place):
         for name, row in rows:
             store = MemoryStore(OPEN)
             with self.subTest(name), self.assertRaises(ForPeople) as raised:
-                self.play([[TURN, *row]], lambda engine: engine.activity(A, store=store, within=20))
+                self.play([[TURN, *row]], lambda engine: engine.activity(A, store=store, within=100))
             self.assertEqual((raised.exception.ticket, store.text), ("1-3", OPEN))
 
     def test_a_store_decides_what_is_asked(self) -> None:
@@ -174,14 +174,14 @@ class TestEngine(Place):
         for text, connections in rows:
             store = MemoryStore(text)
             with self.subTest(str(text)):
-                self.assertEqual(self.play(connections, lambda engine: engine.activity(A, store=store, within=20)), 8)
+                self.assertEqual(self.play(connections, lambda engine: engine.activity(A, store=store, within=100)), 8)
                 self.assertEqual(store.text, KEPT)
 
     def test_a_store_of_something_else_is_refused(self) -> None:
         for text in ("", "open", f"open 1 {A}", f"open 01-3 {A}", f"done 1-3 x {A}", f"open 1-3 {A} x", f"lost 1-3 {A}",
                      "open 1-3 call(ben,xray)", "done 1-3 8 call(ben,xray)"):
             with self.subTest(text), self.assertRaises(ForPeople):
-                self.play([], lambda engine: engine.activity(A, store=MemoryStore(text), within=20))
+                self.play([], lambda engine: engine.activity(A, store=MemoryStore(text), within=100))
 
     def test_a_store_that_fails_gives_the_grant_up(self) -> None:
         class Full(MemoryStore):
@@ -190,7 +190,7 @@ class TestEngine(Place):
 
         rows = [*DONE[:2], ("cancel 1-3", "cancelled 1-3")]
         with self.assertRaises(NotKept) as raised:
-            self.play([rows], lambda engine: engine.activity(A, store=Full(), within=20))
+            self.play([rows], lambda engine: engine.activity(A, store=Full(), within=100))
         self.assertIsNone(raised.exception.ticket)
 
         class FullBehind(MemoryStore):
@@ -198,7 +198,7 @@ class TestEngine(Place):
                 return super().swap(old, new) if new.startswith("open ") else Full().swap(old, new)
 
         with self.assertRaises(NotKept) as raised:
-            self.play([DONE], lambda engine: engine.activity(A, store=FullBehind(), within=20))
+            self.play([DONE], lambda engine: engine.activity(A, store=FullBehind(), within=100))
         self.assertEqual(raised.exception.ticket, "1-3")
 
     def test_a_ticket_beside_another_run_s_is_given_up(self) -> None:
@@ -210,7 +210,7 @@ class TestEngine(Place):
                 return super().swap(old, new)
 
         rows = [*DONE[:1], (ASK, "granted 1-4"), ("cancel 1-4", "cancelled 1-4")]
-        self.assertEqual(self.play([rows], lambda engine: engine.activity(A, store=Met(), within=20)), 8)
+        self.assertEqual(self.play([rows], lambda engine: engine.activity(A, store=Met(), within=100)), 8)
 
     def test_a_store_that_says_another_thing_is_for_people(self) -> None:
         class Contrary(MemoryStore):
@@ -221,15 +221,15 @@ class TestEngine(Place):
                 return self.text == new
 
         with self.assertRaises(ForPeople) as raised:
-            self.play([DONE], lambda engine: engine.activity(A, store=Contrary(), within=20))
+            self.play([DONE], lambda engine: engine.activity(A, store=Contrary(), within=100))
         self.assertEqual(raised.exception.ticket, "1-3")
 
     def test_no_ask_is_sent_before_the_turn_came(self) -> None:
-        self.assertEqual(self.play([[(TURN[0], SILENCE)], DONE], lambda engine: engine.do(A, within=20), turn=0.2), 8)
+        self.assertEqual(self.play([[(TURN[0], SILENCE)], DONE], lambda engine: engine.do(A, within=100), turn=0.2), 8)
 
     def test_the_ticket_that_its_caller_kept_is_asked_for_first(self) -> None:
         row = [TURN, (OUTCOME, "outcome confirmed 8"), log(8)]
-        self.assertEqual(self.play([row], lambda engine: engine.do(A, within=20, ticket="1-3")), 8)
+        self.assertEqual(self.play([row], lambda engine: engine.do(A, within=100, ticket="1-3")), 8)
 
     def test_the_time_of_the_caller(self) -> None:
         with self.assertRaises(TooLate) as raised:
@@ -248,7 +248,7 @@ class TestEngine(Place):
             machine, store = Machine(), MemoryStore()
             plays = Faulty(machine, lambda number, line: fate if number == place else None)
             with self.subTest((place, fate)), Played(self.path, plays):
-                self.assertEqual(self.engine(lease=50).activity(A, store=store, within=20), 1)
+                self.assertEqual(self.engine(lease=50).activity(A, store=store, within=100), 1)
                 self.assertEqual(machine.actions, [A])
 
     def test_a_turn_isn_t_waited_for_beyond_the_caller_s_time(self) -> None:
@@ -327,13 +327,13 @@ class TestAsyncEngine(TestEngine):
 
             async def run() -> int:
                 engine = AsyncEngine(self.path, "e", pause=0.01, lease=50)
-                first = asyncio.ensure_future(engine.activity(A, store=store, within=20))
+                first = asyncio.ensure_future(engine.activity(A, store=store, within=100))
                 while len(plays.heard) < place:
                     await asyncio.sleep(0.001)
                 first.cancel()
                 with contextlib.suppress(asyncio.CancelledError):
                     await first
-                return await engine.activity(A, store=store, within=20)
+                return await engine.activity(A, store=store, within=100)
 
             with self.subTest(place), Played(self.path, plays):
                 self.assertEqual(asyncio.run(run()), 1)

@@ -28,7 +28,7 @@ public final class Engine {
             int lease, Duration turn, int frontWait, Duration pause, Optional<SSLContext> tls) {
         public static Settings standard() {
             Duration turn = Duration.ofSeconds(60);
-            return new Settings(5000, turn, 8000, Duration.ofSeconds(2), Optional.empty());
+            return new Settings(5000, turn, 60000, Duration.ofSeconds(2), Optional.empty());
         }
 
         public Settings withLease(int millis) {
