@@ -78,10 +78,9 @@ class Order(Place):
         engine = f"""
 import sys
 sys.path.insert(0, {os.path.join(HERE, "../../python")!r})
-import ixm.core
-from ixm.engine import Engine
-ixm.core.REPLY = 0.5
-print(Engine({front.path!r}, "e").do("do(e)"))
+from ixm import core, engine
+core.REPLY = 0.5
+print(engine.Engine({front.path!r}, "e").do("do(e)"))
 """
         with Client(front.path) as holder, Client(front.path) as later:
             ticket = holder.ticket("do(a)")
