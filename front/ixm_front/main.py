@@ -109,7 +109,7 @@ class Program:
         options, handed = self.options, handed_over()
         if options.tls_cert and options.tls_key and options.tls_ca:
             files = Files(options.tls_cert, options.tls_key, options.tls_ca, options.tls_crl)
-            self.guests = Guests(self.loop, files, self.front.welcome, self.refuse_guest)
+            self.guests = Guests(self.loop, files, options.silent_time, self.front.welcome, self.refuse_guest)
             self.guests.on_fault = self.pass_over
             sockets = handed["tls"] + ([tcp_socket(options.tls)] if options.tls else [])
             self.doors += [Door(sock, self.loop, self.guests.take) for sock in sockets]

@@ -50,6 +50,7 @@ class Options:
     tls_key: str | None
     tls_ca: str | None
     tls_crl: str | None
+    silent_time: float
 
     def places_of_a_user(self) -> int:
         """How many connections one user may have."""
@@ -157,6 +158,8 @@ def parser_of() -> argparse.ArgumentParser:
     add("--tls-key", metavar="FILE", help="its key")
     add("--tls-ca", metavar="FILE", help="who signs the certificates that they show")
     add("--tls-crl", metavar="FILE", help="which of these are revoked")
+    add("--silent-time", type=seconds, default=30, metavar="SECONDS",
+        help="behind which a client of the network that gives no sign is gone")
     return parser
 
 

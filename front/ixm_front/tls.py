@@ -21,6 +21,7 @@ HANDSHAKE = 10.0  # seconds in which a handshake has to be done
 HANDSHAKES = 64  # at once; a connection above that is closed
 PIECE = 4096  # bytes that are carried at once
 NAME_LIMIT = 64
+TCP_USER_TIMEOUT = 18  # of Linux, in milliseconds; not every description of the module `socket` has it
 
 
 @dataclass(frozen=True)
@@ -65,10 +66,11 @@ def name_in(certificate: dict[str, Any]) -> str:
 class Guests:
     """Takes connections of the network, and hands over those that showed a good certificate."""
 
-    def __init__(self, loop: asyncio.AbstractEventLoop, files: Files, taken: Callable[[socket.socket, Who], None],
-                 refused: Callable[[str, str], None]) -> None:
+    def __init__(self, loop: asyncio.AbstractEventLoop, files: Files, silent: float,
+                 taken: Callable[[socket.socket, Who], None], refused: Callable[[str, str], None]) -> None:
         self.loop = loop
         self.files = files
+        self.silent = silent  # seconds after which a client of whom the network tells nothing is gone
         self.taken = taken
         self.refused = refused  # is told why and from where
         self.on_fault: Callable[[BaseException], None] = lambda fault: None
@@ -98,6 +100,7 @@ class Guests:
             sock.close()
             return
         sock.setblocking(False)
+        ask_for_signs(sock, self.silent)
         task = self.loop.create_task(self._serve(sock))
         self._tasks.add(task)
         task.add_done_callback(self._is_done)
@@ -163,6 +166,14 @@ class Guests:
             while data := await self.loop.sock_recv(outer, 16 * PIECE):
                 writer.write(data)
                 await writer.drain()
+
+
+def ask_for_signs(sock: socket.socket, silent: float) -> None:
+    """Has the system ask the other end for a sign of life where nothing comes, so that it is told to be gone in time."""
+    sock.setsockopt(socket.SOL_SOCKET, socket.SO_KEEPALIVE, 1)
+    for option, value in ((socket.TCP_KEEPIDLE, max(1, int(silent / 2))), (socket.TCP_KEEPINTVL, max(1, int(silent / 6))),
+                          (socket.TCP_KEEPCNT, 3), (TCP_USER_TIMEOUT, int(silent * 1000))):
+        sock.setsockopt(socket.IPPROTO_TCP, option, value)
 
 
 def address_of(sock: socket.socket) -> str:

@@ -8,10 +8,11 @@ import signal
 import socket
 import ssl
 import subprocess
+import sys
 import time
 import unittest
 
-from .support import Client, Front, Manager, Place, listens, records, wait_until
+from .support import Client, Front, Manager, Place, listens, metric, read_records, records, wait_until
 from .test_monitoring import free_port
 
 AUTHORITY = """
@@ -211,3 +212,82 @@ class Tls(Place):
         client = self.of("soon")
         self.assertEqual(client.request("may do(a)"), "yes")
         self.assertIsNone(client.reply())
+
+
+# Sends each line that it reads over a TLS connection, and puts its reply.
+ELSEWHERE = """
+import socket, ssl, sys
+at, host, name = sys.argv[1:]
+context = ssl.create_default_context(cafile=f"{at}/ca.pem")
+context.check_hostname = False
+context.load_cert_chain(f"{at}/{name}.pem", f"{at}/{name}.key")
+with context.wrap_socket(socket.create_connection((host, 7443), timeout=30)) as sock:
+    replies = sock.makefile("r")
+    for line in sys.stdin:
+        sock.sendall(line.encode())
+        print(replies.readline(), end="", flush=True)
+"""
+
+
+def can_have_networks() -> bool:
+    """Whether this process may make networks of its own."""
+    if os.getuid() != 0 or shutil.which("ip") is None or shutil.which("openssl") is None:
+        return False
+    name = f"ixm-{os.getpid()}"
+    quiet = {"stdout": subprocess.DEVNULL, "stderr": subprocess.DEVNULL}
+    made = subprocess.run(["ip", "netns", "add", name], **quiet).returncode == 0  # type: ignore[call-overload]
+    if made:
+        subprocess.run(["ip", "netns", "del", name], check=True)
+    return bool(made)
+
+
+class OverNetwork(Place):
+    """The front and its client are on two machines, as far as the network goes: two namespaces and a link between."""
+
+    def setUp(self) -> None:
+        super().setUp()
+        if not can_have_networks():
+            self.skipTest("no networks can be made here")
+        self.house, self.lab = f"ixm-house-{os.getpid()}", f"ixm-lab-{os.getpid()}"
+        for network in (self.house, self.lab):
+            self.ip("netns", "add", network)
+            self.addCleanup(self.ip, "netns", "del", network)
+        self.ip("link", "add", "to_lab", "netns", self.house, "type", "veth", "peer", "name", "to_house", "netns", self.lab)
+        for network, link, address in ((self.house, "to_lab", "10.213.0.1/24"), (self.lab, "to_house", "10.213.0.2/24")):
+            self.ip("-n", network, "addr", "add", address, "dev", link)
+            self.ip("-n", network, "link", "set", link, "up")
+
+    def ip(self, *words: str) -> None:
+        subprocess.run(["ip", *words], check=True)
+
+    def test_a_client_on_another_machine(self) -> None:
+        """It works, and where its link goes silent it is gone soon: its place is free, and its grant is given back."""
+        at = f"{self.folder}/authority"
+        authority = Authority(at)
+        for name in ("server", "lab"):
+            authority.sign(name, f"/CN={name}.example")
+        front = Front(self.folder, self.manager().path, "--page", f"{self.folder}/page", "--silent-time", "3",
+                      "--cancel-unspent", "--tls", "10.213.0.1:7443", "--tls-cert", f"{at}/server.pem", "--tls-key",
+                      f"{at}/server.key", "--tls-ca", f"{at}/ca.pem")
+        front.words[:0] = ["ip", "netns", "exec", self.house]
+        self.addCleanup(front.stop, signal.SIGKILL)
+        front.start()
+        words = ["ip", "netns", "exec", self.lab, sys.executable, "-c", ELSEWHERE, at, "10.213.0.1", "lab"]
+        process = subprocess.Popen(words, stdin=subprocess.PIPE, stdout=subprocess.PIPE, text=True, bufsize=1)
+        assert process.stdin is not None and process.stdout is not None
+        try:
+            process.stdin.write("ask do(a) 86400000\n")
+            ticket = process.stdout.readline().split()[1]
+            process.stdin.write(f"confirm {ticket}\n")
+            self.assertEqual(process.stdout.readline(), "confirmed 1\n")
+            process.stdin.write("ask do(b) 86400000\n")
+            self.assertTrue(process.stdout.readline().startswith("granted "))
+            self.ip("-n", self.lab, "link", "set", "to_house", "down")
+            wait_until(lambda: metric(self.folder, 'ixm_front_closed_total{cause="gone"}') == 1, "it is gone")
+            told = next(it for it in read_records(f"{self.folder}/log") if it.get("request") == f"confirm {ticket}")
+            self.assertEqual((told["cert"], told["address"].partition(":")[0]), ("lab.example", "10.213.0.2"))
+            with Client(front.path) as here:
+                self.assertTrue(here.told("ask do(c) 1000").startswith("granted "))
+        finally:
+            process.kill()
+            process.communicate()
