@@ -69,7 +69,7 @@ class Logged(Place):
         os.kill(front.pid, signal.SIGHUP)
         wait_until(lambda: os.path.exists(self.logged()), "the new file")
         self.act(front, "do(c)")
-        wait_until(lambda: last_record(self.logged()).get("reply") == "confirmed 3", "the new file is written")
+        wait_until(lambda: last_record(self.logged()).get("reply") == "confirmed 3", "it goes on in the new file")
         status, lines = audit(f"{self.folder}/journal", kept, self.logged())
         self.assertEqual((status, lines[-1]), (0, "3 actions: all asked for and confirmed by the log, whose chain is whole"))
 

@@ -32,7 +32,7 @@ class Metrics(Place):
         manager = self.manager()
         front = self.paged(manager.path, "--file", f"{self.folder}/ixm.prom", "--every", "0.2")
         wait_until(lambda: os.path.exists(f"{self.folder}/ixm.prom"), "the file is written")
-        self.assertEqual(metric(self.folder, "ixm_front_up"), 1)
+        wait_until(lambda: metric(self.folder, "ixm_front_up") == 1, "the manager answers")
         self.assertEqual(metric(self.folder, "ixm_history_length"), 0)
         os.kill(manager.pid, signal.SIGSTOP)
         try:
@@ -68,6 +68,8 @@ class Metrics(Place):
     def test_the_page_on_this_machines_network(self) -> None:
         port = free_port()
         front = self.front(self.manager().path, "--page", f"127.0.0.1:{port}")
+        with Client(front.path) as client:
+            self.assertEqual(client.request("may do(a)"), "yes")
         url = f"http://127.0.0.1:{port}"
         with urllib.request.urlopen(f"{url}/metrics?name=x") as reply:
             self.assertIn(b"\nixm_front_up 1\n", reply.read())
