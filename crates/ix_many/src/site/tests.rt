@@ -108,9 +108,12 @@ fn the_65th_is_taken_behind_a_closed_one(rt: HostRuntime) -> Result<(), Fail> {
     let mut site = ManySite::new(rt.alloc(), &rt);
     let mut buf = [0; 64];
     assert!(rt; site.listen(&socket).is_ok());
-    let mut clients = connect_all(&rt, &socket, 65)?;
+    let _before = connect_all(&rt, &socket, 5)?;
+    let mut leaving = UnixStream::connect(&rt, &socket)?;
+    leaving.write_all(b"x")?;
+    let _behind = connect_all(&rt, &socket, 59)?;
     assert!(rt; each_has_its_turn(&mut site, &mut buf));
-    drop(clients.swap_remove(5));
+    drop(leaving);
     assert_eq!(rt; came(&mut site, &mut buf), Some((5, EventKind::Closed)));
     assert_eq!(rt; came(&mut site, &mut buf), Some((5, EventKind::Bytes(1))));
     fs::remove_dir_all(&rt, &folder)?;
