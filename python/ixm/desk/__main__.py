@@ -1,0 +1,5 @@
+import sys
+
+from ixm.desk.main import main
+
+sys.exit(main())
