@@ -1,5 +1,5 @@
 """The desk of the author of rules (docs/desk.md): expansions with their places, each fault with its sentence, checks and
-suites by the real program."""
+suites by the real program, and drawings, whose parser is tried against the program's."""
 
 import contextlib
 import io
@@ -8,8 +8,11 @@ import subprocess
 import tempfile
 import unittest
 from unittest import mock
+from xml.etree import ElementTree
 
 from ixm.desk import main, program
+from ixm.desk.drawing import LETTER, TITLES, draw
+from ixm.desk.forms import Form, parse
 from ixm.desk.parts import expand
 from ixm.desk.texts import place
 from ixm.trials import built
@@ -288,6 +291,107 @@ class TestSuites(Case):
         words = ["python3", "-m", "ixm.desk", "test", f"{EXAMPLE}/rules", f"{EXAMPLE}/cases"]
         ended = subprocess.run(words, cwd=f"{TOP}/python", capture_output=True, text=True)
         self.assertEqual((ended.returncode, ended.stdout), (0, "cases 7, right 7, wrong 0\n"))
+
+
+SVG = "{http://www.w3.org/2000/svg}"
+KEPT = os.path.join(TOP, "docs", "desk")
+HOUSES = {"hospital": "hospital/expression", "signatures": "signatures/expression", "nurses": "nurses/expression",
+          "department": "desk/rules"}
+FORMS = [
+    "((a)) - (b)", "a - (b - c)", "a - b - c", "(a | b) & c @ d + e - f", "?(*a) | #(b - c)", "? * # a", "*(a | b)",
+    "times 2 ((a))", "any $x times 3 ?a(1,$x) | b", "any $x every $y sync $z (a($x,$y,$z) - b)", "all $p (a($p) + b($p))",
+    "any $x (a | a($x)) - b", "let_go(any,times)", "a & (b | c) & d", "(a @ b) @ (c @ d)", "any$x(a($x))",
+]
+
+
+def expressions() -> list[str]:
+    """The expressions of all examples, and some more of each form."""
+    found = []
+    for folder in sorted(os.listdir(f"{TOP}/examples")):
+        path = f"{TOP}/examples/{folder}/expression"
+        if os.path.exists(path):
+            with open(path) as file:
+                found.append(file.read())
+    return found + FORMS
+
+
+class TestDrawings(Case):
+    def simplified(self, text: str) -> str:
+        words = [program.path(), "simplify", self.file(text)]
+        return subprocess.run(words, stdout=subprocess.PIPE, text=True).stdout
+
+    def test_the_program_reads_the_same_form(self) -> None:
+        texts = expressions()
+        self.assertGreater(len(texts), len(FORMS) + 15)
+        for text in texts:
+            with self.subTest(text):
+                wanted = self.simplified(text)
+                self.assertNotIn("refused", wanted)
+                self.assertEqual(self.simplified(parse(text).text()), wanted)
+                self.assertEqual(parse(wanted).text() + "\n", wanted)
+
+    def test_faults(self) -> None:
+        for text, where in (("a -", "1:4"), ("a b", "1:3"), ("let v = a -;\n\n v", "1:12"), ("any b", "1:5"),
+                            ("times a", "1:7"), ("a(b", "1:4"), ("a()", "1:3"), ("(a", "1:3"), ("a)", "1:2"),
+                            ("?" * 65 + "a", "1:66"), ("", "1:1")):
+            with self.subTest(text):
+                path = self.file(text)
+                self.assertEqual(run("draw", path), (1, "", f"{path}:{where}: the drawing can't read on here\n"))
+
+    def test_each_operator_is_drawn(self) -> None:
+        for text, title in (("a - b", "-"), ("a | b", "|"), ("a & b", "&"), ("a @ b", "@"), ("a + b", "+"),
+                            ("?a", "?"), ("*a", "*"), ("#a", "#"), ("any $p a", "any"), ("every $p a", "every"),
+                            ("sync $p a", "sync"), ("all $p a", "all"), ("times 2 a", "times")):
+            with self.subTest(text):
+                found = ElementTree.fromstring(draw(parse(text)))
+                titles = [element.text or "" for element in found.iter(f"{SVG}title")]
+                self.assertTrue(any(one.endswith(TITLES[title]) for one in titles[1:]), titles)
+        with self.assertRaises(KeyError):
+            draw(Form("%", "%", (Form("atom", "a"),)))
+
+    def test_the_kept_drawings(self) -> None:
+        for name, rules in HOUSES.items():
+            with self.subTest(name):
+                status, put, errors = run("draw", f"{TOP}/examples/{rules}")
+                self.assertEqual((status, errors), (0, ""))
+                with open(f"{KEPT}/{name}.svg") as file:
+                    self.assertEqual(put, file.read())
+
+    def test_each_atom_is_read_in_its_box(self) -> None:
+        for text in [*expressions(), "a(1) - b(2,$x) | *(c + #d)"]:
+            with self.subTest(text):
+                found = ElementTree.fromstring(draw(parse(text)))
+                self.assertEqual([one[2].text for one in boxes(found)], atoms(parse(text)))
+                for one in boxes(found):
+                    left, right = int(one[1].attrib["x"]), int(one[1].attrib["x"]) + int(one[1].attrib["width"])
+                    self.assertEqual(one[0].text, one[2].text)
+                    self.assertGreater(int(one[2].attrib["x"]), left)
+                    self.assertLess(int(one[2].attrib["x"]) + LETTER * len(one[2].text or ""), right)
+                    self.assertLess(right, int(found.attrib["width"]))
+
+    def test_no_two_atoms_overlap(self) -> None:
+        for text in expressions():
+            with self.subTest(text):
+                found = ElementTree.fromstring(draw(parse(text)))
+                areas = [[int(one[1].attrib[name]) for name in ("x", "y", "width", "height")] for one in boxes(found)]
+                self.assertEqual(len(areas), len(atoms(parse(text))))
+                for number, (x, y, width, height) in enumerate(areas):
+                    for left, top, wide, high in areas[:number]:
+                        apart = x >= left + wide or left >= x + width or y >= top + high or top >= y + height
+                        self.assertTrue(apart, (x, y, left, top))
+
+
+def boxes(drawing: ElementTree.Element) -> list[ElementTree.Element]:
+    """The groups of the atoms: a title, a box and a text each."""
+    groups = drawing.iter(f"{SVG}g")
+    return [group for group in groups if [part.tag for part in group] == [f"{SVG}{name}" for name in ("title", "rect", "text")]]
+
+
+def atoms(form: Form) -> list[str]:
+    """The texts of the atoms, from the left to the right."""
+    if form.operator == "atom":
+        return [form.word]
+    return [text for operand in form.operands for text in atoms(operand)]
 
 
 if __name__ == "__main__":

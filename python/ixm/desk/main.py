@@ -6,6 +6,8 @@ from collections.abc import Callable, Iterator
 from contextlib import contextmanager
 
 from ixm.desk import cases, program
+from ixm.desk.drawing import draw
+from ixm.desk.forms import parse
 from ixm.desk.parts import Expanded, expand
 from ixm.desk.texts import Fault, Undecoded, place, read
 
@@ -60,10 +62,23 @@ def run_test(rules: str, suite: str) -> int:
     return WRONG if lines else WELL
 
 
+def run_draw(rules: str) -> int:
+    source, expression = expanded(rules, WRONG)
+    with placed(rules, source, WRONG):
+        try:
+            form = parse(expression.text)
+        except Fault as fault:
+            byte = len(expression.text[: fault.at].encode())
+            raise Fault(expression.source(byte), fault.sentence) from None
+    print(draw(form), end="")
+    return WELL
+
+
 COMMANDS: dict[str, tuple[int, Callable[..., int]]] = {
     "expand": (1, run_expand),
     "check": (1, run_check),
     "test": (2, run_test),
+    "draw": (1, run_draw),
 }
 
 
