@@ -12,7 +12,7 @@ import sys
 import time
 import unittest
 
-from .support import Client, Front, Manager, Place, listens, metric, read_records, records, wait_until
+from .support import Client, Front, Manager, Place, listens, metric, records, wait_until
 from .test_monitoring import free_port
 
 AUTHORITY = """
@@ -284,7 +284,9 @@ class OverNetwork(Place):
             self.assertTrue(process.stdout.readline().startswith("granted "))
             self.ip("-n", self.lab, "link", "set", "to_house", "down")
             wait_until(lambda: metric(self.folder, 'ixm_front_closed_total{cause="gone"}') == 1, "it is gone")
-            told = next(it for it in read_records(f"{self.folder}/log") if it.get("request") == f"confirm {ticket}")
+            confirm = f"confirm {ticket}"
+            found = records(self.folder, lambda found: any(it.get("request") == confirm for it in found))
+            told = next(it for it in found if it.get("request") == confirm)
             self.assertEqual((told["cert"], told["address"].partition(":")[0]), ("lab.example", "10.213.0.2"))
             with Client(front.path) as here:
                 self.assertTrue(here.told("ask do(c) 1000").startswith("granted "))
