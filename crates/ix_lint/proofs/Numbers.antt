@@ -45,17 +45,13 @@ first_right (x ∷ xs) ys e = absurd (cc)
 
 -- Searches for a partner
 
-pub partner_one : (numbers : List ℕ) (n size : ℕ) (r : Partner) → IsPartner numbers (n + 1) size r → IsPartner numbers n (suc size) r
-partner_one numbers n size (partner.Found k) h = h
-partner_one numbers n size (partner.Behind next) h = (h.0, omega (arith, h.1))
-
-pub partner_left : (p : List ℕ) (s : Held) (n k : ℕ) (xs ys : List Spot) → first (partners p s (numbered (n + 1) xs)) ≡ Some k → first (partners p s (numbered (n + 1) (xs ++ ys))) ≡ Some k
-partner_left p s n k xs ys h =
+pub found_left : (p : List ℕ) (s : Held) (n k : ℕ) (xs ys : List Spot) → first (partners p s (numbered (n + 1) xs)) ≡ Some k → first (partners p s (numbered (n + 1) (xs ++ ys))) ≡ Some k
+found_left p s n k xs ys h =
     ap first (made_of_two _ (n + 1) (n + 1 + length xs) xs ys refl) ∙ first_left (partners p s (numbered (n + 1) xs)) (partners p s (numbered (n + 1 + length xs) ys)) h
 
-pub partner_right : (p : List ℕ) (s : Held) (n m : ℕ) (xs ys : List Spot) (r : Partner) → first (partners p s (numbered (n + 1) xs)) ≡ None → m ≡ n + 1 + length xs → IsPartner (partners p s (numbered m ys)) m (length ys) r →
+pub found_right : (p : List ℕ) (s : Held) (n m : ℕ) (xs ys : List Spot) (r : Partner) → first (partners p s (numbered (n + 1) xs)) ≡ None → m ≡ n + 1 + length xs → IsPartner (partners p s (numbered m ys)) m (length ys) r →
     IsPartner (partners p s (numbered (n + 1) (xs ++ ys))) n (suc (length (xs ++ ys))) r
-partner_right p s n m xs ys r h e k = moved r k
+found_right p s n m xs ys r h e k = moved r k
   where
     both : first (partners p s (numbered (n + 1) (xs ++ ys))) ≡ first (partners p s (numbered m ys))
     both = ap first (made_of_two _ (n + 1) m xs ys e) ∙ first_right (partners p s (numbered (n + 1) xs)) (partners p s (numbered m ys)) h
@@ -65,10 +61,6 @@ partner_right p s n m xs ys r h e k = moved r k
     moved (partner.Behind next) k = (both ∙ k.0, omega (arith, k.1, e, length_append xs ys))
 
 -- and for a pair
-
-pub pair_one : (numbers : List (ℕ × ℕ)) (n size : ℕ) (r : Pair) → IsPair numbers (n + 1) size r → IsPair numbers n (suc size) r
-pair_one numbers n size (pair.Found k l) h = h
-pair_one numbers n size (pair.Behind next) h = (h.0, omega (arith, h.1))
 
 pub pair_left : (p : List ℕ) (others : List (ℕ × Spot)) (n k l : ℕ) (xs ys : List Spot) → first (pairs p others (numbered (n + 1) xs)) ≡ Some (k, l) → first (pairs p others (numbered (n + 1) (xs ++ ys))) ≡ Some (k, l)
 pair_left p others n k l xs ys h =

@@ -50,7 +50,6 @@ fn is_leading(places: &[Place], name: &Name, most: usize, place: &Place) -> bool
 }
 
 /// The first of the atoms that has this name and this frequency.
-
 fn first_leading(places: &[Place], name: &Name, most: usize) -> Option<Place>
     ensures { result ≡ find (spec.is_leading places.now name.now most) places.now }
 {
@@ -63,7 +62,6 @@ fn first_leading(places: &[Place], name: &Name, most: usize) -> Option<Place>
 }
 
 /// The first of these atoms with the name and the number of arguments of this one.
-
 fn first_alike(places: &[Place], atom: &Atom) -> Option<Place>
     ensures { result ≡ find (spec.is_like atom.now) places.now }
 {

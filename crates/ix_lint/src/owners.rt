@@ -66,7 +66,7 @@ fn can_share(parameter: &Name, first: &Held, second: &Held) -> bool
 
 /// The first atom of the part that can share an action with this one. The nodes of the part are
 /// numbered from `node`, and these are above it.
-#[tactic(auto, using(crate::proofs::Numbers::partner_one, crate::proofs::Numbers::partner_left, crate::proofs::Numbers::partner_right,))]
+#[tactic(auto, using(crate::proofs::Numbers::found_left, crate::proofs::Numbers::found_right,))]
 fn find_partner(parameter: &Name, first: &Held, part: &Expr, above: &Above, node: usize) -> Partner
     requires { node + length (spots (forms_of above.now) (form_of part.now)) < 2 ^ 64 }
     ensures { IsPartner
@@ -109,7 +109,7 @@ fn find_partner(parameter: &Name, first: &Held, part: &Expr, above: &Above, node
 
 /// The first atom of the part and the first of the body with which it can share an action. The
 /// nodes of the part are numbered from `node`, and these are above it.
-#[tactic(auto, using(crate::proofs::Numbers::pair_one, crate::proofs::Numbers::pair_left, crate::proofs::Numbers::pair_right,))]
+#[tactic(auto, using(crate::proofs::Numbers::pair_left, crate::proofs::Numbers::pair_right,))]
 fn find_pair(parameter: &Name, body: &Body, part: &Expr, above: &Above, node: usize) -> Pair
     requires body { body.now.node
         + length (spots (forms_of body.now.above.now) (form_of body.now.expr.now)) < 2 ^ 64 }

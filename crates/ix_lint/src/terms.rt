@@ -126,34 +126,27 @@ fn still_differs(parameter: &Name, replaced: &Replaced) -> bool
 /// have the values of the other's in the same places, as far as both go.
 pub(crate) fn can_differ(
     parameter: &Name,
-    firsts: &[Arg],
-    first_above: &Above,
-    seconds: &[Arg],
-    second_above: &Above,
+    args: &[Arg],
+    above: &Above,
+    others: &[Arg],
+    other_above: &Above,
     replaced: &Replaced,
 ) -> bool
     ensures { result
         ≡ spec.can_differ (pairs_of_replaced replaced.now)
-        (owners.pairs_of (forms_of first_above.now) firsts.now
-        (forms_of second_above.now) seconds.now)
+        (owners.pairs_of (forms_of above.now) args.now
+        (forms_of other_above.now) others.now)
         (Term.OfFirst parameter.now, Term.OfSecond parameter.now) }
 {
-    match firsts {
+    match args {
         [] => still_differs(parameter, replaced),
-        [first, firsts @ ..] => match seconds {
+        [arg, args @ ..] => match others {
             [] => still_differs(parameter, replaced),
-            [second, seconds @ ..] => {
-                let one = replaced.resolve(&first_term(first_above, first));
-                let other = replaced.resolve(&second_term(second_above, second));
+            [other, others @ ..] => {
+                let one = replaced.resolve(&first_term(above, arg));
+                let other = replaced.resolve(&second_term(other_above, other));
                 if same_term(&one, &other) {
-                    return can_differ(
-                        parameter,
-                        firsts,
-                        first_above,
-                        seconds,
-                        second_above,
-                        replaced,
-                    );
+                    return can_differ(parameter, args, above, others, other_above, replaced);
                 }
                 if is_value(&one) && is_value(&other) {
                     return false;
@@ -168,14 +161,7 @@ pub(crate) fn can_differ(
                     to,
                     before: &*replaced,
                 };
-                can_differ(
-                    parameter,
-                    firsts,
-                    first_above,
-                    seconds,
-                    second_above,
-                    &replaced,
-                )
+                can_differ(parameter, args, above, others, other_above, &replaced)
             }
         },
     }

@@ -110,7 +110,8 @@ impl Connection {
         came
     }
 
-    /// Sends the bytes, and keeps those that don't go out without waiting. False where they are lost.
+    /// Sends the bytes, and keeps those that don't go out without waiting. False where they are
+    /// lost.
     pub(crate) fn send(&mut self, clock: &impl Clock, bytes: &[u8]) -> bool
         ensures { self.new ≡ self.old }
     {

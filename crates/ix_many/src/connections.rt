@@ -22,7 +22,8 @@ use std::time::Duration;
 /// The token of the listener; those of the connections are their numbers.
 const LISTENER: usize = CONNECTIONS;
 
-/// After how many seconds a connection on which nothing came may be closed, where another one waits.
+/// After how many seconds a connection on which nothing came may be closed, where another one
+/// waits.
 const IDLE_TIME: u64 = 60;
 
 /// After how many seconds is looked again for those that are silent.
@@ -214,8 +215,8 @@ impl Connections {
         Ok(())
     }
 
-    /// Has those closed whose peers take nothing, and where there are none and another one waits, the
-    /// one that was silent longest.
+    /// Has those closed whose peers take nothing, and where there are none and another one waits,
+    /// the one that was silent longest.
     fn cut_silent(&mut self, clock: &impl Clock)
         ensures { self.new ≡ self.old }
     {
@@ -241,7 +242,8 @@ impl Connections {
         found
     }
 
-    /// Where all places are taken, has the one closed that was silent longest, if it was so for long.
+    /// Where all places are taken, has the one closed that was silent longest, if it was so for
+    /// long.
     fn cut_idle(&mut self, time: Duration)
         ensures { self.new ≡ self.old }
     {
@@ -273,8 +275,8 @@ impl Connections {
     }
 }
 
-/// What comes next on the connection of a place, if there is one and anything is there. One that ends
-/// is let go.
+/// What comes next on the connection of a place, if there is one and anything is there. One that
+/// ends is let go.
 fn receive_on(
     slot: &mut Option<Connection>,
     clock: &impl Clock,

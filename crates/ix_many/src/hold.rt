@@ -1,7 +1,7 @@
 //! The connection on which an action was granted just now.
 //!
-//! A manager has one reservation. Without a holder the asks of all others would come between a grant
-//! and its confirm, and each would be refused.
+//! A manager has one reservation. Without a holder the asks of all others would come between a
+//! grant and its confirm, and each would be refused.
 ghost use Rattle.std.specs.Prelude.{◌≡◌, ◌<◌, true, false, None, IfSome};
 ghost use Rattle.ix_many.specs.inside.Hold.{held};
 
@@ -46,8 +46,8 @@ impl Hold {
         }
     }
 
-    /// An action was granted on this connection: it is the holder, but only behind an event that came
-    /// in its turn. So nobody is the holder for two events in a row.
+    /// An action was granted on this connection: it is the holder, but only behind an event that
+    /// came in its turn. So nobody is the holder for two events in a row.
     pub(crate) fn grant(&mut self, place: usize)
         requires { place < 64 }
         ensures { self.new ≡ held place self.old }

@@ -12,8 +12,8 @@ use std::io::{ErrorKind, Read, Write};
 /// end too. None where nothing is there yet. No byte is lost.
 pub(crate) fn receive<S: Read>(stream: &mut S, buf: &mut [u8]) -> Option<EventKind>
     ensures piece { IfSome result (IsPiece (length buf.old)) }
-    ensures bytes { IfSome result (λ kind. Consumes (S.remaining stream.old) (S.remaining stream.new)
-        (piece_of kind buf.new)) }
+    ensures bytes { IfSome result (λ kind.
+        Consumes (S.remaining stream.old) (S.remaining stream.new) (piece_of kind buf.new)) }
     ensures none { IfNone result (Consumes (S.remaining stream.old) (S.remaining stream.new) []) }
 {
     for _ in 0..u64::MAX {
@@ -33,7 +33,8 @@ pub(crate) fn put<W: Write>(stream: &mut W, bytes: &[u8]) -> io::Result<usize>
     ensures bound { IfOk result (λ count. count ≤ length bytes.now) }
     ensures bytes { IfOk result (λ count.
         Appends (W.contents stream.old) (W.contents stream.new) (take count bytes.now)) }
-    ensures part { OnErr result (AppendsFront (W.contents stream.old) bytes.now (W.contents stream.new)) }
+    ensures part { OnErr result
+        (AppendsFront (W.contents stream.old) bytes.now (W.contents stream.new)) }
 {
     let mut count = 0;
     for _ in 0..u64::MAX {

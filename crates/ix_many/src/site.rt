@@ -26,19 +26,20 @@ use std::net::Net;
 use std::rt::Clock;
 use std::{io, rt};
 
-/// A Unix socket that serves up to 64 connections at once, and one file that no other process writes
-/// meanwhile (`Disk`).
+/// A Unix socket that serves up to 64 connections at once, and one file that no other process
+/// writes meanwhile (`Disk`).
 ///
 /// A connection has a number from 0 to 63 from its first event to its Closed; then another may have
-/// it. The events come in rounds: each connection on which something is there has one of at most 512
-/// bytes in a round. The connection that was sent a reply that begins with `granted ` comes next, out
-/// of turn, if its event comes in time: holders are waited for at most 50 ms in a round.
+/// it. The events come in rounds: each connection on which something is there has one of at most
+/// 512 bytes in a round. The connection that was sent a reply that begins with `granted ` comes
+/// next, out of turn, if its event comes in time: holders are waited for at most 50 ms in a round.
 ///
-/// No call waits for a peer. What a peer doesn't take is kept, up to 1 MiB, and sent in order; meanwhile
-/// nothing of its connection is read. Where that is too much, where there is no memory, or where the
-/// peer is gone, `send` answers Gone. A peer that takes nothing for 30 s is closed. While 64 connections
-/// are open others wait to be taken, and the one that was silent longest is closed, if it was so for
-/// 60 s. All that the wire needs but what it keeps for peers is made by `listen`.
+/// No call waits for a peer. What a peer doesn't take is kept, up to 1 MiB, and sent in order;
+/// meanwhile nothing of its connection is read. Where that is too much, where there is no memory,
+/// or where the peer is gone, `send` answers Gone. A peer that takes nothing for 30 s is closed.
+/// While 64 connections are open others wait to be taken, and the one that was silent longest is
+/// closed, if it was so for 60 s. All that the wire needs but what it keeps for peers is made by
+/// `listen`.
 #[derive(Drop)]
 pub struct ManySite<'a, R> {
     alloc: Global,
@@ -131,8 +132,8 @@ impl<R: rt::Files<File = File> + Net + Clock> Site for ManySite<'_, R> {
         }
     }
 
-    /// The next event, never an `End`. Each stream keeps its number, but that of a connection that is
-    /// Closed, whose number is free then.
+    /// The next event, never an `End`. Each stream keeps its number, but that of a connection that
+    /// is Closed, whose number is free then.
     fn next(&mut self, buf: &mut [u8]) -> Result<Event, WireFailed>
         requires { 0 < length buf.old }
         ensures numbers { ComesNumbered (length buf.old) result self.old.streams self.new.streams }

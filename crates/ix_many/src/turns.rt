@@ -63,7 +63,8 @@ impl Turns {
         self.wants.iter().any(|wants| *wants)
     }
 
-    /// The next place of this round that wants a turn. None where the round is over: another begins.
+    /// The next place of this round that wants a turn. None where the round is over: another
+    /// begins.
     pub(crate) fn next(&mut self) -> Option<usize>
         ensures next { IsNext self.old.wants self.old.at result }
         ensures same { self.new.wants ≡ self.old.wants }

@@ -46,7 +46,8 @@ impl Wire {
         })
     }
 
-    /// What comes next, and on which connection: on the holder's, if it comes in time, and else in turn.
+    /// What comes next, and on which connection: on the holder's, if it comes in time, and else in
+    /// turn.
     pub(crate) fn next(
         &mut self,
         clock: &impl Clock,
@@ -91,8 +92,8 @@ impl Wire {
         sent
     }
 
-    /// What comes next on the connection on which an action was granted, if it comes within the time
-    /// of a holder.
+    /// What comes next on the connection on which an action was granted, if it comes within the
+    /// time of a holder.
     fn receive_of_holder(
         &mut self,
         clock: &impl Clock,

@@ -14,8 +14,8 @@ use std::rt;
 /// One file, with the calls of a site's disk.
 ///
 /// The file is locked while it is attached, so that a second manager can't attach it. A read or a
-/// write that was interrupted, or that did a part, goes on. A failed call may have done a part of its
-/// work; it is counted, and no other is.
+/// write that was interrupted, or that did a part, goes on. A failed call may have done a part of
+/// its work; it is counted, and no other is.
 #[derive(Drop)]
 pub struct Disk<'a, R> {
     rt: &'a R,
