@@ -11,6 +11,7 @@ use std::alloc::Global;
 use std::test::Fail;
 
 mod bounds;
+mod findings;
 mod follows;
 mod trees;
 
