@@ -1,0 +1,6 @@
+pub mod Changes
+pub mod Fine
+pub mod Sending
+pub mod Coming
+pub mod Hearing
+pub mod Runs
