@@ -1,0 +1,7 @@
+pub mod Initial
+pub mod Asked
+pub mod Listed
+pub mod Owned
+pub mod Counts
+pub mod Blamed
+pub mod Refused

@@ -1,0 +1,7 @@
+use Rattle.std.proofs.Common.{Some, sym, ◌∙◌, subst}
+use Rattle.ix_expr.specs.FormFaults.{Fits}
+use Rattle.ix_expr.specs.inside.FormOf.{form_of}
+use Rattle.ix_why.proofs.owners.owns.Goals as goal
+
+pub in_alphabet-requires : goal.in_alphabet-requires
+in_alphabet-requires c = subst (Fits (form_of c.args.body.expr.now)) (sym (c.env.ensures ∙ c.with-inside.ensures)) (c.requires.body (Some c.args.value.now))

@@ -1,0 +1,4 @@
+-- Which parts refuse an action, by the tree of the word before; and what private contracts cite.
+pub mod Trees
+pub mod Blames
+pub mod Held
