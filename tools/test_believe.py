@@ -223,7 +223,30 @@ TEXTS = {
         (PROMISES, "`complete_words_are_partial`", "`complete_words_are_whole`")],
         "nothing is called complete_words_are_whole"),
     "a promise names another law": changed(PROMISES, "`over_tickets_stay_over`", "`told_entries_stay`"),
-    "a promise says more": changed(PROMISES, "| An entry that was told is", "| An entry that was told or wasn't is"),
+    "a promise says more": changed(PROMISES, "an entry that was told is", "an entry that was told or wasn't is"),
+    "a premise of promises is dropped": changed(PROMISES, "before a `stop`, ", ""),
+}
+
+PROMISED = {
+    "a promise's clause is gone": Way([
+        ("crates/ix_engine/src/engine.rt", "ensures not_partial", "ensures is_partial")],
+        "Engine::prepare has no clause not_partial"),
+    "a promise's clause is another call's": Way([
+        (PROMISES, "(`history`, `allowed`, `refused`)", "(`history`, `follows`)")],
+        "Engine::resume has no clause follows"),
+    "a promise's call is another type's": Way([
+        (PROMISES, "`Engine::resume`", "`Engine::handle`")], "nothing is called Engine::handle"),
+    "a promise has nothing that carries it": Way([
+        (PROMISES, "*by* `polls_tell_what_changed`", "")], "nothing carries the promise: - A poll"),
+    "a promise believes a module that is gone": Way([
+        (PROMISES, "`ix_many` Rounds", "`ix_many` Squares")], "ix_many has no module Squares"),
+    "a promise believes a definition that is gone": Way([
+        (PROMISES, "(ReadsForm)", "(ReadsForms)")], "ix_manage Trace has no ReadsForms"),
+    "a chapter believes a module that is gone": Way([
+        (PROMISES, "For all *believe* `ix_follow` Following", "For all *believe* `ix_follow` Leading")],
+        "ix_follow has no module Leading"),
+    "a promise stands in a table": Way([
+        (PROMISES, "- A poll gives", "| A poll gives")], "a table, whose names nothing looks at"),
 }
 
 HIDING = {
@@ -337,6 +360,9 @@ class Fooling(unittest.TestCase):
 
     def test_texts(self) -> None:
         self.tried(TEXTS)
+
+    def test_promised(self) -> None:
+        self.tried(PROMISED)
 
     def test_hiding(self) -> None:
         self.tried(HIDING)
