@@ -318,12 +318,13 @@ HIDING = {
 }
 
 PAGES = {
-    "a row of the page is gone": Way([
-        (PAGE, next(line for line in text(PAGE).split("\n") if line.startswith("| `ix_expr` | Meaning")) + "\n", "")],
-        "its lists aren't those of the claims", stays=False),
-    "a row of the page is a way's no more": changed(PAGE, "| t s | What expressions mean", "|  | What expressions mean",
-                                                    "its lists aren't those of the claims"),
-    "a constant of the page has another value": changed(PAGE, "| `0xA5` |", "| `0` |",
+    "a module of the page is gone": changed(PAGE, "Meaning `ts`, ", "", "its lists aren't those of the claims"),
+    "a module of the page is a way's no more": changed(PAGE, "Meaning `ts`", "Meaning `s`",
+                                                       "its lists aren't those of the claims"),
+    "a module of the page stands before one that it uses": changed(
+        PAGE, "Environment `ts`, Meaning `ts`", "Meaning `ts`, Environment `ts`",
+        "Rattle.ix_expr.specs.Meaning stands above Rattle.ix_expr.specs.Environment"),
+    "a constant of the page has another value": changed(PAGE, "OPEN is `0xA5`", "OPEN is `0`",
                                                         "its lists aren't those of the claims"),
     "a digest is gone": changed(DIGESTS, "claim ix_manage manage", "claim ix_manage other",
                                 "claim ix_manage manage is new"),
