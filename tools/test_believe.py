@@ -237,7 +237,8 @@ PROMISED = {
     "a promise's call is another type's": Way([
         (PROMISES, "`Engine::resume`", "`Engine::handle`")], "nothing is called Engine::handle"),
     "a promise has nothing that carries it": Way([
-        (PROMISES, "*by* `polls_tell_what_changed`", "")], "nothing carries the promise: - A poll"),
+        (PROMISES, "- A poll gives", "- Nothing is lost.\n- A poll gives")],
+        "nothing carries the promise: - Nothing is lost."),
     "a promise believes a module that is gone": Way([
         (PROMISES, "`ix_many` Rounds", "`ix_many` Squares")], "ix_many has no module Squares"),
     "a promise believes a definition that is gone": Way([

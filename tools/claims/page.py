@@ -11,7 +11,7 @@ from typing import Iterable
 from .antt import lines_of
 from .claims import Closure, Reached
 from .digests import declared_kind
-from .names import Declared, Definition, short_path
+from .names import Definition, short_path
 from .reading import Reading
 from .tree import PAGE
 
