@@ -8,8 +8,8 @@ they go. What is reached must be believed by whoever reads "proved".
 It ends with 1 and a line for each fault where the page doesn't list what is reached, in an order in which it can be
 read; where a text that is believed isn't the one whose digest is kept, each with what its names stand for; where a name
 can't be followed or is another's; where a claim could hide; where a definition stands on the wrong side of
-specs/inside/; and where docs/promises.md names what isn't there. With --write it first writes the tables of the page
-and the digests anew, and leaves the prose."""
+specs/inside/; and where docs/promises.md names what isn't there, or nothing that carries a promise. With --write it first
+writes the lists of the page and the digests anew, and leaves the prose."""
 
 import os
 import sys

@@ -1,15 +1,15 @@
 #!/usr/bin/env python3
-"""plants.py NAME..: runs `rt plant` on these crates, and writes what it counted into the table of docs/DECISIONS.md.
+"""plants.py NAME..: runs `rt plant` on these crates, and writes what it counted into the table of docs/gate.md.
 
-A crate's row has how many planted bodies were refused, how many couldn't be judged, the day, and what was let through
-with its reason. The reason is written by hand and kept; a crate that has no row gets one. It ends with 1 where a run of
-`rt plant` doesn't end or leaves bodies out, and where a body is let through of a crate whose row says `none`."""
+The last cells of a crate's row say how many planted bodies were refused, how many couldn't be judged, and the day; a
+crate that has no row gets one. What was let through is a list below the table, which is written by hand. It ends with 1
+if a run of `rt plant` doesn't end or leaves bodies out, and if a body is let through of a crate that isn't in the list."""
 import datetime
 import re
 import subprocess
 import sys
 
-PAGE = "docs/DECISIONS.md"
+PAGE = "docs/gate.md"
 
 
 def counts(crate):
@@ -29,13 +29,12 @@ def counts(crate):
 def with_row(page, crate, found):
     """The page with the crate's row."""
     unjudged = " %d" % found["not-judged"] if found["not-judged"] else ""
-    numbers = "| `%s` | %d |%s | %s |" % (crate, found["refused"], unjudged, datetime.date.today().isoformat())
-    row = re.compile(r"(?m)^\| `%s` \|[^|]*\|[^|]*\|[^|]*\|" % crate)
+    counted = " %d |%s | %s |" % (found["refused"], unjudged, datetime.date.today().isoformat())
+    row = re.compile(r"(?m)^(\| `%s` \|(?:[^|\n]*\|){3}).*$" % crate)
     if row.search(page):
-        return row.sub(lambda _: numbers, page)
-    table = list(re.finditer(r"(?m)^\| `ix_\w+` \|.*\n", page))
-    end = table[-1].end()
-    return page[:end] + numbers + " none |\n" + page[end:]
+        return row.sub(lambda it: it[1] + counted, page)
+    end = list(re.finditer(r"(?m)^\| `ix_\w+` \|.*\n", page))[-1].end()
+    return page[:end] + "| `%s` | | | |%s\n" % (crate, counted) + page[end:]
 
 
 def main():
@@ -46,11 +45,11 @@ def main():
             page = with_row(file.read(), crate, found)
         with open(PAGE, "w") as file:
             file.write(page)
-        says_none = re.search(r"(?m)^\| `%s` \|.*\| none \|$" % crate, page)
+        is_listed = re.search(r"(?m)^- `%s`:" % crate, page)
         print(crate, found["refused"], "refused,", found["not-judged"], "not judged,", found["proves"], "let through")
         for line in told:
             print("   ", line)
-        is_right = is_right and not (found["proves"] and says_none)
+        is_right = is_right and (is_listed or not found["proves"])
     sys.exit(0 if is_right else 1)
 
 

@@ -223,7 +223,31 @@ TEXTS = {
         (PROMISES, "`complete_words_are_partial`", "`complete_words_are_whole`")],
         "nothing is called complete_words_are_whole"),
     "a promise names another law": changed(PROMISES, "`over_tickets_stay_over`", "`told_entries_stay`"),
-    "a promise says more": changed(PROMISES, "| An entry that was told is", "| An entry that was told or wasn't is"),
+    "a promise says more": changed(PROMISES, "an entry that was told is", "an entry that was told or wasn't is"),
+    "a premise of promises is dropped": changed(PROMISES, "before a `stop`, ", ""),
+}
+
+PROMISED = {
+    "a promise's clause is gone": Way([
+        ("crates/ix_engine/src/engine.rt", "ensures not_partial", "ensures is_partial")],
+        "Engine::prepare has no clause not_partial"),
+    "a promise's clause is another call's": Way([
+        (PROMISES, "(`history`, `allowed`, `refused`)", "(`history`, `follows`)")],
+        "Engine::resume has no clause follows"),
+    "a promise's call is another type's": Way([
+        (PROMISES, "`Engine::resume`", "`Engine::handle`")], "nothing is called Engine::handle"),
+    "a promise has nothing that carries it": Way([
+        (PROMISES, "- A poll gives", "- Nothing is lost.\n- A poll gives")],
+        "nothing carries the promise: - Nothing is lost."),
+    "a promise believes a module that is gone": Way([
+        (PROMISES, "`ix_many` Rounds", "`ix_many` Squares")], "ix_many has no module Squares"),
+    "a promise believes a definition that is gone": Way([
+        (PROMISES, "(ReadsForm)", "(ReadsForms)")], "ix_manage Trace has no ReadsForms"),
+    "a chapter believes a module that is gone": Way([
+        (PROMISES, "For all *believe* `ix_follow` Following", "For all *believe* `ix_follow` Leading")],
+        "ix_follow has no module Leading"),
+    "a promise stands in a table": Way([
+        (PROMISES, "- A poll gives", "| A poll gives")], "a table, whose names nothing looks at"),
 }
 
 HIDING = {
@@ -295,12 +319,13 @@ HIDING = {
 }
 
 PAGES = {
-    "a row of the page is gone": Way([
-        (PAGE, next(line for line in text(PAGE).split("\n") if line.startswith("| `ix_expr` | Meaning")) + "\n", "")],
-        "its lists aren't those of the claims", stays=False),
-    "a row of the page is a way's no more": changed(PAGE, "| t s | What expressions mean", "|  | What expressions mean",
-                                                    "its lists aren't those of the claims"),
-    "a constant of the page has another value": changed(PAGE, "| `0xA5` |", "| `0` |",
+    "a module of the page is gone": changed(PAGE, "Meaning `ts`, ", "", "its lists aren't those of the claims"),
+    "a module of the page is a way's no more": changed(PAGE, "Meaning `ts`", "Meaning `s`",
+                                                       "its lists aren't those of the claims"),
+    "a module of the page stands before one that it uses": changed(
+        PAGE, "Environment `ts`, Meaning `ts`", "Meaning `ts`, Environment `ts`",
+        "Rattle.ix_expr.specs.Meaning stands above Rattle.ix_expr.specs.Environment"),
+    "a constant of the page has another value": changed(PAGE, "OPEN is `0xA5`", "OPEN is `0`",
                                                         "its lists aren't those of the claims"),
     "a digest is gone": changed(DIGESTS, "claim ix_manage manage", "claim ix_manage other",
                                 "claim ix_manage manage is new"),
@@ -337,6 +362,9 @@ class Fooling(unittest.TestCase):
 
     def test_texts(self) -> None:
         self.tried(TEXTS)
+
+    def test_promised(self) -> None:
+        self.tried(PROMISED)
 
     def test_hiding(self) -> None:
         self.tried(HIDING)

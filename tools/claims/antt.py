@@ -27,7 +27,6 @@ class Module:
     crate: str
     short: str
     name: str
-    about: str
     is_list: bool
     imports: list[tuple[str, str]] = field(default_factory=list)
     exports: dict[str, str] = field(default_factory=dict)
@@ -133,10 +132,7 @@ def parse(path: str, text: str) -> Module:
     """The module of this path with this text."""
     crate, _, rest = path[len("crates/"):].partition("/specs/")
     short = rest[: -len(".antt")].replace("/", ".")
-    above = re.match(r"(?:--.*\n)*", text)
-    head = " ".join(line[2:].strip() for line in (above.group(0) if above else "").splitlines())
-    name, about = "Rattle.%s.specs.%s" % (crate, short), re.sub(r"(?<=[.]) .*", "", head)
-    module = Module(path, crate, short, name, about, short.split(".")[-1] in LISTS)
+    module = Module(path, crate, short, "Rattle.%s.specs.%s" % (crate, short), short.split(".")[-1] in LISTS)
     bare = without_comments(text)
     if "{-" in bare or "-}" in bare:
         module.faults.append("a block comment")

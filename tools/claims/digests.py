@@ -41,11 +41,10 @@ def declared_kind(place: Declared) -> str:
 
 
 def promise_texts(page: str) -> Iterator[tuple[str, str]]:
-    """The rows of each chapter of the page of promises."""
-    for chapter in re.split(r"(?m)^## ", page)[1:]:
+    """The chapters of the page of promises, each whole."""
+    for chapter in re.split(r"(?m)^##? ", page)[1:]:
         heading, _, rest = chapter.partition("\n")
-        rows = [line for line in rest.splitlines() if line.startswith(("|", "- ", "  ", ">"))]
-        yield heading.strip(), plain("\n".join(rows))
+        yield heading.strip(), plain(rest)
 
 
 def lines(reading: Reading) -> Iterator[str]:

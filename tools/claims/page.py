@@ -1,20 +1,24 @@
-"""The parts of docs/BELIEVE.md that are computed: tables between two marks each, in the order to read."""
+"""The parts of docs/BELIEVE.md that are computed: lists between two marks each, in the order to read."""
 
 from __future__ import annotations
 
+import itertools
 import re
+import textwrap
 from dataclasses import dataclass
 from typing import Iterable
 
 from .antt import lines_of
 from .claims import Closure, Reached
 from .digests import declared_kind
-from .names import Declared, Definition, short_path
+from .names import Definition, short_path
 from .reading import Reading
 from .tree import PAGE
 
 END = "<!-- end -->"
-WAY_ROW = re.compile(r"(?m)^\| ([^|]*) \| `(\w)` \| ([^|]*) \|")
+WIDTH = 118
+MODULES = re.compile(r"(?m)^- `(\w+)` ([A-Z].*(?:\n  .*)*)")
+WAY = re.compile(r"- `(\w)`, ([^:]*): (.*?)\. \d+ modules")
 FROM_MODULES = re.compile(r"`(\w+)` ((?:[A-Z][\w.]*(?: \([^)]*\))?(?:, )?)+)")
 TRAITS_OF = re.compile(r"the traits of `(\w+)`")
 
@@ -38,24 +42,26 @@ def between(page: str, mark: str) -> str:
     return page.partition("<!-- %s -->" % mark)[2].partition(END)[0]
 
 
-def with_table(page: str, mark: str, table: str) -> str:
+def with_list(page: str, mark: str, text: str) -> str:
     begin = "<!-- %s -->" % mark
     front, found, rest = page.partition(begin)
     if not found:
         raise PageFault("%s: the mark %s is missing" % (PAGE, begin))
-    return front + begin + "\n" + table + "\n" + END + rest.partition(END)[2]
+    return front + begin + "\n" + text + "\n" + END + rest.partition(END)[2]
 
 
-def table(head: str, rows: Iterable[str]) -> str:
-    columns = head.count("|") + 1
-    return "\n".join(["| %s |" % head.replace("|", " | "), "|---" * columns + "|", *rows])
+def item(text: str) -> str:
+    """An item of a list; what a no-break space joins stays in one line."""
+    lines = textwrap.wrap(text, WIDTH, break_long_words=False, break_on_hyphens=False)
+    return ("- " + "\n  ".join(lines)).replace("\u00a0", " ")
 
 
 # The order to read.
 
 def listed(page: str) -> dict[str, int]:
     """The places of the modules that the page lists."""
-    rows = re.findall(r"(?m)^\| `(\w+)` \| ([A-Z][\w.]*) \| \d", page)
+    rows = [(crate, short) for part in re.findall(r"(?s)<!-- [^>]* -->(.*?)%s" % END, page)
+            for crate, names in MODULES.findall(part) for short in re.findall(r"\b[A-Z][\w.]*", names)]
     return {"Rattle.%s.specs.%s" % row: place for place, row in enumerate(rows)}
 
 
@@ -117,84 +123,82 @@ def begun(reading: Reading, text: str) -> Reached:
 
 def ways(reading: Reading, page: str) -> list[Way]:
     return [Way(wanted, mark, text, begun(reading, text))
-            for wanted, mark, text in WAY_ROW.findall(between(page, "The ways"))]
+            for mark, wanted, text in WAY.findall(" ".join(between(page, "The ways").split()))]
 
 
 def numbers_of(reading: Reading, definitions: set[Definition]) -> str:
     lines = sum(lines_of(reading.names.modules[place.module].texts[place.name]) for place in definitions)
-    return "%d | %d | %s" % (len({place.module for place in definitions}), len(definitions), format(lines, ","))
+    modules = len({place.module for place in definitions})
+    return "%d modules, %d definitions, %s lines" % (modules, len(definitions), format(lines, ","))
 
 
-def table_of_ways(reading: Reading, found: list[Way]) -> str:
-    rows = ["| %s | `%s` | %s | %s |" % (way.wanted, way.mark, way.text, numbers_of(reading, way.reached.definitions))
+def list_of_ways(reading: Reading, found: list[Way]) -> str:
+    rows = [item("`%s`, %s: %s. %s" % (way.mark, way.wanted, way.text, numbers_of(reading, way.reached.definitions)))
             for way in found]
-    rows.append("| all claims | | all that stands below | %s |" % numbers_of(reading, reading.believed))
-    return table("A reader wants|Mark|Begins with|Modules|Definitions|Lines", rows)
+    return "\n".join([*rows, item("all claims: %s" % numbers_of(reading, reading.believed))])
 
 
-# The tables.
+# The lists.
 
-def table_of_claims(reading: Reading) -> str:
+def list_of_claims(reading: Reading) -> str:
     rows = []
     for claim in (claim for part in reading.parts for claim in part.claims if claim.kind in ("claim", "trait")):
         clauses = len(re.findall(r"\b(?:requires|ensures)\b", claim.text))
+        plural = "" if clauses == 1 else "s"
         what = "`%s`" % claim.name if claim.kind == "claim" else "the trait `%s`" % claim.name
-        rows.append("| %s | `%s` | %s | %d |" % (what, claim.crate, short_path(claim.path), clauses))
+        rows.append("- %s: `%s` %s, %d clause%s" % (what, claim.crate, short_path(claim.path), clauses, plural))
     laws = [claim for part in reading.parts for claim in part.claims if claim.kind == "law"]
-    total = "And %d laws, in %d crates." % (len(laws), len({claim.crate for claim in laws}))
-    return table("Claim|Crate|File|Clauses", sorted(rows)) + "\n\n" + total
+    rows = sorted(rows) + ["- %d laws, in %d crates" % (len(laws), len({claim.crate for claim in laws}))]
+    return "\n".join(rows)
 
 
-def table_of_modules(reading: Reading, page: str, found: list[Way], names: list[str]) -> str:
+def list_of_modules(reading: Reading, page: str, found: list[Way], names: list[str]) -> str:
+    """The modules in the order to read, those of one crate that come together in one item, each with its marks."""
     modules = [reading.names.modules[name] for name in in_reading_order(reading, page, names)]
     marks = [(way.mark, way.reached.modules()) for way in found]
     rows = []
-    for module in modules:
-        own = " ".join(mark for mark, reached in marks if module.name in reached)
-        rows.append("| `%s` | %s | %d | %d | %s | %s |" % (
-            module.crate, module.short, len(module.texts), module.lines(), own, module.about))
-    total = "In all %d modules, %d definitions, %d lines." % (
+    for crate, together in itertools.groupby(modules, key=lambda module: module.crate):
+        marked = []
+        for module in together:
+            own = "".join(mark for mark, reached in marks if module.name in reached)
+            marked.append(module.short + ("\u00a0`%s`" % own if own else ""))
+        rows.append(item("`%s` %s" % (crate, ", ".join(marked))))
+    total = "%d modules, %d definitions, %d lines." % (
         len(modules), sum(len(module.texts) for module in modules), sum(module.lines() for module in modules))
-    return table("Crate|Module|Definitions|Lines|Way|What it says", rows) + "\n\n" + total
+    return "\n".join(rows) + "\n\n" + total
 
 
-def first_sentence(docs: str) -> str:
-    return re.sub(r"(?<=[.]) .*", "", docs)
-
-
-def docs_of(reading: Reading, place: Declared) -> str:
-    return first_sentence(next((item.docs for item in reading.names.item(place)), ""))
-
-
-def table_of_types(reading: Reading) -> str:
+def list_of_types(reading: Reading) -> str:
+    """The types by their files: those that are read at their declaration, and then those that are read by a Value."""
     rows = []
-    for place in reading.declared:
-        if declared_kind(place) == "type":
-            shown = "`%s`" % place.name + ("" if reading.names.is_exported(place) else ", private")
-            value = "its Value" if any(True for _, _ in reading.closure.models_of(place)) else place.kind
-            rows.append("| `%s` | %s | %s | %s | %s |" % (
-                place.crate, shown, short_path(place.path), value, docs_of(reading, place)))
-    return table("Crate|Type|File|Read|What it is", rows)
+    types = [place for place in reading.declared if declared_kind(place) == "type"]
+    for path, of_file in itertools.groupby(types, key=lambda place: place.path):
+        read: dict[bool, list[str]] = {False: [], True: []}
+        for place in of_file:
+            shown = place.name + ("" if reading.names.is_exported(place) else "\u00a0(private)")
+            read[any(True for _ in reading.closure.models_of(place))].append(shown)
+        parts = [", ".join(read[False]), "by Value " + ", ".join(read[True]) if read[True] else ""]
+        rows.append(item("`%s` %s: %s" % (path.split("/")[1], short_path(path), "; ".join(filter(None, parts)))))
+    return "\n".join(rows)
 
 
-def table_of_constants(reading: Reading) -> str:
+def list_of_constants(reading: Reading) -> str:
     rows = []
     for place in reading.declared:
         if declared_kind(place) == "constant":
             text = " ".join(reading.names.item(place)[0].text.split())
-            value = text.partition(" = ")[2].rstrip(";").replace("|", "\\|")
-            rows.append("| `%s` | `%s` | %s | `%s` | %s |" % (
-                place.crate, place.name, short_path(place.path), value, docs_of(reading, place)))
-    return table("Crate|Constant|File|Value|What it is", rows)
+            value = text.partition(" = ")[2].rstrip(";")
+            rows.append(item("`%s` %s: %s is `%s`" % (place.crate, short_path(place.path), place.name, value)))
+    return "\n".join(rows)
 
 
 def rewritten(reading: Reading, page: str) -> str:
-    """The page with its tables as they must be."""
+    """The page with its lists as they must be."""
     found = ways(reading, page)
-    tables = {"The claims": table_of_claims(reading), "The ways": table_of_ways(reading, found)}
+    lists = {"The claims": list_of_claims(reading), "The ways": list_of_ways(reading, found)}
     for part, names in zip(reading.parts, reading.modules_by_part()):
-        tables[part.heading] = table_of_modules(reading, page, found, names)
-    tables.update({"The types": table_of_types(reading), "The constants": table_of_constants(reading)})
-    for mark, text in tables.items():
-        page = with_table(page, mark, text)
+        lists[part.heading] = list_of_modules(reading, page, found, names)
+    lists.update({"The types": list_of_types(reading), "The constants": list_of_constants(reading)})
+    for mark, text in lists.items():
+        page = with_list(page, mark, text)
     return page

@@ -19,7 +19,7 @@ def write(top: str) -> None:
 
 def main(top: str, words: list[str]) -> int:
     parser = argparse.ArgumentParser(prog="believe.py")
-    parser.add_argument("--write", action="store_true", help="write the tables and the digests anew")
+    parser.add_argument("--write", action="store_true", help="write the lists and the digests anew")
     if parser.parse_args(words).write:
         try:
             write(top)

@@ -30,7 +30,6 @@ class Item:
     is_public: bool
     text: str
     body: str
-    docs: str
     attributes: str
 
 
@@ -118,20 +117,8 @@ def ends_of(kind: str, code: str, at: int) -> tuple[int, int]:
     return end, end
 
 
-def docs_above(text: str, at: int) -> str:
-    """The comment of documentation that ends in front of this place, in one line."""
-    lines: list[str] = []
-    for line in reversed(text[:at].rstrip(" ").splitlines()):
-        line = line.strip()
-        if line.startswith("///"):
-            lines.insert(0, line[3:].strip())
-        elif not line.startswith("#["):
-            break
-    return " ".join(lines)
-
-
-def items_of(text: str, bare: str, code: str) -> Iterator[Item]:
-    """The items at the top of a text."""
+def items_of(bare: str, code: str) -> Iterator[Item]:
+    """The items at the top of a text, given without comments, and without its strings too."""
     at, attributes = 0, ""
     while at < len(code):
         if code[at].isspace() or code[at] in ";}":
@@ -149,7 +136,7 @@ def items_of(text: str, bare: str, code: str) -> Iterator[Item]:
             text_end, end = ends_of(kind, code, found.end(2))
             is_public = (found.group(1) or "").strip() == "pub"
             yield Item(kind.rpartition(" ")[2] if kind.endswith("fn") else kind, found.group(3) or "", is_public,
-                       bare[at:text_end], bare[text_end:end], docs_above(text, at), attributes)
+                       bare[at:text_end], bare[text_end:end], attributes)
             at, attributes = max(end, at + 1), ""
 
 
@@ -214,7 +201,7 @@ def is_of_tests(item: Item) -> bool:
 def parse(path: str, text: str) -> Source:
     """The file of this path with this text."""
     bare, code, has_block = blanked(text)
-    items = [item for item in items_of(text, bare, code) if not is_of_tests(item)]
+    items = [item for item in items_of(bare, code) if not is_of_tests(item)]
     faults = ["a block comment"] if has_block else []
     ghosts: list[tuple[str, str]] = []
     for found in re.finditer(r"\bghost\s+use\s+([^;]*);", code):
