@@ -6,6 +6,7 @@ import asyncio
 import socket
 import time
 from functools import partial
+from itertools import islice
 from time import monotonic
 
 from . import protocol
@@ -15,7 +16,7 @@ from .gate import Gate
 from .link import Link
 from .log import Log, quoted
 from .loop import TurnSelector
-from .metrics import Metrics, Now
+from .metrics import BOOTS_LIMIT, HISTORY_LIMIT, WATCHES_LIMIT, Metrics, Now
 from .options import Options
 from .places import Places
 from .policy import Policy, PolicyFault, Rights, read_policy
@@ -23,6 +24,7 @@ from .protocol import GRANTED, KEPT, SPENDING, word
 from .records import Records, told
 from .request import ClientLine, Line, OwnLine
 from .unread import Unread
+from .view import FIRST, Asked, Recent, Seen, shown
 from .watches import Watches
 from .who import Who, peer_of
 
@@ -51,6 +53,7 @@ class Front:
         self._places = Places(options)
         self._asks = Asks(self, options.again)
         self._watches = Watches()
+        self._recent = Recent()
         policy = None if options.policy is None else read_policy(options.policy)
         self._rights = Rights(policy, self._watches, options.lease, options.watches)
         self._held: dict[ClientLine, None] = {}  # lines but asks that came while there was no manager
@@ -254,7 +257,7 @@ class Front:
             self._learn(request, reply)
         elif request.verb == b"ask" or request.verb in SPENDING:
             if reply.startswith(protocol.CONFIRMED):
-                self.metrics.history = int(reply[len(protocol.CONFIRMED):])
+                self._note_confirmed(request, reply)
             if self._asks.replied(request, reply):
                 self.metrics.sent_again += 1
             else:
@@ -318,6 +321,9 @@ class Front:
             self._asks.send_next()
         elif request.verb == b"watch":
             self._watches.set_again(request.line, reply)
+        elif request.verb == b"log":
+            if reply.startswith(protocol.ENTRY):
+                self._recent.named(int(word(reply, 1)), word(reply, 2))
         elif request.about is not None:
             self._settle(request.about, reply)
 
@@ -326,6 +332,19 @@ class Front:
         if len(words) == 5:
             self.metrics.history, self.metrics.nodes = int(words[2]), int(words[4])
             self.metrics.is_complete = words[1] == b"complete"
+            if self.link.is_up:
+                self._ask_names()
+
+    def _note_confirmed(self, request: ClientLine, reply: bytes) -> None:
+        self.metrics.history = number = int(reply[len(protocol.CONFIRMED):])
+        self._recent.confirmed(number, request, self._asks.granted)
+
+    def _ask_names(self) -> None:
+        """Asks for the names of last actions that went past the front, where the view is to show them."""
+        lacks = self._recent.lacks(self.metrics.history)
+        if self.options.page_actions:
+            for number in lacks:
+                self.send(OwnLine(b"log %d" % number, monotonic()))
 
     def _note_boot(self, ticket: bytes) -> None:
         self.metrics.boots = protocol.number(ticket.partition(b"-")[0])
@@ -343,6 +362,7 @@ class Front:
         for request in self._cut_off:
             self.send(OwnLine(b"outcome " + word(request.line, 1), now, about=request))
         self._cut_off.clear()
+        self._ask_names()
         held, self._held = self._held, {}
         for request in held:
             self._pass_on(request)
@@ -388,6 +408,7 @@ class Front:
         elif reply == b"outcome never\n" or (reply.startswith(b"outcome confirmed ") and request.verb == b"cancel"):
             self._answer(request, protocol.NO_SUCH_TICKET)
         elif reply.startswith(b"outcome confirmed "):
+            self._recent.confirmed(int(word(reply, 2)), request, self._asks.granted)
             self._answer(request, reply[len(b"outcome "):])
         else:
             self.close(request.client, "reply lost")
@@ -436,12 +457,16 @@ class Front:
         self.policy_well, self._rights.policy = True, policy
         self.records.event("policy read", f'"lines": {len(policy.lines)}')
 
-    def health(self) -> tuple[bool, str]:
-        """Whether the manager answers, and what is known of it, without asking it."""
+    def _manager(self) -> tuple[bool, str]:
+        """Whether the manager answers, and in words."""
         oldest = self.link.oldest()
         waits = 0.0 if oldest is None else monotonic() - oldest
         is_well = self.link.is_up and waits < STUCK
-        what = "answers" if is_well else "doesn't answer" if self.link.is_up else "isn't there or reads another"
+        return is_well, "answers" if is_well else "doesn't answer" if self.link.is_up else "isn't there or reads another"
+
+    def health(self) -> tuple[bool, str]:
+        """Whether the manager answers, and what is known of it, without asking it."""
+        is_well, what = self._manager()
         lines = [f"the manager {what}", f"history {self.metrics.history}", f"clients {len(self.clients)}",
                  f"waiting {len(self._asks)}"]
         if not self.log.is_well():
@@ -459,6 +484,24 @@ class Front:
             self.health()[0], self.link.is_up, len(asks), 0.0 if oldest is None else now - oldest, len(self.clients),
             self._unread.bytes, len(self._watches), reservation, self.log.lost, self.log.is_well(), self.log.written.number,
             self.policy_well, self.options.nodes))
+
+    def view_text(self) -> str:
+        """What people see, as JSON."""
+        asks, metrics, now = self._asks, self.metrics, monotonic()
+        start = time.time() - now  # of this machine's clock that never goes back
+        reservation = None
+        if asks.is_open():
+            action = asks.granted.action_of(asks.ticket) if asks.granted else None
+            reservation = Asked(asks.holder.who.key if asks.holder else None, start + asks.since, action, start + asks.until)
+        waiting = [Asked(ask.client.who.key, start + ask.came, shown(ask.line, 1)) for ask in islice(asks.waiting(), FIRST)]
+        is_there = self.link.is_up
+        return Seen(
+            self.health()[0], self._manager()[1], reservation, waiting, len(asks), self._recent.last(metrics.history),
+            {"history": (metrics.history if is_there else None, HISTORY_LIMIT),
+             "nodes": (metrics.nodes if is_there else None, self.options.nodes),
+             "boots": (metrics.boots if is_there else None, BOOTS_LIMIT),
+             "watches": (len(self._watches), WATCHES_LIMIT),
+             "clients": (len(self.clients), self.options.clients)}).text(self.options.page_actions)
 
     def is_idle(self) -> bool:
         """Whether no client's line is at the manager."""

@@ -58,7 +58,7 @@ class Program:
         self.ended = asyncio.Event()
         self.log = Log(options.log, options.log_sync, options.log_must)
         self.front = Front(options, loop, selector, self.log)
-        self.pages = Pages(loop, self.front.metrics_text, self.front.health)
+        self.pages = Pages(loop, self.front.metrics_text, self.front.health, self.front.view_text)
         self.guests: Guests | None = None
         self.doors: list[Door] = []
         self.tasks: list[asyncio.Task[None]] = []
