@@ -126,8 +126,9 @@ class Front:
     def turn(self) -> bool:
         """Ends a turn of the loop: sends what was gathered in it, and lets some of those go that are gone. Gives whether
         there are more of them."""
-        for _ in range(min(len(self._gone), GONE_AT_ONCE)):
-            self._let_go_of(next(iter(self._gone)))
+        if self._gone:
+            for _ in range(min(len(self._gone), GONE_AT_ONCE)):
+                self._let_go_of(next(iter(self._gone)))
         self.link.flush()
         return bool(self._gone)
 
@@ -194,7 +195,7 @@ class Front:
                 self.metrics.denied[why] += 1
         if reply is None:
             return False
-        self._finish(request, reply, why)
+        self._finish(request, reply, monotonic(), why)
         return True
 
     def _set_wait(self, client: Client, line: bytes) -> bytes:
@@ -219,7 +220,7 @@ class Front:
             return
         self.link.send(request)
         if request.verb in SPENDING:
-            self._asks.is_spent(word(request.line, 1))
+            self._asks.is_spent(request.rest)
 
     def _give_back(self, ticket: bytes) -> None:
         """Cancels a grant that nobody can spend any more."""
@@ -245,23 +246,24 @@ class Front:
         elif not self.link.is_up:
             self.close(client, "no manager")
         else:
-            self._finish(request, protocol.busy(time.time() + self.options.again / 1000))
-            client.serve()
+            self._answer(request, protocol.busy(time.time() + self.options.again / 1000), monotonic())
 
     # Replies
 
     def replied(self, request: Line, reply: bytes) -> None:
         """The manager's reply to a line."""
-        self.metrics.manager.add(monotonic() - request.sent)
+        now, metrics = monotonic(), self.metrics
+        metrics.manager.add(now - request.sent)
         if isinstance(request, OwnLine):
             self._learn(request, reply)
         elif request.verb == b"ask" or request.verb in SPENDING:
             if reply.startswith(protocol.CONFIRMED):
-                self._note_confirmed(request, reply)
-            if self._asks.replied(request, reply):
-                self.metrics.sent_again += 1
+                metrics.history = number = int(reply[len(protocol.CONFIRMED):])
+                self._recent.confirmed(number, now, request, self._asks.granted)
+            if self._asks.replied(request, reply, now):
+                metrics.sent_again += 1
             else:
-                self._answer(request, reply)
+                self._answer(request, reply, now)
             if self._asks:
                 self._asks.send_next()
         else:
@@ -269,15 +271,15 @@ class Front:
             if told_reply is None:
                 self.close(request.client, "watch lost")
             else:
-                self._answer(request, told_reply)
+                self._answer(request, told_reply, now)
 
-    def _answer(self, request: ClientLine, reply: bytes) -> None:
-        self._finish(request, reply)
+    def _answer(self, request: ClientLine, reply: bytes, now: float) -> None:
+        self._finish(request, reply, now)
         request.client.serve()
 
-    def _finish(self, request: ClientLine, reply: bytes, why: str = "") -> None:
+    def _finish(self, request: ClientLine, reply: bytes, now: float, why: str = "") -> None:
         """Counts, logs and sends the reply to a client's line, in this order."""
-        verb, took = request.verb, monotonic() - request.came
+        verb, took = request.verb, now - request.came
         metrics = self.metrics
         metrics.requests[verb if verb in protocol.KNOWN else b"other", protocol.kind_of(reply)] += 1
         if verb == b"ask":
@@ -288,27 +290,27 @@ class Front:
         if number and self.log.is_must and not reply.startswith(b"refused "):
             self._gate.once_written(number, partial(self._send_late, request, reply))
         else:
-            self._send(request, reply)
+            self._send(request, reply, now)
 
-    def _send(self, request: ClientLine, reply: bytes) -> None:
+    def _send(self, request: ClientLine, reply: bytes, now: float) -> None:
         """Sends a reply to its client. A ticket that reaches nobody is given back: nobody else knows it."""
         client = request.client
         if reply.startswith(GRANTED):
             ticket = reply[len(GRANTED):-1]
             client.ticket = ticket
             self._rights.granted(ticket, client.who)
-            self._note_boot(ticket)
-            if client.request is not request or not client.answer(reply):
+            self.metrics.ticket = ticket
+            if client.request is not request or not client.answer(reply, now):
                 client.ticket = b""
                 self._give_back(ticket)
             return
-        if request.verb in SPENDING and word(request.line, 1) == client.ticket:
+        if request.verb in SPENDING and request.rest == client.ticket:
             client.ticket = b""
         if client.request is request:
-            client.answer(reply)
+            client.answer(reply, now)
 
     def _send_late(self, request: ClientLine, reply: bytes) -> None:
-        self._send(request, reply)
+        self._send(request, reply, monotonic())
         request.client.serve()
 
     def _learn(self, request: OwnLine, reply: bytes) -> None:
@@ -335,10 +337,6 @@ class Front:
             if self.link.is_up:
                 self._ask_names()
 
-    def _note_confirmed(self, request: ClientLine, reply: bytes) -> None:
-        self.metrics.history = number = int(reply[len(protocol.CONFIRMED):])
-        self._recent.confirmed(number, request, self._asks.granted)
-
     def _ask_names(self) -> None:
         """Asks for the names of last actions that went past the front, where the view is to show them."""
         lacks = self._recent.lacks(self.metrics.history)
@@ -346,16 +344,13 @@ class Front:
             for number in lacks:
                 self.send(OwnLine(b"log %d" % number, monotonic()))
 
-    def _note_boot(self, ticket: bytes) -> None:
-        self.metrics.boots = protocol.number(ticket.partition(b"-")[0])
-
     # The manager's end and its next run
 
     def is_up(self) -> None:
         """The manager answers: first what was watched is watched again, then the cut off lines are settled."""
         now = monotonic()
         self.metrics.manager_starts += 1
-        self.metrics.boots = None
+        self.metrics.ticket = b""
         self.records.event("manager answers", f'"history": {self.metrics.history}')
         for line in self._watches.lines():
             self.send(OwnLine(line, now))
@@ -403,13 +398,14 @@ class Front:
     def _settle(self, request: ClientLine, reply: bytes) -> None:
         """What the manager says of the ticket of a confirm or a cancel whose reply was lost. One whose client is gone is
         told to the log alone, and isn't sent again."""
+        now = monotonic()
         if reply == b"outcome open\n" and not request.client.is_closed:
             self._pass_on(request)
         elif reply == b"outcome never\n" or (reply.startswith(b"outcome confirmed ") and request.verb == b"cancel"):
-            self._answer(request, protocol.NO_SUCH_TICKET)
+            self._answer(request, protocol.NO_SUCH_TICKET, now)
         elif reply.startswith(b"outcome confirmed "):
-            self._recent.confirmed(int(word(reply, 2)), request, self._asks.granted)
-            self._answer(request, reply[len(b"outcome "):])
+            self._recent.confirmed(int(word(reply, 2)), now, request, self._asks.granted)
+            self._answer(request, reply[len(b"outcome "):], now)
         else:
             self.close(request.client, "reply lost")
 
@@ -496,10 +492,10 @@ class Front:
         waiting = [Asked(ask.client.who.key, start + ask.came, shown(ask.line, 1)) for ask in islice(asks.waiting(), FIRST)]
         is_there = self.link.is_up
         return Seen(
-            self.health()[0], self._manager()[1], reservation, waiting, len(asks), self._recent.last(metrics.history),
+            self.health()[0], self._manager()[1], reservation, waiting, len(asks), self._recent.last(metrics.history, start),
             {"history": (metrics.history if is_there else None, HISTORY_LIMIT),
              "nodes": (metrics.nodes if is_there else None, self.options.nodes),
-             "boots": (metrics.boots if is_there else None, BOOTS_LIMIT),
+             "boots": (metrics.boots() if is_there else None, BOOTS_LIMIT),
              "watches": (len(self._watches), WATCHES_LIMIT),
              "clients": (len(self.clients), self.options.clients)}).text(self.options.page_actions)
 

@@ -45,7 +45,7 @@ def shown(line: bytes, place: int) -> str:
     return word(line, place).decode("ascii", "backslashreplace")
 
 
-@dataclass(frozen=True)
+@dataclass(slots=True)
 class Granted:
     """A ticket, and the ask that it was granted for."""
 
@@ -112,12 +112,12 @@ class Recent:
     """The last actions, as far as they are known."""
 
     def __init__(self) -> None:
-        self._done: deque[tuple[int, float, ClientLine, Granted | None]] = deque(maxlen=LAST)
+        self._done: deque[tuple[int, float, ClientLine, Granted | None]] = deque(maxlen=LAST)  # moments of the loop's clock
         self._named: dict[int, str] = {}  # those of others, by their numbers
 
-    def confirmed(self, number: int, confirm: ClientLine, granted: Granted | None) -> None:
+    def confirmed(self, number: int, now: float, confirm: ClientLine, granted: Granted | None) -> None:
         """A client's line confirmed the action of this number. `granted` is the last grant that went through the front."""
-        self._done.append((number, time.time(), confirm, granted))
+        self._done.append((number, now, confirm, granted))
 
     def lacks(self, history: int) -> list[int]:
         """The numbers of the last actions of a history of this length whose names aren't known."""
@@ -132,12 +132,12 @@ class Recent:
         self._named = {known: name for known, name in self._named.items() if known > number - LAST}
         self._named[number] = action.decode("ascii", "backslashreplace")
 
-    def last(self, history: int) -> list[Done]:
-        """The last actions of a history of this length, the newest first."""
+    def last(self, history: int, start: float = 0.0) -> list[Done]:
+        """The last actions of a history of this length, the newest first. The loop's clock began at `start`."""
         done = {number: Done(number, None, None, self._named.get(number))
                 for number in range(history, max(0, history - LAST), -1)}
         for number, at, confirm, granted in self._done:
             if number in done:
-                action = None if granted is None else granted.action_of(word(confirm.line, 1))
-                done[number] = Done(number, at, confirm.client.who.key, action or done[number].action)
+                action = None if granted is None else granted.action_of(confirm.rest)
+                done[number] = Done(number, start + at, confirm.client.who.key, action or done[number].action)
         return list(done.values())

@@ -192,7 +192,8 @@ class Seen(Place):
         self.assertNotIn("secret", self.browser.page_source)
         asked = self.browser.execute_script("return performance.getEntriesByType('resource').map(each => each.name)")
         self.assertEqual(set(asked), {f"{self.browser.current_url}now"})
-        self.assertEqual(self.browser.get_log("browser"), [])
+        here = self.browser.current_url
+        self.assertEqual([said for said in self.browser.get_log("browser") if here in said["message"]], [])
 
     def test_by_keyboard_by_ear_and_large(self) -> None:
         front = self.opened(self.manager().path)
