@@ -5,6 +5,8 @@ from __future__ import annotations
 import asyncio
 import time
 from collections import OrderedDict
+from collections.abc import Iterator
+from itertools import chain
 from time import monotonic
 from typing import Protocol
 
@@ -12,8 +14,10 @@ from .client import Client
 from .loop import TurnSelector
 from .protocol import BUSY, CANCELLED, CONFIRMED, FAULT, GRANTED, SPENDING, busy_until, number
 from .request import ClientLine, Line
+from .view import Granted
 
 SURE = 0.1  # seconds that a lease has still to last, so that an ask that is sent now is answered 20
+OTHER = 1.0  # seconds by which a reservation that a 20 names ends later than the known one, where it is another
 
 
 class Sender(Protocol):
@@ -46,15 +50,17 @@ class Asks:
         self.again = again / 1000
         self.ticket = b""  # the ticket of the open reservation, where it is known
         self.holder: Client | None = None  # whose it is
-        self.since = 0.0  # when it was granted
+        self.since = 0.0  # when it was granted, or was first met
+        self.until = 0.0  # until when it lasts, as far as is known
+        self.granted: Granted | None = None  # the last grant, open or not
         self._line: OrderedDict[ClientLine, None] = OrderedDict()
         self._hurried: dict[ClientLine, None] = {}  # those that may wait no longer
         self._asked: ClientLine | None = None  # the ask whose reply is to come
         self._is_free = True  # no reservation is open, as far as is known
-        self._until = 0.0  # until when the open one lasts, as far as is known
         self._again_at = 0.0  # when the line is tried again
         self._soonest = float("inf")  # no ask of the line has an earlier deadline
         self._timer: asyncio.TimerHandle | None = None
+        self._timer_at = float("inf")  # when it comes
 
     def __len__(self) -> int:
         return len(self._line) + len(self._hurried)
@@ -63,9 +69,13 @@ class Asks:
         """When the ask came that has waited longest."""
         return min((next(iter(asks)).came for asks in (self._line, self._hurried) if asks), default=None)
 
+    def waiting(self) -> Iterator[ClientLine]:
+        """The asks that wait, in their order, those before the others that may wait no longer."""
+        return chain(self._hurried, self._line)
+
     def is_open(self) -> bool:
         """Whether a reservation is open, as far as is known."""
-        return not self._is_free and monotonic() < self._until
+        return not self._is_free and monotonic() < self.until
 
     def add(self, request: ClientLine) -> None:
         """Takes an ask to the end of the line, or sends it at once where nobody is before it."""
@@ -74,13 +84,17 @@ class Asks:
             # Who holds the reservation would wait for itself.
             self._hurry(request)
             return
-        if not self._line and not self._hurried and self._may_send():
+        may_send = self._may_send()
+        if may_send and not self._line and not self._hurried:
             self._send_as_next(request)
             return
         request.deadline = request.came + wait
         self._line[request] = None
         self._soonest = min(self._soonest, request.deadline)
-        self.send_next()
+        if may_send or self._hurried:
+            self.send_next()
+        else:
+            self._set_timer()
 
     def remove(self, request: ClientLine) -> bool:
         """Takes an ask out of the line. False where it isn't in it."""
@@ -112,8 +126,8 @@ class Asks:
             self._free()
             self.send_next()
 
-    def replied(self, request: ClientLine, reply: bytes) -> bool:
-        """Learns from a reply. True where the ask waits on, and its client isn't told."""
+    def replied(self, request: ClientLine, reply: bytes, now: float) -> bool:
+        """Learns from a reply that came now. True where the ask waits on, and its client isn't told."""
         if request.verb in SPENDING:
             if reply.startswith((CONFIRMED, CANCELLED)) and self._asked is None:
                 self._free()
@@ -122,10 +136,11 @@ class Asks:
             self._asked = None
         if reply.startswith(GRANTED):
             lease = number(request.line.rpartition(b" ")[2]) or 0
-            self._hold(reply[len(GRANTED):-1], request.client, request.sent + lease / 1000)
-            self.since = monotonic()
+            ticket = reply[len(GRANTED):-1]
+            self.granted, self.since = Granted(ticket, request), now
+            self._hold(ticket, request.client, request.sent + lease / 1000, now)
         elif reply.startswith(BUSY):
-            self._hold(self.ticket, self.holder, monotonic() + busy_until(reply) / 1000 - time.time())
+            self._meet(monotonic() + busy_until(reply) / 1000 - time.time(), now)
             if not request.is_last_try:
                 self._put_back(request)
                 return True
@@ -152,7 +167,7 @@ class Asks:
 
     def _is_sure(self) -> bool:
         """Whether an ask that is sent now is answered 20."""
-        return not self._is_free and self._until - monotonic() > SURE
+        return not self._is_free and self.until - monotonic() > SURE
 
     def _passes_nobody(self) -> bool:
         return not self._line or self._is_sure() or not self.sender.can_ask()
@@ -174,27 +189,32 @@ class Asks:
             self.sender.send(request)
 
     def _free(self) -> None:
-        self._is_free, self.ticket, self.holder = True, b"", None
+        self._is_free, self.ticket, self.holder, self.until = True, b"", None, 0.0
 
-    def _hold(self, ticket: bytes, holder: Client | None, until: float) -> None:
+    def _meet(self, until: float, now: float) -> None:
+        """A 20 names this end of the open reservation, which may be one of somebody that went past the front."""
+        if until > self.until + OTHER:
+            self.ticket, self.holder, self.since = b"", None, now
+        self._hold(self.ticket, self.holder, until, now)
+
+    def _hold(self, ticket: bytes, holder: Client | None, until: float, now: float) -> None:
         """A reservation is open so long, as far as is known. The line is tried again behind it, and if the clock should
         have been set meanwhile, after `again` at the latest."""
-        self._is_free, self.ticket, self.holder, self._until = False, ticket, holder, until
-        now = monotonic()
+        self._is_free, self.ticket, self.holder, self.until = False, ticket, holder, until
         self._again_at = min(max(until, now + 0.001), now + self.again)
 
     def _set_timer(self) -> None:
         """The line is looked at again where a deadline or the reservation's end comes. A timer that comes earlier stays."""
         when = self._soonest if self._is_free else min(self._soonest, self._again_at)
+        if self._timer_at <= when:
+            return
         if self._timer is not None:
-            if self._timer.when() <= when:
-                return
             self._timer.cancel()
-        self._timer = self.sender.loop.call_at(when, self._look)
+        self._timer, self._timer_at = self.sender.loop.call_at(when, self._look), when
         self.sender.selector.give_way()
 
     def _look(self) -> None:
-        self._timer = None
+        self._timer, self._timer_at = None, float("inf")
         now = monotonic()
         if self._soonest <= now:
             over = [request for request in self._line if request.deadline <= now]

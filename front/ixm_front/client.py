@@ -8,7 +8,7 @@ from time import monotonic
 from typing import TYPE_CHECKING, Protocol
 
 from .lines import LineReader
-from .loop import TurnSelector
+from .loop import HUNG_UP, TurnSelector
 from .options import Options
 from .protocol import LONGEST, number
 from .request import ClientLine
@@ -56,6 +56,7 @@ class Client:
         self.rights_of: Policy | None = None  # the policy by which these are
         self.is_closed = False
         self.has_hung_up = False  # no reply reaches it any more
+        self._is_told: bool | None = None  # while lines are taken that the loop has told of: whether it told a hang-up too
         self._poll = select.poll()
         self._poll.register(sock.fileno(), 0)
         self._reader = LineReader()
@@ -83,12 +84,12 @@ class Client:
         elif reader.held or not self._reads:
             self._read_if(self._room() > 0)
 
-    def answer(self, reply: bytes) -> bool:
+    def answer(self, reply: bytes, now: float) -> bool:
         """Sends the reply to the line that isn't answered. False where it is known that it reaches nobody."""
         self.request = None
         if self.has_hung_up:
             return False
-        self._heard = self._begun = monotonic()
+        self._heard = self._begun = now
         try:
             sent = self.sock.send(reply)
         except (BlockingIOError, InterruptedError):
@@ -113,9 +114,9 @@ class Client:
 
     def hung_up(self) -> bool:
         """Whether the system knows by now that no reply reaches it."""
-        if not self.has_hung_up and self._poll.poll(0):
-            # It asks for no event, so what is told is that the other end is closed, or an error.
-            self.has_hung_up = True
+        if not self.has_hung_up:
+            # It is polled for no event, so what is told is that the other end is closed, or an error.
+            self.has_hung_up = bool(self._poll.poll(0)) if self._is_told is None else self._is_told
         return self.has_hung_up
 
     def rest(self) -> None:
@@ -171,7 +172,7 @@ class Client:
         self.owner.selector.watch(
             self.sock.fileno(), self._readable if self._reads else None, self._writable if self._out else None)
 
-    def _readable(self) -> None:
+    def _readable(self, flags: int) -> None:
         reader = self._reader
         try:
             data = self.sock.recv(self._room())
@@ -184,11 +185,14 @@ class Client:
             if not reader.is_unfinished():
                 self._begun = self._heard
             reader.feed(data)
+            self._is_told = flags & HUNG_UP != 0
+            self.serve()
+            self._is_told = None
         else:
             self._has_ended = True
             self._read_if(False)
             self.hung_up()
-        self.serve()
+            self.serve()
 
     def _set_out(self, out: bytes) -> None:
         if len(out) != len(self._out):

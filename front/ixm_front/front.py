@@ -6,6 +6,7 @@ import asyncio
 import socket
 import time
 from functools import partial
+from itertools import islice
 from time import monotonic
 
 from . import protocol
@@ -15,7 +16,7 @@ from .gate import Gate
 from .link import Link
 from .log import Log, quoted
 from .loop import TurnSelector
-from .metrics import Metrics, Now
+from .metrics import BOOTS_LIMIT, HISTORY_LIMIT, WATCHES_LIMIT, Metrics, Now
 from .options import Options
 from .places import Places
 from .policy import Policy, PolicyFault, Rights, read_policy
@@ -23,6 +24,7 @@ from .protocol import GRANTED, KEPT, SPENDING, word
 from .records import Records, told
 from .request import ClientLine, Line, OwnLine
 from .unread import Unread
+from .view import FIRST, Asked, Recent, Seen, shown
 from .watches import Watches
 from .who import Who, peer_of
 
@@ -51,6 +53,7 @@ class Front:
         self._places = Places(options)
         self._asks = Asks(self, options.again)
         self._watches = Watches()
+        self._recent = Recent()
         policy = None if options.policy is None else read_policy(options.policy)
         self._rights = Rights(policy, self._watches, options.lease, options.watches)
         self._held: dict[ClientLine, None] = {}  # lines but asks that came while there was no manager
@@ -123,8 +126,9 @@ class Front:
     def turn(self) -> bool:
         """Ends a turn of the loop: sends what was gathered in it, and lets some of those go that are gone. Gives whether
         there are more of them."""
-        for _ in range(min(len(self._gone), GONE_AT_ONCE)):
-            self._let_go_of(next(iter(self._gone)))
+        if self._gone:
+            for _ in range(min(len(self._gone), GONE_AT_ONCE)):
+                self._let_go_of(next(iter(self._gone)))
         self.link.flush()
         return bool(self._gone)
 
@@ -191,7 +195,7 @@ class Front:
                 self.metrics.denied[why] += 1
         if reply is None:
             return False
-        self._finish(request, reply, why)
+        self._finish(request, reply, monotonic(), why)
         return True
 
     def _set_wait(self, client: Client, line: bytes) -> bytes:
@@ -216,7 +220,7 @@ class Front:
             return
         self.link.send(request)
         if request.verb in SPENDING:
-            self._asks.is_spent(word(request.line, 1))
+            self._asks.is_spent(request.rest)
 
     def _give_back(self, ticket: bytes) -> None:
         """Cancels a grant that nobody can spend any more."""
@@ -242,23 +246,24 @@ class Front:
         elif not self.link.is_up:
             self.close(client, "no manager")
         else:
-            self._finish(request, protocol.busy(time.time() + self.options.again / 1000))
-            client.serve()
+            self._answer(request, protocol.busy(time.time() + self.options.again / 1000), monotonic())
 
     # Replies
 
     def replied(self, request: Line, reply: bytes) -> None:
         """The manager's reply to a line."""
-        self.metrics.manager.add(monotonic() - request.sent)
+        now, metrics = monotonic(), self.metrics
+        metrics.manager.add(now - request.sent)
         if isinstance(request, OwnLine):
             self._learn(request, reply)
         elif request.verb == b"ask" or request.verb in SPENDING:
             if reply.startswith(protocol.CONFIRMED):
-                self.metrics.history = int(reply[len(protocol.CONFIRMED):])
-            if self._asks.replied(request, reply):
-                self.metrics.sent_again += 1
+                metrics.history = number = int(reply[len(protocol.CONFIRMED):])
+                self._recent.confirmed(number, now, request, self._asks.granted)
+            if self._asks.replied(request, reply, now):
+                metrics.sent_again += 1
             else:
-                self._answer(request, reply)
+                self._answer(request, reply, now)
             if self._asks:
                 self._asks.send_next()
         else:
@@ -266,15 +271,15 @@ class Front:
             if told_reply is None:
                 self.close(request.client, "watch lost")
             else:
-                self._answer(request, told_reply)
+                self._answer(request, told_reply, now)
 
-    def _answer(self, request: ClientLine, reply: bytes) -> None:
-        self._finish(request, reply)
+    def _answer(self, request: ClientLine, reply: bytes, now: float) -> None:
+        self._finish(request, reply, now)
         request.client.serve()
 
-    def _finish(self, request: ClientLine, reply: bytes, why: str = "") -> None:
+    def _finish(self, request: ClientLine, reply: bytes, now: float, why: str = "") -> None:
         """Counts, logs and sends the reply to a client's line, in this order."""
-        verb, took = request.verb, monotonic() - request.came
+        verb, took = request.verb, now - request.came
         metrics = self.metrics
         metrics.requests[verb if verb in protocol.KNOWN else b"other", protocol.kind_of(reply)] += 1
         if verb == b"ask":
@@ -285,27 +290,27 @@ class Front:
         if number and self.log.is_must and not reply.startswith(b"refused "):
             self._gate.once_written(number, partial(self._send_late, request, reply))
         else:
-            self._send(request, reply)
+            self._send(request, reply, now)
 
-    def _send(self, request: ClientLine, reply: bytes) -> None:
+    def _send(self, request: ClientLine, reply: bytes, now: float) -> None:
         """Sends a reply to its client. A ticket that reaches nobody is given back: nobody else knows it."""
         client = request.client
         if reply.startswith(GRANTED):
             ticket = reply[len(GRANTED):-1]
             client.ticket = ticket
             self._rights.granted(ticket, client.who)
-            self._note_boot(ticket)
-            if client.request is not request or not client.answer(reply):
+            self.metrics.ticket = ticket
+            if client.request is not request or not client.answer(reply, now):
                 client.ticket = b""
                 self._give_back(ticket)
             return
-        if request.verb in SPENDING and word(request.line, 1) == client.ticket:
+        if request.verb in SPENDING and request.rest == client.ticket:
             client.ticket = b""
         if client.request is request:
-            client.answer(reply)
+            client.answer(reply, now)
 
     def _send_late(self, request: ClientLine, reply: bytes) -> None:
-        self._send(request, reply)
+        self._send(request, reply, monotonic())
         request.client.serve()
 
     def _learn(self, request: OwnLine, reply: bytes) -> None:
@@ -318,6 +323,9 @@ class Front:
             self._asks.send_next()
         elif request.verb == b"watch":
             self._watches.set_again(request.line, reply)
+        elif request.verb == b"log":
+            if reply.startswith(protocol.ENTRY):
+                self._recent.named(int(word(reply, 1)), word(reply, 2))
         elif request.about is not None:
             self._settle(request.about, reply)
 
@@ -326,9 +334,15 @@ class Front:
         if len(words) == 5:
             self.metrics.history, self.metrics.nodes = int(words[2]), int(words[4])
             self.metrics.is_complete = words[1] == b"complete"
+            if self.link.is_up:
+                self._ask_names()
 
-    def _note_boot(self, ticket: bytes) -> None:
-        self.metrics.boots = protocol.number(ticket.partition(b"-")[0])
+    def _ask_names(self) -> None:
+        """Asks for the names of last actions that went past the front, where the view is to show them."""
+        lacks = self._recent.lacks(self.metrics.history)
+        if self.options.page_actions:
+            for number in lacks:
+                self.send(OwnLine(b"log %d" % number, monotonic()))
 
     # The manager's end and its next run
 
@@ -336,13 +350,14 @@ class Front:
         """The manager answers: first what was watched is watched again, then the cut off lines are settled."""
         now = monotonic()
         self.metrics.manager_starts += 1
-        self.metrics.boots = None
+        self.metrics.ticket = b""
         self.records.event("manager answers", f'"history": {self.metrics.history}')
         for line in self._watches.lines():
             self.send(OwnLine(line, now))
         for request in self._cut_off:
             self.send(OwnLine(b"outcome " + word(request.line, 1), now, about=request))
         self._cut_off.clear()
+        self._ask_names()
         held, self._held = self._held, {}
         for request in held:
             self._pass_on(request)
@@ -383,12 +398,14 @@ class Front:
     def _settle(self, request: ClientLine, reply: bytes) -> None:
         """What the manager says of the ticket of a confirm or a cancel whose reply was lost. One whose client is gone is
         told to the log alone, and isn't sent again."""
+        now = monotonic()
         if reply == b"outcome open\n" and not request.client.is_closed:
             self._pass_on(request)
         elif reply == b"outcome never\n" or (reply.startswith(b"outcome confirmed ") and request.verb == b"cancel"):
-            self._answer(request, protocol.NO_SUCH_TICKET)
+            self._answer(request, protocol.NO_SUCH_TICKET, now)
         elif reply.startswith(b"outcome confirmed "):
-            self._answer(request, reply[len(b"outcome "):])
+            self._recent.confirmed(int(word(reply, 2)), now, request, self._asks.granted)
+            self._answer(request, reply[len(b"outcome "):], now)
         else:
             self.close(request.client, "reply lost")
 
@@ -436,12 +453,16 @@ class Front:
         self.policy_well, self._rights.policy = True, policy
         self.records.event("policy read", f'"lines": {len(policy.lines)}')
 
-    def health(self) -> tuple[bool, str]:
-        """Whether the manager answers, and what is known of it, without asking it."""
+    def _manager(self) -> tuple[bool, str]:
+        """Whether the manager answers, and in words."""
         oldest = self.link.oldest()
         waits = 0.0 if oldest is None else monotonic() - oldest
         is_well = self.link.is_up and waits < STUCK
-        what = "answers" if is_well else "doesn't answer" if self.link.is_up else "isn't there or reads another"
+        return is_well, "answers" if is_well else "doesn't answer" if self.link.is_up else "isn't there or reads another"
+
+    def health(self) -> tuple[bool, str]:
+        """Whether the manager answers, and what is known of it, without asking it."""
+        is_well, what = self._manager()
         lines = [f"the manager {what}", f"history {self.metrics.history}", f"clients {len(self.clients)}",
                  f"waiting {len(self._asks)}"]
         if not self.log.is_well():
@@ -459,6 +480,24 @@ class Front:
             self.health()[0], self.link.is_up, len(asks), 0.0 if oldest is None else now - oldest, len(self.clients),
             self._unread.bytes, len(self._watches), reservation, self.log.lost, self.log.is_well(), self.log.written.number,
             self.policy_well, self.options.nodes))
+
+    def view_text(self) -> str:
+        """What people see, as JSON."""
+        asks, metrics, now = self._asks, self.metrics, monotonic()
+        start = time.time() - now  # of this machine's clock that never goes back
+        reservation = None
+        if asks.is_open():
+            action = asks.granted.action_of(asks.ticket) if asks.granted else None
+            reservation = Asked(asks.holder.who.key if asks.holder else None, start + asks.since, action, start + asks.until)
+        waiting = [Asked(ask.client.who.key, start + ask.came, shown(ask.line, 1)) for ask in islice(asks.waiting(), FIRST)]
+        is_there = self.link.is_up
+        return Seen(
+            self.health()[0], self._manager()[1], reservation, waiting, len(asks), self._recent.last(metrics.history, start),
+            {"history": (metrics.history if is_there else None, HISTORY_LIMIT),
+             "nodes": (metrics.nodes if is_there else None, self.options.nodes),
+             "boots": (metrics.boots() if is_there else None, BOOTS_LIMIT),
+             "watches": (len(self._watches), WATCHES_LIMIT),
+             "clients": (len(self.clients), self.options.clients)}).text(self.options.page_actions)
 
     def is_idle(self) -> bool:
         """Whether no client's line is at the manager."""

@@ -55,8 +55,9 @@ class ReplyReader:
     def feed(self, data: bytes) -> list[bytes]:
         """The replies that these bytes complete, each with its line ends."""
         held = self.held
-        if not held and not data.startswith(b"changes ") and data.find(b"\n") == len(data) - 1:
-            return [data]  # as most are
+        if not held and data.endswith(b"\n") and b"changes " not in data:
+            # As most are: one reply, or some of one line each.
+            return [data] if data.count(b"\n") == 1 else [line + b"\n" for line in data[:-1].split(b"\n")]
         held += data
         replies = []
         while (end := held.find(b"\n", self.seen)) >= 0:

@@ -98,7 +98,7 @@ class Link:
         self.send(OwnLine(b"status", monotonic()))
         return True
 
-    def _readable(self) -> None:
+    def _readable(self, flags: int) -> None:
         assert self._sock is not None
         try:
             data = self._sock.recv(65536)

@@ -29,14 +29,6 @@ PLAIN = re.compile(rb"[ !#-\[\]-~]*")  # what stands in JSON as it is
 quoted = json.JSONEncoder().encode
 
 
-class Record(NamedTuple):
-    """A record in the writer's queue: its number, its moment, and its further members as JSON."""
-
-    number: int
-    moment: float
-    text: bytes
-
-
 class Place(NamedTuple):
     """Where a log stands: the number and the chain of its last record."""
 
@@ -46,6 +38,7 @@ class Place(NamedTuple):
 
 REOPEN = "reopen"
 END = "end"
+Record = tuple[int, float, bytes]  # in the writer's queue: its number, its moment, and its further members as JSON
 Item = Record | str
 
 
@@ -63,19 +56,18 @@ def chained(before: str, text: bytes) -> str:
 
 
 class Stamp:
-    """Writes moments, each second's text once."""
+    """Writes moments, to the second, each second's text once."""
 
     def __init__(self) -> None:
         self._second = -1
         self._text = b""
 
-    def of(self, moment: float) -> bytes:
-        """A moment in UTC, to the millisecond."""
-        second = int(moment)
+    def of(self, second: int) -> bytes:
+        """A moment in UTC."""
         if second != self._second:
             text = time.strftime("%Y-%m-%dT%H:%M:%S", time.gmtime(second))
             self._second, self._text = second, text.encode()
-        return b"%b.%03dZ" % (self._text, int(moment * 1000) % 1000)
+        return self._text
 
 
 def last_place(file: int) -> Place | None:
@@ -98,13 +90,14 @@ class LogFile:
     def __init__(self, path: str, is_synced: bool) -> None:
         self.path = path
         self.is_synced = is_synced
-        self.place = Place(0, "")
+        self.place = Place(0, "")  # at the beginning of this run
         self._file = 1
         self._torn = False  # the last line may lack its end
         self._stamp = Stamp()
         if path != "-":
             self._file = self._opened()
             self.place = last_place(self._file) or self.place
+        self._chain = self.place.chain  # of the record that was rendered last
 
     def open_again(self) -> str | None:
         """Opens the file by its name, as when it was moved away. Where it can't, the old one stays; gives the cause."""
@@ -120,9 +113,10 @@ class LogFile:
 
     def rendered(self, record: Record) -> bytes:
         """A record's line. Its chain goes on from the record that was rendered before."""
-        text = b'{"n": %d, "time": "%b", %b' % (record.number, self._stamp.of(record.moment), record.text)
-        chain = chained(self.place.chain, text)
-        self.place = Place(record.number, chain)
+        number, moment, members = record
+        second, millis = divmod(int(moment * 1000), 1000)
+        text = b'{"n": %d, "time": "%b.%03dZ", %b' % (number, self._stamp.of(second), millis, members)
+        self._chain = chain = chained(self._chain, text)
         return b'%b, "chain": "%b"}\n' % (text, chain.encode())
 
     def put(self, lines: list[bytes]) -> int:
@@ -193,7 +187,7 @@ class Log:
             self.lost += 1
         else:
             self._given += 1
-            self._queue.put(Record(self.number, time.time(), text))
+            self._queue.put((self.number, time.time(), text))
         return self.number
 
     def is_well(self) -> bool:
@@ -223,8 +217,8 @@ class Log:
         """Takes what is in the queue, and writes it. False where it was the end."""
         items = self._items()
         for item in items:
-            if isinstance(item, Record):
-                self._left.append((item.number, self._file.rendered(item)))
+            if isinstance(item, tuple):
+                self._left.append((item[0], self._file.rendered(item)))
         if self._left:
             self._put()
         if REOPEN in items:

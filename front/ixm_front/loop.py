@@ -11,9 +11,12 @@ from time import monotonic
 from typing import Any
 
 READ, WRITE = selectors.EVENT_READ, selectors.EVENT_WRITE
+IN, OUT = select.EPOLLIN, select.EPOLLOUT
+HUNG_UP = select.EPOLLHUP | select.EPOLLERR  # what is told of a file whose other end takes nothing more
 AT_ONCE = 256  # events that one turn takes; the others come in the next, in their order
 Keys = list[tuple[selectors.SelectorKey, int]]
-Call = Callable[[], None]
+Read = Callable[[int], None]  # is given what the system says of the file
+Write = Callable[[], None]
 
 
 def number_of(file: Any) -> int:
@@ -23,7 +26,7 @@ def number_of(file: Any) -> int:
 
 def flags_of(events: int) -> int:
     """What epoll calls these events."""
-    return (select.EPOLLIN if events & READ else 0) | (select.EPOLLOUT if events & WRITE else 0)
+    return (IN if events & READ else 0) | (OUT if events & WRITE else 0)
 
 
 class TurnSelector(selectors.BaseSelector):
@@ -34,12 +37,12 @@ class TurnSelector(selectors.BaseSelector):
         self.flush: Callable[[], bool] = lambda: False
         self._epoll = select.epoll()
         self._keys: dict[int, selectors.SelectorKey] = {}
-        self._calls: dict[int, tuple[Call | None, Call | None]] = {}
+        self._calls: dict[int, tuple[Read | None, Write | None]] = {}
         self._is_wanted = False
 
-    def watch(self, fd: int, read: Call | None, write: Call | None) -> None:
+    def watch(self, fd: int, read: Read | None, write: Write | None) -> None:
         """Calls these from now on, where the file can be read and written; where both are None, it isn't looked at."""
-        flags = (select.EPOLLIN if read else 0) | (select.EPOLLOUT if write else 0)
+        flags = (IN if read else 0) | (OUT if write else 0)
         if fd not in self._calls:
             if flags:
                 self._epoll.register(fd, flags)
@@ -105,14 +108,14 @@ class TurnSelector(selectors.BaseSelector):
             calls = self._calls.get(fd)
             if calls is not None:
                 read, write = calls
-                if write is not None and flags & ~select.EPOLLIN:
+                if write is not None and flags & ~IN:
                     write()
                     read = self._calls.get(fd, (None, None))[0]
-                if read is not None and flags & ~select.EPOLLOUT:
-                    read()
+                if read is not None and flags & ~OUT:
+                    read(flags)
             elif fd in self._keys:
                 key = self._keys[fd]
-                ready = (READ if flags & ~select.EPOLLOUT else 0) | (WRITE if flags & ~select.EPOLLIN else 0)
+                ready = (READ if flags & ~OUT else 0) | (WRITE if flags & ~IN else 0)
                 found.append((key, ready & key.events))
         return found
 

@@ -4,6 +4,7 @@ from __future__ import annotations
 
 import asyncio
 import contextlib
+import gc
 import os
 import resource
 import signal
@@ -28,6 +29,7 @@ LAST_REPLIES = 2.0  # seconds for the replies that are still to come when the fr
 LAST_RECORDS = 2.0  # seconds for what the log hasn't written then
 FAULT_RECORDS = 1.0  # the same behind a fault
 SPARE_FILES = 150
+NEW_OBJECTS = 20000  # behind which Python looks for cycles among the objects; there are few
 
 
 def raise_open_files(options: Options) -> None:
@@ -58,7 +60,7 @@ class Program:
         self.ended = asyncio.Event()
         self.log = Log(options.log, options.log_sync, options.log_must)
         self.front = Front(options, loop, selector, self.log)
-        self.pages = Pages(loop, self.front.metrics_text, self.front.health)
+        self.pages = Pages(loop, self.front.metrics_text, self.front.health, self.front.view_text)
         self.guests: Guests | None = None
         self.doors: list[Door] = []
         self.tasks: list[asyncio.Task[None]] = []
@@ -218,6 +220,8 @@ def main() -> int:
     raise_open_files(options)
     loop, selector = new_loop()
     asyncio.set_event_loop(loop)
+    gc.freeze()
+    gc.set_threshold(NEW_OBJECTS, 10, 10)
     try:
         program = Program(options, loop, selector)
         program.begin()

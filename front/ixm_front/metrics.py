@@ -9,6 +9,7 @@ from bisect import bisect_left
 from collections import Counter
 from dataclasses import dataclass
 
+from .protocol import number
 from .version import version
 
 BOUNDS = (0.0005, 0.001, 0.0025, 0.005, 0.01, 0.025, 0.05, 0.1, 0.25, 0.5, 1.0, 2.5, 5.0, 10.0, 30.0, 60.0)
@@ -58,8 +59,8 @@ class Now:
 
 
 class Metrics:
-    """What the front has counted since it began. `history`, `nodes`, `is_complete` and `boots` are by the manager's last
-    word."""
+    """What the front has counted since it began. `history`, `nodes`, `is_complete` and `ticket`, the last one that was
+    granted, are by the manager's last word."""
 
     def __init__(self) -> None:
         self.requests: Counter[tuple[bytes, bytes]] = Counter()
@@ -76,8 +77,12 @@ class Metrics:
         self.history = 0
         self.nodes = 0
         self.is_complete = False
-        self.boots: int | None = None
+        self.ticket = b""
         self.began = time.time()
+
+    def boots(self) -> int | None:
+        """The starts of a manager on this journal, which a ticket begins with; None where none was granted."""
+        return number(self.ticket.partition(b"-")[0])
 
     def text(self, now: Now) -> str:
         """All of them."""
@@ -115,8 +120,9 @@ class Metrics:
             gauge("ixm_history_length", "Actions of the history.", self.history)
             gauge("ixm_nodes", "Size of the manager's state.", self.nodes)
             gauge("ixm_complete", "Whether the history is complete.", int(self.is_complete))
-            if self.boots is not None:
-                gauge("ixm_boots", "Starts of a manager on this journal.", self.boots)
+            boots = self.boots()
+            if boots is not None:
+                gauge("ixm_boots", "Starts of a manager on this journal.", boots)
         gauge("ixm_history_limit", "How many actions there may be.", HISTORY_LIMIT)
         gauge("ixm_boots_limit", "How many starts there may be.", BOOTS_LIMIT)
         gauge("ixm_nodes_limit", "How large the state may be, as --nodes says.", now.nodes_limit)

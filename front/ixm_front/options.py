@@ -42,6 +42,7 @@ class Options:
     log_reads: bool
     page: str | None
     page_mode: int | None
+    page_actions: bool
     file: str | None
     every: float
     nodes: int
@@ -147,8 +148,10 @@ def parser_of() -> argparse.ArgumentParser:
     add("--log-sync", action="store_true", help="have each write of the log on the disk")
     add("--log-must", action="store_true", help="answer with no grant, confirm or cancel that the log doesn't have")
     add("--log-reads", action="store_true", help="log `may`, `log`, `poll`, `watch`, `drop`, `status` and `outcome` too")
-    add("--page", type=page, metavar="PLACE", help="a socket, or 127.0.0.1:PORT, with the metrics and the health, as HTTP")
+    add("--page", type=page, metavar="PLACE",
+        help="a socket, or 127.0.0.1:PORT, with the view, the metrics and the health, as HTTP")
     add("--page-mode", type=mode, metavar="MODE", help="the mode of that socket's file, in octal")
+    add("--page-actions", action="store_true", help="the view shows the names of actions, which may name patients")
     add("--file", metavar="FILE", help="a file with the metrics")
     add("--every", type=seconds, default=10, metavar="SECONDS",
         help="how often the manager is asked for its status, and the file is written")

@@ -1,28 +1,64 @@
-"""The metrics and the health: doors of their own, which no client's line stands in front of, and a file."""
+"""The view, the metrics and the health: doors of their own, which no client's line stands in front of, and a file."""
 
 from __future__ import annotations
 
 import asyncio
 import os
+import re
 import socket
 from collections.abc import Callable
+from dataclasses import dataclass
+
+from .view import screen, screen_policy
 
 LONGEST = 5.0  # seconds that a reader of a page may take
 READERS = 32  # at most so many at once
 HEAD = 4096  # bytes of a request's head at most
-NAMES = "/metrics, /ready, /live or /health\n"
+NAMES = "/, /now, /metrics, /ready, /live or /health\n"
+TEXT = "text/plain; version=0.0.4; charset=utf-8"
+# What a browser takes the host of the page to be: an address, or a name without a dot, as `localhost`. A site of another
+# house that leads its own name to this machine would have one with dots.
+HOUSE = re.compile(r"(\[[0-9a-f:.]+\]|[0-9.]+|[a-z0-9_-]*)(:[0-9]+)?", re.IGNORECASE)
+
+
+@dataclass(frozen=True)
+class Reply:
+    """A page, and what a reader is told of it."""
+
+    status: str
+    text: str
+    kind: str = TEXT
+    policy: str = "default-src 'none'"
+
+    def head(self) -> str:
+        """The lines in front of the text."""
+        return (f"HTTP/1.0 {self.status}\r\nContent-Type: {self.kind}\r\nContent-Length: {len(self.text)}\r\n"
+                f"Content-Security-Policy: {self.policy}\r\nX-Content-Type-Options: nosniff\r\n"
+                "Referrer-Policy: no-referrer\r\nCross-Origin-Resource-Policy: same-origin\r\n"
+                "Cache-Control: no-store\r\nConnection: close\r\n\r\n")
+
+
+def host_of(head: str) -> str:
+    """The host that a reader asks for; empty where it names none."""
+    for line in head.split("\n")[1:]:
+        name, _, value = line.partition(":")
+        if name.strip().lower() == "host":
+            return value.strip()
+    return ""
 
 
 class Pages:
-    """Answers `GET` and `HEAD` of `/metrics`, `/live`, `/ready` and `/health`."""
+    """Answers `GET` and `HEAD` of `/`, `/now`, `/metrics`, `/live`, `/ready` and `/health`."""
 
     def __init__(self, loop: asyncio.AbstractEventLoop, metrics: Callable[[], str],
-                 health: Callable[[], tuple[bool, str]]) -> None:
+                 health: Callable[[], tuple[bool, str]], view: Callable[[], str]) -> None:
         self.loop = loop
         self.metrics = metrics
         self.health = health
+        self.view = view
         self.on_fault: Callable[[BaseException], None] = lambda fault: None  # one that cost a reader its page
         self._readers: set[asyncio.Task[None]] = set()
+        screen_policy()  # is read now, since later no open file may be free
 
     def take(self, sock: socket.socket) -> None:
         """Answers whoever has connected, or closes the connection where there are too many."""
@@ -44,19 +80,25 @@ class Pages:
             return False
         return True
 
-    def page(self, method: str, target: str) -> tuple[str, str]:
-        """The status and the text of a page."""
+    def page(self, method: str, target: str, host: str) -> Reply:
+        """A page. The view is only for who asks for this machine by an address or a name of the house."""
         if method not in ("GET", "HEAD"):
-            return "405 Method Not Allowed", "GET or HEAD\n"
+            return Reply("405 Method Not Allowed", "GET or HEAD\n")
         name = target.partition("?")[0]
+        if name in ("/", "/now"):
+            if HOUSE.fullmatch(host) is None:
+                return Reply("421 Misdirected Request", "by an address, or a name without a dot\n")
+            if name == "/":
+                return Reply("200 OK", screen(), "text/html; charset=utf-8", screen_policy())
+            return Reply("200 OK", self.view(), "application/json")
         if name == "/metrics":
-            return "200 OK", self.metrics()
+            return Reply("200 OK", self.metrics())
         if name == "/live":
-            return "200 OK", "the front answers\n"
+            return Reply("200 OK", "the front answers\n")
         if name in ("/ready", "/health"):
             is_well, text = self.health()
-            return ("200 OK" if is_well else "503 Service Unavailable"), text
-        return "404 Not Found", NAMES
+            return Reply("200 OK" if is_well else "503 Service Unavailable", text)
+        return Reply("404 Not Found", NAMES)
 
     def _is_done(self, task: asyncio.Task[None]) -> None:
         self._readers.discard(task)
@@ -79,8 +121,8 @@ class Pages:
             head += data
             if not data or len(head) > HEAD:
                 return
-        words = head.partition(b"\n")[0].decode("ascii", "replace").split()
-        status, text = self.page(words[0], words[1]) if len(words) > 1 else ("400 Bad Request", NAMES)
-        reply = (f"HTTP/1.0 {status}\r\nContent-Type: text/plain; version=0.0.4; charset=utf-8\r\n"
-                 f"Content-Length: {len(text)}\r\nConnection: close\r\n\r\n")
-        await self.loop.sock_sendall(sock, (reply if words and words[0] == "HEAD" else reply + text).encode())
+        asked = head.decode("ascii", "replace")
+        words = asked.partition("\n")[0].split()
+        reply = self.page(words[0], words[1], host_of(asked)) if len(words) > 1 else Reply("400 Bad Request", NAMES)
+        text = "" if words and words[0] == "HEAD" else reply.text
+        await self.loop.sock_sendall(sock, (reply.head() + text).encode())

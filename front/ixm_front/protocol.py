@@ -38,6 +38,7 @@ BUSY = b"refused 20 "
 GRANTED = b"granted "
 CONFIRMED = b"confirmed "
 CANCELLED = b"cancelled "
+ENTRY = b"entry "
 
 LONGEST = 86400000  # milliseconds of a lease and of a wait
 

@@ -11,11 +11,11 @@ if TYPE_CHECKING:
 class ClientLine:
     """A client's line without its byte 10, and when it came and was sent, in seconds of the loop's clock."""
 
-    __slots__ = ("line", "verb", "client", "came", "sent", "deadline", "is_last_try")
+    __slots__ = ("line", "verb", "rest", "client", "came", "sent", "deadline", "is_last_try")
 
     def __init__(self, line: bytes, client: Client, came: float) -> None:
         self.line = line
-        self.verb = line.partition(b" ")[0]
+        self.verb, _, self.rest = line.partition(b" ")  # the first word, and what stands behind it
         self.client = client
         self.came = came
         self.sent = 0.0  # not yet
