@@ -199,7 +199,8 @@ class TestCheck(Case):
         path = f"{self.folder}/bytes"
         self.assertEqual(run("check", path), (2, "", f"ixm-desk: {path}:2:3: from here on this is no UTF-8\n"))
         self.assertEqual(run("check", f"{path}s"), (2, "", f"ixm-desk: {path}s: No such file or directory\n"))
-        for words in ((), ("check",), ("check", path, path), ("test", path), ("look", path)):
+        self.assertEqual(run(f"{path}s", path), (2, "", f"ixm-desk: {path}s: No such file or directory\n"))
+        for words in ((), ("check",), ("check", path, path), ("test", path)):
             with self.subTest(words), self.assertRaises(SystemExit) as ended:
                 run(*words)
             self.assertEqual(ended.exception.code, 2)
@@ -277,18 +278,18 @@ class TestSuites(Case):
             self.assertEqual(run("test", rules, suite), (2, "", f"{rules}:{sentence}\n"))
 
     def test_the_example(self) -> None:
-        put = run("test", f"{EXAMPLE}/rules", f"{EXAMPLE}/cases")
+        put = run("test", f"{EXAMPLE}/rules", f"{EXAMPLE}/rules.cases")
         self.assertEqual(put, (0, "cases 7, right 7, wrong 0\n", ""))
 
     def test_the_example_with_a_rule_less(self) -> None:
         with open(f"{EXAMPLE}/rules") as file:
             less = file.read().replace("@ all $x *(any $p visit($p,$x))", "")
-        status, put, _ = run("test", self.file(less), f"{EXAMPLE}/cases")
+        status, put, _ = run("test", self.file(less), f"{EXAMPLE}/rules.cases")
         line = "refused two patients in one room: call(ben,xray) in line 20 came as yes, and not as no"
-        self.assertEqual((status, put), (1, f"{EXAMPLE}/cases:18: {line}\ncases 7, right 6, wrong 1\n"))
+        self.assertEqual((status, put), (1, f"{EXAMPLE}/rules.cases:18: {line}\ncases 7, right 6, wrong 1\n"))
 
     def test_as_a_process(self) -> None:
-        words = ["python3", "-m", "ixm.desk", "test", f"{EXAMPLE}/rules", f"{EXAMPLE}/cases"]
+        words = ["python3", "-m", "ixm.desk", "test", f"{EXAMPLE}/rules", f"{EXAMPLE}/rules.cases"]
         ended = subprocess.run(words, cwd=f"{TOP}/python", capture_output=True, text=True)
         self.assertEqual((ended.returncode, ended.stdout), (0, "cases 7, right 7, wrong 0\n"))
 

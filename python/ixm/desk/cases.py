@@ -72,15 +72,25 @@ def wrong(case: Case, said: list[str]) -> str | None:
     return None
 
 
-def run(expression: Expanded, text: str, path: str) -> tuple[list[str], str]:
-    """A line for each case of the suite that isn't as it says, and the counts."""
-    cases, lines = read_cases(text), list[str]()
-    for case in cases:
+def results(expression: Expanded, text: str) -> list[tuple[Case, str | None]]:
+    """Each case of the suite, and what isn't as it says."""
+    found = list[tuple[Case, str | None]]()
+    for case in read_cases(text):
         try:
-            found = wrong(case, program.trace(expression, case.actions))
+            found.append((case, wrong(case, program.trace(expression, case.actions))))
         except program.NoAction as error:
             at = offset(text, case.lines[error.number])
             raise Fault(at, f"{case.actions[error.number]} is no action") from None
-        if found:
-            lines.append(f"{path}:{case.line}: {case.kind} {case.name}: {found}")
-    return lines, f"cases {len(cases)}, right {len(cases) - len(lines)}, wrong {len(lines)}"
+    return found
+
+
+def counts(found: list[tuple[Case, str | None]]) -> str:
+    right = sum(sentence is None for _, sentence in found)
+    return f"cases {len(found)}, right {right}, wrong {len(found) - right}"
+
+
+def run(expression: Expanded, text: str, path: str) -> tuple[list[str], str]:
+    """A line for each case of the suite that isn't as it says, and the counts."""
+    found = results(expression, text)
+    wrongs = [(case, sentence) for case, sentence in found if sentence]
+    return [f"{path}:{case.line}: {case.kind} {case.name}: {sentence}" for case, sentence in wrongs], counts(found)

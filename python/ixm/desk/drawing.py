@@ -22,6 +22,7 @@ TITLES = {
     "all": "side by side for all values",
     "times": "so many of these side by side",
 }
+STYLE = "text { font: 15px monospace; fill: #111111; stroke: none } polyline { fill: none }"
 FRAMES = {"any": "#fff7e0", "every": "#eaf6ea", "sync": "#e8f3fa", "all": "#f6edf8"}
 
 
@@ -169,7 +170,20 @@ KINDS: dict[str, Callable[[Form], Figure]] = {
 
 def figure(form: Form) -> Figure:
     """The figure of a form. One that isn't known is an error."""
-    return KINDS[form.operator](form)
+    plain = KINDS[form.operator](form)
+    return refused(plain, form.mark) if form.mark else plain
+
+
+def refused(inner: Figure, sentence: str) -> Figure:
+    """A figure in a broken frame with a sign, and the sentence as its title."""
+
+    def put(x: int, y: int) -> list[str]:
+        top, height = y - inner.above - HALF, inner.above + inner.below + HALF + 6
+        frame = box(x, top, inner.width, height, 'fill="none" stroke="#b00020" stroke-width="3" stroke-dasharray="7 4"')
+        sign = f'<text x="{x + 6}" y="{top + 16}" font-weight="bold">!</text>'
+        return titled(sentence, [frame, sign, *inner.put(x, y)])
+
+    return Figure(inner.width, inner.above + HALF + 4, inner.below + HALF, put)
 
 
 def draw(form: Form) -> str:
@@ -185,7 +199,7 @@ def head(width: int, height: int, text: str) -> Sequence[str]:
     return [
         f'<svg xmlns="http://www.w3.org/2000/svg" viewBox="0 0 {width} {height}" width="{width}" height="{height}">',
         f"<title>{escape(text)}</title>",
-        "<style>text { font: 15px monospace; fill: #111111; stroke: none } polyline { fill: none }</style>",
+        f"<style>{STYLE}</style>",
         '<defs><marker id="arrow" viewBox="0 0 8 8" refX="8" refY="4" markerWidth="7" markerHeight="7" orient="auto">',
         '<path d="M0,0 L8,4 L0,8 z" fill="#1d2733"/></marker></defs>',
         f'<rect width="{width}" height="{height}" fill="#ffffff"/>',

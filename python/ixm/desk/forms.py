@@ -1,6 +1,6 @@
 """Expressions as forms, for drawings only: what isn't right here may be right for the program, which alone decides."""
 
-from dataclasses import dataclass
+from dataclasses import dataclass, replace
 
 from ixm.desk.texts import LEVELS, QUANTIFIERS, Fault, Token, tokens
 
@@ -13,12 +13,15 @@ class Form:
     """An atom with its text as `word`, or an operator and what it is put on.
 
     `word` of an operator is its sign or word, with its parameter or number. Operands of one binary operator that group
-    to the left are in one form.
+    to the left are in one form. `at` has the places of its signs in the text, or of its word. `mark` is a sentence that
+    the drawing shows at it.
     """
 
     operator: str
     word: str
     operands: tuple["Form", ...] = ()
+    at: tuple[int, ...] = ()
+    mark: str = ""
 
     def text(self, binding: int = 0) -> str:
         """Its canonical text, as an operand that has to bind at least so strongly."""
@@ -54,9 +57,9 @@ class Parser:
             return self.prefix()
         sign, found = BINARY[own], self.binary(own + 1)
         while self.next_is(sign):
-            self.rest.pop(0)
-            before = found.operands if found.operator == sign else (found,)
-            found = Form(sign, sign, (*before, self.binary(own + 1)))
+            at = self.rest.pop(0).at
+            before, places = (found.operands, found.at) if found.operator == sign else ((found,), ())
+            found = Form(sign, sign, (*before, self.binary(own + 1)), (*places, at))
         return found
 
     def prefix(self) -> Form:
@@ -66,13 +69,13 @@ class Parser:
         if self.level > LEVELS + 1:
             raise Fault(token.at, "the drawing can't read on here")
         if token.text in PREFIXES:
-            found = Form(token.text, token.text, (self.prefix(),))
+            found = Form(token.text, token.text, (self.prefix(),), (token.at,))
         elif token.text in QUANTIFIERS:
             parameter = self.take(self.rest[:1] != [] and self.rest[0].kind == "parameter")
-            found = Form(token.text, f"{token.text} {parameter.text}", (self.prefix(),))
+            found = Form(token.text, f"{token.text} {parameter.text}", (self.prefix(),), (token.at,))
         elif token.text == "times":
             number = self.take(self.rest[:1] != [] and self.rest[0].text.isdigit())
-            found = Form("times", f"times {number.text}", (self.prefix(),))
+            found = Form("times", f"times {number.text}", (self.prefix(),), (token.at,))
         elif token.text == "(":
             found = self.binary()
             self.take(self.next_is(")"))
@@ -83,15 +86,15 @@ class Parser:
         return found
 
     def atom(self) -> Form:
-        word = self.take(self.rest[0].names()).text
+        name = self.take(self.rest[0].names())
         if not self.next_is("("):
-            return Form("atom", word)
+            return Form("atom", name.text, at=(name.at,))
         inner = list[str]()
         while self.next_is("," if inner else "("):
             self.rest.pop(0)
             inner.append(self.take(self.rest[:1] != [] and self.rest[0].kind in ("word", "parameter")).text)
         self.take(self.next_is(")"))
-        return Form("atom", f"{word}({','.join(inner)})")
+        return Form("atom", f"{name.text}({','.join(inner)})", at=(name.at,))
 
 
 def parse(text: str) -> Form:
@@ -101,3 +104,16 @@ def parse(text: str) -> Form:
     if parser.rest:
         raise parser.fault()
     return found
+
+
+def nodes(form: Form) -> list[tuple[Form, int]]:
+    """The nodes as the program counts them, from 0, each with its form and its place. `a - b - c` has two of `-`."""
+    own = [(form, at) for at in reversed(form.at)]
+    return own + [node for operand in form.operands for node in nodes(operand)]
+
+
+def marked(form: Form, found: Form, sentence: str) -> Form:
+    """The form with a sentence at the one that was found in it."""
+    if form is found:
+        return replace(form, mark=sentence)
+    return replace(form, operands=tuple(marked(operand, found, sentence) for operand in form.operands))

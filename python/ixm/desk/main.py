@@ -2,16 +2,19 @@
 
 import argparse
 import sys
+import webbrowser
 from collections.abc import Callable, Iterator
-from contextlib import contextmanager
+from contextlib import contextmanager, suppress
+from functools import partial
 
 from ixm.desk import cases, program
 from ixm.desk.drawing import draw
 from ixm.desk.forms import parse
 from ixm.desk.parts import Expanded, expand
+from ixm.desk.server import Desk
 from ixm.desk.texts import Fault, Undecoded, place, read
 
-USAGE = "ixm-desk expand RULES | check RULES | test RULES CASES | draw RULES"
+USAGE = "ixm-desk [--open] RULES.. | expand RULES | check RULES | test RULES CASES | draw RULES"
 WELL, WRONG, FAULTY = 0, 1, 2
 
 
@@ -68,9 +71,21 @@ def run_draw(rules: str) -> int:
         try:
             form = parse(expression.text)
         except Fault as fault:
-            byte = len(expression.text[: fault.at].encode())
-            raise Fault(expression.source(byte), fault.sentence) from None
+            raise Fault(expression.origin(fault.at), fault.sentence) from None
     print(draw(form), end="")
+    return WELL
+
+
+def run_open(*rules: str, shows: bool = False) -> int:
+    """Serves the page until it is interrupted."""
+    for path in rules:
+        read(path)
+    program.path()
+    with Desk(rules) as desk, suppress(KeyboardInterrupt):
+        print(desk.address, flush=True)
+        if shows:
+            webbrowser.open(desk.address)
+        desk.serve_forever()
     return WELL
 
 
@@ -82,17 +97,29 @@ COMMANDS: dict[str, tuple[int, Callable[..., int]]] = {
 }
 
 
+def command_of(words: list[str] | None) -> Callable[[], int]:
+    """What these words ask for. Without a command they are files of rules for the page."""
+    parser = argparse.ArgumentParser(prog="ixm-desk", usage=USAGE)
+    parser.add_argument("--open", action="store_true", help="opens the page in the browser")
+    parser.add_argument("words", nargs="+")
+    read_words = parser.parse_args(words)
+    name, *files = read_words.words
+    if name not in COMMANDS:
+        rules = files if name == "open" else [name, *files]
+        if not rules:
+            parser.error("open takes files of rules")
+        return partial(run_open, *rules, shows=read_words.open)
+    count, command = COMMANDS[name]
+    if len(files) != count or read_words.open:
+        parser.error(f"{name} takes {count} file{'s' * (count > 1)}")
+    return partial(command, *files)
+
+
 def main(words: list[str] | None = None) -> int:
     """Runs the command of these words, or of the process, and returns its status."""
-    parser = argparse.ArgumentParser(prog="ixm-desk", usage=USAGE)
-    parser.add_argument("command", choices=COMMANDS)
-    parser.add_argument("files", nargs="+")
-    read_words = parser.parse_args(words)
-    count, command = COMMANDS[read_words.command]
-    if len(read_words.files) != count:
-        parser.error(f"{read_words.command} takes {count} file{'s' * (count > 1)}")
+    command = command_of(words)
     try:
-        return command(*read_words.files)
+        return command()
     except Told as told:
         print(told.line, file=sys.stderr)
         return told.status

@@ -43,6 +43,10 @@ class Expanded:
         """The offset into the source for a byte of the text."""
         return self.places[min(byte, len(self.places) - 1)]
 
+    def origin(self, at: int) -> int:
+        """The offset into the source for an offset into the text."""
+        return self.source(len(self.text[:at].encode()))
+
 
 class Reader:
     """The parts of a source that were read so far, and the rest of its tokens."""

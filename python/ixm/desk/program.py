@@ -6,12 +6,14 @@ import shutil
 import subprocess
 import tempfile
 from collections.abc import Sequence
+from dataclasses import dataclass
 
 from ixm.desk.parts import Expanded
 from ixm.desk.texts import Fault
 
 REFUSED = re.compile(r"refused expression (\d+) (?:at (\d+)|large (\d+))")
 ACTIONS = re.compile(r"refused actions (\d+) at (\d+)")
+UNBOUNDED = re.compile(r"unbounded (\d+) node (\d+)")
 SENTENCES = {
     1: "the text is longer than the program reads",
     2: "nothing of the language begins with this",
@@ -28,6 +30,12 @@ SENTENCES = {
     13: "this quantifier is inside eight others",
     14: "before any action the state is larger than the limit of nodes",
     16: "after times comes a number from 2 to 64, without leading zeros",
+}
+UNBOUNDED_SENTENCES = {
+    51: "both sides have an action of the same name, so such an action may belong to either",
+    52: "the action that begins it can come again later in it, so each time may be a new beginning",
+    53: "no one place of its actions tells the value, so an action may belong to several",
+    54: "many of these may have begun, and each of them may be the one that goes on",
 }
 
 
@@ -51,27 +59,66 @@ def path() -> str:
     return found
 
 
+@dataclass(frozen=True)
+class Said:
+    """What a run of the program left: its status and its lines."""
+
+    status: int
+    lines: list[str]
+
+    def last(self) -> str:
+        return self.lines[-1] if self.lines else ""
+
+    def failure(self, expression: Expanded) -> Exception:
+        """Why the program gave no answer: a fault in the rules, if it says so."""
+        refused = REFUSED.fullmatch(self.last())
+        if refused and int(refused.group(1)) in SENTENCES:
+            return Fault(expression.source(int(refused.group(2) or 0)), SENTENCES[int(refused.group(1))])
+        return Unusable(f"{path()} ended with status {self.status} and the line: {self.last()}")
+
+
+def run(command: str, texts: Sequence[str], *words: str) -> Said:
+    """Runs a command of the program over files with these texts, and with words after the files."""
+    with tempfile.TemporaryDirectory() as folder:
+        files = [f"{folder}/{number}" for number in range(len(texts))]
+        for name, text in zip(files, texts):
+            with open(name, "w", encoding="utf-8", newline="") as file:
+                file.write(text)
+        whole = [path(), command, *files, *words]
+        try:
+            ended = subprocess.run(whole, stdin=subprocess.DEVNULL, stdout=subprocess.PIPE, encoding="utf-8")
+        except OSError as error:
+            raise Unusable(f"{whole[0]} can't be run: {error.strerror}") from None
+    return Said(ended.returncode, ended.stdout.splitlines())
+
+
 def trace(expression: Expanded, actions: Sequence[str]) -> list[str]:
     """What the program says of each action, and last `complete` or `partial`."""
-    with tempfile.TemporaryDirectory() as folder:
-        with open(f"{folder}/expression", "w", encoding="utf-8", newline="") as file:
-            file.write(expression.text)
-        with open(f"{folder}/actions", "w", encoding="utf-8", newline="") as file:
-            file.writelines(f"{action}\n" for action in actions)
-        words = [path(), "trace", f"{folder}/expression", f"{folder}/actions"]
-        try:
-            ended = subprocess.run(words, stdin=subprocess.DEVNULL, stdout=subprocess.PIPE, encoding="utf-8")
-        except OSError as error:
-            raise Unusable(f"{words[0]} can't be run: {error.strerror}") from None
-    lines = ended.stdout.splitlines()
-    last = lines[-1] if lines else ""
-    if ended.returncode == 0 and len(lines) == len(actions) + 1:
-        return lines
-    refused = REFUSED.fullmatch(last)
-    if refused and int(refused.group(1)) in SENTENCES:
-        raise Fault(expression.source(int(refused.group(2) or 0)), SENTENCES[int(refused.group(1))])
-    no_action = ACTIONS.fullmatch(last)
+    text = "".join(f"{action}\n" for action in actions)
+    said = run("trace", [expression.text, text])
+    if said.status == 0 and len(said.lines) == len(actions) + 1:
+        return said.lines
+    no_action = ACTIONS.fullmatch(said.last())
     if no_action:
-        front = "".join(f"{action}\n" for action in actions).encode()[: int(no_action.group(2))]
-        raise NoAction(front.count(b"\n"))
-    raise Unusable(f"{words[0]} ended with status {ended.returncode} and the line: {last}")
+        raise NoAction(text.encode()[: int(no_action.group(2))].count(b"\n"))
+    raise said.failure(expression)
+
+
+def simplify(expression: Expanded) -> str:
+    """The canonical text of what the program makes of an expression."""
+    said = run("simplify", [expression.text])
+    if said.status == 0 and len(said.lines) == 1:
+        return said.last()
+    raise said.failure(expression)
+
+
+def bound(expression: Expanded, values: int) -> tuple[str, int | None, str]:
+    """What the program says of the state's size with so many values: its line, and the node that has no bound with a
+    sentence, if there is one."""
+    said = run("bound", [expression.text], str(values))
+    if said.status or not said.lines:
+        raise said.failure(expression)
+    refused = UNBOUNDED.fullmatch(said.lines[0])
+    if refused and int(refused.group(1)) in UNBOUNDED_SENTENCES:
+        return said.lines[0], int(refused.group(2)), UNBOUNDED_SENTENCES[int(refused.group(1))]
+    return said.lines[0], None, ""
