@@ -164,6 +164,11 @@ pub record StandsFor (text : List ℕ) (x : Form) : Type 0 where
   pub means : HasMeaning text (record { form = x; places = places })
   pub well_formed : IsWellFormed x
 
+-- the text stands for the well-formed expression of this meaning, and its nodes' tokens start there
+pub record IsPlaced (text : List ℕ) (x : Meaning) : Type 0 where
+  pub means : HasMeaning text x
+  pub well_formed : IsWellFormed x.form
+
 -- the first fault of a text
 pub data IsFirstFault (text : List ℕ) : ℕ → ℕ → Type 0 where
   -- the length of the text

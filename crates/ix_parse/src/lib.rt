@@ -3,7 +3,7 @@
 
 ghost use Rattle.std.specs.Prelude.{◌≡◌, IfOk, IfErr};
 ghost use Rattle.ix_parse.specs.Faults as spec;
-ghost use Rattle.ix_parse.specs.inside.Outcomes.{IsFaultOf, HasPlaces, IsWellFormedOr};
+ghost use Rattle.ix_parse.specs.inside.Outcomes.{IsFaultOf, HasPlaces, IsPlacedOr};
 ghost use Rattle.ix_parse.specs.inside.Operands.{meaning_of};
 ghost use Rattle.ix_expr.specs.FormFaults.{HasNumbers};
 ghost use Rattle.ix_expr.specs.inside.FormOf.{form_of};
@@ -34,6 +34,15 @@ pub(crate) const MOST_BYTES: usize = 16384;
 pub enum TextFault {
     Bad { code: u8, at: usize },
     Memory,
+}
+
+/// An expression, and where each of its nodes starts in the text that it was read from, the nodes
+/// in pre-order: an atom at its name, any other node at its operator, its prefix, its quantifier's
+/// word or its `times`.
+#[derive(Drop)]
+pub struct Placed {
+    pub expression: Expression,
+    pub places: Vec<usize>,
 }
 
 fn fault_at(fault: Fault, at: usize) -> TextFault
@@ -78,6 +87,16 @@ pub fn read(alloc: Global, text: &[u8]) -> Result<Expression, TextFault>
     ensures ok { IfOk result (λ x. spec.StandsFor text.now x) }
     ensures fault { IfErr result (λ fault. IsFaultOf text.now fault) }
 {
+    let Placed { expression, .. } = read_placed(alloc, text)?;
+    Ok(expression)
+}
+
+/// The same, with the places of the expression's nodes; of any other text the same fault.
+pub fn read_placed(alloc: Global, text: &[u8]) -> Result<Placed, TextFault>
+    ensures ok { IfOk result
+        (λ x. spec.IsPlaced text.now (record { form = x.expression; places = x.places.items })) }
+    ensures fault { IfErr result (λ fault. IsFaultOf text.now fault) }
+{
     if text.len() > MOST_BYTES {
         return Err(TextFault::Bad {
             code: 1,
@@ -91,14 +110,14 @@ pub fn read(alloc: Global, text: &[u8]) -> Result<Expression, TextFault>
 }
 
 /// A form fault is told at the token of its node.
-fn checked(operand: Operand) -> Result<Expression, TextFault>
+fn checked(operand: Operand) -> Result<Placed, TextFault>
     requires places { HasPlaces (meaning_of operand) }
     requires numbers { HasNumbers (form_of operand.expr) }
-    ensures { IsWellFormedOr (meaning_of operand) result }
+    ensures { IsPlacedOr (meaning_of operand) result }
 {
     let Operand { expr, places } = operand;
     match Expression::new(expr) {
-        Ok(expression) => Ok(expression),
+        Ok(expression) => Ok(Placed { expression, places }),
         Err(fault) => Err(TextFault::Bad {
             code: fault.code,
             at: places[fault.node],

@@ -5,8 +5,8 @@ use Rattle.ix_expr.specs.FormFaults.{nodes_of, fault_at}
 use Rattle.ix_parse.proofs.Endings.{in_range}
 use Rattle.ix_parse.proofs.checked.Goals as goal
 
-pub returns : goal.returns
-returns c =
+pub returns-in-Err : goal.returns-in-Err
+returns-in-Err c =
     let nodes = nodes_of (form_of c.args.operand.expr) in
     let found = in_range nodes c.in-Err.fault.node (λ node. fault_at c.in-Err.fault.node node ≡ Some c.in-Err.fault.code) c.in-Err.ensures.fault.here in
     let same : length c.args.operand.places.items ≡ length nodes = c.requires.places in

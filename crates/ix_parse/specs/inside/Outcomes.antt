@@ -1,6 +1,5 @@
 -- What the calls of the reader's loop answer.
 use Rattle.std.specs.Prelude.{◌≡◌, ℕ, List, [], ◌∷◌, Option, Some, None, Result, Ok, Err, length, slice_get}
-use Rattle.ix_expr.specs.Form.{Form}
 use Rattle.ix_expr.specs.FormFaults.{nodes_of, IsWellFormed, IsFirstFormFault}
 use Rattle.ix_lex.specs.Lexing.{PlainToken, Piece}
 use Rattle.ix_lex.specs.inside.Items.{plain_token, piece_of, pieces_left}
@@ -12,6 +11,7 @@ use Rattle.ix_parse.specs.declared.signs.Follower.{Follower}
 use Rattle.ix_parse.specs.declared.signs.Follower.TheVariants as followers
 use Rattle.ix_parse.specs.declared.operand.Operand.{Operand}
 use Rattle.ix_parse.specs.declared.taking.Reading.{Reading}
+use Rattle.ix_parse.specs.declared.Placed.{Placed}
 use Rattle.ix_parse.specs.declared.TextFault.{TextFault}
 use Rattle.ix_parse.specs.declared.TextFault.TheVariants.{Bad, Memory}
 use Rattle.ix_parse.specs.Symbols.{symbol_of, Meaning}
@@ -58,8 +58,10 @@ IsEnded c end Memory = Unit {0}
 abbrev pub HasPlaces : Meaning → Type 0
 HasPlaces x = length x.places ≡ length (nodes_of x.form)
 
--- the well-formed expression, or its first form fault at the place of its node's token
-abbrev pub IsWellFormedOr : Meaning → Result Form TextFault → Type 0
-IsWellFormedOr x (Ok form) = (form ≡ x.form) × IsWellFormed x.form
-IsWellFormedOr x (Err (Bad code at)) = (number : ℕ) × IsFirstFormFault x.form code number × (slice_get x.places number ≡ Some at)
-IsWellFormedOr x (Err Memory) = ⊥
+-- the well-formed expression with its places, or its first form fault at the place of its node's
+-- token
+abbrev pub IsPlacedOr : Meaning → Result Placed TextFault → Type 0
+IsPlacedOr x (Ok placed) =
+    (placed.expression ≡ x.form) × (placed.places.items ≡ x.places) × IsWellFormed x.form
+IsPlacedOr x (Err (Bad code at)) = (number : ℕ) × IsFirstFormFault x.form code number × (slice_get x.places number ≡ Some at)
+IsPlacedOr x (Err Memory) = ⊥
