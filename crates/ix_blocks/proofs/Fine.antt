@@ -1,8 +1,12 @@
 -- What holds of every world that a run leads to.
 use Rattle.std.proofs.Common.{◌≡◌, ◌⊎◌, inl, inr, ℕ, ◌+◌, ◌<◌, ◌≤◌, List, [], None}
 use Rattle.ix_words.specs.Each.{Member}
-use Rattle.ix_blocks.specs.Register.{FileHead, Register}
-use Rattle.ix_blocks.specs.Owners.{Sent, number, Commit, applied, refused, Answer, Change, Claim, OwnerState, outside, attaching, waits, owns, ended, World}
+use Rattle.ix_blocks.specs.Register.{Register}
+use Rattle.ix_blocks.specs.declared.claim.Head.{Head}
+use Rattle.ix_blocks.specs.declared.claim.Claim.{Claim}
+use Rattle.ix_blocks.specs.declared.claim.Commit.{Commit}
+use Rattle.ix_blocks.specs.declared.claim.Commit.TheVariants.{Applied, Refused}
+use Rattle.ix_blocks.specs.Owners.{Sent, number, Answer, Change, OwnerState, outside, attaching, waits, owns, ended, World}
 use Rattle.ix_blocks.specs.Laws.{numbers_of, transactions_of, Descends}
 use Rattle.ix_blocks.proofs.Changes.{guard, Leads, ByLast}
 
@@ -30,13 +34,13 @@ pub record IsAttach (register : Register) (sent : Sent) : Type 0 where
   pub as_long : guard sent ≡ register.revision → sent.transaction.head.length ≡ register.head.length
 
 -- an attach put the head, or nobody did; or it is the head of the change that made this revision
-abbrev pub PutBy : List Change → FileHead → ℕ → Type 0
+abbrev pub PutBy : List Change → Head → ℕ → Type 0
 PutBy changes head revision = (head.owner ≡ 0) ⊎ ((change : Change) × Member change changes × (change.revision ≡ revision) × (change.sent.transaction.head ≡ head))
 
 -- an answer is true
 abbrev pub Tells : List Change → Sent → Commit → Type 0
-Tells changes sent (applied revision) = (change : Change) × Member change changes × (change.sent ≡ sent) × (change.revision ≡ revision)
-Tells changes sent (refused head revision) = PutBy changes head revision
+Tells changes sent (Applied revision) = (change : Change) × Member change changes × (change.sent ≡ sent) × (change.revision ≡ revision)
+Tells changes sent (Refused seen) = PutBy changes seen.head seen.revision
 
 -- what an owner knows is true
 pub record Knows (changes : List Change) (who : ℕ) (claim : Claim) : Type 0 where
@@ -81,13 +85,13 @@ module _ {cs ds : List Change} (more : Among cs ds) where
   pub sync-more : {s : Sent} → IsSync cs s → IsSync ds s
   sync-more h = record { counted = h.counted; base = made-more h.base; later = h.later; first = made-more h.first; attach = h.attach }
 
-  pub put-more : {head : FileHead} {revision : ℕ} → PutBy cs head revision → PutBy ds head revision
+  pub put-more : {head : Head} {revision : ℕ} → PutBy cs head revision → PutBy ds head revision
   put-more (inl z) = inl z
   put-more (inr h) = inr (h.0, more h.0 h.1, h.2, h.3)
 
   pub tells-more : (s : Sent) (says : Commit) → Tells cs s says → Tells ds s says
-  tells-more s (applied r) h = (h.0, more h.0 h.1, h.2, h.3)
-  tells-more s (refused head r) h = put-more h
+  tells-more s (Applied r) h = (h.0, more h.0 h.1, h.2, h.3)
+  tells-more s (Refused seen) h = put-more h
 
   abbrev pub knows-more : {who : ℕ} {claim : Claim} → Knows cs who claim → Knows ds who claim
   knows-more k = record { first = made-more k.first; attach = k.attach; base = made-more k.base }

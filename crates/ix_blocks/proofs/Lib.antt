@@ -4,3 +4,5 @@ pub mod Sending
 pub mod Coming
 pub mod Hearing
 pub mod Runs
+pub mod Cutting
+pub mod Syncing

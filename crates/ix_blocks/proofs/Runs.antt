@@ -1,11 +1,13 @@
 -- The laws, by induction over the run.
-use Rattle.std.proofs.Common.{◌≡◌, ◌≢◌, inl, inr, ℕ, zero, suc, ◌+◌, ◌<◌, ◌==◌, Bool, true, false, if◌then◌else◌, List, [], ◌∷◌, ◌++◌, Option, None, Some, slice_get, refl, sym, ap, ◌∙◌, subst, ap₂, take, ◌/◌, arith}
+use Rattle.std.proofs.Common.{◌≡◌, ◌≢◌, inl, inr, ℕ, zero, suc, ◌+◌, ◌<◌, ◌==◌, Bool, true, false, if◌then◌else◌, List, [], ◌∷◌, ◌++◌, Option, None, Some, slice_get, refl, sym, ap, ◌∙◌, subst, ap₂, take, arith}
 use Rattle.std.proofs.lemmas.Bool.{eqb-true}
 use Rattle.std.proofs.lemmas.Option.{none-some}
+use Rattle.std.specs.Int.{div_ceil}
 use Rattle.ix_words.specs.Each.{Each, Member, here, there}
 use Rattle.ix_words.proofs.Canon.{Member-same, Member-cases}
 use Rattle.ix_blocks.specs.Register.{Register, Transaction, fits, changed, apply, image, put_blocks, delete_from, first_blocks}
-use Rattle.ix_blocks.specs.Owners.{Sent, number, Answer, Change, Claim, OwnerState, outside, attaching, waits, owns, ended, Unsynced, Event, attaches, syncs, comes, hears, elsewhere, World, attach, sync, come, come_one, hear_one, happens, after_events, empty_store, world_after}
+use Rattle.ix_blocks.specs.declared.claim.Claim.{Claim}
+use Rattle.ix_blocks.specs.Owners.{Sent, number, Answer, Change, OwnerState, outside, attaching, waits, owns, ended, Unsynced, Event, attaches, syncs, comes, hears, elsewhere, World, attach, sync, come, come_one, hear_one, happens, after_events, empty_store, world_after}
 use Rattle.ix_blocks.specs.Laws.{last_owner, HasWritten, EarlierOwnersWriteNothing, SyncsAreOfTheLastOwner, EachWritesOnceInOrder, AttachesKeepTheFile, AnsweredWritesStand, SettledFilesStay, LooksTellWhoOwns, numbers_of, transactions_of, Descends}
 use Rattle.ix_blocks.proofs.Changes.{guard, Leads, ByLast, made_last, newest_owner, first_highest, rest_below, one_below, among_written}
 use Rattle.ix_blocks.proofs.Fine.{IsSync, IsAttach, Stands, Fine}
@@ -17,7 +19,7 @@ unwrapped : {A : Type 0} → A → Option A → A
 unwrapped x None = x
 unwrapped x (Some y) = y
 
-got : {A : Type 0} (xs : List A) (which : ℕ) (x : A) → slice_get xs which ≡ Some x → Member x xs
+pub got : {A : Type 0} (xs : List A) (which : ℕ) (x : A) → slice_get xs which ≡ Some x → Member x xs
 unfolding unwrapped
 got [] which x e = absurd (cc)
 got (y ∷ xs) zero x e = Member-same xs (sym (ap (unwrapped x) e))
@@ -55,7 +57,7 @@ module _ (w : World) (fine : Fine w) where
         numbered = fine.numbered;
       }
 
-  event-fine : (event : Event) → Fine (happens w event)
+  pub event-fine : (event : Event) → Fine (happens w event)
   event-fine (attaches who) = attach-fine w fine who (w.standing who) (fine.standings who)
   event-fine (syncs who pending) = sync-fine w fine who pending (w.standing who) (fine.standings who)
   event-fine (comes which) = one-comes (slice_get w.sent which) (λ s e. got w.sent which s e)
@@ -83,7 +85,7 @@ start-fine newest =
       numbered = λ who. tt;
     }
 
-after-fine : (newest : ℕ) (events : List Event) → Fine (world_after newest events)
+pub after-fine : (newest : ℕ) (events : List Event) → Fine (world_after newest events)
 after-fine newest events = run-fine events (empty_store newest) (start-fine newest)
 
 run-append : (before after : List Event) (w : World) → after_events (before ++ after) w ≡ after_events after (after_events before w)
@@ -193,7 +195,7 @@ kept w fine s m z = elim (fine.kinds s m) [
     chosen a true e =
         let blocks : delete_from (put_blocks w.register.blocks s.transaction.puts) s.transaction.gone_from ≡ w.register.blocks =
         ap (λ g. delete_from (put_blocks w.register.blocks s.transaction.puts) g) a.none_gone ∙ ap (λ p. put_blocks w.register.blocks p) a.no_puts in
-        ap₂ (λ n b. take n (first_blocks (n / 4096 + 1) b)) (a.as_long (eqb-true _ _ e)) blocks
+        ap₂ (λ n b. take n (first_blocks (div_ceil n 4096) b)) (a.as_long (eqb-true _ _ e)) blocks
     chosen a false e = refl
 
 pub file_stays : AttachesKeepTheFile
@@ -216,7 +218,7 @@ module _ (w : World) (fine : Fine w) (who : ℕ) (claim : Claim) (h : Stands w.s
       (own, omega (arith, low, high, h.2))
 
   -- a sync that fits isn't theirs
-  settled : last_owner w.changes ≡ Some who → (s : Sent) → Member s w.sent → IsSync w.changes s → guard s ≢ w.register.revision
+  pub settled : last_owner w.changes ≡ Some who → (s : Sent) → Member s w.sent → IsSync w.changes s → guard s ≢ w.register.revision
   settled l s m y e =
       let k = by_newest w fine s m y e in
       let n = newest-is y.base.change k.0 k.1 l in
@@ -235,7 +237,7 @@ module _ (w : World) (fine : Fine w) (who : ℕ) (claim : Claim) (h : Stands w.s
       let k = made_last w.register.revision w.changes b.change fine.leads b.among (b.made ∙ sym e) in
       ap last_owner k.1 ∙ newest_owner b.change k.0 (subst ByLast k.1 fine.by_last) ∙ ap Some b.theirs
 
-  last-at : (cs : List Change) → w.changes ≡ cs → last_owner w.changes ≡ Some who → w.register.revision ≡ claim.revision
+  pub last-at : (cs : List Change) → w.changes ≡ cs → last_owner w.changes ≡ Some who → w.register.revision ≡ claim.revision
   last-at [] e l = absurd (none-some who (sym (ap last_owner e) ∙ l))
   last-at (c ∷ rest) e l =
       let n = newest-is c rest e l in
@@ -247,7 +249,7 @@ module _ (w : World) (fine : Fine w) (who : ℕ) (claim : Claim) (h : Stands w.s
         | inr m ↦ absurd (omega (arith, one_below who (number c.sent) (transactions_of rest) h.1.base.change.sent (rest_below who c.sent (transactions_of rest) n.0 d) (among_written rest h.1.base.change m) h.1.base.theirs, n.1, h.2))
       ]
 
-stands-after : (newest : ℕ) (events : List Event) (who : ℕ) (claim : Claim) → (world_after newest events).standing who ≡ owns claim → Stands (world_after newest events).sent (world_after newest events).changes who (owns claim)
+pub stands-after : (newest : ℕ) (events : List Event) (who : ℕ) (claim : Claim) → (world_after newest events).standing who ≡ owns claim → Stands (world_after newest events).sent (world_after newest events).changes who (owns claim)
 stands-after newest events who claim e = subst (Stands (world_after newest events).sent (world_after newest events).changes who) e ((after-fine newest events).standings who)
 
 pub answered : AnsweredWritesStand

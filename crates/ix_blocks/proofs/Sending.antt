@@ -3,8 +3,9 @@ use Rattle.std.proofs.Common.{◌≡◌, ◌≢◌, ◌⊎◌, inl, inr, ℕ, �
 use Rattle.std.proofs.lemmas.Bool.Decides.{eqb_tells}
 use Rattle.ix_words.specs.Each.{Member, there}
 use Rattle.ix_words.proofs.Canon.{Member-cases}
-use Rattle.ix_blocks.specs.Register.{Transaction}
-use Rattle.ix_blocks.specs.Owners.{Sent, number, Change, Claim, OwnerState, outside, attaching, waits, owns, ended, Unsynced, World, attach_of, sync_of, stands, sends, attach, sync_next, sync}
+use Rattle.ix_blocks.specs.Register.{Transaction, seen_of}
+use Rattle.ix_blocks.specs.declared.claim.Claim.{Claim}
+use Rattle.ix_blocks.specs.Owners.{Sent, number, Change, OwnerState, outside, attaching, waits, owns, ended, Unsynced, World, attach_of, sync_of, stands, sends, attach, sync_next, sync}
 use Rattle.ix_blocks.proofs.Changes.{guard, no_later, all_below, descends_more}
 use Rattle.ix_blocks.proofs.Fine.{IsSync, IsAttach, Knows, Below, Stands, Fine}
 
@@ -69,10 +70,10 @@ module _ (w : World) (fine : Fine w) (who : ℕ) (t : Transaction) where
 module _ (w : World) (fine : Fine w) (who : ℕ) where
   attaches-fine : Stands w.sent w.changes who outside → Fine (attach w who outside)
   attaches-fine h =
-      fine-sends w fine who (attach_of w.register) attaching (omega arith)
+      fine-sends w fine who (attach_of (seen_of w.register)) attaching (omega arith)
       (inl (record { no_owner = refl; no_number = refl; no_puts = refl; none_gone = refl; as_long = λ e. refl }))
       h
-      (next_below (record { owner = who; transaction = attach_of w.register }) w.sent who 0 refl h)
+      (next_below (record { owner = who; transaction = attach_of (seen_of w.register) }) w.sent who 0 refl h)
 
   pub attach-fine : (standing : OwnerState) → Stands w.sent w.changes who standing → Fine (attach w who standing)
   attach-fine outside h = attaches-fine h

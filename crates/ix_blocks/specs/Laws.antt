@@ -3,7 +3,8 @@ use Rattle.std.specs.Prelude.{◌≡◌, ◌≢◌, ◌↔◌, ℕ, ◌<◌, ◌
 use Rattle.std.specs.Prelude.{Option, None, Some, map}
 use Rattle.ix_words.specs.Each.{Each, Member}
 use Rattle.ix_blocks.specs.Register.{Register, apply, image}
-use Rattle.ix_blocks.specs.Owners.{Sent, number, Change, Claim, owns, Event, world_after}
+use Rattle.ix_blocks.specs.declared.claim.Claim.{Claim}
+use Rattle.ix_blocks.specs.Owners.{Sent, number, Change, owns, Event, world_after}
 
 -- the owner of the last attach among these changes, the newest first
 abbrev pub last_owner : List Change → Option ℕ

@@ -1,3 +1,6 @@
 pub mod Register
 pub mod Owners
 pub mod Laws
+pub mod FileBlocks
+pub mod FileLaws
+pub mod inside

@@ -2,7 +2,11 @@
 -- the syncs after it; who attaches again is another owner.
 use Rattle.std.specs.Prelude.{ℕ, ◌+◌, ◌==◌, ◌&&◌, Bool, true, false, if◌then◌else◌, List, [], ◌∷◌}
 use Rattle.std.specs.Prelude.{Option, None, Some, slice_get}
-use Rattle.ix_blocks.specs.Register.{FileHead, Register, Transaction, fits, changed}
+use Rattle.ix_blocks.specs.Register.{Register, Transaction, seen_of, fits, changed}
+use Rattle.ix_blocks.specs.declared.claim.Seen.{Seen}
+use Rattle.ix_blocks.specs.declared.claim.Claim.{Claim}
+use Rattle.ix_blocks.specs.declared.claim.Commit.{Commit}
+use Rattle.ix_blocks.specs.declared.claim.Commit.TheVariants.{Applied, Refused}
 
 -- a transaction, and which owner sent it
 pub record Sent : Type 0 where
@@ -13,12 +17,7 @@ pub record Sent : Type 0 where
 abbrev pub number : Sent → ℕ
 number sent = sent.transaction.head.sequence
 
--- what the store answers: the revision that the transaction made; or that its guard didn't fit, the
--- head, and the revision at which it was put last
-pub data Commit : Type 0 where
-  applied : ℕ → Commit
-  refused : FileHead → ℕ → Commit
-
+-- what the store answers to a transaction
 pub record Answer : Type 0 where
   pub to : Sent
   pub says : Commit
@@ -27,13 +26,6 @@ pub record Answer : Type 0 where
 pub record Change : Type 0 where
   pub sent : Sent
   pub revision : ℕ
-
--- what an owner knows: the revision that its attach made, the last that it was told it made, and
--- how many syncs it has sent
-pub record Claim : Type 0 where
-  pub owner : ℕ
-  pub revision : ℕ
-  pub sequence : ℕ
 
 -- an owner has sent nothing yet; waits for its attach's answer; waits for that of its last sync;
 -- was told that the last that it sent was applied; or sends nothing more
@@ -71,10 +63,10 @@ pub data Event : Type 0 where
   elsewhere : Event
 
 -- an attach puts the head that it saw, with no owner and no number
-abbrev pub attach_of : Register → Transaction
-attach_of register = record {
-  guard = register.revision;
-  head = record { owner = 0; sequence = 0; length = register.head.length };
+abbrev pub attach_of : Seen → Transaction
+attach_of seen = record {
+  guard = seen.revision;
+  head = record { owner = 0; sequence = 0; length = seen.head.length };
   puts = [];
   gone_from = None;
 }
@@ -102,7 +94,8 @@ sends world who transaction = record world {
 
 -- an owner that has sent nothing attaches
 abbrev pub attach : World → ℕ → OwnerState → World
-attach world who outside = stands (sends world who (attach_of world.register)) who attaching
+attach world who outside =
+    stands (sends world who (attach_of (seen_of world.register))) who attaching
 attach world who attaching = world
 attach world who (waits claim) = world
 attach world who (owns claim) = world
@@ -124,11 +117,11 @@ sync world who pending ended = world
 abbrev pub come : World → Sent → Bool → World
 come world sent true = record world {
   register = changed sent.transaction world.register;
-  answers = record { to = sent; says = applied (world.register.newest + 1) } ∷ world.answers;
+  answers = record { to = sent; says = Applied (world.register.newest + 1) } ∷ world.answers;
   changes = record { sent = sent; revision = world.register.newest + 1 } ∷ world.changes;
 }
 come world sent false = record world {
-  answers = record { to = sent; says = refused world.register.head world.register.revision }
+  answers = record { to = sent; says = Refused (seen_of world.register) }
       ∷ world.answers;
 }
 
@@ -139,18 +132,18 @@ come_one world (Some sent) = come world sent (fits sent.transaction world.regist
 -- How an owner stands after the answer to its last transaction. Where that is refused, but the head
 -- is the one that it puts, a copy of it was applied before; any other head is another's.
 abbrev pub learn : Claim → Commit → OwnerState
-learn claim (applied revision) = owns (record claim { revision = revision })
-learn claim (refused head revision) =
-    if (head.owner == claim.owner) && (head.sequence == claim.sequence)
-    then owns (record claim { revision = revision }) else ended
+learn claim (Applied revision) = owns (record claim { revision = revision })
+learn claim (Refused seen) =
+    if (seen.head.owner == claim.owner) && (seen.head.sequence == claim.sequence)
+    then owns (record claim { revision = seen.revision }) else ended
 
 -- how an owner stands after an answer to its transaction of this number; an answer that it doesn't
 -- wait for makes no difference
 abbrev pub hear : OwnerState → ℕ → Commit → OwnerState
 hear outside number says = outside
-hear attaching number (applied revision) =
+hear attaching number (Applied revision) =
     owns (record { owner = revision; revision = revision; sequence = 0 })
-hear attaching number (refused head revision) = ended
+hear attaching number (Refused seen) = ended
 hear (waits claim) number says =
     if number == claim.sequence then learn claim says else waits claim
 hear (owns claim) number says = owns claim

@@ -1,28 +1,28 @@
 -- A file in blocks as a store of keys has it, and the transactions on it.
-use Rattle.std.specs.Prelude.{ℕ, zero, suc, ◌+◌, ◌/◌, ◌==◌, nat_lt, Bool, if◌then◌else◌}
+use Rattle.std.specs.Prelude.{ℕ, zero, suc, ◌+◌, ◌==◌, nat_lt, Bool, if◌then◌else◌}
 use Rattle.std.specs.Prelude.{List, [], ◌∷◌, ◌++◌, take, Option, None, Some}
-
--- what the head says: who put it, by the revision that its attach made, and 0 where an attach put
--- it; the number of that owner's sync, and 0 where an attach put it; and the file's length
-pub record FileHead : Type 0 where
-  pub owner : ℕ
-  pub sequence : ℕ
-  pub length : ℕ
+use Rattle.std.specs.Int.{div_ceil}
+use Rattle.ix_blocks.specs.declared.claim.Head.{Head}
+use Rattle.ix_blocks.specs.declared.claim.Seen.{Seen}
 
 -- The keys of one file: the head; the revision of the store at which it was put last, 0 where it
 -- never was; the bytes of each block, none where it is absent; and the store's newest revision,
 -- which the transactions on other keys raise too.
 pub record Register : Type 0 where
-  pub head : FileHead
+  pub head : Head
   pub revision : ℕ
   pub blocks : ℕ → List ℕ
   pub newest : ℕ
+
+-- what a look at the head sees
+abbrev pub seen_of : Register → Seen
+seen_of register = record { head = register.head; revision = register.revision }
 
 -- where the head was put last at the revision `guard`: puts the head, and each of these blocks by
 -- its number, and deletes the blocks from a number on
 pub record Transaction : Type 0 where
   pub guard : ℕ
-  pub head : FileHead
+  pub head : Head
   pub puts : List (ℕ × List ℕ)
   pub gone_from : Option ℕ
 
@@ -66,4 +66,4 @@ first_blocks (suc count) blocks = first_blocks count blocks ++ blocks count
 -- the file: its bytes up to the length, in blocks of 4,096 bytes
 abbrev pub image : Register → List ℕ
 image register =
-    take register.head.length (first_blocks (register.head.length / 4096 + 1) register.blocks)
+    take register.head.length (first_blocks (div_ceil register.head.length 4096) register.blocks)

@@ -1,6 +1,8 @@
 //! What is claimed of several owners of one file, each the contract of a function with an empty
 //! body.
 
+ghost use Rattle.ix_blocks.specs.FileLaws.{EachMomentHasOneOfTwo, HeldFilesAreImages};
+ghost use Rattle.ix_blocks.specs.FileLaws.{SyncsAreWhole, SyncsMakeTheFile};
 ghost use Rattle.ix_blocks.specs.Laws.{AnsweredWritesStand, AttachesKeepTheFile, LooksTellWhoOwns};
 ghost use Rattle.ix_blocks.specs.Laws.{EachWritesOnceInOrder, EarlierOwnersWriteNothing};
 ghost use Rattle.ix_blocks.specs.Laws.{SettledFilesStay, SyncsAreOfTheLastOwner};
@@ -29,4 +31,23 @@ pub fn what_was_answered_is_written()
 /// exactly where no other owner has attached since.
 pub fn looks_tell_who_owns()
     ensures { LooksTellWhoOwns }
+{}
+
+/// The image of a store that has a file is that file.
+pub fn held_files_are_images()
+    ensures { HeldFilesAreImages }
+{}
+
+/// A sync whose guard fits makes of the file that was synced the one in memory; whenever it comes,
+/// the file is one of the two.
+pub fn syncs_are_whole()
+    ensures made { SyncsMakeTheFile }
+    ensures whole { SyncsAreWhole }
+{}
+
+/// While the owner that attached last syncs, and until anybody sends another sync: at every moment,
+/// whatever comes of all that was ever sent, and whoever attaches, the store has the file as it
+/// was synced, and from the moment on at which the sync changes it, the one in memory.
+pub fn each_moment_has_one_of_two()
+    ensures { EachMomentHasOneOfTwo }
 {}

@@ -1,0 +1,2 @@
+-- What contracts between crates and private ones cite, and no claim of the program or law reaches.
+pub mod PlainBlocks
