@@ -6,16 +6,17 @@ use Rattle.std.specs.Prelude.{unwrap_or}
 use Rattle.std.specs.Result.{IsErrAnd}
 use Rattle.clap.specs.Words.{App, Text}
 use Rattle.ix_cli.specs.Commands.{trace_command, replay_command, serve_command, work_command}
-use Rattle.ix_cli.specs.Commands.{simplify_command, bound_command, follow_command}
+use Rattle.ix_cli.specs.Commands.{simplify_command, bound_command, follow_command, lint_command}
 use Rattle.ix_cli.specs.Words.{Refuses}
 use Rattle.ix_cli.specs.declared.fault.WordsFault.{WordsFault}
 use Rattle.ix_cli.specs.declared.fault.WordsFault.TheVariants.{Bad, Memory}
 use Rattle.ix_cli.specs.inside.Jobs.{Explains}
 use Rattle.ix_cli.specs.inside.Matches.{Blames}
 use Rattle.ix_cli.proofs.PlainCommands.{trace_name, replay_name, serve_name, work_name}
-use Rattle.ix_cli.proofs.PlainCommands.{simplify_name, bound_name, follow_name}
+use Rattle.ix_cli.proofs.PlainCommands.{simplify_name, bound_name, follow_name, lint_name}
 use Rattle.ix_cli.proofs.Named.{first_two, initial, trace_initial, replay_initial, serve_initial}
 use Rattle.ix_cli.proofs.Named.{work_initial, simplify_initial, bound_initial, follow_initial}
+use Rattle.ix_cli.proofs.Named.{lint_initial}
 
 -- `?` hands a fault up as it is
 pub handed_up : {T : Type 0} (r : Result T WordsFault) (fault : WordsFault) (P : T → Type 0)
@@ -46,6 +47,7 @@ module _ (words : List Text) where
     other simplify_command (codes "trace") first (λ same. omega (arith, simplify_initial)),
     other bound_command (codes "trace") first (λ same. omega (arith, bound_initial)),
     other follow_command (codes "trace") first (λ same. omega (arith, follow_initial)),
+    other lint_command (codes "trace") first (λ same. omega (arith, lint_initial)),
   )
 
   pub replay_blamed : slice_get words 0 ≡ Some (codes "replay") → (fault : WordsFault)
@@ -59,6 +61,7 @@ module _ (words : List Text) where
     other simplify_command (codes "replay") first (λ same. omega (arith, simplify_initial)),
     other bound_command (codes "replay") first (λ same. omega (arith, bound_initial)),
     other follow_command (codes "replay") first (λ same. omega (arith, follow_initial)),
+    other lint_command (codes "replay") first (λ same. omega (arith, lint_initial)),
   )
 
   pub serve_blamed : slice_get words 0 ≡ Some (codes "serve") → (fault : WordsFault)
@@ -72,6 +75,7 @@ module _ (words : List Text) where
     other simplify_command (codes "serve") first (λ same. omega (arith, simplify_initial)),
     other bound_command (codes "serve") first (λ same. omega (arith, bound_initial)),
     other follow_command (codes "serve") first (λ same. omega (arith, follow_initial)),
+    other lint_command (codes "serve") first (λ same. omega (arith, lint_initial)),
   )
 
   pub work_blamed : slice_get words 0 ≡ Some (codes "work") → (fault : WordsFault)
@@ -85,6 +89,7 @@ module _ (words : List Text) where
     other simplify_command (codes "work") first (λ same. omega (arith, simplify_initial)),
     other bound_command (codes "work") first (λ same. omega (arith, bound_initial)),
     other follow_command (codes "work") first (λ same. omega (arith, follow_initial)),
+    other lint_command (codes "work") first (λ same. omega (arith, lint_initial)),
   )
 
   pub simplify_blamed : slice_get words 0 ≡ Some (codes "simplify") → (fault : WordsFault)
@@ -98,6 +103,7 @@ module _ (words : List Text) where
     inr blamed,
     other bound_command (codes "simplify") first (λ same. omega (arith, bound_initial)),
     other follow_command (codes "simplify") first (λ same. omega (arith, follow_initial)),
+    other lint_command (codes "simplify") first (λ same. omega (arith, lint_initial)),
   )
 
   pub bound_blamed : slice_get words 0 ≡ Some (codes "bound") → (fault : WordsFault)
@@ -111,6 +117,7 @@ module _ (words : List Text) where
     other simplify_command (codes "bound") first (λ same. omega (arith, simplify_initial)),
     inr blamed,
     other follow_command (codes "bound") first (λ same. omega (arith, follow_initial)),
+    other lint_command (codes "bound") first (λ same. omega (arith, lint_initial)),
   )
 
   pub follow_blamed : slice_get words 0 ≡ Some (codes "follow") → (fault : WordsFault)
@@ -124,6 +131,21 @@ module _ (words : List Text) where
     other simplify_command (codes "follow") first (λ same. omega (arith, simplify_initial)),
     other bound_command (codes "follow") first (λ same. omega (arith, bound_initial)),
     inr blamed,
+    other lint_command (codes "follow") first (λ same. omega (arith, lint_initial)),
+  )
+
+  pub lint_blamed : slice_get words 0 ≡ Some (codes "lint") → (fault : WordsFault)
+      → Blames lint_command words fault → Explains words fault
+  lint_blamed first Memory blamed = tt
+  lint_blamed first (Bad text) blamed = (
+    other trace_command (codes "lint") first (λ same. omega (arith, trace_initial)),
+    other replay_command (codes "lint") first (λ same. omega (arith, replay_initial)),
+    other serve_command (codes "lint") first (λ same. omega (arith, serve_initial)),
+    other work_command (codes "lint") first (λ same. omega (arith, work_initial)),
+    other simplify_command (codes "lint") first (λ same. omega (arith, simplify_initial)),
+    other bound_command (codes "lint") first (λ same. omega (arith, bound_initial)),
+    other follow_command (codes "lint") first (λ same. omega (arith, follow_initial)),
+    inr blamed,
   )
 
   not_named : (command : App) (name called : Text) → slice_get words 0 ≡ Some name
@@ -134,9 +156,10 @@ module _ (words : List Text) where
   -- words that begin with no command's name
   pub unknown_blamed : (name : Text) → slice_get words 0 ≡ Some name → name ≢ codes "trace"
       → name ≢ codes "replay" → name ≢ codes "serve" → name ≢ codes "work" → name ≢ codes "simplify"
-      → name ≢ codes "bound" → name ≢ codes "follow" → (fault : WordsFault) → Explains words fault
-  unknown_blamed name first no_trace no_replay no_serve no_work no_simplify no_bound no_follow Memory = tt
-  unknown_blamed name first no_trace no_replay no_serve no_work no_simplify no_bound no_follow (Bad text) = (
+      → name ≢ codes "bound" → name ≢ codes "follow" → name ≢ codes "lint" → (fault : WordsFault)
+      → Explains words fault
+  unknown_blamed name first no_trace no_replay no_serve no_work no_simplify no_bound no_follow no_lint Memory = tt
+  unknown_blamed name first no_trace no_replay no_serve no_work no_simplify no_bound no_follow no_lint (Bad text) = (
     not_named trace_command name (codes "trace") first trace_name no_trace,
     not_named replay_command name (codes "replay") first replay_name no_replay,
     not_named serve_command name (codes "serve") first serve_name no_serve,
@@ -144,6 +167,7 @@ module _ (words : List Text) where
     not_named simplify_command name (codes "simplify") first simplify_name no_simplify,
     not_named bound_command name (codes "bound") first bound_name no_bound,
     not_named follow_command name (codes "follow") first follow_name no_follow,
+    not_named lint_command name (codes "lint") first lint_name no_lint,
   )
 
 -- the text of the first word

@@ -5,9 +5,9 @@ use Rattle.std.specs.Prelude.{unwrap_or}
 use Rattle.std.specs.Str.Parse.{digits_value, without_leading_plus}
 use Rattle.clap.specs.Words.{App, Text}
 use Rattle.ix_cli.specs.Commands.{trace_command, replay_command, serve_command, work_command}
-use Rattle.ix_cli.specs.Commands.{simplify_command, bound_command, follow_command}
+use Rattle.ix_cli.specs.Commands.{simplify_command, bound_command, follow_command, lint_command}
 use Rattle.ix_cli.specs.Words.{IsTaken, Job, Names, NamesNoJob, Refuses, Says, SaysNumber}
-use Rattle.ix_cli.specs.Words.{trace, replay, serve, work, simplify, bound, follow}
+use Rattle.ix_cli.specs.Words.{trace, replay, serve, work, simplify, bound, follow, lint}
 
 -- the first two bytes of a name, as one number
 abbrev pub first_two : Text → ℕ
@@ -44,6 +44,10 @@ bound_initial = refl
 pub follow_initial : initial follow_command ≡ 26223
 unfolding follow_command
 follow_initial = refl
+
+pub lint_initial : initial lint_command ≡ 27753
+unfolding lint_command
+lint_initial = refl
 
 module _ (words : List Text) where
   -- two commands that take the words have one name
@@ -173,6 +177,35 @@ module _ (words : List Text) where
       absurd (not_both x.0 y.0 (λ same. omega (arith, bound_initial, follow_initial)))
   one_job (follow g w q) (bound f l) x y =
       absurd (not_both x.0 y.0 (λ same. omega (arith, follow_initial, bound_initial)))
+  one_job (lint e) (lint f) x y = ap lint (same_text lint_command (codes "EXPR") e f x.1 y.1)
+  one_job (trace e a n) (lint g) x y =
+      absurd (not_both x.0 y.0 (λ same. omega (arith, trace_initial, lint_initial)))
+  one_job (lint g) (trace f b o) x y =
+      absurd (not_both x.0 y.0 (λ same. omega (arith, lint_initial, trace_initial)))
+  one_job (replay e j s n t) (lint g) x y =
+      absurd (not_both x.0 y.0 (λ same. omega (arith, replay_initial, lint_initial)))
+  one_job (lint g) (replay f k u o v) x y =
+      absurd (not_both x.0 y.0 (λ same. omega (arith, lint_initial, replay_initial)))
+  one_job (serve e j s n t) (lint g) x y =
+      absurd (not_both x.0 y.0 (λ same. omega (arith, serve_initial, lint_initial)))
+  one_job (lint g) (serve f k u o v) x y =
+      absurd (not_both x.0 y.0 (λ same. omega (arith, lint_initial, serve_initial)))
+  one_job (work c s n) (lint g) x y =
+      absurd (not_both x.0 y.0 (λ same. omega (arith, work_initial, lint_initial)))
+  one_job (lint g) (work d t o) x y =
+      absurd (not_both x.0 y.0 (λ same. omega (arith, lint_initial, work_initial)))
+  one_job (simplify e) (lint g) x y =
+      absurd (not_both x.0 y.0 (λ same. omega (arith, simplify_initial, lint_initial)))
+  one_job (lint g) (simplify f) x y =
+      absurd (not_both x.0 y.0 (λ same. omega (arith, lint_initial, simplify_initial)))
+  one_job (bound e k) (lint g) x y =
+      absurd (not_both x.0 y.0 (λ same. omega (arith, bound_initial, lint_initial)))
+  one_job (lint g) (bound f l) x y =
+      absurd (not_both x.0 y.0 (λ same. omega (arith, lint_initial, bound_initial)))
+  one_job (follow e l n) (lint g) x y =
+      absurd (not_both x.0 y.0 (λ same. omega (arith, follow_initial, lint_initial)))
+  one_job (lint g) (follow f m o) x y =
+      absurd (not_both x.0 y.0 (λ same. omega (arith, lint_initial, follow_initial)))
 
   -- a command that takes the words doesn't refuse them
   taken_refused : {command : App} → IsTaken command words → Refuses command words → ⊥
@@ -187,3 +220,4 @@ module _ (words : List Text) where
   no_job (simplify e) none named = taken_refused named.0 none.4
   no_job (bound e k) none named = taken_refused named.0 none.5
   no_job (follow e l n) none named = taken_refused named.0 none.6
+  no_job (lint e) none named = taken_refused named.0 none.7

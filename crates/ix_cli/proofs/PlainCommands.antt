@@ -3,7 +3,7 @@ use Rattle.std.proofs.Common.{◌≡◌, refl, lit<, codes}
 use Rattle.std.specs.List.{Contains}
 use Rattle.clap.specs.Words.{App, Rule}
 use Rattle.ix_cli.specs.Commands.{trace_command, replay_command, serve_command, work_command}
-use Rattle.ix_cli.specs.Commands.{simplify_command, word, number_word, nodes_option, turns_option}
+use Rattle.ix_cli.specs.Commands.{simplify_command, lint_command, word, number_word, nodes_option, turns_option}
 use Rattle.ix_cli.specs.Commands.{bound_command, follow_command, most_asks, most_seed, most_values}
 use Rattle.ix_cli.specs.inside.Matches.{IsPlainCommand}
 
@@ -62,6 +62,18 @@ work_plain = record {
 pub simplify_plain : IsPlainCommand simplify_command
 unfolding simplify_command
 simplify_plain = record {
+  no_subcommands = refl;
+  simple = refl;
+  ready = refl;
+  free = refl;
+  requires_all = refl;
+  single = refl;
+  distinct = refl;
+}
+
+pub lint_plain : IsPlainCommand lint_command
+unfolding lint_command
+lint_plain = record {
   no_subcommands = refl;
   simple = refl;
   ready = refl;
@@ -163,6 +175,10 @@ pub simplify_expr : HasArgument simplify_command (word (codes "EXPR"))
 unfolding simplify_command
 simplify_expr = (0, lit< tt, refl)
 
+pub lint_expr : HasArgument lint_command (word (codes "EXPR"))
+unfolding lint_command
+lint_expr = (0, lit< tt, refl)
+
 pub bound_expr : HasArgument bound_command (word (codes "EXPR"))
 unfolding bound_command
 bound_expr = (0, lit< tt, refl)
@@ -202,6 +218,10 @@ work_name = refl
 pub simplify_name : simplify_command.top.name ≡ codes "simplify"
 unfolding simplify_command
 simplify_name = refl
+
+pub lint_name : lint_command.top.name ≡ codes "lint"
+unfolding lint_command
+lint_name = refl
 
 pub bound_name : bound_command.top.name ≡ codes "bound"
 unfolding bound_command

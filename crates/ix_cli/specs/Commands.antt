@@ -77,6 +77,10 @@ unfoldable pub follow_command : App
 follow_command = with_rule (with_rule (with_rule (new_app (codes "follow")) (word (codes "EXPR")))
     (word (codes "LINES"))) nodes_option
 
+-- `lint EXPR`
+unfoldable pub lint_command : App
+lint_command = with_rule (new_app (codes "lint")) (word (codes "EXPR"))
+
 -- `work N SEED [--nodes N]`
 unfoldable pub work_command : App
 work_command = with_rule (with_rule (with_rule (new_app (codes "work"))

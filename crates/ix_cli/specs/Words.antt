@@ -3,13 +3,13 @@ use Rattle.std.specs.Prelude.{◌≡◌, ◌≢◌, ◌⊎◌, ◌≤◌, ℕ, L
 use Rattle.std.specs.Str.Parse.{digits_value, without_leading_plus}
 use Rattle.clap.specs.Words.{App, Text, fault_of, first_of, matches_of, one_of}
 use Rattle.ix_cli.specs.Commands.{trace_command, replay_command, serve_command, work_command}
-use Rattle.ix_cli.specs.Commands.{simplify_command, bound_command, follow_command}
+use Rattle.ix_cli.specs.Commands.{simplify_command, bound_command, follow_command, lint_command}
 use Rattle.ix_cli.specs.Commands.{most_nodes, most_turns, most_asks, most_seed, most_values}
 
 -- What the program is to do: trace the actions of a file, replay a script or serve a socket over a
 -- journal, work through so many asks of a generated workload, simplify an expression, tell its
--- bound over so many values, or follow a log by the lines of a file. `nodes` is the limit of Size,
--- and `turns` the most events that are taken.
+-- bound over so many values, follow a log by the lines of a file, or tell what looks wrong in an
+-- expression. `nodes` is the limit of Size, and `turns` the most events that are taken.
 pub data Job : Type 0 where
   trace : (expr actions : Text) (nodes : ℕ) → Job
   replay : (expr journal script : Text) (nodes turns : ℕ) → Job
@@ -18,6 +18,7 @@ pub data Job : Type 0 where
   simplify : (expr : Text) → Job
   bound : (expr : Text) (count : ℕ) → Job
   follow : (expr lines : Text) (nodes : ℕ) → Job
+  lint : (expr : Text) → Job
 
 -- the first word is the command's name, and clap's definition of it takes the words behind
 pub record IsTaken (command : App) (words : List Text) : Type 0 where
@@ -78,9 +79,10 @@ Names words (follow expr lines nodes) = IsTaken follow_command words
     × Says follow_command words (codes "EXPR") expr
     × Says follow_command words (codes "LINES") lines
     × SaysNodes follow_command words nodes
+Names words (lint expr) = IsTaken lint_command words × Says lint_command words (codes "EXPR") expr
 
 -- the words name no job: each command refuses them
 abbrev pub NamesNoJob : List Text → Type 0
 NamesNoJob words = Refuses trace_command words × Refuses replay_command words
     × Refuses serve_command words × Refuses work_command words × Refuses simplify_command words
-    × Refuses bound_command words × Refuses follow_command words
+    × Refuses bound_command words × Refuses follow_command words × Refuses lint_command words

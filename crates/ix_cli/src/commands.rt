@@ -4,6 +4,7 @@ ghost use Rattle.clap.specs.Words.{app_of, rule_of};
 ghost use Rattle.ix_cli.specs.Commands.{word, number_word, nodes_option, turns_option};
 ghost use Rattle.ix_cli.specs.Commands.{trace_command, replay_command, serve_command, work_command};
 ghost use Rattle.ix_cli.specs.Commands.{simplify_command, bound_command, follow_command};
+ghost use Rattle.ix_cli.specs.Commands.{lint_command};
 
 use clap::builder::ValueParser;
 use clap::{Arg, ArgAction, Command};
@@ -167,4 +168,14 @@ pub(crate) fn follow<'a>(alloc: Global) -> Result<Command<'a>, AllocError>
         .arg(word(alloc, "LINES", "The file of the lines that were read"))?
         .arg(nodes_option(alloc))?
         .bin_name("ixm follow")
+}
+
+/// The command `lint`.
+pub(crate) fn lint<'a>(alloc: Global) -> Result<Command<'a>, AllocError>
+    ensures { IfOk result (λ command. app_of command ≡ lint_command) }
+{
+    Command::new(alloc, "lint")
+        .about("Tells what looks wrong in the expression, with its place in the text")
+        .arg(word(alloc, "EXPR", EXPRESSION_HELP))?
+        .bin_name("ixm lint")
 }

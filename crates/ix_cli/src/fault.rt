@@ -36,6 +36,7 @@ Commands:
   simplify EXPR
   bound EXPR K
   follow EXPR LINES [--nodes N]
+  lint EXPR
 
 For more information on a command, put '--help' behind its name.
 ";

@@ -56,6 +56,10 @@ pub enum Job {
         lines: String,
         nodes: usize,
     },
+    /// Tell what looks wrong in an expression.
+    Lint {
+        expr: String,
+    },
 }
 
 /// The job of words that begin with `trace`.
@@ -161,5 +165,18 @@ pub(crate) fn read_follow(alloc: Global, words: &[String]) -> Result<Job, WordsF
         expr: text(alloc, &matches, "EXPR")?,
         lines: text(alloc, &matches, "LINES")?,
         nodes: number(&matches, "nodes") as usize,
+    })
+}
+
+/// The job of words that begin with `lint`.
+pub(crate) fn read_lint(alloc: Global, words: &[String]) -> Result<Job, WordsFault>
+    requires { slice_get (map string_bytes words.now) 0 ≡ Some (codes "lint") }
+    ensures { MatchResult result
+        (λ job. Names (map string_bytes words.now) (job_of job))
+        (Explains (map string_bytes words.now)) }
+{
+    let matches = parse(alloc, commands::lint(alloc)?, words)?;
+    Ok(Job::Lint {
+        expr: text(alloc, &matches, "EXPR")?,
     })
 }

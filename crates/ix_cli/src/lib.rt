@@ -39,6 +39,7 @@ pub fn read_words(alloc: Global, words: &[String]) -> Result<Job, WordsFault>
         "simplify" => job::read_simplify(alloc, words),
         "bound" => job::read_bound(alloc, words),
         "follow" => job::read_follow(alloc, words),
+        "lint" => job::read_lint(alloc, words),
         _ => Err(no_command(alloc)),
     }
 }

@@ -9,5 +9,5 @@ returns-in_default-as_str c =
     ∙ ap Some (sym c.as_str.ensures.value) in
     let other = c.in_default-as_str in
     unknown_blamed _ c.as_str.result.now first other.not-trace other.not-replay other.not-serve
-    other.not-work other.not-simplify other.not-bound other.not-follow
+    other.not-work other.not-simplify other.not-bound other.not-follow other.not-lint
     c.no_command-in_default-as_str.result

@@ -2,11 +2,11 @@
 use Rattle.std.specs.Prelude.{ℕ, List, string_bytes, ⊤}
 use Rattle.ix_cli.specs.declared.job.Job.{Job as ReadJob}
 use Rattle.ix_cli.specs.declared.job.Job.TheVariants.{Trace, Replay, Serve, Work, Simplify, Bound}
-use Rattle.ix_cli.specs.declared.job.Job.TheVariants.{Follow}
+use Rattle.ix_cli.specs.declared.job.Job.TheVariants.{Follow, Lint}
 use Rattle.ix_cli.specs.declared.fault.WordsFault.{WordsFault}
 use Rattle.ix_cli.specs.declared.fault.WordsFault.TheVariants.{Bad, Memory}
 use Rattle.ix_cli.specs.Words.{Job, NamesNoJob, trace, replay, serve, work, simplify, bound}
-use Rattle.ix_cli.specs.Words.{follow}
+use Rattle.ix_cli.specs.Words.{follow, lint}
 
 -- the job that was read
 abbrev pub job_of : ReadJob → Job
@@ -19,6 +19,7 @@ job_of (Work count seed nodes) = work count seed nodes
 job_of (Simplify expr) = simplify (string_bytes expr)
 job_of (Bound expr count) = bound (string_bytes expr) count
 job_of (Follow expr lines nodes) = follow (string_bytes expr) (string_bytes lines) nodes
+job_of (Lint expr) = lint (string_bytes expr)
 
 -- words that are bad name no job, and want of memory says nothing of them
 abbrev pub Explains : List (List ℕ) → WordsFault → Type 0

@@ -38,6 +38,7 @@ fn shown(alloc: Global, job: &Job) -> Result<String, AllocError> {
         Job::Simplify { expr } => format!(in alloc; "simplify {expr}"),
         Job::Bound { expr, count } => format!(in alloc; "bound {expr} {count}"),
         Job::Follow { expr, lines, nodes } => format!(in alloc; "follow {expr} {lines} {nodes}"),
+        Job::Lint { expr } => format!(in alloc; "lint {expr}"),
     }
 }
 
@@ -76,6 +77,7 @@ const JOBS: &[(&str, &str)] = &[
     ("bound x 1000000", "bound x 1000000"),
     ("follow x l", "follow x l 100000"),
     ("follow --nodes 8 x l", "follow x l 8"),
+    ("lint x", "lint x"),
 ];
 
 // Whether the words of a text are answered so.
@@ -194,6 +196,7 @@ Commands:
   simplify EXPR
   bound EXPR K
   follow EXPR LINES [--nodes N]
+  lint EXPR
 
 For more information on a command, put '--help' behind its name.
 ";
