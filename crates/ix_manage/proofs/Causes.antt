@@ -1,6 +1,6 @@
 -- What each status of a run is due to.
 use Rattle.std.proofs.Common.{◌≡◌, ℕ, ◌≤◌, ◌==◌, false, true≢false, List, Option, None, arith, refl, sym, ◌∙◌, ap, subst}
-use Rattle.ix_cli.specs.Words.{Job, trace, replay, serve, work, simplify, bound, follow}
+use Rattle.ix_cli.specs.Words.{Job, trace, replay, serve, work, simplify, bound, follow, lint}
 use Rattle.ix_expr.specs.Form.{Form}
 use Rattle.ix_outside.specs.Counts.{Counts}
 use Rattle.ix_outside.specs.Crashes.{Crashes}
@@ -144,6 +144,7 @@ module _ (around : Around) where
   of_job (how.long_lines starts longer rests last) = of_last (of_none 3 refl refl refl) last
   of_job (how.lost_lines starts rose rests last) = of_last (of_file rose) last
   of_job (how.followed starts reads follows) = of_followed follows
+  of_job (how.linted reads last) = of_last (of_none 0 refl refl refl) last
 
 -- what a job may touch, by what it has
 touches_calls : (job : Job) (before after : SiteState) → Touches job before after → OnlyCalls before after
@@ -154,6 +155,7 @@ touches_calls (work count seed limit) before after same = subst (OnlyCalls befor
 touches_calls (simplify expression) before after same = subst (OnlyCalls before) (sym same) (calls_still before)
 touches_calls (bound expression count) before after same = subst (OnlyCalls before) (sym same) (calls_still before)
 touches_calls (follow expression lines limit) before after same = subst (OnlyCalls before) (sym same) (calls_still before)
+touches_calls (lint expression) before after same = subst (OnlyCalls before) (sym same) (calls_still before)
 
 touches_disk : (job : Job) (before after : SiteState) → socket_of job ≡ None → Touches job before after → OnlyDisk before after
 touches_disk (trace expression actions limit) before after none same = subst (OnlyDisk before) (sym same) (disk_calls_still before)
@@ -163,6 +165,7 @@ touches_disk (work count seed limit) before after none same = subst (OnlyDisk be
 touches_disk (simplify expression) before after none same = subst (OnlyDisk before) (sym same) (disk_calls_still before)
 touches_disk (bound expression count) before after none same = subst (OnlyDisk before) (sym same) (disk_calls_still before)
 touches_disk (follow expression lines limit) before after none same = subst (OnlyDisk before) (sym same) (disk_calls_still before)
+touches_disk (lint expression) before after none same = subst (OnlyDisk before) (sym same) (disk_calls_still before)
 
 touches_nothing : (job : Job) (before after : SiteState) → journal_of job ≡ None → Touches job before after → after ≡ before
 touches_nothing (trace expression actions limit) before after none same = same
@@ -172,6 +175,7 @@ touches_nothing (work count seed limit) before after none same = same
 touches_nothing (simplify expression) before after none same = same
 touches_nothing (bound expression count) before after none same = same
 touches_nothing (follow expression lines limit) before after none same = same
+touches_nothing (lint expression) before after none same = same
 
 -- the same of a run
 module _ (words : List (List ℕ)) (around : Around) (is : Crashes) where

@@ -2,7 +2,9 @@
 use Rattle.std.proofs.Common.{◌≡◌, ℕ, ◌≤◌, List, [], Option, None, Some, Result, Ok, Err, IfOk, IfErr}
 use Rattle.std.proofs.Common.{length, refl, sym, subst}
 use Rattle.ix_expr.specs.Form.{Form}
-use Rattle.ix_parse.specs.Faults.{StandsFor, IsFirstFault}
+use Rattle.ix_parse.specs.Faults.{StandsFor, IsPlaced, IsFirstFault}
+use Rattle.ix_parse.specs.Symbols.{Meaning}
+use Rattle.ix_parse.specs.declared.Placed.{Placed}
 use Rattle.ix_outside.specs.Contents.{GivenEvent}
 use Rattle.ix_lines.specs.TextLines.{lines_of}
 use Rattle.ix_outside.specs.Files.{Listing, HasFile}
@@ -20,8 +22,9 @@ use Rattle.ix_manage.specs.inside.Refusal.{HasLongLines, longer, refusal_line, r
 use Rattle.ix_manage.specs.Puts.{LastLine}
 use Rattle.ix_manage.specs.Session.{Session}
 use Rattle.ix_manage.specs.Replay.{HasBadScript, ReadsEvents, bad_line}
-use Rattle.ix_manage.specs.Trace.{HasBadActions, within, large_line, ReadsForm, Starts, Traces}
+use Rattle.ix_manage.specs.Trace.{HasBadActions, within, large_line, ReadsForm, ReadsPlaced, Starts, Traces}
 use Rattle.ix_manage.specs.inside.Following.{FollowsLines}
+use Rattle.ix_manage.specs.inside.Linting.{placed_meaning}
 use Rattle.ix_manage.specs.inside.TracesLines.{TracesLines}
 use Rattle.ix_manage.specs.declared.refusal.Refusal.{Refusal}
 use Rattle.ix_manage.specs.declared.refusal.Refusal.TheVariants.{Bad, Lost, Large, Memory}
@@ -29,16 +32,23 @@ use Rattle.ix_manage.specs.declared.refusal.Input.TheVariants.{Expression, Actio
 
 module _ (files later : FilesState) (name text passed : List ℕ) (same : passed ≡ text) (file : HasFile files.contents name text) where
   -- a text that is read is that of the file
-  pub read_ok : (r : Result Form Refusal) → IfOk r (StandsFor passed) → IfOk r (ReadsForm files.contents name)
-  read_ok (Ok x) reads = record { text = text; file = file; stands = subst (λ t. StandsFor t x) same reads }
-  read_ok (Err refusal) reads = tt
+  pub placed_ok : (r : Result Placed Refusal) → IfOk r (λ x. IsPlaced passed (placed_meaning x)) → IfOk r (λ x. ReadsPlaced files.contents name (placed_meaning x))
+  placed_ok (Ok x) reads = record { text = text; file = file; placed = subst (λ t. IsPlaced t (placed_meaning x)) same reads }
+  placed_ok (Err refusal) reads = tt
 
   -- what refuses the text refuses the file
-  pub read_err : (r : Result Form Refusal) → IfErr r (RefusesText passed) → IfErr r (RefusesExpression files later name)
-  read_err (Ok x) why = tt
-  read_err (Err (Bad Expression code at)) why = within file (subst (λ t. IsFirstFault t code at) same why)
-  read_err (Err Memory) why = why
-  read_err (Err _) why = absurd why
+  pub placed_err : (r : Result Placed Refusal) → IfErr r (RefusesText passed) → IfErr r (RefusesExpression files later name)
+  placed_err (Ok x) why = tt
+  placed_err (Err (Bad Expression code at)) why = within file (subst (λ t. IsFirstFault t code at) same why)
+  placed_err (Err Memory) why = why
+  placed_err (Err _) why = absurd why
+
+-- what is read with its places is read
+pub stands_placed : (text : List ℕ) (x : Meaning) → IsPlaced text x → StandsFor text x.form
+stands_placed text x is = record { places = x.places; means = is.means; well_formed = is.well_formed }
+
+pub reads_placed : (files : Option Listing) (name : List ℕ) (x : Meaning) → ReadsPlaced files name x → ReadsForm files name x.form
+reads_placed files name x reads = record { text = reads.text; file = reads.file; stands = stands_placed reads.text x reads.placed }
 
 -- what refuses the file refuses the start
 pub start_refused : (files later : FilesState) (name : List ℕ) (limit : ℕ) (refusal : Refusal)

@@ -37,7 +37,7 @@ use Rattle.ix_manager.specs.Images as image
 use Rattle.ix_manager.specs.Images.{IsOwn, IsStartable}
 use Rattle.ix_manager.specs.Runs.{going, opening_of, stopped}
 use Rattle.ix_manager.specs.Starts.{HasText}
-use Rattle.ix_cli.specs.Words.{Job, Names, trace, replay, serve, work, simplify, bound, follow}
+use Rattle.ix_cli.specs.Words.{Job, Names, trace, replay, serve, work, simplify, bound, follow, lint}
 use Rattle.ix_cli.proofs.Named.{no_job, one_job}
 use Rattle.ix_manage.specs.Around.{Around}
 use Rattle.ix_manage.specs.Command.{expression_of, limit_of}
@@ -253,6 +253,7 @@ module _ (around : Around) (old new : SinkState) (told : IsSome around.files) (n
   reads_of (bound named count) expression is all = (all.0, subst (λ name. ReadsForm around.files name all.0) (some_is is) all.1)
   reads_of (follow named lines limit) expression is all =
       (all.0, subst (λ name. ReadsForm around.files name all.0) (some_is is) all.2.reads)
+  reads_of (lint named) expression is all = (all.0, subst (λ name. ReadsForm around.files name all.0) (some_is is) all.1)
 
   -- a job that makes a tree starts
   starts_of : (job : Job) (expression : List ℕ) → expression_of job ≡ Some expression → ReadsRest around.files job
@@ -268,6 +269,7 @@ module _ (around : Around) (old new : SinkState) (told : IsSome around.files) (n
   starts_of (bound named count) expression is rest all = absurd rest
   starts_of (follow named lines limit) expression is rest all =
       (all.0, subst (λ name. Starts around.files name limit all.0) (some_is is) all.2)
+  starts_of (lint named) expression is rest all = absurd rest
 
   no_large : (job : Job) (expression : List ℕ) → expression_of job ≡ Some expression → ReadsRest around.files job
       → HasAll around job → StartsAbove around.files expression (limit_of job) → ⊥
@@ -295,6 +297,7 @@ module _ (around : Around) (old new : SinkState) (told : IsSome around.files) (n
   no_refusal (simplify named) expression why x keeps starts refuses all = absurd (none-some keeps.journal keeps.has_journal)
   no_refusal (bound named count) expression why x keeps starts refuses all = absurd (none-some keeps.journal keeps.has_journal)
   no_refusal (follow named lines limit) expression why x keeps starts refuses all = absurd (none-some keeps.journal keeps.has_journal)
+  no_refusal (lint named) expression why x keeps starts refuses all = absurd (none-some keeps.journal keeps.has_journal)
   no_refusal (replay named kept script limit turns) expression why x keeps starts refuses all =
       refuses_none expression limit why x all.0 starts
       (subst (λ name. Starts around.files name limit all.0) (some_is keeps.of_expression) all.2) all.4 refuses
@@ -378,6 +381,7 @@ module _ (around : Around) (old new : SinkState) (told : IsSome around.files) (n
       absurd (longer_than around.files told lines all.1 67108864 all.3.file all.3.short longer)
   of_job is all ended below wire (how.lost_lines starts rose rests _) = absurd (none.files rose)
   of_job is all ended below wire (how.followed starts reads follows) = of_followed starts reads below follows
+  of_job is all ended below wire (how.linted reads end) = of_line end below (well.linted reads)
 
   of_words : (is : Crashes) (words : List (List ℕ)) (job : Job) {status : ℕ} {whole part : List ℕ} {session : Option Session}
       → Names words job → HasAll around job → ((played : Session) → session ≡ Some played → IsOver played) → status ≢ 10

@@ -1,7 +1,7 @@
 -- What a job names.
 use Rattle.std.specs.Prelude.{◌≡◌, ℕ, List, Option, None, Some}
 use Rattle.ix_cli.specs.Words.{Job, Names, trace, replay, serve, work, simplify, bound}
-use Rattle.ix_cli.specs.Words.{follow}
+use Rattle.ix_cli.specs.Words.{follow, lint}
 
 -- the file of its expression, where it has one
 abbrev pub expression_of : Job → Option (List ℕ)
@@ -12,6 +12,7 @@ expression_of (work count seed limit) = None
 expression_of (simplify expression) = Some expression
 expression_of (bound expression count) = Some expression
 expression_of (follow expression lines limit) = Some expression
+expression_of (lint expression) = Some expression
 
 -- its journal
 abbrev pub journal_of : Job → Option (List ℕ)
@@ -22,6 +23,7 @@ journal_of (work count seed limit) = None
 journal_of (simplify expression) = None
 journal_of (bound expression count) = None
 journal_of (follow expression lines limit) = None
+journal_of (lint expression) = None
 
 -- the socket on which it takes connections
 abbrev pub socket_of : Job → Option (List ℕ)
@@ -32,6 +34,7 @@ socket_of (work count seed limit) = None
 socket_of (simplify expression) = None
 socket_of (bound expression count) = None
 socket_of (follow expression lines limit) = None
+socket_of (lint expression) = None
 
 -- the limit of Size; 0 where it has none, as it makes no tree
 abbrev pub limit_of : Job → ℕ
@@ -42,6 +45,7 @@ limit_of (work count seed limit) = limit
 limit_of (simplify expression) = 0
 limit_of (bound expression count) = 0
 limit_of (follow expression lines limit) = limit
+limit_of (lint expression) = 0
 
 -- the words name no job that has a journal
 abbrev pub NamesNoJournal : List (List ℕ) → Type 0

@@ -6,7 +6,10 @@ use Rattle.ix_expr.specs.Form.{Form}
 use Rattle.ix_simplify.specs.Rewriting.{Becomes}
 use Rattle.ix_bound.specs.declared.answer.Bound.{Bound}
 use Rattle.ix_bound.specs.Bounds.{IsBound}
+use Rattle.ix_desk.specs.LintLines.{lint_lines}
+use Rattle.ix_lint.specs.Findings.{findings}
 use Rattle.ix_outside.specs.Contents.{GivenEvent}
+use Rattle.ix_parse.specs.Symbols.{Meaning}
 use Rattle.ix_lines.specs.TextLines.{lines_of}
 use Rattle.ix_outside.specs.Files.{Listing, HasLonger}
 use Rattle.ix_outside.specs.SinkState.{SinkState}
@@ -14,7 +17,7 @@ use Rattle.ix_outside.specs.Counts.{Rose}
 use Rattle.ix_outside.specs.Crashes.{Crashes}
 use Rattle.ix_manager.specs.Runs.{Opening}
 use Rattle.ix_cli.specs.Words.{Job, Names, NamesNoJob, trace, replay, serve, work, simplify}
-use Rattle.ix_cli.specs.Words.{bound, follow}
+use Rattle.ix_cli.specs.Words.{bound, follow, lint}
 use Rattle.ix_manage.specs.ActionLines.{line}
 use Rattle.ix_manage.specs.Around.{Around, DiskFailed, FilesFailed, SiteRests, WireFailed}
 use Rattle.ix_manage.specs.BoundLines.{bound_line}
@@ -28,14 +31,14 @@ use Rattle.ix_manage.specs.Replay.{HasBadScript, Plays, ReadsEvents, ReplayEnds}
 use Rattle.ix_manage.specs.Serve.{OnWire, ServeEnds}
 use Rattle.ix_manage.specs.Work.{Works}
 use Rattle.ix_manage.specs.Trace.{fault_line, large_line, HasBadActions, HasBadText, ReadsActions}
-use Rattle.ix_manage.specs.Trace.{ReadsForm, Starts, StartsAbove, Traces}
+use Rattle.ix_manage.specs.Trace.{ReadsForm, ReadsPlaced, Starts, StartsAbove, Traces}
 
 -- the opening is of the expression, under the limit
 abbrev pub IsFrom : Form → ℕ → Opening → Type 0
 IsFrom x limit opening = (opening.form ≡ x) × (opening.limit ≡ limit)
 
 -- What a job reads beside its expression before it makes a tree is in its grammar: the script of a
--- replay. A simplify and a bound make none.
+-- replay. A simplify, a bound and a lint make none.
 abbrev pub ReadsRest : Option Listing → Job → Type 0
 ReadsRest files (trace expression actions limit) = ⊤
 ReadsRest files (replay expression journal script limit turns) =
@@ -45,6 +48,7 @@ ReadsRest files (work count seed limit) = ⊤
 ReadsRest files (simplify expression) = ⊥
 ReadsRest files (bound expression count) = ⊥
 ReadsRest files (follow expression lines limit) = ⊤
+ReadsRest files (lint expression) = ⊥
 
 -- a job of an expression keeps a journal, and its files are read
 pub record KeepsJournal (files : Option Listing) (job : Job) (expression : List ℕ) : Type 0 where
@@ -160,6 +164,10 @@ pub data JobEnds (around : Around)
       → Starts around.files expression limit x → ReadsLines around.files lines bytes
       → FollowEnds x limit (lines_of bytes) status whole part
       → JobEnds around (follow expression lines limit) status whole part None
+  linted : {expression : List ℕ} {x : Meaning} {status : ℕ} {whole part : List ℕ}
+      → ReadsPlaced around.files expression x
+      → LastLine 0 [] (lint_lines x.places (findings x.form)) status whole part
+      → JobEnds around (lint expression) status whole part None
 
 -- what a job may make of the files, the output and the site
 pub record JobOver (around : Around) (job : Job) (is : Crashes) (status : ℕ) (whole part : List ℕ)

@@ -19,18 +19,21 @@ use Rattle.ix_generate.specs.Workload.{Ask, examinations}
 use Rattle.ix_manager.specs.Images.{IsStartable}
 use Rattle.ix_manager.specs.Runs.{opening_of}
 use Rattle.ix_cli.specs.Words.{Job, Names, trace, replay, serve, work, simplify, bound}
-use Rattle.ix_cli.specs.Words.{follow}
+use Rattle.ix_cli.specs.Words.{follow, lint}
 use Rattle.ix_lines.specs.TextLines.{lines_of}
 use Rattle.ix_manage.specs.ActionLines.{line}
 use Rattle.ix_bound.specs.declared.answer.Bound.{Bound}
 use Rattle.ix_bound.specs.Bounds.{IsBound}
+use Rattle.ix_desk.specs.LintLines.{lint_lines}
+use Rattle.ix_lint.specs.Findings.{findings}
+use Rattle.ix_parse.specs.Symbols.{Meaning}
 use Rattle.ix_manage.specs.Around.{Around, DiskFailed, FilesFailed, WireFailed}
 use Rattle.ix_manage.specs.BoundLines.{bound_line}
 use Rattle.ix_manage.specs.Ends.{Ended, EndsOver, IsFrom}
 use Rattle.ix_manage.specs.FollowLines.{FollowsTo, ReadsLines}
 use Rattle.ix_manage.specs.Replay.{Plays, ReadsEvents, session_text}
 use Rattle.ix_manage.specs.Session.{IsOver, Session, Takes, history_line}
-use Rattle.ix_manage.specs.Trace.{Answers, ReadsActions, ReadsForm, Starts, Verdict}
+use Rattle.ix_manage.specs.Trace.{Answers, ReadsActions, ReadsForm, ReadsPlaced, Starts, Verdict}
 use Rattle.ix_manage.specs.Work.{Asked, history_of, work_line}
 
 -- a run can start from a file: one that was absent, and has no bytes, or one that is startable
@@ -59,6 +62,7 @@ HasAll around (work count seed limit) =
     (x : Form) × StandsFor examinations x × (tree_size x [] ≤ limit)
 HasAll around (simplify expression) = (x : Form) × ReadsForm around.files expression x
 HasAll around (bound expression count) = (x : Form) × ReadsForm around.files expression x
+HasAll around (lint expression) = (x : Form) × ReadsForm around.files expression x
 HasAll around (follow expression lines limit) = (x : Form) × (bytes : List ℕ)
     × Starts around.files expression limit x × ReadsLines around.files lines bytes
 
@@ -117,6 +121,9 @@ pub data EndsWhole (around : Around) : Job → ℕ → List ℕ → Option Sessi
       → Starts around.files expression limit x → ReadsLines around.files lines bytes
       → FollowsTo x limit (lines_of bytes) status text last
       → EndsWhole around (follow expression lines limit) status (text ++ last) None
+  linted : {expression : List ℕ} {x : Meaning}
+      → ReadsPlaced around.files expression x
+      → EndsWhole around (lint expression) 0 (lint_lines x.places (findings x.form)) None
 
 -- A run whose words name a job, over files that are told and have all that it reads, and in which
 -- nothing fails, ends whole, if its session had an end or a `stop` within its turns.

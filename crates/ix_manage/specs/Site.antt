@@ -1,7 +1,7 @@
 -- What a run may touch of a site.
 use Rattle.std.specs.Prelude.{◌≡◌, ◌≤◌}
 use Rattle.ix_outside.specs.SiteState.{SiteState, OnlyDisk}
-use Rattle.ix_cli.specs.Words.{Job, trace, replay, serve, work, simplify, bound, follow}
+use Rattle.ix_cli.specs.Words.{Job, trace, replay, serve, work, simplify, bound, follow, lint}
 
 -- nothing changed but the counts, none of which fell, the tick, whether a file is attached, and
 -- what the site tells of its connections and its disk
@@ -20,3 +20,4 @@ Touches (work count seed limit) before after = after ≡ before
 Touches (simplify expression) before after = after ≡ before
 Touches (bound expression count) before after = after ≡ before
 Touches (follow expression lines limit) before after = after ≡ before
+Touches (lint expression) before after = after ≡ before

@@ -3,7 +3,8 @@ use Rattle.std.specs.Prelude.{◌≡◌, ℕ, ◌<◌, ◌≤◌, List, [], ◌�
 use Rattle.ix_values.specs.PlainAction.{PlainAction, Word}
 use Rattle.ix_expr.specs.Form.{Form}
 use Rattle.ix_expr.specs.Meaning.{IsComplete}
-use Rattle.ix_parse.specs.Faults.{StandsFor, IsFirstFault}
+use Rattle.ix_parse.specs.Faults.{StandsFor, IsPlaced, IsFirstFault}
+use Rattle.ix_parse.specs.Symbols.{Meaning}
 use Rattle.ix_outside.specs.Files.{Listing, HasFile, HasLonger}
 use Rattle.ix_can.specs.TreeOf.{tree_size}
 use Rattle.ix_engine.specs.Allowed.{IsPermitted}
@@ -45,6 +46,12 @@ pub record ReadsForm (files : Option Listing) (name : List ℕ) (x : Form) : Typ
   pub text : List ℕ
   pub file : HasFile files name text
   pub stands : StandsFor text x
+
+-- the file of this name stands for the form, and its nodes start at these places
+pub record ReadsPlaced (files : Option Listing) (name : List ℕ) (x : Meaning) : Type 0 where
+  pub text : List ℕ
+  pub file : HasFile files name text
+  pub placed : IsPlaced text x
 
 -- the file of this name stands for the form, and the Size of its initial tree is within the limit
 pub record Starts (files : Option Listing) (name : List ℕ) (limit : ℕ) (x : Form) : Type 0 where

@@ -4,6 +4,7 @@ pub mod EarlyEnds
 pub mod Following
 pub mod Jobs
 pub mod Leaves
+pub mod Linting
 pub mod Opening
 pub mod Playing
 pub mod Progress

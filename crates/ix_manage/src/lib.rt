@@ -19,6 +19,7 @@ mod history;
 mod job;
 mod last_line;
 pub mod laws;
+mod lint;
 mod load;
 mod open;
 mod outcome;
@@ -68,6 +69,8 @@ use std::alloc::Global;
 ///   follower refuses ends it with `refused follow C at N` and status 11, C being 61 where the
 ///   history has another action of this number, 62 where the action may not come next, 63 where the
 ///   history has 1,000,000 actions, and 64 where the tree would be above the limit.
+/// - `lint EXPR` puts a line for each thing that looks wrong in the expression of the file EXPR, as
+///   `lint_lines` of `ix_desk` writes it, with status 0. It makes no tree.
 ///
 /// `--nodes N` is the limit of Size, from 1 to 1,000,000, which is 100,000 otherwise, and in a
 /// replay and a serve `--turns N` the most events that are taken, from 1 to 1,000,000,000.

@@ -2,7 +2,7 @@
 ghost use Rattle.std.specs.Prelude.{◌≡◌, ◌≤◌, List, IfOk, IfErr, length};
 ghost use Rattle.ix_words.specs.Each.{Each};
 ghost use Rattle.ix_values.specs.Faults.{IsActionText};
-ghost use Rattle.ix_parse.specs.Faults.{StandsFor};
+ghost use Rattle.ix_parse.specs.Faults.{StandsFor, IsPlaced};
 ghost use Rattle.ix_outside.specs.FilesState.{OnlyFaults};
 ghost use Rattle.ix_outside.specs.Files.{HasFile};
 ghost use Rattle.ix_lines.specs.TextLines.{lines_of};
@@ -10,14 +10,15 @@ ghost use Rattle.ix_outside.specs.Contents.{GivenEvent};
 ghost use Rattle.ix_script.specs.Events.{HasEvents};
 ghost use Rattle.ix_manage.specs.inside.Refusal.{IsBadScript, RefusesActions, RefusesExpression};
 ghost use Rattle.ix_manage.specs.inside.Refusal.{RefusesLines, RefusesScript, RefusesText};
-ghost use Rattle.ix_manage.specs.Trace.{ReadsForm};
+ghost use Rattle.ix_manage.specs.Trace.{ReadsForm, ReadsPlaced};
+ghost use Rattle.ix_manage.specs.inside.Linting.{placed_meaning};
 
 use crate::actions::{ActionLines, MOST_BYTES as MOST_ACTIONS_BYTES};
 use crate::refusal::{Input, Refusal};
 use ix_expr::Expression;
 use ix_lines::first_fault;
 use ix_outside::{Files, LoadFault};
-use ix_parse::TextFault;
+use ix_parse::{Placed, TextFault};
 use ix_script::Script;
 use std::alloc::Global;
 
@@ -30,6 +31,7 @@ const MOST_SCRIPT_BYTES: usize = 67_108_864;
 /// The most bytes of a file of lines.
 const MOST_LINES_BYTES: usize = 67_108_864;
 
+#[tactic(auto, using(crate::proofs::Ending::reads_placed))]
 pub(crate) fn load_expression<F: Files>(
     alloc: Global,
     files: &mut F,
@@ -41,8 +43,27 @@ pub(crate) fn load_expression<F: Files>(
 
     ensures files { OnlyFaults (F.state files.old) (F.state files.new) }
 {
+    match load_placed(alloc, files, name) {
+        Ok(Placed { expression, .. }) => Ok(expression),
+        Err(refusal) => Err(refusal),
+    }
+}
+
+/// The expression of the file, and where its nodes start in the text.
+pub(crate) fn load_placed<F: Files>(
+    alloc: Global,
+    files: &mut F,
+    name: &str,
+) -> Result<Placed, Refusal>
+    ensures ok { IfOk result
+        (λ x. ReadsPlaced (F.state files.old).contents name.now (placed_meaning x)) }
+    ensures err { IfErr result
+        (RefusesExpression (F.state files.old) (F.state files.new) name.now) }
+
+    ensures files { OnlyFaults (F.state files.old) (F.state files.new) }
+{
     match files.load(alloc, name, MOST_BYTES) {
-        Ok(text) => read_expression(alloc, &text),
+        Ok(text) => read_placed(alloc, &text),
         Err(LoadFault::Failed) => Err(Refusal::Lost(Input::Expression)),
         Err(LoadFault::TooLong) => Err(Refusal::Bad {
             file: Input::Expression,
@@ -54,12 +75,22 @@ pub(crate) fn load_expression<F: Files>(
 }
 
 /// The expression of a text.
+#[tactic(auto, using(crate::proofs::Ending::stands_placed))]
 pub(crate) fn read_expression(alloc: Global, text: &[u8]) -> Result<Expression, Refusal>
     ensures ok { IfOk result (StandsFor text.now) }
     ensures err { IfErr result (RefusesText text.now) }
 {
-    match ix_parse::read(alloc, text) {
-        Ok(expression) => Ok(expression),
+    let Placed { expression, .. } = read_placed(alloc, text)?;
+    Ok(expression)
+}
+
+/// The expression of a text, and where its nodes start.
+fn read_placed(alloc: Global, text: &[u8]) -> Result<Placed, Refusal>
+    ensures ok { IfOk result (λ x. IsPlaced text.now (placed_meaning x)) }
+    ensures err { IfErr result (RefusesText text.now) }
+{
+    match ix_parse::read_placed(alloc, text) {
+        Ok(placed) => Ok(placed),
         Err(TextFault::Bad { code, at }) => Err(Refusal::Bad {
             file: Input::Expression,
             code,

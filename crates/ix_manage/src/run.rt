@@ -13,6 +13,7 @@ use crate::bound::bound;
 use crate::early_end::EarlyEnd;
 use crate::follow::follow;
 use crate::job::{FollowWords, ReplayWords, ServeWords, TraceWords, WorkWords};
+use crate::lint::lint;
 use crate::refusal::Refusal;
 use crate::replay::replay;
 use crate::serve::serve;
@@ -138,5 +139,6 @@ fn run_job<F: Files, S: Site, K: Sink>(
             };
             follow(alloc, names, files, out)
         }
+        Job::Lint { expr } => lint(alloc, expr.as_str(), files, out),
     }
 }

@@ -121,6 +121,7 @@ pub(super) const BOTH: &[u8] = b"all $p *(any $x (call($p,$x) - perform($p,$x)))
 
 mod bounds;
 mod follows;
+mod lints;
 mod refusals;
 mod replays;
 mod simplifies;

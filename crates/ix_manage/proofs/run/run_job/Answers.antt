@@ -1,6 +1,6 @@
 use Rattle.std.proofs.Common.{◌≡◌, ℕ, List, Option, refl, sym, ◌∙◌, ap, subst}
 use Rattle.std.proofs.lemmas.Option.{none-some}
-use Rattle.ix_cli.specs.Words.{Job, trace, simplify, bound, follow}
+use Rattle.ix_cli.specs.Words.{Job, trace, simplify, bound, follow, lint}
 use Rattle.ix_cli.specs.inside.Jobs.{job_of}
 use Rattle.ix_manage.specs.Around.{around_of}
 use Rattle.ix_manage.specs.Ends.{JobOver}
@@ -8,6 +8,7 @@ use Rattle.ix_manage.specs.Session.{Session}
 use Rattle.ix_manage.specs.inside.Bounding.{BoundEnds}
 use Rattle.ix_manage.specs.inside.Following.{FollowRuns}
 use Rattle.ix_manage.specs.inside.Jobs.{work_of}
+use Rattle.ix_manage.specs.inside.Linting.{LintEnds}
 use Rattle.ix_manage.specs.inside.Playing.{TraceEnds}
 use Rattle.ix_manage.specs.inside.Simplifying.{SimplifyEnds}
 use Rattle.ix_manage.specs.inside.Working.{WorkEnds}
@@ -131,3 +132,26 @@ returns-in-Follow-clause-leaves g c =
     }) in
     leaves_on ends (g.K.Sink.state c.args.out.now) (g.K.Sink.state c.follow.new.out)
     c.follow.result c.follow.ensures.leaves
+
+pub returns-in-Lint-clause-leaves : goal.returns-in-Lint-clause-leaves
+returns-in-Lint-clause-leaves g c =
+    let files = g.F.Files.state c.args.files.now in
+    let later = g.F.Files.state c.lint.new.files in
+    let site = g.S.Site.state c.args.site.now in
+    let crashes = g.S.Site.crashes c.args.site.now in
+    let name = c.as_str-in-Lint.result.now in
+    let named : job_of c.args.job.now ≡ lint name =
+    ap job_of c.in-Lint.is ∙ ap lint (sym c.as_str-in-Lint.ensures.value) in
+    let ends : (status : ℕ) (whole part : List ℕ) (session : Option Session)
+    → LintEnds files later name status whole part session
+    → JobOver (around_of files later site site) (job_of c.args.job.now) crashes status whole part session =
+    λ status whole part session end.
+    subst (λ (job : Job). JobOver (around_of files later site site) job crashes status whole part session) (sym named)
+    (record {
+      ends = end site;
+      touches = refl;
+      journal = λ expression journal of_expression has_journal. absurd (none-some journal has_journal);
+      wire = λ socket same. absurd (none-some socket same);
+    }) in
+    leaves_on ends (g.K.Sink.state c.args.out.now) (g.K.Sink.state c.lint.new.out)
+    c.lint.result c.lint.ensures.leaves
