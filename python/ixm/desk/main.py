@@ -7,14 +7,14 @@ from collections.abc import Callable, Iterator
 from contextlib import contextmanager, suppress
 from functools import partial
 
-from ixm.desk import cases, program
+from ixm.desk import cases, lint, program
 from ixm.desk.drawing import draw
 from ixm.desk.forms import parse
 from ixm.desk.parts import Expanded, expand
 from ixm.desk.server import Desk
 from ixm.desk.texts import Fault, Undecoded, place, read
 
-USAGE = "ixm-desk [--open] RULES.. | expand RULES | check RULES | test RULES CASES | draw RULES"
+USAGE = "ixm-desk [--open] RULES.. | expand RULES | check RULES | test RULES CASES | lint RULES | draw RULES"
 WELL, WRONG, FAULTY = 0, 1, 2
 
 
@@ -65,6 +65,16 @@ def run_test(rules: str, suite: str) -> int:
     return WRONG if lines else WELL
 
 
+def run_lint(rules: str) -> int:
+    source, expression = expanded(rules, FAULTY)
+    with placed(rules, source, FAULTY):
+        found = lint.findings(source, expression)
+    for at, sentence in found:
+        line, column = place(source, at)
+        print(f"{rules}:{line}:{column}: {sentence}")
+    return WRONG if found else WELL
+
+
 def run_draw(rules: str) -> int:
     source, expression = expanded(rules, WRONG)
     with placed(rules, source, WRONG):
@@ -93,6 +103,7 @@ COMMANDS: dict[str, tuple[int, Callable[..., int]]] = {
     "expand": (1, run_expand),
     "check": (1, run_check),
     "test": (2, run_test),
+    "lint": (1, run_lint),
     "draw": (1, run_draw),
 }
 
