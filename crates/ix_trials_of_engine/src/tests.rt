@@ -13,6 +13,7 @@ use std::test::Fail;
 mod bounds;
 mod findings;
 mod follows;
+mod refusals;
 mod trees;
 
 fn expression(alloc: Global, text: &str) -> Result<Expression, Fail> {
