@@ -13,12 +13,16 @@ import threading
 import unittest
 from typing import Any
 from unittest import mock
+from xml.etree import ElementTree
 
 from ixm.desk import main
+from ixm.desk.drawing import TITLES
 from ixm.desk.server import Desk
 from ixm.trials import built
 from tests import browser
 from tests.browser import CONTROL, ENTER, TAB, Browser
+from tests.test_desk import SVG
+from tests.test_lint import FINDINGS, KEEPS
 
 TOP = os.path.join(os.path.dirname(os.path.abspath(__file__)), "..", "..")
 BACK = "\ue003"
@@ -32,6 +36,7 @@ UNBOUNDED = [
     ("c |\nall $p (call($p,x) | call(x,$p))", 53, (2, 1)),
     ("let v = b - #c; // a part\na | v", 54, (1, 13)),
 ]
+DASHES = {"found": "0 8", "refused": "7 4"}  # of the frames of each kind
 Headers = dict[str, str | None]  # with None for one that isn't sent
 
 
@@ -79,6 +84,18 @@ def request(desk: Desk, name: str, body: Any = None, headers: Headers | None = N
         reply = connection.getresponse()
         text = reply.read()
         return reply.status, json.loads(text) if reply.headers["Content-Type"] == "application/json" else text
+
+
+def asked(rules: str) -> dict[str, object]:
+    """A question about these rules alone."""
+    return {"rules": rules, "cases": "", "actions": [], "values": 3}
+
+
+def framed(svg: str, kind: str) -> list[tuple[str, str]]:
+    """The signs of the frames of this kind in a drawing, and the titles of what is inside each."""
+    groups = [group for group in ElementTree.fromstring(svg).iter(f"{SVG}g")
+              if [box.get("stroke-dasharray") for box in group.findall(f"{SVG}rect")] == [DASHES[kind]]]
+    return [(group.findtext(f"{SVG}text", ""), group.findtext(f"{SVG}g/{SVG}title", "")) for group in groups]
 
 
 class TestServer(Case):
@@ -132,10 +149,40 @@ class TestServer(Case):
         desk = self.served(rules=DOORS)
         for text, code, place in UNBOUNDED:
             with self.subTest(text):
-                answer = request(desk, "drawing", {"rules": text, "cases": "", "actions": [], "values": 3})[1]
+                answer = request(desk, "drawing", asked(text))[1]
                 self.assertTrue(answer["bound"].startswith(f"unbounded {code} "), answer["bound"])
                 self.assertEqual([(one["line"], one["column"]) for one in answer["refused"]], [place])
-                self.assertNotEqual(answer["shown"], answer["svg"])
+                self.assertEqual([sign for sign, _ in framed(answer["shown"], "refused")], ["!"])
+
+    def test_what_looks_wrong_is_placed(self) -> None:
+        desk = self.served(rules=DOORS)
+        for source, line, right in FINDINGS:
+            with self.subTest(source):
+                answer = request(desk, "lint", asked(source))[1]
+                self.assertEqual(["{line}:{column}: {sentence}".format(**one) for one in answer["found"]], [line])
+                self.assertEqual(request(desk, "lint", asked(right)), (200, {"found": []}))
+                self.assertEqual(framed(request(desk, "drawing", asked(right))[1]["shown"], "found"), [])
+        fault = {"line": 1, "column": 4, "sentence": "the text ends here, and something is missing"}
+        self.assertEqual(request(desk, "lint", asked("a -")), (200, {"fault": fault}))
+
+    def test_what_looks_wrong_is_framed_with_its_number(self) -> None:
+        desk = self.served(rules=DOORS)
+        with open(f"{TOP}/examples/slips/expression") as file:
+            answer = request(desk, "drawing", asked(file.read()))[1]
+        wanted = [("1", TITLES["@"]), ("2", "call($patient,room)"), ("3", "call($patient)"),
+                  ("4", "any $nurse: for some value"), ("5", TITLES["&"]),
+                  ("6 7", "all $person: side by side for all values"), ("8", "all $bed: side by side for all values")]
+        self.assertEqual(framed(answer["shown"], "found"), wanted)
+        self.assertEqual(framed(answer["svg"], "found"), [])
+
+    def test_a_finding_in_a_part_is_framed_at_each_use(self) -> None:
+        desk = self.served(rules=DOORS)
+        source = "let once = all $p ?sign($p);\n(examine - send | once) @ once @ (a - times 3 b)"
+        found = [{"line": 1, "column": 12, "sentence": KEEPS}]
+        self.assertEqual(request(desk, "lint", asked(source)), (200, {"found": found}))
+        shown = request(desk, "drawing", asked(source))[1]["shown"]
+        self.assertEqual(framed(shown, "found"), [("1", "all $p: side by side for all values")] * 2)
+        self.assertEqual(framed(shown, "refused"), [("!", "times 3: so many of these side by side")])
 
     def test_what_the_browser_is_told(self) -> None:
         desk = self.served(rules=DOORS)
@@ -186,8 +233,7 @@ class TestServer(Case):
         self.assertEqual(request(desk, "read", {"house": 0, "kind": "rules"})[0], 500)
         with mock.patch.dict(os.environ, IXM="/bin/false"):
             sentence = "/bin/false ended with status 1 and the line: "
-            asked = {"rules": "a", "cases": "", "actions": [], "values": 0}
-            self.assertEqual(request(desk, "rules", asked), (500, {"error": sentence}))
+            self.assertEqual(request(desk, "rules", asked("a")), (500, {"error": sentence}))
 
     def test_as_a_process(self) -> None:
         self.write("test", DOORS)
@@ -357,6 +403,36 @@ class TestPage(Case):
                  "return titled.filter((one) => one.textContent === arguments[0])" \
                  ".map((one) => [...one.parentNode.querySelectorAll('text')].map((text) => text.textContent))"
         self.assertEqual(page.run(script, sentence), [["!", "times 3", "b"]])
+
+    def test_what_looks_wrong_is_told_as_advice(self) -> None:
+        page = self.opened(rules=DOORS)
+        page.wait_text("#looks", "Nothing looks wrong")
+        self.assertNotIn("advice", page.text("#lint"))
+        page.type("#rules-text", "@ (look -\n all $p ?sign($p))\n@ *(b & *(b - a))")
+        page.wait_text("#looks", "2 things look wrong")
+        apart = "only one side of this & knows a (number of values: 0), so it never comes here: is @ meant?"
+        self.assertEqual(self.said("#found"), [f"3:2: {KEEPS}", f"4:7: {apart}"])
+        self.assertIn("This is advice and no fault", page.text("#lint"))
+        self.assertEqual(page.text("#rules-fault"), "")
+        page.click("#found li:first-child button")
+        self.assertEqual(page.run("return document.querySelector('#rules-shown mark').textContent"), "all")
+        self.assertEqual(page.run("return document.activeElement.id"), "rules-text")
+        page.press("*")
+        page.wait_text("#looks", "1 thing looks wrong")
+        self.assertEqual(page.value("#rules-text"), DOORS + "@ (look -\n *all $p ?sign($p))\n@ *(b & *(b - a))")
+        page.press(CONTROL + browser.HOME)
+        page.press("-")
+        page.wait_text("#rules-fault", "1:1: this can't stand here")
+        self.assertIn("The rules have a fault. This is what looked wrong before it.", page.text("#lint"))
+        self.assertEqual(self.said("#found"), [f"4:7: {apart}"])
+
+    def test_what_looks_wrong_and_what_is_refused_differ_in_the_drawing(self) -> None:
+        page = self.opened(rules="all $p ?sign($p) @ (a - times 3 b)")
+        script = "return [...document.querySelectorAll('#drawn rect')].map((one) => getComputedStyle(one))" \
+                 ".filter((style) => style.strokeDasharray !== 'none')" \
+                 ".map((style) => style.strokeDasharray.replace(/px|,/g, ''))"
+        page.wait("the frames", lambda: page.run(script) == [DASHES["found"], DASHES["refused"]])
+        self.assertEqual(self.drawn(), ["1", "all $p", "sign($p)", "a", "!", "times 3", "b", "@", "@"])
 
     def test_the_same_rules_simplified(self) -> None:
         page = self.opened(rules="?*a - b")

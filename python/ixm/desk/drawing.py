@@ -4,7 +4,7 @@ from collections.abc import Callable, Sequence
 from dataclasses import dataclass
 from xml.sax.saxutils import escape
 
-from ixm.desk.forms import Form
+from ixm.desk.forms import Form, Mark
 
 LETTER, GAP, HALF = 9, 24, 18  # the width of a letter, the space between two figures, half the height of an atom
 TITLES = {
@@ -24,6 +24,11 @@ TITLES = {
 }
 STYLE = "text { font: 15px monospace; fill: #111111; stroke: none } polyline { fill: none }"
 FRAMES = {"any": "#fff7e0", "every": "#eaf6ea", "sync": "#e8f3fa", "all": "#f6edf8"}
+# The line of a frame around what is marked, by the kind of the mark, from the inside to the outside.
+MARKS = {
+    "found": 'rx="9" stroke="#4b3ba8" stroke-width="4" stroke-linecap="round" stroke-dasharray="0 8"',
+    "refused": 'stroke="#b00020" stroke-width="3" stroke-dasharray="7 4"',
+}
 
 
 @dataclass(frozen=True)
@@ -169,21 +174,28 @@ KINDS: dict[str, Callable[[Form], Figure]] = {
 
 
 def figure(form: Form) -> Figure:
-    """The figure of a form. One that isn't known is an error."""
-    plain = KINDS[form.operator](form)
-    return refused(plain, form.mark) if form.mark else plain
+    """The figure of a form, in a frame for each kind of its marks. One that isn't known is an error."""
+    found = KINDS[form.operator](form)
+    for kind in MARKS:
+        marks = [mark for mark in form.marks if mark.kind == kind]
+        found = marked(found, MARKS[kind], marks) if marks else found
+    return found
 
 
-def refused(inner: Figure, sentence: str) -> Figure:
-    """A figure in a broken frame with a sign, and the sentence as its title."""
+def marked(inner: Figure, edge: str, marks: Sequence[Mark]) -> Figure:
+    """A figure in a frame with this line and the signs of its marks, and their sentences as its title."""
+    sign = " ".join(mark.sign for mark in marks)
+    width = max(inner.width, LETTER * len(sign)) + HALF
 
     def put(x: int, y: int) -> list[str]:
-        top, height = y - inner.above - HALF, inner.above + inner.below + HALF + 6
-        frame = box(x, top, inner.width, height, 'fill="none" stroke="#b00020" stroke-width="3" stroke-dasharray="7 4"')
-        sign = f'<text x="{x + 6}" y="{top + 16}" font-weight="bold">!</text>'
-        return titled(sentence, [frame, sign, *inner.put(x, y)])
+        top, height = y - inner.above - GAP, inner.above + inner.below + GAP + 6
+        begin, end = x + (width - inner.width) // 2, x + width
+        shapes = [box(x, top, width, height, f'fill="none" {edge}')]
+        shapes.append(f'<text x="{x + 8}" y="{top + 17}" font-weight="bold">{sign}</text>')
+        shapes += [line((x, y), (begin, y)), line((begin + inner.width, y), (end, y))]
+        return titled("; ".join(mark.sentence for mark in marks), shapes + inner.put(begin, y))
 
-    return Figure(inner.width, inner.above + HALF + 4, inner.below + HALF, put)
+    return Figure(width, inner.above + GAP + 4, inner.below + HALF, put)
 
 
 def draw(form: Form) -> str:

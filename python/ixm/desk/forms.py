@@ -1,5 +1,6 @@
 """Expressions as forms, for drawings only: what isn't right here may be right for the program, which alone decides."""
 
+from collections.abc import Mapping, Sequence
 from dataclasses import dataclass, replace
 
 from ixm.desk.texts import LEVELS, QUANTIFIERS, Fault, Token, tokens
@@ -9,19 +10,28 @@ PREFIXES = ("?", "*", "#")
 
 
 @dataclass(frozen=True)
+class Mark:
+    """A frame around a form in the drawing: its kind, a short sign, and a sentence."""
+
+    kind: str
+    sign: str
+    sentence: str
+
+
+@dataclass(frozen=True)
 class Form:
     """An atom with its text as `word`, or an operator and what it is put on.
 
     `word` of an operator is its sign or word, with its parameter or number. Operands of one binary operator that group
-    to the left are in one form. `at` has the places of its signs in the text, or of its word. `mark` is a sentence that
-    the drawing shows at it.
+    to the left are in one form. `at` has the places of its signs in the text, or of its word. `marks` are what the
+    drawing shows around it.
     """
 
     operator: str
     word: str
     operands: tuple["Form", ...] = ()
     at: tuple[int, ...] = ()
-    mark: str = ""
+    marks: tuple[Mark, ...] = ()
 
     def text(self, binding: int = 0) -> str:
         """Its canonical text, as an operand that has to bind at least so strongly."""
@@ -106,14 +116,12 @@ def parse(text: str) -> Form:
     return found
 
 
-def nodes(form: Form) -> list[tuple[Form, int]]:
-    """The nodes as the program counts them, from 0, each with its form and its place. `a - b - c` has two of `-`."""
-    own = [(form, at) for at in reversed(form.at)]
-    return own + [node for operand in form.operands for node in nodes(operand)]
+def nodes(form: Form) -> list[int]:
+    """The places of the nodes as the program counts them, from 0. `a - b - c` has two of `-`."""
+    return [*reversed(form.at), *(at for operand in form.operands for at in nodes(operand))]
 
 
-def marked(form: Form, found: Form, sentence: str) -> Form:
-    """The form with a sentence at the one that was found in it."""
-    if form is found:
-        return replace(form, mark=sentence)
-    return replace(form, operands=tuple(marked(operand, found, sentence) for operand in form.operands))
+def marked(form: Form, marks: Mapping[int, Sequence[Mark]]) -> Form:
+    """The form with these marks, which are given by the places of the nodes that have them."""
+    own = tuple(mark for at in reversed(form.at) for mark in marks.get(at, ()))
+    return replace(form, marks=own, operands=tuple(marked(operand, marks) for operand in form.operands))

@@ -1,6 +1,7 @@
 """What looks wrong in rules, as the program's `lint` says it, in sentences for their author."""
 
 import re
+from dataclasses import dataclass
 
 from ixm.desk import program
 from ixm.desk.parts import Expanded
@@ -22,20 +23,33 @@ SENTENCES = {
 PLACES = ("at", "first", "other")
 
 
-def finding(line: str, source: str, expression: Expanded) -> tuple[int, str]:
-    """The finding of a line of the program."""
+@dataclass(frozen=True)
+class Finding:
+    """What looks wrong: its offset into the source, a sentence, and where its nodes begin in the expression's text, which
+    are several if it is in a part that is used several times."""
+
+    at: int
+    sentence: str
+    nodes: list[int]
+
+
+def told(line: str, source: str, expression: Expanded) -> tuple[int, str]:
+    """What a line of the program says: where its node begins in the expression's text, and a sentence."""
     for pattern, sentence in SENTENCES.items():
         if found := re.fullmatch(r"at (?P<at>\d+): " + pattern, line):
             words = found.groupdict()
-            places = {name: expression.source(int(words[name])) for name in PLACES if name in words}
-            told = {name: "%d:%d" % place(source, at) for name, at in places.items()}
-            return places["at"], sentence.format(**(words | told))
+            places = {name: place(source, expression.source(int(words[name]))) for name in PLACES if name in words}
+            return int(words["at"]), sentence.format(**(words | {name: "%d:%d" % at for name, at in places.items()}))
     raise program.Unusable(f"{program.path()} finds what the desk doesn't know: {line}")
 
 
-def findings(source: str, expression: Expanded) -> list[tuple[int, str]]:
-    """What looks wrong in an expression: each finding once, as its offset into the source and a sentence."""
+def findings(source: str, expression: Expanded) -> list[Finding]:
+    """What looks wrong in an expression, in the program's order."""
     said = program.run("lint", [expression.text])
     if said.status:
         raise said.failure(expression)
-    return list(dict.fromkeys(finding(line, source, expression) for line in said.lines))
+    nodes = dict[tuple[int, str], list[int]]()
+    for line in said.lines:
+        node, sentence = told(line, source, expression)
+        nodes.setdefault((expression.source(node), sentence), []).append(node)
+    return [Finding(*key, found) for key, found in nodes.items()]

@@ -69,9 +69,9 @@ def run_lint(rules: str) -> int:
     source, expression = expanded(rules, FAULTY)
     with placed(rules, source, FAULTY):
         found = lint.findings(source, expression)
-    for at, sentence in found:
-        line, column = place(source, at)
-        print(f"{rules}:{line}:{column}: {sentence}")
+    for one in found:
+        line, column = place(source, one.at)
+        print(f"{rules}:{line}:{column}: {one.sentence}")
     return WRONG if found else WELL
 
 

@@ -1,12 +1,14 @@
 """What each panel of the page shows, as the program says it. A panel is a function in PANELS here, a `show` in PANELS of
 page/desk.js, and a section of page/desk.html, of one name."""
 
-from collections.abc import Callable
+from collections import defaultdict
+from collections.abc import Callable, Sequence
 from dataclasses import dataclass
 
 from ixm.desk import cases, program
 from ixm.desk.drawing import draw
-from ixm.desk.forms import marked, nodes, parse
+from ixm.desk.forms import Mark, marked, nodes, parse
+from ixm.desk.lint import Finding, findings
 from ixm.desk.parts import Expanded, expand
 from ixm.desk.texts import Fault, place
 
@@ -34,18 +36,34 @@ def rules(question: Question, expression: Expanded) -> Answer:
     return {"expression": expression.text}
 
 
+def numbered(found: Sequence[Finding]) -> defaultdict[int, list[Mark]]:
+    """The marks of findings, with their numbers from 1, by the places of the nodes."""
+    marks = defaultdict[int, list[Mark]](list)
+    for number, one in enumerate(found, 1):
+        for node in one.nodes:
+            marks[node].append(Mark("found", str(number), one.sentence))
+    return marks
+
+
 def drawing(question: Question, expression: Expanded) -> Answer:
-    """The drawing, what `bound` says with the node that it refuses, and what `simplify` makes of the rules if it differs."""
+    """The drawing, with the node that `bound` refuses and those that `lint` finds, what `bound` says, and what `simplify`
+    makes of the rules if it differs."""
     form = parse(expression.text)
+    marks = numbered(findings(question.rules, expression))
     line, number, sentence = program.bound(expression, question.values)
-    refused, shown = list[Answer](), form
+    refused = list[Answer]()
     if number is not None:
-        found, at = nodes(form)[number]
-        shown = marked(form, found, sentence)
+        at = nodes(form)[number]
+        marks[at].append(Mark("refused", "!", sentence))
         refused.append(placed(question.rules, expression.origin(at), sentence))
     simple = program.simplify(expression)
     other: Answer = {} if simple == form.text() else {"text": simple, "svg": draw(parse(simple))}
-    return {"svg": draw(form), "shown": draw(shown), "bound": line, "refused": refused, "simple": other}
+    return {"svg": draw(form), "shown": draw(marked(form, marks)), "bound": line, "refused": refused, "simple": other}
+
+
+def lint(question: Question, expression: Expanded) -> Answer:
+    """What looks wrong, which is advice. The drawing has its numbers."""
+    return {"found": [placed(question.rules, one.at, one.sentence) for one in findings(question.rules, expression)]}
 
 
 def history(question: Question, expression: Expanded) -> Answer:
@@ -72,6 +90,7 @@ def suite(question: Question, expression: Expanded) -> Answer:
 
 PANELS: dict[str, Callable[[Question, Expanded], Answer]] = {
     "rules": rules,
+    "lint": lint,
     "drawing": drawing,
     "history": history,
     "suite": suite,

@@ -12,13 +12,14 @@ const SAID = {
 // Each panel shows the answer to the question of its name (panels.py), in the section of its name.
 const PANELS = {
     rules: {show: showRules},
+    lint: {show: showLint},
     drawing: {show: showDrawing},
     history: {show: showHistory},
     suite: {show: showSuite, idle: () => !house.cases.text.trim()},
 };
 const KINDS = ["rules", "cases"];
 // What is of one file and not of the next.
-const SHOWN = ["drawn", "bound", "refused", "actions", "state", "used", "counts", "wrong", "action-fault"];
+const SHOWN = ["looks", "found", "drawn", "bound", "refused", "actions", "state", "used", "counts", "wrong", "action-fault"];
 const houses = []; // of each file: its texts, its history, those before it for undo, and the actions used before
 let house = null;
 
@@ -119,6 +120,11 @@ function mark(kind, fault) {
     return made;
 }
 
+// Lists sentences about places of a text.
+function showPlaces(name, kind, places) {
+    find(name).replaceChildren(...places.map((one) => element("li", {}, leading(kind, one))));
+}
+
 // Shows a text under the place where it is typed, with the fault marked if it has one.
 function showText(kind, fault) {
     find(`${kind}-shown`).replaceChildren(`${house[kind].text}\n`);
@@ -142,11 +148,17 @@ function showRules(answer) {
     }
 }
 
+function showLint(answer) {
+    const count = answer.found.length;
+    find("looks").textContent = {0: "Nothing looks wrong", 1: "1 thing looks wrong"}[count] ?? `${count} things look wrong`;
+    showPlaces("found", "rules", answer.found);
+}
+
 function showDrawing(answer) {
     drawIn("drawn", answer.shown);
     const bounded = answer.bound.replace(/^bound (.*)/, "at most $1 nodes");
     find("bound").textContent = bounded.replace(/^unbounded (\d+) .*/, "without a bound ($1)");
-    find("refused").replaceChildren(...answer.refused.map((one) => element("li", {}, leading("rules", one))));
+    showPlaces("refused", "rules", answer.refused);
     find("simple").hidden = !answer.simple.text;
     find("simple-text").textContent = answer.simple.text ?? "";
     drawIn("simple-drawn", answer.simple.svg);
@@ -210,7 +222,7 @@ function undo() {
 function showSuite(answer) {
     showText("cases", answer.faulty);
     find("counts").textContent = answer.counts ?? (answer.faulty ? "" : "no cases");
-    find("wrong").replaceChildren(...(answer.wrong ?? []).map((one) => element("li", {}, leading("cases", one))));
+    showPlaces("wrong", "cases", answer.wrong ?? []);
     answer.actions?.forEach((action) => house.used.add(action));
     showUsed();
 }
