@@ -22,6 +22,7 @@ HTML, SCRIPT, SHEET = "text/html; charset=utf-8", "text/javascript; charset=utf-
 PAGES = {"": ("desk.html", HTML), "desk.js": ("desk.js", SCRIPT), "desk.css": ("desk.css", SHEET)}
 JSON = "application/json"
 LARGEST = 1 << 20  # bytes of a question
+DROPPED = 16 << 20  # bytes of a refused one that are read all the same
 STYLE_HASH = b64encode(hashlib.sha256(STYLE.encode()).digest()).decode()
 POLICY = (
     f"default-src 'none'; script-src 'self'; style-src 'self' 'sha256-{STYLE_HASH}'; connect-src 'self'; "
@@ -103,12 +104,21 @@ class Desk(socketserver.ThreadingTCPServer):
 class Handler(BaseHTTPRequestHandler):
     server: Desk
     timeout = 30  # seconds that a request may take to come
+    left = 0  # bytes of the question that aren't read yet
 
     def do_GET(self) -> None:
         self.settle(self.page)
 
     def do_POST(self) -> None:
+        length = self.headers.get("Content-Length", "")
+        self.left = min(int(length), DROPPED) if length.isdigit() else 0
         self.settle(self.asked)
+        self.drop()
+
+    def drop(self) -> None:
+        """Reads what is left of a refused question, because a connection that ends before may take the answer with it."""
+        while self.left > 0 and (data := self.rfile.read(min(self.left, LARGEST))):
+            self.left -= len(data)
 
     def settle(self, found: Callable[[], tuple[str, bytes]]) -> None:
         """Sends what was found, or why nothing was."""
@@ -163,6 +173,7 @@ class Handler(BaseHTTPRequestHandler):
         length = self.headers.get("Content-Length", "")
         if self.headers.get("Content-Type") != JSON or not length.isdigit() or int(length) > LARGEST:
             raise Refused(400, f"a question is JSON with at most {LARGEST} bytes")
+        self.left = 0
         return Body(self.rfile.read(int(length)))
 
     def kept(self, body: Body) -> Kept:
