@@ -1,6 +1,6 @@
 //! What an owner of a file in a store of keys knows, and what it learns from an answer.
 
-ghost use Rattle.std.specs.Prelude.{◌≡◌, if◌then◌else◌};
+ghost use Rattle.std.specs.Prelude.{◌≡◌, false, if◌then◌else◌};
 ghost use Rattle.ix_blocks.specs.Owners.{learn, owns, ended};
 
 /// What the head of a file says.
@@ -57,9 +57,10 @@ impl Claim {
     }
 
     /// Learns from the answer to its last sync whether it was applied. If not, another owner has
-    /// attached, or an earlier sync that was given up was applied in its place.
+    /// attached, or an earlier sync that was given up was applied in its place; the claim stays.
     pub fn learn(&mut self, commit: &Commit) -> bool
         ensures learns { learn self.old commit.now ≡ (if result then owns self.new else ended) }
+        ensures stays { result ≡ false → self.new ≡ self.old }
     {
         let revision = match commit {
             Commit::Applied(revision) => *revision,
