@@ -61,8 +61,5 @@ impl Bindings {
 fn letter_a() -> Name
     ensures { result ≡ 97 ∷ [] }
 {
-    match Name::read(b"a") {
-        Some(name) => name,
-        None => unreachable!(),
-    }
+    Name::of_text(b"a")
 }
