@@ -14,7 +14,7 @@ use Rattle.ix_tree.specs.Plain.{Plain, dead, is_dead, listed, items_of, opt as o
 use Rattle.ix_tree.specs.PlainOf.{plain_entry, plain_entries}
 use Rattle.ix_tree.proofs.PlainLists.{items_of-listed}
 use Rattle.ix_can.specs.inside.CanAsk.{CanAsk, AreProper}
-use Rattle.ix_can.specs.inside.May.{tree_at}
+use Rattle.ix_can.specs.May.{tree_at}
 use Rattle.ix_can.specs.Laws.{IsProper, IsRising, ProperEntries}
 use Rattle.ix_can.specs.TreeOf.{tree_of}
 use Rattle.ix_can.proofs.Keys.{keys_ascend, tree_at_has}

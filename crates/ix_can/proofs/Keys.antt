@@ -19,7 +19,7 @@ use Rattle.ix_tree.specs.Order.{key, first_part}
 use Rattle.ix_tree.specs.Plain.{Plain, dead, items_of}
 use Rattle.ix_tree.specs.PlainOf.{plain_entry, plain_entries}
 use Rattle.ix_tree.proofs.PlainLists.{items_of-listed}
-use Rattle.ix_can.specs.inside.May.{tree_at}
+use Rattle.ix_can.specs.May.{tree_at}
 use Rattle.ix_can.proofs.Lists.{one_test}
 
 -- where plain entries ascend by their values, so do the entries in memory

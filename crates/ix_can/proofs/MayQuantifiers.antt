@@ -13,7 +13,7 @@ use Rattle.ix_can.specs.Tests.{in_alphabet, values_and_outside}
 use Rattle.ix_can.specs.Ways.{is_empty}
 use Rattle.ix_can.specs.Nodes.{is_dead, set_of, has_dead_entry}
 use Rattle.ix_can.specs.TreeOf.{tree_of}
-use Rattle.ix_can.specs.inside.May.{moves_within, may_first, may}
+use Rattle.ix_can.specs.May.{moves_within, may_first, may}
 use Rattle.ix_can.proofs.Lists.{itself, iff_trans, iff_sym, both_iff, either_iff, each_iff, when_either, when_both, way_says, all_map, any_map}
 use Rattle.ix_can.proofs.Testing.{alphabet_says}
 use Rattle.ix_can.proofs.Nodes.{fresh, fresh-new, some_value, every_value}

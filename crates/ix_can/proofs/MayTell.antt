@@ -25,7 +25,7 @@ use Rattle.ix_can.specs.Tests.{is_match, in_alphabet, accepts_empty}
 use Rattle.ix_can.specs.Ways.{is_empty, numberings, nonempty_parts, numbers_below}
 use Rattle.ix_can.specs.Nodes.{is_dead, is_live, is_open, listed, items_of, set_of, sorted, live, dead_if, done_if, unless_done, is_spent, settled, seq_parts}
 use Rattle.ix_can.specs.TreeOf.{tree_of}
-use Rattle.ix_can.specs.inside.May.{both_move, may_first, may}
+use Rattle.ix_can.specs.May.{both_move, may_first, may}
 use Rattle.ix_can.proofs.Lists.{itself, both_iff, same_test, iff_trans, iff_sym, when_either, when_both, when_not, SomeWay, when_passes, one_passes, made_says, all_map, any_map, filled_says, filter-Member, Member-filter}
 use Rattle.ix_can.proofs.Testing.{match_says, alphabet_says, empty_complete}
 use Rattle.ix_can.proofs.Ways.{numbered_part, long_to, long_from, parts_to, parts_from, numbers_to, each_below, below_from, owner_or_none}

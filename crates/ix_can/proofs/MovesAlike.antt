@@ -14,7 +14,7 @@ use Rattle.ix_tree.specs.Order.{key, first_part, second_part}
 use Rattle.ix_can.specs.Tests.{in_alphabet, values_and_outside, accepts_empty}
 use Rattle.ix_can.specs.Nodes.{is_dead, is_live, is_open, items_of, set_of, live, dead_if, settled, settled_times, seq_parts}
 use Rattle.ix_can.specs.TreeOf.{is_final, tree_of}
-use Rattle.ix_can.specs.inside.May.{both_move, moves_within, tree_at, may_first, may}
+use Rattle.ix_can.specs.May.{both_move, moves_within, tree_at, may_first, may}
 use Rattle.ix_can.specs.inside.Moved.{picks, bag_with, keep_with, entry_with, map_with, or_initial, moved_inside, moved}
 use Rattle.ix_can.proofs.Lists.{one_test}
 use Rattle.ix_can.proofs.Testing.{alphabet_says}

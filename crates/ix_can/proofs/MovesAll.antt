@@ -15,7 +15,7 @@ use Rattle.ix_tree.specs.Order.{first_part}
 use Rattle.ix_can.specs.Ways.{is_empty, ownings}
 use Rattle.ix_can.specs.Nodes.{is_dead, is_live, items_of, set_of}
 use Rattle.ix_can.specs.TreeOf.{tree_of}
-use Rattle.ix_can.specs.inside.May.{tree_at}
+use Rattle.ix_can.specs.May.{tree_at}
 use Rattle.ix_can.specs.inside.Moved.{map_with, or_initial, moved, Moves}
 use Rattle.ix_can.proofs.Nodes.{tree_live}
 use Rattle.ix_can.proofs.Agreeing.{flat_map-alike, empty_tree}

@@ -13,7 +13,7 @@ use Rattle.ix_can.specs.Tests.{in_alphabet, values_and_outside}
 use Rattle.ix_can.specs.Ways.{is_empty}
 use Rattle.ix_can.specs.Nodes.{is_dead, items_of, set_of, has_dead_entry}
 use Rattle.ix_can.specs.TreeOf.{tree_of, entries_of}
-use Rattle.ix_can.specs.inside.May.{tree_at}
+use Rattle.ix_can.specs.May.{tree_at}
 use Rattle.ix_can.specs.inside.Moved.{entry_with, moved_inside, moved, Moves}
 use Rattle.ix_can.proofs.QuantifiersTell.{TellAll, entries, own, own_tree, own_entries, any_told, every_told, sync_told}
 use Rattle.ix_can.proofs.Ends.{filter_end}

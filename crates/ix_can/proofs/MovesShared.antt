@@ -18,7 +18,7 @@ use Rattle.ix_can.specs.Tests.{is_match, in_alphabet}
 use Rattle.ix_can.specs.Ways.{is_empty}
 use Rattle.ix_can.specs.Nodes.{is_dead, is_live, is_open, listed, items_of, set_of, live, dead_if, done_if, only_bag_done, is_spent, settled, seq_parts}
 use Rattle.ix_can.specs.TreeOf.{is_final, tree_of}
-use Rattle.ix_can.specs.inside.May.{may_first, may, tree_at}
+use Rattle.ix_can.specs.May.{may_first, may, tree_at}
 use Rattle.ix_can.specs.inside.Moved.{picks, bag_with, keep_with, entry_with, map_with, or_initial, moved_inside, moved}
 use Rattle.ix_can.proofs.Lists.{one_test, iff_trans, iff_sym}
 use Rattle.ix_can.proofs.Spent.{dead_is, may_dead, spent_may, moved_dead, moved_done, done_live, done_may, done_moved, open_made, open_same}

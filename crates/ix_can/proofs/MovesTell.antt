@@ -6,7 +6,7 @@ use Rattle.ix_expr.specs.Environment.{Environment, bind}
 use Rattle.ix_expr.specs.FormFaults.{Fits}
 use Rattle.ix_expr.proofs.LawsOfMeaning.{empty-partial}
 use Rattle.ix_expr.specs.Laws.{EachAtomNames}
-use Rattle.ix_can.specs.inside.May.{may_first}
+use Rattle.ix_can.specs.May.{may_first}
 use Rattle.ix_can.specs.inside.Moved.{Moves}
 use Rattle.ix_can.specs.Laws.{EachAllNames}
 use Rattle.ix_can.proofs.Lists.{when_either, when_both}

@@ -16,7 +16,7 @@ use Rattle.ix_tree.specs.Plain.{Plain, dead, start, opt as opt_of, seq as seq_of
 use Rattle.ix_tree.specs.Order.{key, first_part, second_part}
 use Rattle.ix_can.specs.Tests.{is_value, has_value, have_values, is_match, in_alphabet, values_and_outside, accepts_empty}
 use Rattle.ix_can.specs.Nodes.{is_dead, items_of}
-use Rattle.ix_can.specs.inside.May.{both_move, moves_within, tree_at, may_first, may}
+use Rattle.ix_can.specs.May.{both_move, moves_within, tree_at, may_first, may}
 
 pub and_false : (b : Bool) {c : Bool} → c ≡ false → (b && c) ≡ false
 and_false true e = e

@@ -10,7 +10,7 @@ use Rattle.ix_tree.specs.Plain.{Plain, dead, start, opt as opt_of, seq as seq_of
 use Rattle.ix_tree.specs.Order.{key, first_part, second_part}
 use Rattle.ix_can.specs.Tests.{in_alphabet, values_and_outside, accepts_empty}
 use Rattle.ix_can.specs.Nodes.{is_dead, items_of}
-use Rattle.ix_can.specs.inside.May.{moves_within, tree_at, may_first, may}
+use Rattle.ix_can.specs.May.{moves_within, tree_at, may_first, may}
 use Rattle.ix_can.proofs.Lists.{any_from}
 use Rattle.ix_can.proofs.NamedOutside.{and_false, or_false, and_none, if_false, none_from}
 use Rattle.ix_can.proofs.Testing.{alphabet_says}

@@ -16,7 +16,7 @@ use Rattle.ix_can.specs.Tests.{in_alphabet, values_and_outside, accepts_empty}
 use Rattle.ix_can.specs.Ways.{is_empty}
 use Rattle.ix_can.specs.Nodes.{is_dead, is_done, is_live, is_ended, is_open, items_of, dead_if, done_if, unless_done, only_pair_done, only_bag_done, is_spent, settled}
 use Rattle.ix_can.specs.TreeOf.{is_final}
-use Rattle.ix_can.specs.inside.May.{both_move, moves_within, tree_at, may_first, may}
+use Rattle.ix_can.specs.May.{both_move, moves_within, tree_at, may_first, may}
 use Rattle.ix_can.specs.inside.Moved.{moved}
 use Rattle.ix_can.proofs.Lists.{itself, when_both, any_says, any_from, all_to, Member-filter, filter-Member}
 

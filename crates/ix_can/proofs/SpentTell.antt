@@ -10,7 +10,7 @@ use Rattle.ix_can.specs.Nodes.{is_dead, is_done, is_live, is_ended, is_open, dea
 use Rattle.ix_can.specs.Ways.{is_empty}
 use Rattle.ix_can.specs.TreeOf.{is_final, tree_of, whole_bag}
 use Rattle.ix_can.specs.Laws.{IsCompleteAndStuck}
-use Rattle.ix_can.specs.inside.May.{may}
+use Rattle.ix_can.specs.May.{may}
 use Rattle.ix_can.proofs.Naming.{fits_name}
 use Rattle.ix_can.proofs.Spent.{open_live, open_not_done, open_not_ended, unless_open, final_done, may_done, node_is}
 use Rattle.ix_can.proofs.Sharings.{empty_parts}

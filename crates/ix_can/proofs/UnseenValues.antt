@@ -18,7 +18,7 @@ use Rattle.ix_tree.specs.Order.{key, first_part}
 use Rattle.ix_can.specs.Nodes.{is_dead}
 use Rattle.ix_can.specs.Tests.{in_alphabet}
 use Rattle.ix_can.specs.inside.CanAsk.{first_or_stays, may_or_stays, each_may_or_stays, may_own, UnseenFirst, UnseenAnswer}
-use Rattle.ix_can.specs.inside.May.{moves_within, may, tree_at}
+use Rattle.ix_can.specs.May.{moves_within, may, tree_at}
 use Rattle.ix_can.proofs.Keys.{tree_at_own}
 use Rattle.ix_can.proofs.Lists.{itself, unless_either, all_to, all_from}
 use Rattle.ix_can.proofs.MovesAlike.{atoms_alphabet, first_alike, may_alike}

@@ -1,4 +1,3 @@
 -- What contracts between crates and private ones cite, and no claim of the program or law reaches.
 pub mod CanAsk
-pub mod May
 pub mod Moved

@@ -9,7 +9,7 @@ ghost use Rattle.ix_expr.specs.FormFaults.{Fits};
 ghost use Rattle.ix_expr.specs.inside.FormOf.{form_of};
 ghost use Rattle.ix_expr.specs.Meaning.{IsPartial};
 ghost use Rattle.ix_can.specs.inside.CanAsk.{first_or_stays, UnseenFirst};
-ghost use Rattle.ix_can.specs.inside.May.{may_first};
+ghost use Rattle.ix_can.specs.May.{may_first};
 ghost use Rattle.ix_can.specs.Tests.{values_and_outside};
 
 use crate::plain_tests::{accepts_empty, in_alphabet, is_match};

@@ -19,7 +19,7 @@ ghost use Rattle.ix_can.specs.declared.next.Outside.TheVariants.{Refused};
 ghost use Rattle.ix_can.specs.inside.CanAsk.{stays, may_or_stays, each_may_or_stays, may_own};
 ghost use Rattle.ix_can.specs.inside.CanAsk.{CanAsk, AreProper, UnseenAnswer};
 ghost use Rattle.ix_can.specs.Laws.{IsProper, IsRising, ProperEntries};
-ghost use Rattle.ix_can.specs.inside.May.{may, may_first, tree_at};
+ghost use Rattle.ix_can.specs.May.{may, may_first, tree_at};
 ghost use Rattle.ix_can.specs.Tests.{in_alphabet};
 ghost use Rattle.ix_can.specs.TreeOf.{tree_of};
 

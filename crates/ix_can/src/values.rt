@@ -5,7 +5,7 @@ ghost use Rattle.ix_entries.specs.inside.Entries.{KeysAscend};
 ghost use Rattle.ix_values.specs.Order.{text_cmp};
 ghost use Rattle.ix_tree.specs.Plain.{dead, items_of};
 ghost use Rattle.ix_tree.specs.PlainOf.{plain_entries};
-ghost use Rattle.ix_can.specs.inside.May.{tree_at};
+ghost use Rattle.ix_can.specs.May.{tree_at};
 
 use ix_tree::{Entries, Knot};
 use ix_values::Value;

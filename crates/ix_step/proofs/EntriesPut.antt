@@ -23,7 +23,7 @@ use Rattle.ix_tree.specs.Size.{size_of}
 use Rattle.ix_tree.specs.lemmas.TreeOrder.{tree_order}
 use Rattle.ix_can.specs.Nodes.{same_tree}
 use Rattle.ix_can.specs.TreeOf.{entries_of}
-use Rattle.ix_can.specs.inside.May.{tree_at}
+use Rattle.ix_can.specs.May.{tree_at}
 use Rattle.ix_can.proofs.Lists.{itself, one_test, when_not}
 use Rattle.ix_can.proofs.Nodes.{same_is, entry_is}
 use Rattle.ix_step.specs.inside.Makes.{put_all}

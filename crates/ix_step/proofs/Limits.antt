@@ -8,7 +8,7 @@ use Rattle.ix_tree.specs.Plain.{Plain, dead}
 use Rattle.ix_tree.specs.Size.{size_of}
 use Rattle.ix_can.specs.Nodes.{is_dead}
 use Rattle.ix_can.specs.Tests.{in_alphabet}
-use Rattle.ix_can.specs.inside.May.{may}
+use Rattle.ix_can.specs.May.{may}
 use Rattle.ix_can.specs.inside.Moved.{moved, moved_inside}
 use Rattle.ix_can.proofs.Lists.{one_test, iff_trans, iff_sym}
 use Rattle.ix_can.proofs.Testing.{alphabet_says}

@@ -21,7 +21,7 @@ use Rattle.ix_tree.specs.contracts.order.KnotPartialEq.TheImpl.{ghosts as tree_g
 use Rattle.ix_tree.proofs.PlainLists.{items_of-listed}
 use Rattle.ix_can.specs.Nodes.{same_tree, set_of}
 use Rattle.ix_can.specs.Laws.{EachOnce, IsProper, ProperEntries}
-use Rattle.ix_can.specs.inside.May.{tree_at}
+use Rattle.ix_can.specs.May.{tree_at}
 use Rattle.ix_can.specs.TreeOf.{tree_of}
 use Rattle.ix_can.specs.inside.Moved.{map_with, entry_with, or_initial}
 use Rattle.ix_can.proofs.Nodes.{same_is}

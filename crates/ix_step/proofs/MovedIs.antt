@@ -13,7 +13,7 @@ use Rattle.ix_tree.specs.Order.{tree_cmp, key, first_part, second_part}
 use Rattle.ix_can.specs.Nodes.{is_done, is_live, is_open, unless_done, same_tree, set_of, live, dead_if, done_if, only_bag_done, settled, settled_times, seq_parts}
 use Rattle.ix_can.specs.TreeOf.{is_final, tree_of}
 use Rattle.ix_can.specs.Ways.{is_empty}
-use Rattle.ix_can.specs.inside.May.{may, may_first, tree_at}
+use Rattle.ix_can.specs.May.{may, may_first, tree_at}
 use Rattle.ix_can.specs.inside.Moved.{moved, picks, entry_with, or_initial}
 use Rattle.ix_can.proofs.Children.{any_made}
 use Rattle.ix_can.proofs.Lists.{one_test}

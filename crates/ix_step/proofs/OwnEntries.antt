@@ -24,7 +24,7 @@ use Rattle.ix_tree.specs.lemmas.TreeOrder.{tree_order}
 use Rattle.ix_can.specs.Nodes.{same_tree}
 use Rattle.ix_can.specs.Tests.{in_alphabet}
 use Rattle.ix_can.specs.TreeOf.{entries_of}
-use Rattle.ix_can.specs.inside.May.{tree_at}
+use Rattle.ix_can.specs.May.{tree_at}
 use Rattle.ix_can.specs.inside.Moved.{moved, moved_inside}
 use Rattle.ix_can.proofs.Keys.{entries_ascend, tree_at_own}
 use Rattle.ix_can.proofs.Lists.{itself, when_not}

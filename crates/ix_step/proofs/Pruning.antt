@@ -7,7 +7,7 @@ use Rattle.ix_tree.specs.Plain.{Plain, none, listed, items_of, and as and_of}
 use Rattle.ix_tree.specs.Size.{size_of}
 use Rattle.ix_can.specs.Nodes.{dead_if}
 use Rattle.ix_can.specs.Ways.{is_empty}
-use Rattle.ix_can.specs.inside.May.{may}
+use Rattle.ix_can.specs.May.{may}
 use Rattle.ix_step.specs.inside.Pruned.{passes, is_none}
 
 -- What is asked

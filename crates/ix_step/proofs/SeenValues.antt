@@ -20,7 +20,7 @@ use Rattle.ix_tree.specs.PlainOf.{plain_entry, plain_entries}
 use Rattle.ix_tree.specs.lemmas.TreeOrder.{tree_order}
 use Rattle.ix_can.specs.Nodes.{same_tree}
 use Rattle.ix_can.specs.TreeOf.{entries_of}
-use Rattle.ix_can.specs.inside.May.{tree_at}
+use Rattle.ix_can.specs.May.{tree_at}
 use Rattle.ix_can.specs.inside.Moved.{moved_inside}
 use Rattle.ix_can.proofs.Lists.{itself, when_not, any_says}
 use Rattle.ix_can.proofs.MovesAlike.{atoms_alphabet, moved_alike}

@@ -5,7 +5,7 @@ ghost use Rattle.ix_expr.specs.FormFaults.{Fits};
 ghost use Rattle.ix_expr.specs.Form.{any, atom as atom_of};
 ghost use Rattle.ix_expr.specs.inside.FormOf.{form_of};
 ghost use Rattle.ix_tree.specs.Plain.{or as or_of};
-ghost use Rattle.ix_can.specs.inside.May.{may_first};
+ghost use Rattle.ix_can.specs.May.{may_first};
 ghost use Rattle.ix_step.specs.inside.Initial.{initial_tree};
 ghost use Rattle.ix_step.specs.inside.Makes.{Makes};
 ghost use Rattle.ix_step.specs.inside.Moves.{begun, begun_again};

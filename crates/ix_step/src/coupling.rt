@@ -6,7 +6,7 @@ ghost use Rattle.ix_expr.specs.Form.{couple};
 ghost use Rattle.ix_expr.specs.FormFaults.{Fits};
 ghost use Rattle.ix_tree.specs.Plain.{couple as couple_of, is_dead};
 ghost use Rattle.ix_can.specs.Tests.{in_alphabet};
-ghost use Rattle.ix_can.specs.inside.May.{may, moves_within};
+ghost use Rattle.ix_can.specs.May.{may, moves_within};
 ghost use Rattle.ix_can.specs.inside.Moved.{moved, moved_inside};
 ghost use Rattle.ix_step.specs.declared.fault.Unbuilt.TheVariants.{Memory};
 ghost use Rattle.ix_step.specs.inside.Makes.{Makes};

@@ -8,7 +8,7 @@ ghost use Rattle.ix_tree.specs.Plain.{Plain, dead, listed, items_of, all as all_
 ghost use Rattle.ix_tree.specs.PlainOf.{plain_map, plain_entries};
 ghost use Rattle.ix_tree.specs.Order.{first_part};
 ghost use Rattle.ix_tree.specs.Size.{size_of};
-ghost use Rattle.ix_can.specs.inside.May.{tree_at};
+ghost use Rattle.ix_can.specs.May.{tree_at};
 ghost use Rattle.ix_can.specs.inside.Moved.{map_with, or_initial};
 ghost use Rattle.ix_entries.specs.inside.Entries.{KeysAscend};
 ghost use Rattle.ix_values.specs.Order.{text_cmp};

@@ -7,7 +7,7 @@ use Rattle.ix_tree.specs.Plain.{Plain, items_of}
 use Rattle.ix_tree.specs.Order.{key, first_part}
 use Rattle.ix_can.specs.Tests.{in_alphabet}
 use Rattle.ix_can.specs.TreeOf.{tree_of}
-use Rattle.ix_can.specs.inside.May.{tree_at}
+use Rattle.ix_can.specs.May.{tree_at}
 use Rattle.ix_why.specs.declared.part.Part.{Part}
 use Rattle.ix_why.specs.inside.Blames.{nodes, here, refuses, only, owner, first_that, made_of, made_of_both, blames}
 use Rattle.ix_why.specs.inside.Trees.{left, right, tree_for, tried}

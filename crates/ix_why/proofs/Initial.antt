@@ -7,7 +7,7 @@ use Rattle.ix_expr.specs.FormFaults.{Fits}
 use Rattle.ix_tree.specs.Plain.{Plain, none, opt as opt_of, and as and_of, couple as couple_of, every as every_of, sync as sync_of}
 use Rattle.ix_can.specs.Nodes.{is_dead, is_done}
 use Rattle.ix_can.specs.TreeOf.{tree_of}
-use Rattle.ix_can.specs.inside.May.{may, may_first}
+use Rattle.ix_can.specs.May.{may, may_first}
 use Rattle.ix_can.proofs.Agreeing.{empty_tree}
 use Rattle.ix_can.proofs.Lists.{one_test, iff_trans, iff_sym}
 use Rattle.ix_can.proofs.MovesTell.{each_step}

@@ -12,7 +12,7 @@ use Rattle.ix_tree.specs.Plain.{Plain, items_of, listed}
 use Rattle.ix_tree.specs.PlainOf.{plain_entry, plain_entries, plain_map}
 use Rattle.ix_tree.specs.inside.PlainNode.{plain_node}
 use Rattle.ix_tree.proofs.PlainLists.{items_of-listed}
-use Rattle.ix_can.specs.inside.May.{tree_at}
+use Rattle.ix_can.specs.May.{tree_at}
 use Rattle.ix_can.proofs.Asking.{part_has}
 use Rattle.ix_can.proofs.Keys.{keys_ascend}
 use Rattle.ix_why.specs.inside.Blames.{only}

@@ -21,7 +21,7 @@ use Rattle.ix_can.specs.Tests.{in_alphabet, values_and_outside}
 use Rattle.ix_can.specs.TreeOf.{tree_of, entries_of, live_map}
 use Rattle.ix_can.specs.Ways.{is_empty, ownings}
 use Rattle.ix_can.specs.inside.CanAsk.{may_own}
-use Rattle.ix_can.specs.inside.May.{may, may_first, moves_within, tree_at}
+use Rattle.ix_can.specs.May.{may, may_first, moves_within, tree_at}
 use Rattle.ix_can.proofs.Entries.{set_items}
 use Rattle.ix_can.proofs.Keys.{tree_at_has, tree_at_own}
 use Rattle.ix_can.proofs.MovesTell.{each_step}

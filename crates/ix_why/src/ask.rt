@@ -3,7 +3,7 @@
 ghost use Rattle.std.specs.Prelude.{◌≡◌};
 ghost use Rattle.ix_expr.specs.inside.FormOf.{form_of};
 ghost use Rattle.ix_can.specs.inside.CanAsk.{CanAsk};
-ghost use Rattle.ix_can.specs.inside.May.{may};
+ghost use Rattle.ix_can.specs.May.{may};
 ghost use Rattle.ix_why.specs.inside.Held.{held, tree_held, refuses_if};
 
 use crate::scope::Scope;

@@ -7,7 +7,7 @@ ghost use Rattle.ix_values.specs.Order.{text_cmp};
 ghost use Rattle.ix_words.specs.Each.{Each};
 ghost use Rattle.ix_tree.specs.Plain.{Plain, items_of, listed};
 ghost use Rattle.ix_tree.specs.PlainOf.{plain_entries, plain_map};
-ghost use Rattle.ix_can.specs.inside.May.{tree_at};
+ghost use Rattle.ix_can.specs.May.{tree_at};
 ghost use Rattle.ix_tree.specs.Order.{first_part};
 ghost use Rattle.ix_why.specs.inside.Blames.{only};
 ghost use Rattle.ix_why.specs.inside.Trees.{left, right, entries, owner_maps, tree_for};

@@ -15,7 +15,7 @@ use Rattle.ix_tree.specs.PlainOf.{plain_entries}
 use Rattle.ix_can.specs.declared.next.Outside.{Outside}
 use Rattle.ix_can.specs.declared.next.Outside.TheVariants.{Refused, Stays}
 use Rattle.ix_can.specs.Laws.{IsProper}
-use Rattle.ix_can.specs.inside.May.{moves_within, may_first, may, tree_at}
+use Rattle.ix_can.specs.May.{moves_within, may_first, may, tree_at}
 use Rattle.ix_can.specs.Nodes.{is_dead, items_of}
 use Rattle.ix_can.specs.Tests.{in_alphabet}
 

@@ -11,7 +11,7 @@ use Rattle.ix_tree.specs.Order.{key, first_part, second_part}
 use Rattle.ix_can.specs.Tests.{is_match, in_alphabet}
 use Rattle.ix_can.specs.Nodes.{is_dead, is_live, same_tree, is_done, is_open, listed, items_of, set_of, put_in, live, dead_if, settled, seq_parts, settled_times}
 use Rattle.ix_can.specs.TreeOf.{is_final, tree_of}
-use Rattle.ix_can.specs.inside.May.{may, tree_at}
+use Rattle.ix_can.specs.May.{may, tree_at}
 
 -- each item with the others in order
 abbrev pub picks : {A : Type 0} → List A → List (A × List A)

@@ -11,7 +11,7 @@ use Rattle.ix_tree.specs.Size.{size_of}
 use Rattle.ix_values.specs.Order.{text_eq}
 use Rattle.ix_can.specs.Nodes.{set_of}
 use Rattle.ix_can.specs.Laws.{IsProper, ProperEntries}
-use Rattle.ix_can.specs.inside.May.{tree_at}
+use Rattle.ix_can.specs.May.{tree_at}
 use Rattle.ix_can.specs.inside.Moved.{moved, map_with, entry_with, or_initial}
 use Rattle.ix_step.specs.inside.Limits.{most_size}
 

@@ -5,7 +5,7 @@ use Rattle.ix_expr.specs.Form.{Form, atom, and, couple, every, sync}
 use Rattle.ix_expr.specs.Environment.{Environment}
 use Rattle.ix_tree.specs.Plain.{Plain, is_dead, none, opt as opt_of, seq as seq_of, star as star_of, par as par_of, par_star as par_star_of, or as or_of, any as any_of, all as all_of, times as times_of}
 use Rattle.ix_can.specs.Nodes.{dead_if, settled}
-use Rattle.ix_can.specs.inside.May.{may}
+use Rattle.ix_can.specs.May.{may}
 
 -- whether the action may come next, as far as it is asked: of an atom, and of the forms of which each part must move
 abbrev pub passes : Form → Environment → Plain → PlainAction → Bool

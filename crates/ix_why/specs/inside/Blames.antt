@@ -12,7 +12,7 @@ use Rattle.ix_tree.specs.Plain.{Plain, items_of}
 use Rattle.ix_tree.specs.Order.{first_part}
 use Rattle.ix_can.specs.Tests.{in_alphabet}
 use Rattle.ix_can.specs.TreeOf.{tree_of}
-use Rattle.ix_can.specs.inside.May.{may, tree_at}
+use Rattle.ix_can.specs.May.{may, tree_at}
 use Rattle.ix_why.specs.declared.part.Part.{Part}
 use Rattle.ix_why.specs.inside.Trees.{left, right, owner_maps, tree_for, tried}
 

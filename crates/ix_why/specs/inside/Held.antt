@@ -13,7 +13,7 @@ use Rattle.ix_tree.specs.Order.{key, first_part}
 use Rattle.ix_can.specs.Tests.{in_alphabet}
 use Rattle.ix_can.specs.TreeOf.{tree_of}
 use Rattle.ix_can.specs.Laws.{IsProper}
-use Rattle.ix_can.specs.inside.May.{may, tree_at}
+use Rattle.ix_can.specs.May.{may, tree_at}
 use Rattle.ix_why.specs.declared.state.State.{State}
 use Rattle.ix_why.specs.declared.state.State.TheVariants.{Initial, Done, At}
 use Rattle.ix_why.specs.declared.part.Part.{Part}

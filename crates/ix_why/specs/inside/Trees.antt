@@ -4,7 +4,7 @@ use Rattle.std.specs.Prelude.{ℕ, List, [], ◌∷◌, ◌++◌, map as each, O
 use Rattle.ix_values.specs.PlainAction.{PlainAction}
 use Rattle.ix_tree.specs.Plain.{Plain, done, opt, and, couple, every, sync, all, items_of}
 use Rattle.ix_tree.specs.Order.{key}
-use Rattle.ix_can.specs.inside.May.{tree_at}
+use Rattle.ix_can.specs.May.{tree_at}
 
 -- the tree of the only operand or of the left one; of a body, that of a value without an entry
 abbrev pub left : Plain → Plain

@@ -11,7 +11,7 @@ use Rattle.ix_expr.specs.inside.FormOf.{form_of}
 use Rattle.ix_expr.proofs.Parts.{fits-operands}
 use Rattle.ix_can.specs.inside.CanAsk.{first_or_stays, UnseenFirst}
 use Rattle.ix_can.proofs.UnseenValues.{unseen_first, unseen_out}
-use Rattle.ix_can.specs.inside.May.{may_first}
+use Rattle.ix_can.specs.May.{may_first}
 use Rattle.ix_can.proofs.Children.{either_else, both_then, any_made, all_made}
 use Rattle.ix_can.proofs.first.+begins.Goals as goal
 

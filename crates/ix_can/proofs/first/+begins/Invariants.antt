@@ -4,7 +4,7 @@ use Rattle.std.specs.List.{list_all, list_any}
 use Rattle.ix_expr.specs.Environment.{bind}
 use Rattle.ix_expr.specs.inside.FormOf.{form_of}
 use Rattle.ix_can.specs.inside.CanAsk.{first_or_stays}
-use Rattle.ix_can.specs.inside.May.{may_first}
+use Rattle.ix_can.specs.May.{may_first}
 use Rattle.ix_can.proofs.Measures.{count}
 use Rattle.ix_can.proofs.first.+begins.Given as goal
 

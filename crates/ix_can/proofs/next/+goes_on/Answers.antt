@@ -18,7 +18,7 @@ use Rattle.ix_tree.specs.inside.PlainNode.{plain_node}
 use Rattle.ix_tree.proofs.PlainLists.{items_of-listed}
 use Rattle.ix_can.specs.inside.CanAsk.{CanAsk, stays, may_or_stays, may_own}
 use Rattle.ix_can.specs.Laws.{IsProper}
-use Rattle.ix_can.specs.inside.May.{may, may_first}
+use Rattle.ix_can.specs.May.{may, may_first}
 use Rattle.ix_can.specs.Tests.{in_alphabet}
 use Rattle.ix_can.proofs.Asking.{opt_asked, seq_first, seq_rest, star_rest, par_pairs, par_star_bags, times_bags, or_first, or_second, and_first, and_second, couple_first, couple_second, any_values, every_values, sync_values, all_maps, tree_has, part_has, entries_proper, state_proper, own_proper, next_entry}
 use Rattle.ix_can.proofs.Children.{either_then, either_else}

@@ -9,7 +9,7 @@ use Rattle.ix_tree.specs.PlainOf.{plain_pair, plain_bag, plain_map, plain_entrie
 use Rattle.ix_words.specs.Each.{Each}
 use Rattle.ix_can.specs.Laws.{IsProper}
 use Rattle.ix_can.specs.inside.CanAsk.{stays, may_or_stays, may_own}
-use Rattle.ix_can.specs.inside.May.{may, may_first, tree_at}
+use Rattle.ix_can.specs.May.{may, may_first, tree_at}
 use Rattle.ix_can.proofs.Measures.{count}
 use Rattle.ix_can.proofs.next.+goes_on.Given as goal
 

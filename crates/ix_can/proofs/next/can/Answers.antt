@@ -1,7 +1,7 @@
 -- What the test of one more action tells, on the tree of a word.
 use Rattle.std.proofs.Common.{ap, ◌∙◌}
 use Rattle.ix_expr.specs.inside.FormOf.{form_of}
-use Rattle.ix_can.specs.inside.May.{may}
+use Rattle.ix_can.specs.May.{may}
 use Rattle.ix_can.proofs.Lists.{same_test}
 use Rattle.ix_can.proofs.MovesTell.{each_step}
 use Rattle.ix_can.proofs.next.can.Goals as goal

@@ -5,7 +5,7 @@ use Rattle.ix_tree.specs.Plain.{couple as couple_of}
 use Rattle.ix_tree.specs.Size.{size_of}
 use Rattle.ix_can.specs.Nodes.{settled}
 use Rattle.ix_can.specs.Tests.{in_alphabet}
-use Rattle.ix_can.specs.inside.May.{may, moves_within}
+use Rattle.ix_can.specs.May.{may, moves_within}
 use Rattle.ix_can.specs.inside.Moved.{moved, moved_inside}
 use Rattle.ix_step.specs.inside.Makes.{Makes}
 use Rattle.ix_step.proofs.Exits.{exit_over}

@@ -9,7 +9,7 @@ use Rattle.ix_tree.specs.Order.{first_part}
 use Rattle.ix_tree.specs.Size.{size_of}
 use Rattle.ix_tree.proofs.Alternatives.{weight_of-list}
 use Rattle.ix_can.specs.Nodes.{set_of}
-use Rattle.ix_can.specs.inside.May.{tree_at}
+use Rattle.ix_can.specs.May.{tree_at}
 use Rattle.ix_can.specs.inside.Moved.{moved, map_with, or_initial}
 use Rattle.ix_step.specs.inside.Initial.{initial_tree}
 use Rattle.ix_step.specs.inside.Makes.{Makes, put_all}

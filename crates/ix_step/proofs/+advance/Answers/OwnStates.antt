@@ -16,7 +16,7 @@ use Rattle.ix_tree.specs.Size.{size_of}
 use Rattle.ix_tree.specs.contracts.order.KnotPartialEq.TheImpl.{ghosts as tree_ghosts}
 use Rattle.ix_tree.proofs.PlainLists.{items_of-listed}
 use Rattle.ix_can.specs.Laws.{IsProper}
-use Rattle.ix_can.specs.inside.May.{tree_at}
+use Rattle.ix_can.specs.May.{tree_at}
 use Rattle.ix_step.specs.declared.bodies.Reach.TheVariants.{OwnAlphabet}
 use Rattle.ix_step.specs.inside.ValueTrees.{part_may, moved_part, common_after, tree_after, entries_after, touched}
 use Rattle.ix_step.proofs.EntriesPut.{value_size, keys_ascend}

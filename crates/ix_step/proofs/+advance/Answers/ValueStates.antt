@@ -11,7 +11,7 @@ use Rattle.ix_tree.specs.Size.{size_of}
 use Rattle.ix_tree.specs.contracts.order.KnotPartialEq.TheImpl.{ghosts as tree_ghosts}
 use Rattle.ix_tree.proofs.PlainLists.{items_of-listed}
 use Rattle.ix_can.specs.Laws.{IsProper}
-use Rattle.ix_can.specs.inside.May.{may, tree_at}
+use Rattle.ix_can.specs.May.{may, tree_at}
 use Rattle.ix_can.specs.inside.Moved.{moved}
 use Rattle.ix_step.specs.inside.EnterTrees.{entries_put}
 use Rattle.ix_step.specs.inside.Makes.{Makes}

@@ -1,7 +1,7 @@
 -- The tree of the empty word tells whether the action may come first, and nothing may come at one that is done.
 use Rattle.std.proofs.Common.{sym, ap, ◌∙◌}
 use Rattle.ix_expr.specs.inside.FormOf.{form_of}
-use Rattle.ix_can.specs.inside.May.{may, may_first}
+use Rattle.ix_can.specs.May.{may, may_first}
 use Rattle.ix_can.proofs.Spent.{may_done}
 use Rattle.ix_why.specs.inside.Held.{held, tree_held}
 use Rattle.ix_why.proofs.Initial.{first_next}

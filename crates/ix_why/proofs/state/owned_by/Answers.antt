@@ -3,7 +3,7 @@ use Rattle.ix_entries.specs.inside.Entries.{KeysAscend}
 use Rattle.ix_values.specs.Order.{text_cmp}
 use Rattle.ix_tree.specs.Plain.{items_of}
 use Rattle.ix_tree.specs.PlainOf.{plain_entries}
-use Rattle.ix_can.specs.inside.May.{tree_at}
+use Rattle.ix_can.specs.May.{tree_at}
 use Rattle.ix_why.specs.inside.Held.{held}
 use Rattle.ix_why.proofs.Owned.{not_alone, alone_owned, alone_ascends}
 use Rattle.ix_why.proofs.state.owned_by.Goals as goal
