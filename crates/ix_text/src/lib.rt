@@ -24,8 +24,9 @@ pub fn text(alloc: Global, expression: &Expression) -> Result<Vec<u8>, AllocErro
     Ok(text)
 }
 
+/// Puts the canonical text of a part of an expression behind what is there.
 #[cycle(writer)]
-fn write(out: &mut Vec<u8>, expr: &Expr) -> Result<(), AllocError>
+pub fn write(out: &mut Vec<u8>, expr: &Expr) -> Result<(), AllocError>
     ensures { OnOk result
         (out.new.items ≡ out.old.items ++ spec.canonical_text (form_of expr.now)) }
 {
