@@ -8,7 +8,8 @@ use Rattle.ix_tree.specs.Size.{size_of}
 use Rattle.ix_can.specs.TreeOf.{tree_of, tree_size}
 use Rattle.ix_engine.specs.Allowed.{IsAllowed}
 use Rattle.ix_engine.specs.declared.faults.PrepareFault.{PrepareFault}
-use Rattle.ix_engine.specs.inside.Extending.{Extends, AreAllowed, none, more, IsRefused, StopsAt}
+use Rattle.ix_engine.specs.Histories.{AreAllowed, none, more, IsRefused, StopsAt}
+use Rattle.ix_engine.specs.inside.Extending.{Extends}
 
 -- there is room for all
 pub few : (x : Form) (limit : ℕ) (w : Word) → AreAllowed x limit w → length w ≤ 1000000

@@ -7,7 +7,7 @@ ghost use Rattle.ix_tree.specs.Size.{size_of};
 ghost use Rattle.ix_can.specs.TreeOf.{tree_of, tree_size};
 ghost use Rattle.ix_step.specs.inside.Limits.{most_size};
 ghost use Rattle.ix_engine.specs.inside.Engine.{Allows, Permits, Follows, extended};
-ghost use Rattle.ix_engine.specs.inside.Extending.{AreAllowed, StopsAt};
+ghost use Rattle.ix_engine.specs.Histories.{AreAllowed, StopsAt};
 
 use crate::extending::{MOST_ACTIONS, Rules, extend};
 use crate::{Next, PrepareFault, ResumeFault};
@@ -155,6 +155,20 @@ impl Engine {
         ensures most { length self.now.history ≤ MOST_ACTIONS }
     {
         self.history.as_slice()
+    }
+
+    /// The expression.
+    pub fn expression(&self) -> &Expression
+        ensures { result.now ≡ self.now.form }
+    {
+        &self.expression
+    }
+
+    /// The state tree of the history.
+    pub fn tree(&self) -> &Tree
+        ensures { result.now ≡ tree_of self.now.form [] self.now.history }
+    {
+        &self.tree
     }
 
     /// The Size of the history's tree, at most the limit.

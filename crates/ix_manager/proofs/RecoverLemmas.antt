@@ -10,7 +10,7 @@ use Rattle.ix_journal.specs.declared.entries.Entry.{Entry}
 use Rattle.ix_expr.specs.Form.{Form}
 use Rattle.ix_expr.specs.Meaning.{IsPartial}
 use Rattle.ix_can.specs.TreeOf.{tree_size}
-use Rattle.ix_engine.specs.inside.Extending.{AreAllowed, none, more, IsRefused}
+use Rattle.ix_engine.specs.Histories.{AreAllowed, none, more, IsRefused}
 use Rattle.ix_engine.specs.declared.faults.PrepareFault.TheVariants.{NotPartial, Over}
 use Rattle.ix_manager.specs.Images.{IsWithin, EachPrefixIsWithin}
 use Rattle.ix_manager.specs.Starts.{IsReached, IsNoWord, IsHeavy}

@@ -10,7 +10,7 @@ use Rattle.ix_expr.specs.CanonicalText.{canonical_text}
 use Rattle.ix_expr.specs.Form.{Form}
 use Rattle.ix_expr.proofs.LawsOfMeaning.{empty-partial}
 use Rattle.ix_can.specs.TreeOf.{tree_size}
-use Rattle.ix_engine.specs.inside.Extending.{AreAllowed, IsRefused, StopsAt}
+use Rattle.ix_engine.specs.Histories.{AreAllowed, IsRefused, StopsAt}
 use Rattle.ix_engine.specs.declared.faults.PrepareFault.{PrepareFault}
 use Rattle.ix_engine.specs.declared.faults.PrepareFault.TheVariants as prepare
 use Rattle.ix_engine.specs.declared.faults.ResumeFault.{ResumeFault}

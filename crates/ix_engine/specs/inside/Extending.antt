@@ -1,44 +1,15 @@
--- What comes of extending a history, by one action or by a whole list.
-use Rattle.std.specs.Prelude.{◌≡◌, ℕ, ◌+◌, ◌<◌, [], ◌∷◌, ◌++◌, length, Result, Ok, Err}
+-- What comes of extending a history by one action.
+use Rattle.std.specs.Prelude.{◌≡◌, ℕ, [], ◌∷◌, ◌++◌, Result, Ok, Err}
 use Rattle.ix_values.specs.PlainAction.{PlainAction, Word}
 use Rattle.ix_expr.specs.Form.{Form}
 use Rattle.ix_tree.specs.Plain.{Plain}
-use Rattle.ix_can.specs.TreeOf.{tree_of, tree_size}
-use Rattle.ix_engine.specs.Allowed.{IsPermitted, IsAllowed}
+use Rattle.ix_can.specs.TreeOf.{tree_of}
+use Rattle.ix_engine.specs.Allowed.{IsAllowed}
+use Rattle.ix_engine.specs.Histories.{IsRefused}
 use Rattle.ix_engine.specs.declared.faults.PrepareFault.{PrepareFault}
-use Rattle.ix_engine.specs.declared.faults.PrepareFault.TheVariants.{NotPartial, Full, Over, Memory}
-use Rattle.ix_engine.specs.declared.faults.ResumeFault.{ResumeFault}
-
--- why an action isn't taken behind a history; memory may run out for one that is permitted and for
--- which there is room
-abbrev pub IsRefused : Form → ℕ → Word → PlainAction → PrepareFault → Type 0
-IsRefused x limit history a NotPartial = ¬ IsPermitted x history a
-IsRefused x limit history a Full = IsPermitted x history a × (length history ≡ 1000000)
-IsRefused x limit history a (Over l) =
-    (l ≡ limit) × IsPermitted x history a × (length history < 1000000)
-    × (limit < tree_size x (history ++ a ∷ []))
-IsRefused x limit history a Memory = IsPermitted x history a × (length history < 1000000)
 
 -- the tree of a history with an allowed action behind it, or why the action isn't taken
 abbrev pub Extends : Form → ℕ → Word → PlainAction → Result Plain PrepareFault → Type 0
 Extends x limit history a (Ok t) =
     (t ≡ tree_of x [] (history ++ a ∷ [])) × IsAllowed x limit history a
 Extends x limit history a (Err why) = IsRefused x limit history a why
-
--- each action of the list is allowed behind those in front of it
-pub data AreAllowed (x : Form) (limit : ℕ) : Word → Type 0 where
-  none : AreAllowed x limit []
-  more : {before : Word} {a : PlainAction}
-      → AreAllowed x limit before → IsAllowed x limit before a
-      → AreAllowed x limit (before ++ a ∷ [])
-
--- the first action of the list that isn't taken behind those in front of it, by its number from 1,
--- and why
-pub record StopsAt (x : Form) (limit : ℕ) (actions : Word) (fault : ResumeFault) : Type 0 where
-  pub before : Word
-  pub action : PlainAction
-  pub behind : Word
-  pub parts : actions ≡ before ++ action ∷ behind
-  pub number : fault.number ≡ length before + 1
-  pub allowed : AreAllowed x limit before
-  pub refused : IsRefused x limit before action fault.why

@@ -7,7 +7,7 @@ use Rattle.ix_values.specs.PlainAction.{Word}
 use Rattle.ix_tree.specs.Size.{size_of}
 use Rattle.ix_can.specs.TreeOf.{tree_of}
 use Rattle.ix_engine.specs.inside.Engine.{EngineState}
-use Rattle.ix_engine.specs.inside.Extending.{none}
+use Rattle.ix_engine.specs.Histories.{none}
 use Rattle.ix_engine.proofs.Trees.{tree_proper}
 use Rattle.ix_engine.proofs.Histories.{few, bounded, of_history, one_more, allowed_more, stops}
 use Rattle.ix_engine.proofs.engine.Engine.resume.Goals as goal

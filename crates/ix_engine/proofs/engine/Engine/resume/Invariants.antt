@@ -1,7 +1,7 @@
 -- The tree is that of the actions so far, each of which is allowed.
 use Rattle.std.proofs.Common.{◌≡◌, [], take}
 use Rattle.ix_can.specs.TreeOf.{tree_of}
-use Rattle.ix_engine.specs.inside.Extending.{AreAllowed}
+use Rattle.ix_engine.specs.Histories.{AreAllowed}
 use Rattle.ix_engine.proofs.engine.Engine.resume.Given as goal
 
 abbrev pub invariant-loop-index : goal.invariant-loop-index

@@ -2,7 +2,7 @@ use Rattle.std.proofs.Common.{◌≡◌, ℕ, ◌+◌, List, map, subst, sym, �
 use Rattle.std.specs.List.{zip}
 use Rattle.ix_expr.specs.CanonicalText.{canonical_text}
 use Rattle.ix_expr.specs.Form.{Form}
-use Rattle.ix_engine.specs.inside.Extending.{AreAllowed, StopsAt}
+use Rattle.ix_engine.specs.Histories.{AreAllowed, StopsAt}
 use Rattle.ix_outside.proofs.Passing.{DiskCalls-none, DiskCalls-join}
 use Rattle.ix_values.specs.PlainAction.{Word}
 use Rattle.ix_journal.specs.History.{PlainHistory, Spent, actions_of}
