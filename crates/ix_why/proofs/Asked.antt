@@ -14,8 +14,8 @@ use Rattle.ix_can.specs.TreeOf.{tree_of}
 use Rattle.ix_can.specs.inside.CanAsk.{CanAsk}
 use Rattle.ix_can.proofs.Keys.{tree_at_has}
 use Rattle.ix_can.proofs.Proper.{proper}
-use Rattle.ix_why.specs.inside.Blames.{only}
-use Rattle.ix_why.specs.inside.Trees.{left, right, entries, owner_maps, tree_for}
+use Rattle.ix_why.specs.Blames.{only}
+use Rattle.ix_why.specs.Trees.{left, right, entries, owner_maps, tree_for}
 use Rattle.ix_why.specs.inside.Held.{tree_held, left_held, right_held, maps_held, AscendByValue, BodiesProper, MapsProper, IsOwned}
 
 nothing_once : {G : Plain → Type 0} → EachOnce G []

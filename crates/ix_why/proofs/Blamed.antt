@@ -9,8 +9,8 @@ use Rattle.ix_can.specs.Tests.{in_alphabet}
 use Rattle.ix_can.specs.TreeOf.{tree_of}
 use Rattle.ix_can.specs.May.{tree_at}
 use Rattle.ix_why.specs.declared.part.Part.{Part}
-use Rattle.ix_why.specs.inside.Blames.{nodes, here, refuses, only, owner, first_that, made_of, made_of_both, blames}
-use Rattle.ix_why.specs.inside.Trees.{left, right, tree_for, tried}
+use Rattle.ix_why.specs.Blames.{nodes, here, refuses, only, owner, first_that, made_of, made_of_both, blames}
+use Rattle.ix_why.specs.Trees.{left, right, tree_for, tried}
 use Rattle.ix_why.specs.inside.Held.{tree_held, left_held, maps_held, refuses_if, side_blames, both_blame, body_blames, owner_blames, IsOwned}
 use Rattle.ix_why.proofs.Initial.{opt_first, and_first, couple_first, every_entries, every_body, sync_entries, sync_body}
 

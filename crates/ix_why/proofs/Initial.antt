@@ -13,7 +13,7 @@ use Rattle.ix_can.proofs.Lists.{one_test, iff_trans, iff_sym}
 use Rattle.ix_can.proofs.MovesTell.{each_step}
 use Rattle.ix_can.proofs.Spent.{open_live, open_not_done, node_is}
 use Rattle.ix_can.proofs.SpentTell.{begins_open}
-use Rattle.ix_why.specs.inside.Trees.{entries, tree_for}
+use Rattle.ix_why.specs.Trees.{entries, tree_for}
 
 -- of an expression that fits the tree of the empty word tells whether the action may come first
 pub first_next : (x : Form) (e : Environment) (a : PlainAction) → Fits x e → may_first x e a ≡ may x e (tree_of x [] []) a

@@ -5,3 +5,5 @@ pub mod Owned
 pub mod Counts
 pub mod Blamed
 pub mod Refused
+pub mod Parts
+mod Alone

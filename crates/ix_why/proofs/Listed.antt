@@ -3,7 +3,7 @@ use Rattle.std.proofs.Common.{◌≡◌, ℕ, Bool, true, false, not, cond, ◌&
 use Rattle.std.specs.List.{list_all}
 use Rattle.ix_values.specs.Order.{text_eq}
 use Rattle.ix_values.specs.lemmas.Order.{text_eq-decides}
-use Rattle.ix_why.specs.inside.Blames.{first_that, one_value}
+use Rattle.ix_why.specs.Blames.{first_that, one_value}
 
 module _ {A : Type 0} (test : A → Bool) where
   -- the first of a list that is made of two

@@ -15,8 +15,8 @@ use Rattle.ix_tree.proofs.PlainLists.{items_of-listed}
 use Rattle.ix_can.specs.May.{tree_at}
 use Rattle.ix_can.proofs.Asking.{part_has}
 use Rattle.ix_can.proofs.Keys.{keys_ascend}
-use Rattle.ix_why.specs.inside.Blames.{only}
-use Rattle.ix_why.specs.inside.Trees.{entries}
+use Rattle.ix_why.specs.Blames.{only}
+use Rattle.ix_why.specs.Trees.{entries}
 use Rattle.ix_why.specs.inside.Held.{AscendByValue, IsOwned}
 
 pub keys_of_entries : (es : List (List ℕ × Plain)) → AscendByValue (items_of (plain_entries es)) → KeysAscend text_cmp es

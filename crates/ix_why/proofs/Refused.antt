@@ -28,8 +28,8 @@ use Rattle.ix_can.proofs.MovesTell.{each_step}
 use Rattle.ix_can.proofs.Proper.{proper}
 use Rattle.ix_can.proofs.Spent.{may_done, may_dead, dead_is}
 use Rattle.ix_why.specs.declared.part.Part.{Part}
-use Rattle.ix_why.specs.inside.Blames.{nodes, here, refuses, only, owner, one_value, first_that, made_of, made_of_both, blames, refusals}
-use Rattle.ix_why.specs.inside.Trees.{left, entries, tree_for, tried}
+use Rattle.ix_why.specs.Blames.{nodes, here, refuses, only, owner, one_value, first_that, made_of, made_of_both, blames, refusals}
+use Rattle.ix_why.specs.Trees.{left, entries, tree_for, tried}
 use Rattle.ix_why.proofs.Asked.{body_proper}
 use Rattle.ix_why.proofs.Initial.{first_next}
 

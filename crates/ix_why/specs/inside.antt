@@ -1,4 +1,2 @@
--- Which parts refuse an action, by the tree of the word before; and what private contracts cite.
-pub mod Trees
-pub mod Blames
+-- What private contracts cite.
 pub mod Held

@@ -2,7 +2,7 @@
 
 ghost use Rattle.std.specs.Prelude.{◌≡◌, ◌<◌, ◌^◌};
 ghost use Rattle.ix_expr.specs.inside.FormOf.{form_of};
-ghost use Rattle.ix_why.specs.inside.Blames.{nodes};
+ghost use Rattle.ix_why.specs.Blames.{nodes};
 
 use ix_expr::Expr;
 

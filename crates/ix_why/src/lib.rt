@@ -4,6 +4,8 @@
 mod ask;
 mod bindings;
 mod count;
+pub mod laws;
+mod node;
 mod owners;
 mod part;
 mod scope;
@@ -13,5 +15,6 @@ mod walk;
 mod whole;
 
 pub use bindings::Bindings;
+pub use node::node_at;
 pub use part::Part;
 pub use whole::why;

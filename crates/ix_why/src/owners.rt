@@ -7,8 +7,8 @@ ghost use Rattle.ix_expr.specs.Fitting.{FitsInside};
 ghost use Rattle.ix_expr.specs.inside.FormOf.{form_of};
 ghost use Rattle.ix_values.specs.Order.{text_eq};
 ghost use Rattle.ix_can.specs.Tests.{in_alphabet};
-ghost use Rattle.ix_why.specs.inside.Blames as spec;
-ghost use Rattle.ix_why.specs.inside.Blames.{first_that};
+ghost use Rattle.ix_why.specs.Blames as spec;
+ghost use Rattle.ix_why.specs.Blames.{first_that};
 
 use crate::scope::Scope;
 use crate::values::Body;

@@ -9,8 +9,8 @@ ghost use Rattle.ix_tree.specs.Plain.{Plain, items_of, listed};
 ghost use Rattle.ix_tree.specs.PlainOf.{plain_entries, plain_map};
 ghost use Rattle.ix_can.specs.May.{tree_at};
 ghost use Rattle.ix_tree.specs.Order.{first_part};
-ghost use Rattle.ix_why.specs.inside.Blames.{only};
-ghost use Rattle.ix_why.specs.inside.Trees.{left, right, entries, owner_maps, tree_for};
+ghost use Rattle.ix_why.specs.Blames.{only};
+ghost use Rattle.ix_why.specs.Trees.{left, right, entries, owner_maps, tree_for};
 ghost use Rattle.ix_why.specs.inside.Held.{held, of_held, entries_held, maps_held};
 ghost use Rattle.ix_why.specs.inside.Held.{AscendByValue, IsOwned};
 

@@ -6,7 +6,7 @@ ghost use Rattle.ix_expr.specs.inside.FormOf.{form_of};
 ghost use Rattle.ix_tree.specs.Order.{key};
 ghost use Rattle.ix_tree.specs.Plain.{items_of};
 ghost use Rattle.ix_tree.specs.PlainOf.{plain_entries};
-ghost use Rattle.ix_why.specs.inside.Blames.{first_that};
+ghost use Rattle.ix_why.specs.Blames.{first_that};
 ghost use Rattle.ix_why.specs.inside.Held.{held, refuses_for, tried_held, entries_held};
 ghost use Rattle.ix_why.specs.inside.Held.{BodiesProper};
 

@@ -7,7 +7,7 @@ ghost use Rattle.ix_expr.specs.inside.FormOf.{form_of};
 ghost use Rattle.ix_tree.specs.Order.{first_part};
 ghost use Rattle.ix_tree.specs.Plain.{items_of};
 ghost use Rattle.ix_can.specs.inside.CanAsk.{CanAsk};
-ghost use Rattle.ix_why.specs.inside.Blames.{nodes, here, blames};
+ghost use Rattle.ix_why.specs.Blames.{nodes, here, blames};
 ghost use Rattle.ix_why.specs.inside.Held.{held, tree_held, left_held, right_held, side_blames};
 ghost use Rattle.ix_why.specs.inside.Held.{both_blame, body_blames, owner_blames};
 ghost use Rattle.ix_why.specs.inside.Held.{BodiesProper, MapsProper};

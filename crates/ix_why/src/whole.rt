@@ -7,7 +7,7 @@ ghost use Rattle.ix_expr.specs.inside.FormOf.{form_of};
 ghost use Rattle.ix_expr.specs.Meaning.{IsPartial};
 ghost use Rattle.ix_can.specs.Laws.{IsProper};
 ghost use Rattle.ix_can.specs.TreeOf.{tree_of};
-ghost use Rattle.ix_why.specs.inside.Blames.{refusals};
+ghost use Rattle.ix_why.specs.Blames.{refusals};
 
 use crate::ask::takes;
 use crate::part::Part;

@@ -17,9 +17,9 @@ use Rattle.ix_can.specs.May.{may, tree_at}
 use Rattle.ix_why.specs.declared.state.State.{State}
 use Rattle.ix_why.specs.declared.state.State.TheVariants.{Initial, Done, At}
 use Rattle.ix_why.specs.declared.part.Part.{Part}
-use Rattle.ix_why.specs.inside.Blames.{nodes, here, only, owner, first_that, made_of}
-use Rattle.ix_why.specs.inside.Blames.{made_of_both, blames}
-use Rattle.ix_why.specs.inside.Trees.{left, right, entries, owner_maps, tree_for}
+use Rattle.ix_why.specs.Blames.{nodes, here, only, owner, first_that, made_of}
+use Rattle.ix_why.specs.Blames.{made_of_both, blames}
+use Rattle.ix_why.specs.Trees.{left, right, entries, owner_maps, tree_for}
 
 -- the tree that is held, or none where it is that of the empty word
 abbrev pub held : State → Option Plain

@@ -4,7 +4,7 @@ use Rattle.ix_expr.specs.inside.FormOf.{form_of}
 use Rattle.ix_tree.specs.Order.{key}
 use Rattle.ix_tree.specs.Plain.{items_of}
 use Rattle.ix_tree.specs.PlainOf.{plain_entries}
-use Rattle.ix_why.specs.inside.Blames.{first_that}
+use Rattle.ix_why.specs.Blames.{first_that}
 use Rattle.ix_why.specs.inside.Held.{held, refuses_for}
 use Rattle.ix_why.proofs.values.first_among.Given as goal
 

@@ -1,7 +1,7 @@
 -- For none of those before the body refuses the action.
 use Rattle.std.proofs.Common.{◌≡◌, Some, map, drop}
 use Rattle.ix_expr.specs.inside.FormOf.{form_of}
-use Rattle.ix_why.specs.inside.Blames.{first_that}
+use Rattle.ix_why.specs.Blames.{first_that}
 use Rattle.ix_why.specs.inside.Held.{held, refuses_for}
 use Rattle.ix_why.proofs.values.first_own.Given as goal
 

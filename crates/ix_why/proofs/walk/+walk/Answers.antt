@@ -1,5 +1,5 @@
 -- What each call of the walk asks holds, and what is told of the operands is told of the expression.
-use Rattle.std.proofs.Common.{◌≡◌, true, ◌+◌, ◌++◌, Option, Some, OnOk, rules, arith, sym, ap, ◌∙◌, subst}
+use Rattle.std.proofs.Common.{◌≡◌, true, suc, ◌+◌, ◌++◌, Option, Some, OnOk, rules, arith, sym, ap, ◌∙◌, subst}
 use Rattle.ix_words.proofs.Each.{Each-weaker}
 use Rattle.ix_expr.specs.declared.expr.Expr.TheViews.{the_lemmas}
 use Rattle.ix_expr.specs.Environment.{Environment}
@@ -10,10 +10,11 @@ use Rattle.ix_tree.specs.Plain.{Plain}
 use Rattle.ix_can.specs.Laws.{IsProper}
 use Rattle.ix_can.specs.Tests.{in_alphabet}
 use Rattle.ix_can.specs.inside.CanAsk.{CanAsk}
-use Rattle.ix_why.specs.inside.Blames.{nodes, blames}
+use Rattle.ix_why.specs.Blames.{nodes, blames}
 use Rattle.ix_why.specs.inside.Held.{held, tree_held}
 use Rattle.ix_why.proofs.Asked.{asks_opt, asks_and, asks_couple, asks_every, asks_sync, asks_all, owned_proper}
 use Rattle.ix_why.proofs.Blamed.{opt_tells, and_tells, couple_tells, every_tells, sync_tells}
+use Rattle.ix_why.proofs.Counts.{both_nodes}
 use Rattle.ix_why.proofs.walk.+walk.Goals as goal
 
 -- what is asked of an expression, of its form
@@ -29,12 +30,14 @@ walk-walk-requires t c =
 pub walk-walk_both-requires : goal.walk-walk_both-requires
 walk-walk_both-requires t c =
     let shape = ap form_of c.in-And.is ∙ ap (λ v. and (form_of v) (form_of c.in-And.right.value)) (sym c.deref-in-And.ensures) ∙ ap (λ v. and (form_of c.deref-in-And.result.now) (form_of v)) (sym c.deref-in-And-2.ensures) in
-    (search (rules, the_lemmas), (omega (arith, ap nodes shape, c.requires.few), asks_and (held c.args.state) (of_form (held c.args.state) shape c.requires.ask)))
+    let size : nodes (form_of c.args.expr.now) ≡ suc (nodes (form_of c.deref-in-And.result.now) + nodes (form_of c.deref-in-And-2.result.now)) = ap nodes shape ∙ both_nodes (form_of c.deref-in-And.result.now) (form_of c.deref-in-And-2.result.now) in
+    (search (rules, the_lemmas, size), (omega (arith, size, c.requires.few), asks_and (held c.args.state) (of_form (held c.args.state) shape c.requires.ask)))
 
 pub walk-walk_both-requires-in-Couple : goal.walk-walk_both-requires-in-Couple
 walk-walk_both-requires-in-Couple t c =
     let shape = ap form_of c.in-Couple.is ∙ ap (λ v. couple (form_of v) (form_of c.in-Couple.right.value)) (sym c.deref-in-Couple.ensures) ∙ ap (λ v. couple (form_of c.deref-in-Couple.result.now) (form_of v)) (sym c.deref-in-Couple-2.ensures) in
-    (search (rules, the_lemmas), (omega (arith, ap nodes shape, c.requires.few), asks_couple (held c.args.state) (of_form (held c.args.state) shape c.requires.ask)))
+    let size : nodes (form_of c.args.expr.now) ≡ suc (nodes (form_of c.deref-in-Couple.result.now) + nodes (form_of c.deref-in-Couple-2.result.now)) = ap nodes shape ∙ both_nodes (form_of c.deref-in-Couple.result.now) (form_of c.deref-in-Couple-2.result.now) in
+    (search (rules, the_lemmas, size), (omega (arith, size, c.requires.few), asks_couple (held c.args.state) (of_form (held c.args.state) shape c.requires.ask)))
 
 pub walk-walk_body-requires : goal.walk-walk_body-requires
 walk-walk_body-requires t c =

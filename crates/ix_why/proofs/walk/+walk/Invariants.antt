@@ -1,7 +1,7 @@
 -- Measures of the walk.
 use Rattle.std.proofs.Common.{◌+◌, ◌*◌}
 use Rattle.ix_expr.specs.inside.FormOf.{form_of}
-use Rattle.ix_why.specs.inside.Blames.{nodes}
+use Rattle.ix_why.specs.Blames.{nodes}
 use Rattle.ix_why.proofs.walk.+walk.Given as goal
 
 abbrev pub decreases-walk : goal.decreases-walk

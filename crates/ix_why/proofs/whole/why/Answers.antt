@@ -2,7 +2,7 @@
 use Rattle.std.proofs.Common.{◌≡◌, ◌≢◌, ◌↔◌, [], ◌∷◌, ◌++◌, sym, ap, ◌∙◌, subst}
 use Rattle.ix_expr.specs.Meaning.{IsPartial}
 use Rattle.ix_can.specs.TreeOf.{tree_of}
-use Rattle.ix_why.specs.inside.Blames.{refusals}
+use Rattle.ix_why.specs.Blames.{refusals}
 use Rattle.ix_why.proofs.Refused.{some-part}
 use Rattle.ix_why.proofs.whole.why.Goals as goal
 

@@ -1,37 +1,24 @@
 -- Which parts of an expression refuse an action.
-use Rattle.std.specs.Prelude.{ℕ, suc, ◌+◌, Bool, not, ◌&&◌, List, [], ◌∷◌, ◌++◌, filter, reverse}
+use Rattle.std.specs.Prelude.{ℕ, ◌+◌, Bool, not, ◌&&◌, List, [], ◌∷◌, ◌++◌, filter, reverse, length}
 use Rattle.std.specs.Prelude.{Option, Some, None, if◌then◌else◌}
 use Rattle.std.specs.List.{list_all}
 use Rattle.ix_words.specs.Canon.{when}
 use Rattle.ix_values.specs.Order.{text_eq}
 use Rattle.ix_values.specs.PlainAction.{PlainAction}
-use Rattle.ix_expr.specs.Form.{Form, atom, opt, seq, star, par, par_star, or, and, couple}
-use Rattle.ix_expr.specs.Form.{any, every, sync, all, times}
+use Rattle.ix_expr.specs.Form.{Form, opt, and, couple, every, sync, all}
 use Rattle.ix_expr.specs.Environment.{Environment, bind}
 use Rattle.ix_tree.specs.Plain.{Plain, items_of}
 use Rattle.ix_tree.specs.Order.{first_part}
 use Rattle.ix_can.specs.Tests.{in_alphabet}
 use Rattle.ix_can.specs.TreeOf.{tree_of}
 use Rattle.ix_can.specs.May.{may, tree_at}
+use Rattle.ix_lint.specs.Nodes.{forms}
 use Rattle.ix_why.specs.declared.part.Part.{Part}
-use Rattle.ix_why.specs.inside.Trees.{left, right, owner_maps, tree_for, tried}
+use Rattle.ix_why.specs.Trees.{left, right, owner_maps, tree_for, tried}
 
 -- how many nodes an expression has
 abbrev pub nodes : Form → ℕ
-nodes (atom x) = 1
-nodes (opt y) = suc (nodes y)
-nodes (seq y z) = suc (nodes y + nodes z)
-nodes (star y) = suc (nodes y)
-nodes (par y z) = suc (nodes y + nodes z)
-nodes (par_star y) = suc (nodes y)
-nodes (or y z) = suc (nodes y + nodes z)
-nodes (and y z) = suc (nodes y + nodes z)
-nodes (couple y z) = suc (nodes y + nodes z)
-nodes (any p y) = suc (nodes y)
-nodes (every p y) = suc (nodes y)
-nodes (sync p y) = suc (nodes y)
-nodes (all p y) = suc (nodes y)
-nodes (times n y) = suc (nodes y)
+nodes x = length (forms x)
 
 -- this node, with what the parameters stand for, the outermost first
 abbrev pub here : ℕ → Environment → List Part

@@ -1,6 +1,6 @@
 -- The trees of the operands of an expression, read off its own tree. Where that is done, so are its
 -- operands', and no value has an entry.
-use Rattle.std.specs.Prelude.{ℕ, List, [], ◌∷◌, ◌++◌, map as each, Option, Some, None}
+use Rattle.std.specs.Prelude.{ℕ, List, [], ◌∷◌, ◌++◌, map, Option, Some, None}
 use Rattle.ix_values.specs.PlainAction.{PlainAction}
 use Rattle.ix_tree.specs.Plain.{Plain, done, opt, and, couple, every, sync, all, items_of}
 use Rattle.ix_tree.specs.Order.{key}
@@ -40,4 +40,4 @@ tree_for (Some v) t = tree_at v (left t) (entries t)
 -- the values in the order in which they are tried: the action's, those that have an entry, and
 -- outside, which stands for every other
 abbrev pub tried : PlainAction → Plain → List (Option (List ℕ))
-tried a t = each Some a.values ++ (each (λ x. Some (key x)) (entries t) ++ None ∷ [])
+tried a t = map Some a.values ++ (map (λ x. Some (key x)) (entries t) ++ None ∷ [])
