@@ -1,0 +1,8 @@
+pub mod Atoms
+pub mod Given
+pub mod Lists
+pub mod Candidates
+pub mod Menu
+pub mod Laws
+pub mod inside
+pub mod lemmas

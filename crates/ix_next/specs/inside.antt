@@ -1,0 +1,5 @@
+-- What private contracts cite.
+pub mod Fresh
+pub mod Trials
+pub mod Fillings
+pub mod Refusing

@@ -1,0 +1,2 @@
+-- Lemmas that ghost members cite.
+pub mod Same
