@@ -1,0 +1,9 @@
+pub mod Runs
+pub mod Places
+pub mod Graphs
+pub mod Ends
+pub mod Matched
+pub mod Coming
+pub mod Used
+pub mod Steps
+pub mod Spreading

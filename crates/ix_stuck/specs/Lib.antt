@@ -1,0 +1,4 @@
+pub mod Answers
+pub mod Finishing
+pub mod Gone
+pub mod inside
