@@ -1,1 +1,4 @@
 pub mod LintLines
+pub mod MenuLines
+pub mod StuckLines
+pub mod WhyLines
