@@ -1,13 +1,15 @@
 -- Words name one job at most, and none where each command refuses them.
-use Rattle.std.proofs.Common.{◌≡◌, ◌∙◌, ℕ, ◌+◌, ◌*◌, List, [], refl, sym, ap, arith, inl, inr, slice_index}
-use Rattle.std.proofs.Common.{codes}
-use Rattle.std.specs.Prelude.{unwrap_or}
+use Rattle.std.proofs.Common.{◌≡◌, ◌∙◌, ◌==◌, ℕ, ◌+◌, ◌*◌, List, [], refl, sym, ap, codes}
+use Rattle.std.proofs.Common.{inl, inr, slice_get, slice_index}
+use Rattle.std.specs.Prelude.{if◌then◌else◌, unwrap_or}
 use Rattle.std.specs.Str.Parse.{digits_value, without_leading_plus}
-use Rattle.clap.specs.Words.{App, Text}
+use Rattle.clap.specs.Words.{App, Text, all_of, first_of, matches_of, one_of}
 use Rattle.ix_cli.specs.Commands.{trace_command, replay_command, serve_command, work_command}
 use Rattle.ix_cli.specs.Commands.{simplify_command, bound_command, follow_command, lint_command}
+use Rattle.ix_cli.specs.Commands.{why_command, next_command, stuck_command}
 use Rattle.ix_cli.specs.Words.{IsTaken, Job, Names, NamesNoJob, Refuses, Says, SaysNumber}
-use Rattle.ix_cli.specs.Words.{trace, replay, serve, work, simplify, bound, follow, lint}
+use Rattle.ix_cli.specs.Words.{trace, replay, serve, work, simplify, bound, follow, lint, why}
+use Rattle.ix_cli.specs.Words.{next, stuck}
 
 -- the first two bytes of a name, as one number
 abbrev pub first_two : Text → ℕ
@@ -49,163 +51,160 @@ pub lint_initial : initial lint_command ≡ 27753
 unfolding lint_command
 lint_initial = refl
 
+pub why_initial : initial why_command ≡ 30568
+unfolding why_command
+why_initial = refl
+
+pub next_initial : initial next_command ≡ 28261
+unfolding next_command
+next_initial = refl
+
+pub stuck_initial : initial stuck_command ≡ 29556
+unfolding stuck_command
+stuck_initial = refl
+
+-- The job of what clap matches for the command whose name begins so.
 module _ (words : List Text) where
-  -- two commands that take the words have one name
-  same_initial : {a b : App} → IsTaken a words → IsTaken b words → initial a ≡ initial b
-  same_initial one other =
-      ap (λ o. first_two (unwrap_or o [])) (sym one.name ∙ other.name)
+  abbrev text : App → Text → Text
+  text command name = unwrap_or (first_of name (matches_of command words)) []
 
-  same_text : (command : App) (name text other : Text) → Says command words name text
-      → Says command words name other → text ≡ other
-  same_text command name text other one two = ap (λ o. unwrap_or o text) (sym one ∙ two)
+  abbrev number : App → Text → ℕ
+  number command name =
+      digits_value 10 (without_leading_plus (unwrap_or (one_of name (matches_of command words)) []))
 
-  same_number : {command : App} {name : Text} {least most number other : ℕ}
-      → SaysNumber command words name least most number
-      → SaysNumber command words name least most other → number ≡ other
-  same_number one two =
-      one.same
-      ∙ ap (λ o. digits_value 10 (without_leading_plus (unwrap_or o []))) (sym one.said ∙ two.said)
-      ∙ sym two.same
+  abbrev job_at : ℕ → Job
+  job_at n =
+      if n == 29810 then
+      trace (text trace_command (codes "EXPR")) (text trace_command (codes "ACTIONS"))
+      (number trace_command (codes "nodes"))
+      else
+      if n == 29285 then
+      replay (text replay_command (codes "EXPR")) (text replay_command (codes "JOURNAL"))
+      (text replay_command (codes "SCRIPT")) (number replay_command (codes "nodes"))
+      (number replay_command (codes "turns"))
+      else
+      if n == 29541 then
+      serve (text serve_command (codes "EXPR")) (text serve_command (codes "JOURNAL"))
+      (text serve_command (codes "SOCKET")) (number serve_command (codes "nodes"))
+      (number serve_command (codes "turns"))
+      else
+      if n == 30575 then
+      work (number work_command (codes "N")) (number work_command (codes "SEED"))
+      (number work_command (codes "nodes"))
+      else
+      if n == 29545 then
+      simplify (text simplify_command (codes "EXPR"))
+      else
+      if n == 25199 then
+      bound (text bound_command (codes "EXPR")) (number bound_command (codes "K"))
+      else
+      if n == 26223 then
+      follow (text follow_command (codes "EXPR")) (text follow_command (codes "LINES"))
+      (number follow_command (codes "nodes"))
+      else
+      if n == 27753 then
+      lint (text lint_command (codes "EXPR"))
+      else
+      if n == 30568 then
+      why (text why_command (codes "EXPR")) (text why_command (codes "ACTIONS"))
+      (text why_command (codes "ACTION")) (number why_command (codes "nodes"))
+      else
+      if n == 28261 then
+      next (text next_command (codes "EXPR")) (text next_command (codes "ACTIONS"))
+      (unwrap_or (all_of (codes "VALUE") (matches_of next_command words)) [])
+      (number next_command (codes "nodes"))
+      else
+      stuck (text stuck_command (codes "EXPR")) (text stuck_command (codes "VALUES"))
+      (number stuck_command (codes "nodes")) (number stuck_command (codes "states"))
 
-  not_both : {a b : App} → IsTaken a words → IsTaken b words → (initial a ≡ initial b → ⊥) → ⊥
-  not_both one other apart = apart (same_initial one other)
+  named_text : (command : App) (name : Text) {value : Text} → Says command words name value
+      → value ≡ text command name
+  named_text command name said = sym (ap (λ o. unwrap_or o []) said)
+
+  named_number : (command : App) (name : Text) {least most value : ℕ}
+      → SaysNumber command words name least most value → value ≡ number command name
+  named_number command name said =
+      said.same
+      ∙ sym (ap (λ o. digits_value 10 (without_leading_plus (unwrap_or o []))) said.said)
+
+  -- the command's name begins as the first word does
+  begins : {command : App} (n : ℕ) → initial command ≡ n → IsTaken command words
+      → job_at (first_two (unwrap_or (slice_get words 0) [])) ≡ job_at n
+  begins n is taken = ap job_at (ap (λ o. first_two (unwrap_or o [])) taken.name ∙ is)
+
+  named : (job : Job) → Names words job
+      → job ≡ job_at (first_two (unwrap_or (slice_get words 0) []))
+  named (trace a b c) x =
+      (λ i. trace
+      (named_text trace_command (codes "EXPR") x.1 i)
+      (named_text trace_command (codes "ACTIONS") x.2 i)
+      (named_number trace_command (codes "nodes") x.3 i))
+      ∙ sym (begins 29810 trace_initial x.0)
+  named (replay a b c d e) x =
+      (λ i. replay
+      (named_text replay_command (codes "EXPR") x.1 i)
+      (named_text replay_command (codes "JOURNAL") x.2 i)
+      (named_text replay_command (codes "SCRIPT") x.3 i)
+      (named_number replay_command (codes "nodes") x.4 i)
+      (named_number replay_command (codes "turns") x.5 i))
+      ∙ sym (begins 29285 replay_initial x.0)
+  named (serve a b c d e) x =
+      (λ i. serve
+      (named_text serve_command (codes "EXPR") x.1 i)
+      (named_text serve_command (codes "JOURNAL") x.2 i)
+      (named_text serve_command (codes "SOCKET") x.3 i)
+      (named_number serve_command (codes "nodes") x.4 i)
+      (named_number serve_command (codes "turns") x.5 i))
+      ∙ sym (begins 29541 serve_initial x.0)
+  named (work a b c) x =
+      (λ i. work
+      (named_number work_command (codes "N") x.1 i)
+      (named_number work_command (codes "SEED") x.2 i)
+      (named_number work_command (codes "nodes") x.3 i))
+      ∙ sym (begins 30575 work_initial x.0)
+  named (simplify a) x =
+      (λ i. simplify
+      (named_text simplify_command (codes "EXPR") x.1 i))
+      ∙ sym (begins 29545 simplify_initial x.0)
+  named (bound a b) x =
+      (λ i. bound
+      (named_text bound_command (codes "EXPR") x.1 i)
+      (named_number bound_command (codes "K") x.2 i))
+      ∙ sym (begins 25199 bound_initial x.0)
+  named (follow a b c) x =
+      (λ i. follow
+      (named_text follow_command (codes "EXPR") x.1 i)
+      (named_text follow_command (codes "LINES") x.2 i)
+      (named_number follow_command (codes "nodes") x.3 i))
+      ∙ sym (begins 26223 follow_initial x.0)
+  named (lint a) x =
+      (λ i. lint
+      (named_text lint_command (codes "EXPR") x.1 i))
+      ∙ sym (begins 27753 lint_initial x.0)
+  named (why a b c d) x =
+      (λ i. why
+      (named_text why_command (codes "EXPR") x.1 i)
+      (named_text why_command (codes "ACTIONS") x.2 i)
+      (named_text why_command (codes "ACTION") x.3 i)
+      (named_number why_command (codes "nodes") x.4 i))
+      ∙ sym (begins 30568 why_initial x.0)
+  named (next a b c d) x =
+      (λ i. next
+      (named_text next_command (codes "EXPR") x.1 i)
+      (named_text next_command (codes "ACTIONS") x.2 i)
+      (sym x.3 i)
+      (named_number next_command (codes "nodes") x.4 i))
+      ∙ sym (begins 28261 next_initial x.0)
+  named (stuck a b c d) x =
+      (λ i. stuck
+      (named_text stuck_command (codes "EXPR") x.1 i)
+      (named_text stuck_command (codes "VALUES") x.2 i)
+      (named_number stuck_command (codes "nodes") x.3 i)
+      (named_number stuck_command (codes "states") x.4 i))
+      ∙ sym (begins 29556 stuck_initial x.0)
 
   pub one_job : (job other : Job) → Names words job → Names words other → job ≡ other
-  one_job (trace e a n) (trace f b o) x y =
-      λ i. trace (same_text trace_command (codes "EXPR") e f x.1 y.1 i)
-      (same_text trace_command (codes "ACTIONS") a b x.2 y.2 i) (same_number x.3 y.3 i)
-  one_job (replay e j s n t) (replay f k u o v) x y =
-      λ i. replay (same_text replay_command (codes "EXPR") e f x.1 y.1 i)
-      (same_text replay_command (codes "JOURNAL") j k x.2 y.2 i)
-      (same_text replay_command (codes "SCRIPT") s u x.3 y.3 i)
-      (same_number x.4 y.4 i) (same_number x.5 y.5 i)
-  one_job (serve e j s n t) (serve f k u o v) x y =
-      λ i. serve (same_text serve_command (codes "EXPR") e f x.1 y.1 i)
-      (same_text serve_command (codes "JOURNAL") j k x.2 y.2 i)
-      (same_text serve_command (codes "SOCKET") s u x.3 y.3 i)
-      (same_number x.4 y.4 i) (same_number x.5 y.5 i)
-  one_job (work c s n) (work d t o) x y =
-      λ i. work (same_number x.1 y.1 i) (same_number x.2 y.2 i) (same_number x.3 y.3 i)
-  one_job (trace e a n) (replay f k u o v) x y =
-      absurd (not_both x.0 y.0 (λ same. omega (arith, trace_initial, replay_initial)))
-  one_job (trace e a n) (serve f k u o v) x y =
-      absurd (not_both x.0 y.0 (λ same. omega (arith, trace_initial, serve_initial)))
-  one_job (trace e a n) (work d t o) x y =
-      absurd (not_both x.0 y.0 (λ same. omega (arith, trace_initial, work_initial)))
-  one_job (replay e j s n t) (trace f b o) x y =
-      absurd (not_both x.0 y.0 (λ same. omega (arith, replay_initial, trace_initial)))
-  one_job (replay e j s n t) (serve f k u o v) x y =
-      absurd (not_both x.0 y.0 (λ same. omega (arith, replay_initial, serve_initial)))
-  one_job (replay e j s n t) (work d u o) x y =
-      absurd (not_both x.0 y.0 (λ same. omega (arith, replay_initial, work_initial)))
-  one_job (serve e j s n t) (trace f b o) x y =
-      absurd (not_both x.0 y.0 (λ same. omega (arith, serve_initial, trace_initial)))
-  one_job (serve e j s n t) (replay f k u o v) x y =
-      absurd (not_both x.0 y.0 (λ same. omega (arith, serve_initial, replay_initial)))
-  one_job (serve e j s n t) (work d u o) x y =
-      absurd (not_both x.0 y.0 (λ same. omega (arith, serve_initial, work_initial)))
-  one_job (work c s n) (trace f b o) x y =
-      absurd (not_both x.0 y.0 (λ same. omega (arith, work_initial, trace_initial)))
-  one_job (work c s n) (replay f k u o v) x y =
-      absurd (not_both x.0 y.0 (λ same. omega (arith, work_initial, replay_initial)))
-  one_job (work c s n) (serve f k u o v) x y =
-      absurd (not_both x.0 y.0 (λ same. omega (arith, work_initial, serve_initial)))
-  one_job (simplify e) (simplify f) x y =
-      ap simplify (same_text simplify_command (codes "EXPR") e f x.1 y.1)
-  one_job (trace e a n) (simplify f) x y =
-      absurd (not_both x.0 y.0 (λ same. omega (arith, trace_initial, simplify_initial)))
-  one_job (simplify e) (trace f b o) x y =
-      absurd (not_both x.0 y.0 (λ same. omega (arith, simplify_initial, trace_initial)))
-  one_job (replay e j s n t) (simplify f) x y =
-      absurd (not_both x.0 y.0 (λ same. omega (arith, replay_initial, simplify_initial)))
-  one_job (simplify e) (replay f k u o v) x y =
-      absurd (not_both x.0 y.0 (λ same. omega (arith, simplify_initial, replay_initial)))
-  one_job (serve e j s n t) (simplify f) x y =
-      absurd (not_both x.0 y.0 (λ same. omega (arith, serve_initial, simplify_initial)))
-  one_job (simplify e) (serve f k u o v) x y =
-      absurd (not_both x.0 y.0 (λ same. omega (arith, simplify_initial, serve_initial)))
-  one_job (work c s n) (simplify f) x y =
-      absurd (not_both x.0 y.0 (λ same. omega (arith, work_initial, simplify_initial)))
-  one_job (simplify e) (work d t o) x y =
-      absurd (not_both x.0 y.0 (λ same. omega (arith, simplify_initial, work_initial)))
-  one_job (bound e k) (bound f l) x y =
-      λ i. bound (same_text bound_command (codes "EXPR") e f x.1 y.1 i) (same_number x.2 y.2 i)
-  one_job (trace e a n) (bound f l) x y =
-      absurd (not_both x.0 y.0 (λ same. omega (arith, trace_initial, bound_initial)))
-  one_job (bound e k) (trace f b o) x y =
-      absurd (not_both x.0 y.0 (λ same. omega (arith, bound_initial, trace_initial)))
-  one_job (replay e j s n t) (bound f l) x y =
-      absurd (not_both x.0 y.0 (λ same. omega (arith, replay_initial, bound_initial)))
-  one_job (bound e k) (replay f l u o v) x y =
-      absurd (not_both x.0 y.0 (λ same. omega (arith, bound_initial, replay_initial)))
-  one_job (serve e j s n t) (bound f l) x y =
-      absurd (not_both x.0 y.0 (λ same. omega (arith, serve_initial, bound_initial)))
-  one_job (bound e k) (serve f l u o v) x y =
-      absurd (not_both x.0 y.0 (λ same. omega (arith, bound_initial, serve_initial)))
-  one_job (work c s n) (bound f l) x y =
-      absurd (not_both x.0 y.0 (λ same. omega (arith, work_initial, bound_initial)))
-  one_job (bound e k) (work d t o) x y =
-      absurd (not_both x.0 y.0 (λ same. omega (arith, bound_initial, work_initial)))
-  one_job (simplify e) (bound f l) x y =
-      absurd (not_both x.0 y.0 (λ same. omega (arith, simplify_initial, bound_initial)))
-  one_job (bound e k) (simplify f) x y =
-      absurd (not_both x.0 y.0 (λ same. omega (arith, bound_initial, simplify_initial)))
-  one_job (follow e l n) (follow f m o) x y =
-      λ i. follow (same_text follow_command (codes "EXPR") e f x.1 y.1 i)
-      (same_text follow_command (codes "LINES") l m x.2 y.2 i) (same_number x.3 y.3 i)
-  one_job (trace e a n) (follow g w q) x y =
-      absurd (not_both x.0 y.0 (λ same. omega (arith, trace_initial, follow_initial)))
-  one_job (follow g w q) (trace f b o) x y =
-      absurd (not_both x.0 y.0 (λ same. omega (arith, follow_initial, trace_initial)))
-  one_job (replay e j s n t) (follow g w q) x y =
-      absurd (not_both x.0 y.0 (λ same. omega (arith, replay_initial, follow_initial)))
-  one_job (follow g w q) (replay f k u o v) x y =
-      absurd (not_both x.0 y.0 (λ same. omega (arith, follow_initial, replay_initial)))
-  one_job (serve e j s n t) (follow g w q) x y =
-      absurd (not_both x.0 y.0 (λ same. omega (arith, serve_initial, follow_initial)))
-  one_job (follow g w q) (serve f k u o v) x y =
-      absurd (not_both x.0 y.0 (λ same. omega (arith, follow_initial, serve_initial)))
-  one_job (work c s n) (follow g w q) x y =
-      absurd (not_both x.0 y.0 (λ same. omega (arith, work_initial, follow_initial)))
-  one_job (follow g w q) (work d t o) x y =
-      absurd (not_both x.0 y.0 (λ same. omega (arith, follow_initial, work_initial)))
-  one_job (simplify e) (follow g w q) x y =
-      absurd (not_both x.0 y.0 (λ same. omega (arith, simplify_initial, follow_initial)))
-  one_job (follow g w q) (simplify f) x y =
-      absurd (not_both x.0 y.0 (λ same. omega (arith, follow_initial, simplify_initial)))
-  one_job (bound e k) (follow g w q) x y =
-      absurd (not_both x.0 y.0 (λ same. omega (arith, bound_initial, follow_initial)))
-  one_job (follow g w q) (bound f l) x y =
-      absurd (not_both x.0 y.0 (λ same. omega (arith, follow_initial, bound_initial)))
-  one_job (lint e) (lint f) x y = ap lint (same_text lint_command (codes "EXPR") e f x.1 y.1)
-  one_job (trace e a n) (lint g) x y =
-      absurd (not_both x.0 y.0 (λ same. omega (arith, trace_initial, lint_initial)))
-  one_job (lint g) (trace f b o) x y =
-      absurd (not_both x.0 y.0 (λ same. omega (arith, lint_initial, trace_initial)))
-  one_job (replay e j s n t) (lint g) x y =
-      absurd (not_both x.0 y.0 (λ same. omega (arith, replay_initial, lint_initial)))
-  one_job (lint g) (replay f k u o v) x y =
-      absurd (not_both x.0 y.0 (λ same. omega (arith, lint_initial, replay_initial)))
-  one_job (serve e j s n t) (lint g) x y =
-      absurd (not_both x.0 y.0 (λ same. omega (arith, serve_initial, lint_initial)))
-  one_job (lint g) (serve f k u o v) x y =
-      absurd (not_both x.0 y.0 (λ same. omega (arith, lint_initial, serve_initial)))
-  one_job (work c s n) (lint g) x y =
-      absurd (not_both x.0 y.0 (λ same. omega (arith, work_initial, lint_initial)))
-  one_job (lint g) (work d t o) x y =
-      absurd (not_both x.0 y.0 (λ same. omega (arith, lint_initial, work_initial)))
-  one_job (simplify e) (lint g) x y =
-      absurd (not_both x.0 y.0 (λ same. omega (arith, simplify_initial, lint_initial)))
-  one_job (lint g) (simplify f) x y =
-      absurd (not_both x.0 y.0 (λ same. omega (arith, lint_initial, simplify_initial)))
-  one_job (bound e k) (lint g) x y =
-      absurd (not_both x.0 y.0 (λ same. omega (arith, bound_initial, lint_initial)))
-  one_job (lint g) (bound f l) x y =
-      absurd (not_both x.0 y.0 (λ same. omega (arith, lint_initial, bound_initial)))
-  one_job (follow e l n) (lint g) x y =
-      absurd (not_both x.0 y.0 (λ same. omega (arith, follow_initial, lint_initial)))
-  one_job (lint g) (follow f m o) x y =
-      absurd (not_both x.0 y.0 (λ same. omega (arith, lint_initial, follow_initial)))
+  one_job job other x y = named job x ∙ sym (named other y)
 
   -- a command that takes the words doesn't refuse them
   taken_refused : {command : App} → IsTaken command words → Refuses command words → ⊥
@@ -213,11 +212,14 @@ module _ (words : List Text) where
   taken_refused taken (inr fault) = fault taken.taken
 
   pub no_job : (job : Job) → NamesNoJob words → Names words job → ⊥
-  no_job (trace e a n) none named = taken_refused named.0 none.0
-  no_job (replay e j s n t) none named = taken_refused named.0 none.1
-  no_job (serve e j s n t) none named = taken_refused named.0 none.2
-  no_job (work c s n) none named = taken_refused named.0 none.3
-  no_job (simplify e) none named = taken_refused named.0 none.4
-  no_job (bound e k) none named = taken_refused named.0 none.5
-  no_job (follow e l n) none named = taken_refused named.0 none.6
-  no_job (lint e) none named = taken_refused named.0 none.7
+  no_job (trace a b c) none named = taken_refused named.0 none.0
+  no_job (replay a b c d e) none named = taken_refused named.0 none.1
+  no_job (serve a b c d e) none named = taken_refused named.0 none.2
+  no_job (work a b c) none named = taken_refused named.0 none.3
+  no_job (simplify a) none named = taken_refused named.0 none.4
+  no_job (bound a b) none named = taken_refused named.0 none.5
+  no_job (follow a b c) none named = taken_refused named.0 none.6
+  no_job (lint a) none named = taken_refused named.0 none.7
+  no_job (why a b c d) none named = taken_refused named.0 none.8
+  no_job (next a b c d) none named = taken_refused named.0 none.9
+  no_job (stuck a b c d) none named = taken_refused named.0 none.10

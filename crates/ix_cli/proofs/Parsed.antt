@@ -1,4 +1,4 @@
--- The matches of a command whose arguments take one value each.
+-- The matches of a command with no subcommands.
 use Rattle.std.proofs.Common.{◌≡◌, ◌∙◌, ◌<◌, ℕ, true, zero, suc, refl, sym, ap, subst, arith, List}
 use Rattle.std.proofs.Common.{[], ◌∷◌, map, length, Some, is_some, inl, inr}
 use Rattle.std.specs.List.{All, list_all, slice_index_or}
@@ -22,7 +22,7 @@ use Rattle.clap.proofs.WalkLemmas.{both, first_value-rows, one_text-rows}
 use Rattle.clap.proofs.SimpleLemmas.{ready_simple, simple_groups}
 use Rattle.clap.proofs.FaultLemmas.{free_args}
 use Rattle.ix_cli.specs.inside.Matches.{IsPlainCommand, Matches, takes_one}
-use Rattle.ix_cli.proofs.Rules.{TakesOne, one_place, passes_at, rule_at, takes_one-is}
+use Rattle.ix_cli.proofs.Rules.{TakesOne, one_place, rule_at, takes_one-is}
 use Rattle.ix_cli.proofs.Entries.{IsOne, number_found, text_found}
 
 -- the argument behind a rule
@@ -95,27 +95,28 @@ module _ (c : Command) (words : List Text) (m : ArgMatches) (plain : IsPlainComm
     rows_same : rows_of (found_of m) ≡ matches_of (app_of c) words
     rows_same = (made (both (is_simple (app_of c)) _ plain.simple).0).0
 
-    one_is : (k : ℕ) (rule : Rule) → k < length (app_of c).top.rules
+    one_is : (rule : Rule) → takes_one rule ≡ true → (k : ℕ) → k < length (app_of c).top.rules
+        → slice_index_or (app_of c).top.rules k rule ≡ rule
         → (a : Arg) × IsOne c k a × (slice_index_or (app_of c).top.rules k rule ≡ rule_of a)
-    one_is k rule lt =
+    one_is rule one k lt here =
         let at = arg_at (args_of c) k rule lt in
-        let takes = takes_one-is (rule_of at.0) (subst (λ (r : Rule). takes_one r ≡ true) at.3
-        (passes_at takes_one (app_of c).top.rules plain.single k rule lt)) in
+        let takes = takes_one-is (rule_of at.0)
+        (subst (λ (r : Rule). takes_one r ≡ true) (sym here ∙ at.3) one) in
         (at.0, one_at c plain k at.0 at.1 at.2 takes, at.3)
 
     pub parsed_matches : Matches (app_of c) words m
     parsed_matches = record {
       taken = taken;
       rows = rows_same;
-      texts = λ rule of.
-          let one = one_is of.0 rule of.1 in
+      texts = λ rule of takes.
+          let one = one_is rule takes of.0 of.1 of.2 in
           let some = text_found c m p (is_plain c plain) (simple c plain).globals
           plain.requires_all of.0 one.0 one.1 in
           subst (λ (r : Rule). is_some (first_of r.id (rows_of (found_of m))) ≡ true)
           (sym one.2 ∙ of.2)
           (rw (← first_value-rows (found_of m) one.0.id.now) some);
-      numbers = λ rule of least most is.
-          let one = one_is of.0 rule of.1 in
+      numbers = λ rule of takes least most is.
+          let one = one_is rule takes of.0 of.1 of.2 in
           let its : one.0.value_parser ≡ Some (parser.Unsigned least most) =
           ap (λ (r : Rule). r.parser) (sym one.2 ∙ of.2) ∙ is in
           let got = number_found c m p (is_plain c plain) (simple c plain).globals

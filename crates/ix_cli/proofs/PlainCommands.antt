@@ -1,10 +1,12 @@
--- The seven commands are plain, and these are their arguments.
+-- The commands are plain, and these are their arguments.
 use Rattle.std.proofs.Common.{◌≡◌, refl, lit<, codes}
 use Rattle.std.specs.List.{Contains}
 use Rattle.clap.specs.Words.{App, Rule}
 use Rattle.ix_cli.specs.Commands.{trace_command, replay_command, serve_command, work_command}
-use Rattle.ix_cli.specs.Commands.{simplify_command, lint_command, word, number_word, nodes_option, turns_option}
-use Rattle.ix_cli.specs.Commands.{bound_command, follow_command, most_asks, most_seed, most_values}
+use Rattle.ix_cli.specs.Commands.{simplify_command, bound_command, follow_command, lint_command}
+use Rattle.ix_cli.specs.Commands.{why_command, next_command, stuck_command}
+use Rattle.ix_cli.specs.Commands.{word, number_word, nodes_option, turns_option}
+use Rattle.ix_cli.specs.Commands.{states_option, most_asks, most_seed, most_values}
 use Rattle.ix_cli.specs.inside.Matches.{IsPlainCommand}
 
 -- the command has this argument
@@ -19,7 +21,6 @@ trace_plain = record {
   ready = refl;
   free = refl;
   requires_all = refl;
-  single = refl;
   distinct = refl;
 }
 
@@ -31,7 +32,6 @@ replay_plain = record {
   ready = refl;
   free = refl;
   requires_all = refl;
-  single = refl;
   distinct = refl;
 }
 
@@ -43,7 +43,6 @@ serve_plain = record {
   ready = refl;
   free = refl;
   requires_all = refl;
-  single = refl;
   distinct = refl;
 }
 
@@ -55,7 +54,6 @@ work_plain = record {
   ready = refl;
   free = refl;
   requires_all = refl;
-  single = refl;
   distinct = refl;
 }
 
@@ -67,7 +65,6 @@ simplify_plain = record {
   ready = refl;
   free = refl;
   requires_all = refl;
-  single = refl;
   distinct = refl;
 }
 
@@ -79,7 +76,6 @@ lint_plain = record {
   ready = refl;
   free = refl;
   requires_all = refl;
-  single = refl;
   distinct = refl;
 }
 
@@ -91,7 +87,6 @@ bound_plain = record {
   ready = refl;
   free = refl;
   requires_all = refl;
-  single = refl;
   distinct = refl;
 }
 
@@ -103,7 +98,6 @@ follow_plain = record {
   ready = refl;
   free = refl;
   requires_all = refl;
-  single = refl;
   distinct = refl;
 }
 
@@ -230,3 +224,92 @@ bound_name = refl
 pub follow_name : follow_command.top.name ≡ codes "follow"
 unfolding follow_command
 follow_name = refl
+
+pub why_plain : IsPlainCommand why_command
+unfolding why_command
+why_plain = record {
+  no_subcommands = refl;
+  simple = refl;
+  ready = refl;
+  free = refl;
+  requires_all = refl;
+  distinct = refl;
+}
+
+pub next_plain : IsPlainCommand next_command
+unfolding next_command
+next_plain = record {
+  no_subcommands = refl;
+  simple = refl;
+  ready = refl;
+  free = refl;
+  requires_all = refl;
+  distinct = refl;
+}
+
+pub stuck_plain : IsPlainCommand stuck_command
+unfolding stuck_command
+stuck_plain = record {
+  no_subcommands = refl;
+  simple = refl;
+  ready = refl;
+  free = refl;
+  requires_all = refl;
+  distinct = refl;
+}
+
+pub why_expr : HasArgument why_command (word (codes "EXPR"))
+unfolding why_command
+why_expr = (0, lit< tt, refl)
+
+pub why_actions : HasArgument why_command (word (codes "ACTIONS"))
+unfolding why_command
+why_actions = (1, lit< tt, refl)
+
+pub why_action : HasArgument why_command (word (codes "ACTION"))
+unfolding why_command
+why_action = (2, lit< tt, refl)
+
+pub why_nodes : HasArgument why_command nodes_option
+unfolding why_command
+why_nodes = (3, lit< tt, refl)
+
+pub why_name : why_command.top.name ≡ codes "why"
+unfolding why_command
+why_name = refl
+
+pub next_expr : HasArgument next_command (word (codes "EXPR"))
+unfolding next_command
+next_expr = (0, lit< tt, refl)
+
+pub next_actions : HasArgument next_command (word (codes "ACTIONS"))
+unfolding next_command
+next_actions = (1, lit< tt, refl)
+
+pub next_nodes : HasArgument next_command nodes_option
+unfolding next_command
+next_nodes = (3, lit< tt, refl)
+
+pub next_name : next_command.top.name ≡ codes "next"
+unfolding next_command
+next_name = refl
+
+pub stuck_expr : HasArgument stuck_command (word (codes "EXPR"))
+unfolding stuck_command
+stuck_expr = (0, lit< tt, refl)
+
+pub stuck_values : HasArgument stuck_command (word (codes "VALUES"))
+unfolding stuck_command
+stuck_values = (1, lit< tt, refl)
+
+pub stuck_nodes : HasArgument stuck_command nodes_option
+unfolding stuck_command
+stuck_nodes = (2, lit< tt, refl)
+
+pub stuck_states : HasArgument stuck_command states_option
+unfolding stuck_command
+stuck_states = (3, lit< tt, refl)
+
+pub stuck_name : stuck_command.top.name ≡ codes "stuck"
+unfolding stuck_command
+stuck_name = refl

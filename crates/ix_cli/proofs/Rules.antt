@@ -2,7 +2,7 @@
 use Rattle.std.proofs.Common.{◌≡◌, ◌∙◌, ◌<◌, ◌||◌, ◌⊎◌, ◌==◌, ℕ, Bool, true, false, not, zero, suc}
 use Rattle.std.proofs.Common.{refl, sym, ap, arith, List, [], ◌∷◌, map, length, Option, Some, None}
 use Rattle.std.proofs.Common.{is_some, inl, inr, true≢false, codes}
-use Rattle.std.specs.List.{list_all, list_any, slice_index_or}
+use Rattle.std.specs.List.{list_any, slice_index_or}
 use Rattle.std.specs.Str.{bytes_eq}
 use Rattle.std.proofs.lemmas.Slice.Eq.{bytes_eq-Decides}
 use Rattle.clap.specs.Walk.{Rule, rule_of}
@@ -19,14 +19,6 @@ pub rule_at : (args : List Arg) (k : ℕ) (d : Arg) → k < length args
 rule_at [] k d lt = absurd (omega arith)
 rule_at (a ∷ args) zero d lt = refl
 rule_at (a ∷ args) (suc k) d lt = rule_at args k d (omega arith)
-
--- a test that each passes, at a place
-pub passes_at : (test : Rule → Bool) (rules : List Rule) → list_all test rules ≡ true
-    → (k : ℕ) (d : Rule) → k < length rules → test (slice_index_or rules k d) ≡ true
-passes_at test [] all k d lt = absurd (omega arith)
-passes_at test (r ∷ rules) all zero d lt = (both _ _ all).0
-passes_at test (r ∷ rules) all (suc k) d lt =
-    passes_at test rules (both _ _ all).1 k d (omega arith)
 
 -- the element at a place doesn't pass what none passes
 none_at : (test : Rule → Bool) (rules : List Rule) → list_any test rules ≡ false

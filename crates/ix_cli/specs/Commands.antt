@@ -18,6 +18,14 @@ most_asks = 1000000
 abbrev pub most_values : ℕ
 most_values = 1000000
 
+-- the most states that a search visits
+abbrev pub most_states : ℕ
+most_states = 1000000
+
+-- the most values that are given
+abbrev pub most_given : ℕ
+most_given = 16
+
 -- the greatest seed
 abbrev pub most_seed : ℕ
 most_seed = 2 ^ 64 - 1
@@ -30,6 +38,13 @@ word name = record (new_rule name) { action = Some Set; required = true }
 abbrev pub number_word : Text → ℕ → ℕ → Rule
 number_word name least most = record (word name) { parser = Some (parser.Unsigned least most) }
 
+-- words that may be there, so many at most
+abbrev pub words : Text → ℕ → Rule
+words name most = record (new_rule name) {
+  action = Some Set;
+  range = Some (record { start_inclusive = 0; end_inclusive = most });
+}
+
 -- an option with a number in a range, and the text of the number where the option isn't there
 abbrev pub number_option : Text → ℕ → ℕ → Text → Rule
 number_option name least most usual = record (new_rule name) {
@@ -39,12 +54,15 @@ number_option name least most usual = record (new_rule name) {
   defaults = usual ∷ [];
 }
 
--- the options `--nodes N` and `--turns N`
+-- the options `--nodes N`, `--turns N` and `--states N`
 abbrev pub nodes_option : Rule
 nodes_option = number_option (codes "nodes") 1 most_nodes (codes "100000")
 
 abbrev pub turns_option : Rule
 turns_option = number_option (codes "turns") 1 most_turns (codes "1000000000")
+
+abbrev pub states_option : Rule
+states_option = number_option (codes "states") 1 most_states (codes "100000")
 
 -- `trace EXPR ACTIONS [--nodes N]`
 unfoldable pub trace_command : App
@@ -80,6 +98,22 @@ follow_command = with_rule (with_rule (with_rule (new_app (codes "follow")) (wor
 -- `lint EXPR`
 unfoldable pub lint_command : App
 lint_command = with_rule (new_app (codes "lint")) (word (codes "EXPR"))
+
+-- `why EXPR ACTIONS ACTION [--nodes N]`
+unfoldable pub why_command : App
+why_command = with_rule (with_rule (with_rule (with_rule (new_app (codes "why"))
+    (word (codes "EXPR"))) (word (codes "ACTIONS"))) (word (codes "ACTION"))) nodes_option
+
+-- `next EXPR ACTIONS [VALUE..] [--nodes N]`
+unfoldable pub next_command : App
+next_command = with_rule (with_rule (with_rule (with_rule (new_app (codes "next"))
+    (word (codes "EXPR"))) (word (codes "ACTIONS"))) (words (codes "VALUE") most_given))
+    nodes_option
+
+-- `stuck EXPR VALUES [--nodes N] [--states N]`
+unfoldable pub stuck_command : App
+stuck_command = with_rule (with_rule (with_rule (with_rule (new_app (codes "stuck"))
+    (word (codes "EXPR"))) (word (codes "VALUES"))) nodes_option) states_option
 
 -- `work N SEED [--nodes N]`
 unfoldable pub work_command : App

@@ -1,10 +1,11 @@
 //! The commands, as `clap` reads them.
-ghost use Rattle.std.specs.Prelude.{◌≡◌, false, IfOk};
+ghost use Rattle.std.specs.Prelude.{◌≡◌, codes, false, IfOk};
 ghost use Rattle.clap.specs.Words.{app_of, rule_of};
 ghost use Rattle.ix_cli.specs.Commands.{word, number_word, nodes_option, turns_option};
 ghost use Rattle.ix_cli.specs.Commands.{trace_command, replay_command, serve_command, work_command};
 ghost use Rattle.ix_cli.specs.Commands.{simplify_command, bound_command, follow_command};
-ghost use Rattle.ix_cli.specs.Commands.{lint_command};
+ghost use Rattle.ix_cli.specs.Commands.{lint_command, why_command, next_command, stuck_command};
+ghost use Rattle.ix_cli.specs.Commands.{most_given, states_option, words};
 
 use clap::builder::ValueParser;
 use clap::{Arg, ArgAction, Command};
@@ -22,7 +23,15 @@ const MOST_ASKS: u64 = 1_000_000;
 /// The most different values over which a bound is told.
 const MOST_VALUES: u64 = 1_000_000;
 
+/// The most values that are given.
+const MOST_GIVEN: usize = 16;
+
+/// The most states that a search visits.
+const MOST_STATES: u64 = 1_000_000;
+
 const EXPRESSION_HELP: &str = "The file of the expression";
+
+const ACTIONS_HELP: &str = "The file of the actions, one a line";
 
 const JOURNAL_HELP: &str = "The file of the journal, which is made where it is absent";
 
@@ -71,6 +80,30 @@ fn turns_option<'a>(alloc: Global) -> Arg<'a>
         .help("The most events that are taken, from 1 to 1000000000")
 }
 
+/// The option `--states N`.
+fn states_option<'a>(alloc: Global) -> Arg<'a>
+    ensures rule { rule_of result ≡ states_option }
+    ensures local { result.global ≡ false }
+{
+    Arg::new(alloc, "states")
+        .long("states")
+        .action(ArgAction::Set)
+        .value_parser(ValueParser::unsigned(1, MOST_STATES))
+        .default_value("100000")
+        .help("The most states that are visited, from 1 to 1000000")
+}
+
+/// The words `VALUE ..`, 16 at most.
+fn given_words<'a>(alloc: Global) -> Arg<'a>
+    ensures rule { rule_of result ≡ words (codes "VALUE") most_given }
+    ensures local { result.global ≡ false }
+{
+    Arg::new(alloc, "VALUE")
+        .action(ArgAction::Set)
+        .num_args(0..=MOST_GIVEN)
+        .help("A value for each parameter, or P=VALUE for the parameter P alone")
+}
+
 /// The command `trace`.
 pub(crate) fn trace<'a>(alloc: Global) -> Result<Command<'a>, AllocError>
     ensures { IfOk result (λ command. app_of command ≡ trace_command) }
@@ -78,7 +111,7 @@ pub(crate) fn trace<'a>(alloc: Global) -> Result<Command<'a>, AllocError>
     Command::new(alloc, "trace")
         .about("Says of each action of a file whether the expression lets it be next")
         .arg(word(alloc, "EXPR", EXPRESSION_HELP))?
-        .arg(word(alloc, "ACTIONS", "The file of the actions, one a line"))?
+        .arg(word(alloc, "ACTIONS", ACTIONS_HELP))?
         .arg(nodes_option(alloc))?
         .bin_name("ixm trace")
 }
@@ -178,4 +211,43 @@ pub(crate) fn lint<'a>(alloc: Global) -> Result<Command<'a>, AllocError>
         .about("Tells what looks wrong in the expression, with its place in the text")
         .arg(word(alloc, "EXPR", EXPRESSION_HELP))?
         .bin_name("ixm lint")
+}
+
+/// The command `why`.
+pub(crate) fn why<'a>(alloc: Global) -> Result<Command<'a>, AllocError>
+    ensures { IfOk result (λ command. app_of command ≡ why_command) }
+{
+    Command::new(alloc, "why")
+        .about("Tells which parts of the expression refuse an action behind a history")
+        .arg(word(alloc, "EXPR", EXPRESSION_HELP))?
+        .arg(word(alloc, "ACTIONS", ACTIONS_HELP))?
+        .arg(word(alloc, "ACTION", "The action that is refused"))?
+        .arg(nodes_option(alloc))?
+        .bin_name("ixm why")
+}
+
+/// The command `next`.
+pub(crate) fn next<'a>(alloc: Global) -> Result<Command<'a>, AllocError>
+    ensures { IfOk result (λ command. app_of command ≡ next_command) }
+{
+    Command::new(alloc, "next")
+        .about("Tells which actions may come behind a history")
+        .arg(word(alloc, "EXPR", EXPRESSION_HELP))?
+        .arg(word(alloc, "ACTIONS", ACTIONS_HELP))?
+        .arg(given_words(alloc))?
+        .arg(nodes_option(alloc))?
+        .bin_name("ixm next")
+}
+
+/// The command `stuck`.
+pub(crate) fn stuck<'a>(alloc: Global) -> Result<Command<'a>, AllocError>
+    ensures { IfOk result (λ command. app_of command ≡ stuck_command) }
+{
+    Command::new(alloc, "stuck")
+        .about("Tells whether a history can get where no word completes it")
+        .arg(word(alloc, "EXPR", EXPRESSION_HELP))?
+        .arg(word(alloc, "VALUES", "The file of the given values, one a line"))?
+        .arg(nodes_option(alloc))?
+        .arg(states_option(alloc))?
+        .bin_name("ixm stuck")
 }

@@ -37,6 +37,9 @@ Commands:
   bound EXPR K
   follow EXPR LINES [--nodes N]
   lint EXPR
+  why EXPR ACTIONS ACTION [--nodes N]
+  next EXPR ACTIONS [VALUE..] [--nodes N]
+  stuck EXPR VALUES [--nodes N] [--states N]
 
 For more information on a command, put '--help' behind its name.
 ";

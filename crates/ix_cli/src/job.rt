@@ -5,12 +5,12 @@ ghost use Rattle.ix_cli.specs.inside.Jobs.{Explains, job_of};
 
 use crate::commands;
 use crate::fault::WordsFault;
-use crate::matches::{number, parse, text};
+use crate::matches::{number, parse, text, texts};
 use std::alloc::Global;
 
 /// What the program is to do. Files and sockets are told by their names; `nodes` is the greatest
-/// Size of a state, from 1 to 1,000,000, and `turns` the most events that are taken, from 1 to
-/// 1,000,000,000.
+/// Size of a state, from 1 to 1,000,000, `turns` the most events that are taken, from 1 to
+/// 1,000,000,000, and `states` the most states that are visited, from 1 to 1,000,000.
 #[derive(Debug, Drop)]
 pub enum Job {
     /// Trace the actions of a file.
@@ -59,6 +59,29 @@ pub enum Job {
     /// Tell what looks wrong in an expression.
     Lint {
         expr: String,
+    },
+    /// Tell which parts of an expression refuse an action behind the actions of a file. The action
+    /// may be any text.
+    Why {
+        expr: String,
+        actions: String,
+        action: String,
+        nodes: usize,
+    },
+    /// Tell what may come behind the actions of a file, over at most 16 given values, each of which
+    /// may be any text.
+    Next {
+        expr: String,
+        actions: String,
+        values: Vec<String>,
+        nodes: usize,
+    },
+    /// Tell whether a history over the given values of a file can get stuck.
+    Stuck {
+        expr: String,
+        values: String,
+        nodes: usize,
+        states: u64,
     },
 }
 
@@ -178,5 +201,53 @@ pub(crate) fn read_lint(alloc: Global, words: &[String]) -> Result<Job, WordsFau
     let matches = parse(alloc, commands::lint(alloc)?, words)?;
     Ok(Job::Lint {
         expr: text(alloc, &matches, "EXPR")?,
+    })
+}
+
+/// The job of words that begin with `why`.
+pub(crate) fn read_why(alloc: Global, words: &[String]) -> Result<Job, WordsFault>
+    requires { slice_get (map string_bytes words.now) 0 ≡ Some (codes "why") }
+    ensures { MatchResult result
+        (λ job. Names (map string_bytes words.now) (job_of job))
+        (Explains (map string_bytes words.now)) }
+{
+    let matches = parse(alloc, commands::why(alloc)?, words)?;
+    Ok(Job::Why {
+        expr: text(alloc, &matches, "EXPR")?,
+        actions: text(alloc, &matches, "ACTIONS")?,
+        action: text(alloc, &matches, "ACTION")?,
+        nodes: number(&matches, "nodes") as usize,
+    })
+}
+
+/// The job of words that begin with `next`.
+pub(crate) fn read_next(alloc: Global, words: &[String]) -> Result<Job, WordsFault>
+    requires { slice_get (map string_bytes words.now) 0 ≡ Some (codes "next") }
+    ensures { MatchResult result
+        (λ job. Names (map string_bytes words.now) (job_of job))
+        (Explains (map string_bytes words.now)) }
+{
+    let matches = parse(alloc, commands::next(alloc)?, words)?;
+    Ok(Job::Next {
+        expr: text(alloc, &matches, "EXPR")?,
+        actions: text(alloc, &matches, "ACTIONS")?,
+        values: texts(alloc, &matches, "VALUE")?,
+        nodes: number(&matches, "nodes") as usize,
+    })
+}
+
+/// The job of words that begin with `stuck`.
+pub(crate) fn read_stuck(alloc: Global, words: &[String]) -> Result<Job, WordsFault>
+    requires { slice_get (map string_bytes words.now) 0 ≡ Some (codes "stuck") }
+    ensures { MatchResult result
+        (λ job. Names (map string_bytes words.now) (job_of job))
+        (Explains (map string_bytes words.now)) }
+{
+    let matches = parse(alloc, commands::stuck(alloc)?, words)?;
+    Ok(Job::Stuck {
+        expr: text(alloc, &matches, "EXPR")?,
+        values: text(alloc, &matches, "VALUES")?,
+        nodes: number(&matches, "nodes") as usize,
+        states: number(&matches, "states"),
     })
 }

@@ -40,6 +40,9 @@ pub fn read_words(alloc: Global, words: &[String]) -> Result<Job, WordsFault>
         "bound" => job::read_bound(alloc, words),
         "follow" => job::read_follow(alloc, words),
         "lint" => job::read_lint(alloc, words),
+        "why" => job::read_why(alloc, words),
+        "next" => job::read_next(alloc, words),
+        "stuck" => job::read_stuck(alloc, words),
         _ => Err(no_command(alloc)),
     }
 }

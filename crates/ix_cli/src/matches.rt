@@ -1,8 +1,8 @@
 //! What `clap` matches.
 ghost use Rattle.std.specs.Prelude.{◌≡◌, ℕ, List, Some, IfOk, map, string_bytes, true, is_some};
-ghost use Rattle.std.specs.Prelude.{MatchResult};
+ghost use Rattle.std.specs.Prelude.{MatchResult, [], unwrap_or};
 ghost use Rattle.std.specs.Str.Parse.{digits_value, without_leading_plus};
-ghost use Rattle.clap.specs.Words.{app_of, first_of, fault_of, found_of, one_of, rows_of};
+ghost use Rattle.clap.specs.Words.{all_of, app_of, first_of, fault_of, found_of, one_of, rows_of};
 ghost use Rattle.ix_cli.specs.inside.Matches.{HasNumber, IsPlainCommand, Matches, Blames};
 
 use crate::fault::{WordsFault, refused};
@@ -43,6 +43,31 @@ pub(crate) fn text(
         first_of name.now (rows_of (found_of matches.now)) ≡ Some (string_bytes text)) }
 {
     String::from_str(alloc, matches.get_str(name).unwrap())
+}
+
+/// Copies of the texts that were matched under a name, none where there was none.
+pub(crate) fn texts(
+    alloc: Global,
+    matches: &ArgMatches<'_>,
+    name: &str,
+) -> Result<Vec<String>, AllocError>
+    ensures { IfOk result (λ texts. unwrap_or (all_of name.now (rows_of (found_of matches.now))) []
+        ≡ map string_bytes texts.items) }
+{
+    match matches.get_strs(name) {
+        Some(texts) => copies(alloc, texts),
+        None => Ok(Vec::new(alloc)),
+    }
+}
+
+fn copies(alloc: Global, texts: &[&str]) -> Result<Vec<String>, AllocError>
+    ensures { IfOk result (λ copies. map string_bytes copies.items ≡ map (λ t. t.now) texts.now) }
+{
+    let mut copies = Vec::new(alloc);
+    for text in texts {
+        copies.push(String::from_str(alloc, text)?)?;
+    }
+    Ok(copies)
 }
 
 /// The number that was matched under a name.

@@ -1,12 +1,12 @@
 -- The answer of reading words, as contracts see it.
-use Rattle.std.specs.Prelude.{ℕ, List, string_bytes, ⊤}
+use Rattle.std.specs.Prelude.{ℕ, List, map, string_bytes, ⊤}
 use Rattle.ix_cli.specs.declared.job.Job.{Job as ReadJob}
 use Rattle.ix_cli.specs.declared.job.Job.TheVariants.{Trace, Replay, Serve, Work, Simplify, Bound}
-use Rattle.ix_cli.specs.declared.job.Job.TheVariants.{Follow, Lint}
+use Rattle.ix_cli.specs.declared.job.Job.TheVariants.{Follow, Lint, Why, Next, Stuck}
 use Rattle.ix_cli.specs.declared.fault.WordsFault.{WordsFault}
 use Rattle.ix_cli.specs.declared.fault.WordsFault.TheVariants.{Bad, Memory}
 use Rattle.ix_cli.specs.Words.{Job, NamesNoJob, trace, replay, serve, work, simplify, bound}
-use Rattle.ix_cli.specs.Words.{follow, lint}
+use Rattle.ix_cli.specs.Words.{follow, lint, why, next, stuck}
 
 -- the job that was read
 abbrev pub job_of : ReadJob → Job
@@ -20,6 +20,12 @@ job_of (Simplify expr) = simplify (string_bytes expr)
 job_of (Bound expr count) = bound (string_bytes expr) count
 job_of (Follow expr lines nodes) = follow (string_bytes expr) (string_bytes lines) nodes
 job_of (Lint expr) = lint (string_bytes expr)
+job_of (Why expr actions action nodes) =
+    why (string_bytes expr) (string_bytes actions) (string_bytes action) nodes
+job_of (Next expr actions values nodes) =
+    next (string_bytes expr) (string_bytes actions) (map string_bytes values.items) nodes
+job_of (Stuck expr values nodes states) =
+    stuck (string_bytes expr) (string_bytes values) nodes states
 
 -- words that are bad name no job, and want of memory says nothing of them
 abbrev pub Explains : List (List ℕ) → WordsFault → Type 0

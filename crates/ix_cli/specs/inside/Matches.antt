@@ -1,8 +1,8 @@
--- What holds of the matches of a command whose arguments take one value each.
+-- What holds of the matches of a command with no subcommands.
 use Rattle.std.specs.Prelude.{◌≡◌, ◌≢◌, ⊤, ◌<◌, ◌^◌, ◌&&◌, ◌||◌, ◌==◌, ℕ, Bool, true, false, not}
 use Rattle.std.specs.Prelude.{List, [], ◌∷◌}
 use Rattle.std.specs.Prelude.{Option, Some, length, is_some, codes}
-use Rattle.std.specs.List.{Contains, list_all, list_any}
+use Rattle.std.specs.List.{Contains, list_any}
 use Rattle.std.specs.Str.{bytes_eq}
 use Rattle.std.specs.Str.Parse.{IsNumeral, digits_value, without_leading_plus}
 use Rattle.clap.specs.Words.{App, Row, Rule, Text, fault_of, first_of, found_of, matches_of}
@@ -35,14 +35,13 @@ are_distinct [] = true
 are_distinct (rule ∷ rules) =
     not (list_any (λ other. bytes_eq other.id rule.id) rules) && are_distinct rules
 
--- a command with no subcommands, whose arguments take one value each
+-- a command with no subcommands
 pub record IsPlainCommand (command : App) : Type 0 where
   pub no_subcommands : command.subs ≡ []
   pub simple : is_simple_and_free command ≡ true
   pub ready : is_ready command.top ≡ true
   pub free : has_free_rules command.top ≡ true
   pub requires_all : command.top.subcommand_negates_reqs ≡ false
-  pub single : list_all takes_one command.top.rules ≡ true
   pub distinct : are_distinct command.top.rules ≡ true
 
 -- a number that `u64` reads was found under this name
@@ -51,15 +50,15 @@ HasNumber rows name = (text : Text) × (one_of name rows ≡ Some text)
     × IsNumeral 10 (without_leading_plus text)
     × (digits_value 10 (without_leading_plus text) < 2 ^ 64)
 
--- The command takes the words, these are its matches of them, and each of its arguments has a
--- value, which is a number in its range where the argument has one.
+-- The command takes the words, these are its matches of them, and each of its arguments that takes
+-- one value has it, and it is a number in the argument's range where there is one.
 pub record Matches (command : App) (words : List Text) (m : ArgMatches) : Type 0 where
   pub taken : fault_of command words ≡ []
   pub rows : rows_of (found_of m) ≡ matches_of command words
-  pub texts : (rule : Rule) → Contains command.top.rules rule
+  pub texts : (rule : Rule) → Contains command.top.rules rule → takes_one rule ≡ true
       → is_some (first_of rule.id (rows_of (found_of m))) ≡ true
-  pub numbers : (rule : Rule) → Contains command.top.rules rule → (least most : ℕ)
-      → rule.parser ≡ Some (parser.Unsigned least most)
+  pub numbers : (rule : Rule) → Contains command.top.rules rule → takes_one rule ≡ true
+      → (least most : ℕ) → rule.parser ≡ Some (parser.Unsigned least most)
       → (text : Text) × (one_of rule.id (rows_of (found_of m)) ≡ Some text)
       × IsUnsignedIn least most text
 

@@ -1,7 +1,7 @@
 use Rattle.std.proofs.Common.{◌∙◌, ap, Some, sym, subst, refl, codes}
 use Rattle.ix_cli.specs.Commands.{word, nodes_option}
 use Rattle.ix_cli.specs.inside.Matches.{IsPlainCommand}
-use Rattle.ix_cli.proofs.Blame.{blamed_as, handed_up, follow_blamed}
+use Rattle.ix_cli.proofs.Blame.{blamed, blamed_as, handed_up, follow_known}
 use Rattle.ix_cli.proofs.PlainCommands.{follow_name, follow_plain, follow_expr, follow_lines}
 use Rattle.ix_cli.proofs.PlainCommands.{follow_nodes}
 use Rattle.ix_cli.proofs.Reading.{has_number, matches_as, says_number, says_text}
@@ -13,24 +13,24 @@ parse-requires c = subst IsPlainCommand (sym c.in_ok-follow.ensures) follow_plai
 pub returns-in_err-matches : goal.returns-in_err-matches
 returns-in_err-matches c =
     let fault = c.in_err-matches.field-0.0 in
-    let blamed = blamed_as _ fault c.in_ok-follow.ensures c.in_err-matches.ensures in
+    let refused = blamed_as _ fault c.in_ok-follow.ensures c.in_err-matches.ensures in
     handed_up _ fault _ _ c.from_residual-in_err-matches.ensures.1
-    (follow_blamed _ c.requires fault blamed)
+    (blamed _ _ follow_known (c.requires ∙ ap Some (sym follow_name)) fault refused)
 
 pub text-requires : goal.text-requires
 text-requires c =
     let made = matches_as c.in_ok-follow.ensures c.in_ok-matches.ensures in
-    made.texts (word (codes "EXPR")) follow_expr
+    made.texts (word (codes "EXPR")) follow_expr refl
 
 pub text-requires-2 : goal.text-requires-2
 text-requires-2 c =
     let made = matches_as c.in_ok-follow.ensures c.in_ok-matches.ensures in
-    made.texts (word (codes "LINES")) follow_lines
+    made.texts (word (codes "LINES")) follow_lines refl
 
 pub number-requires : goal.number-requires
 number-requires c =
     let made = matches_as c.in_ok-follow.ensures c.in_ok-matches.ensures in
-    has_number made nodes_option follow_nodes refl
+    has_number made nodes_option follow_nodes refl refl
 
 pub returns : goal.returns
 returns c =
@@ -38,5 +38,5 @@ returns c =
       record { name = c.requires ∙ ap Some (sym follow_name); taken = made.taken },
       says_text made (codes "EXPR") c.in_ok-text.ensures,
       says_text made (codes "LINES") c.in_ok-text-2.ensures,
-      says_number made nodes_option follow_nodes refl c.number.ensures,
+      says_number made nodes_option follow_nodes refl refl c.number.ensures,
     )

@@ -1,7 +1,7 @@
-use Rattle.std.proofs.Common.{◌∙◌, ap, Some, sym, subst, codes}
+use Rattle.std.proofs.Common.{◌∙◌, ap, Some, sym, subst, codes, refl}
 use Rattle.ix_cli.specs.Commands.{word}
 use Rattle.ix_cli.specs.inside.Matches.{IsPlainCommand}
-use Rattle.ix_cli.proofs.Blame.{blamed_as, handed_up, lint_blamed}
+use Rattle.ix_cli.proofs.Blame.{blamed, blamed_as, handed_up, lint_known}
 use Rattle.ix_cli.proofs.PlainCommands.{lint_name, lint_plain, lint_expr}
 use Rattle.ix_cli.proofs.Reading.{matches_as, says_text}
 use Rattle.ix_cli.proofs.job.read_lint.Goals as goal
@@ -12,14 +12,14 @@ parse-requires c = subst IsPlainCommand (sym c.in_ok-lint.ensures) lint_plain
 pub returns-in_err-matches : goal.returns-in_err-matches
 returns-in_err-matches c =
     let fault = c.in_err-matches.field-0.0 in
-    let blamed = blamed_as _ fault c.in_ok-lint.ensures c.in_err-matches.ensures in
+    let refused = blamed_as _ fault c.in_ok-lint.ensures c.in_err-matches.ensures in
     handed_up _ fault _ _ c.from_residual-in_err-matches.ensures.1
-    (lint_blamed _ c.requires fault blamed)
+    (blamed _ _ lint_known (c.requires ∙ ap Some (sym lint_name)) fault refused)
 
 pub text-requires : goal.text-requires
 text-requires c =
     let made = matches_as c.in_ok-lint.ensures c.in_ok-matches.ensures in
-    made.texts (word (codes "EXPR")) lint_expr
+    made.texts (word (codes "EXPR")) lint_expr refl
 
 pub returns : goal.returns
 returns c =

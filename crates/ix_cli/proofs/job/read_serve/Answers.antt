@@ -1,7 +1,7 @@
 use Rattle.std.proofs.Common.{◌∙◌, ap, Some, sym, subst, refl, codes}
 use Rattle.ix_cli.specs.Commands.{word, nodes_option, turns_option}
 use Rattle.ix_cli.specs.inside.Matches.{IsPlainCommand}
-use Rattle.ix_cli.proofs.Blame.{blamed_as, handed_up, serve_blamed}
+use Rattle.ix_cli.proofs.Blame.{blamed, blamed_as, handed_up, serve_known}
 use Rattle.ix_cli.proofs.PlainCommands.{serve_name, serve_plain, serve_expr, serve_journal}
 use Rattle.ix_cli.proofs.PlainCommands.{serve_socket, serve_nodes, serve_turns}
 use Rattle.ix_cli.proofs.Reading.{has_number, matches_as, says_number, says_text}
@@ -13,34 +13,34 @@ parse-requires c = subst IsPlainCommand (sym c.in_ok-serve.ensures) serve_plain
 pub returns-in_err-matches : goal.returns-in_err-matches
 returns-in_err-matches c =
     let fault = c.in_err-matches.field-0.0 in
-    let blamed = blamed_as _ fault c.in_ok-serve.ensures c.in_err-matches.ensures in
+    let refused = blamed_as _ fault c.in_ok-serve.ensures c.in_err-matches.ensures in
     handed_up _ fault _ _ c.from_residual-in_err-matches.ensures.1
-    (serve_blamed _ c.requires fault blamed)
+    (blamed _ _ serve_known (c.requires ∙ ap Some (sym serve_name)) fault refused)
 
 pub text-requires : goal.text-requires
 text-requires c =
     let made = matches_as c.in_ok-serve.ensures c.in_ok-matches.ensures in
-    made.texts (word (codes "EXPR")) serve_expr
+    made.texts (word (codes "EXPR")) serve_expr refl
 
 pub text-requires-2 : goal.text-requires-2
 text-requires-2 c =
     let made = matches_as c.in_ok-serve.ensures c.in_ok-matches.ensures in
-    made.texts (word (codes "JOURNAL")) serve_journal
+    made.texts (word (codes "JOURNAL")) serve_journal refl
 
 pub text-requires-3 : goal.text-requires-3
 text-requires-3 c =
     let made = matches_as c.in_ok-serve.ensures c.in_ok-matches.ensures in
-    made.texts (word (codes "SOCKET")) serve_socket
+    made.texts (word (codes "SOCKET")) serve_socket refl
 
 pub number-requires : goal.number-requires
 number-requires c =
     let made = matches_as c.in_ok-serve.ensures c.in_ok-matches.ensures in
-    has_number made nodes_option serve_nodes refl
+    has_number made nodes_option serve_nodes refl refl
 
 pub number-requires-2 : goal.number-requires-2
 number-requires-2 c =
     let made = matches_as c.in_ok-serve.ensures c.in_ok-matches.ensures in
-    has_number made turns_option serve_turns refl
+    has_number made turns_option serve_turns refl refl
 
 pub returns : goal.returns
 returns c =
@@ -49,6 +49,6 @@ returns c =
       says_text made (codes "EXPR") c.in_ok-text.ensures,
       says_text made (codes "JOURNAL") c.in_ok-text-2.ensures,
       says_text made (codes "SOCKET") c.in_ok-text-3.ensures,
-      says_number made nodes_option serve_nodes refl c.number.ensures,
-      says_number made turns_option serve_turns refl c.number-2.ensures,
+      says_number made nodes_option serve_nodes refl refl c.number.ensures,
+      says_number made turns_option serve_turns refl refl c.number-2.ensures,
     )

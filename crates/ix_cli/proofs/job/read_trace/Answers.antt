@@ -1,7 +1,7 @@
 use Rattle.std.proofs.Common.{◌∙◌, ap, Some, sym, subst, refl, codes}
 use Rattle.ix_cli.specs.Commands.{word, nodes_option}
 use Rattle.ix_cli.specs.inside.Matches.{IsPlainCommand}
-use Rattle.ix_cli.proofs.Blame.{blamed_as, handed_up, trace_blamed}
+use Rattle.ix_cli.proofs.Blame.{blamed, blamed_as, handed_up, trace_known}
 use Rattle.ix_cli.proofs.PlainCommands.{trace_name, trace_plain, trace_expr, trace_actions}
 use Rattle.ix_cli.proofs.PlainCommands.{trace_nodes}
 use Rattle.ix_cli.proofs.Reading.{has_number, matches_as, says_number, says_text}
@@ -13,24 +13,24 @@ parse-requires c = subst IsPlainCommand (sym c.in_ok-trace.ensures) trace_plain
 pub returns-in_err-matches : goal.returns-in_err-matches
 returns-in_err-matches c =
     let fault = c.in_err-matches.field-0.0 in
-    let blamed = blamed_as _ fault c.in_ok-trace.ensures c.in_err-matches.ensures in
+    let refused = blamed_as _ fault c.in_ok-trace.ensures c.in_err-matches.ensures in
     handed_up _ fault _ _ c.from_residual-in_err-matches.ensures.1
-    (trace_blamed _ c.requires fault blamed)
+    (blamed _ _ trace_known (c.requires ∙ ap Some (sym trace_name)) fault refused)
 
 pub text-requires : goal.text-requires
 text-requires c =
     let made = matches_as c.in_ok-trace.ensures c.in_ok-matches.ensures in
-    made.texts (word (codes "EXPR")) trace_expr
+    made.texts (word (codes "EXPR")) trace_expr refl
 
 pub text-requires-2 : goal.text-requires-2
 text-requires-2 c =
     let made = matches_as c.in_ok-trace.ensures c.in_ok-matches.ensures in
-    made.texts (word (codes "ACTIONS")) trace_actions
+    made.texts (word (codes "ACTIONS")) trace_actions refl
 
 pub number-requires : goal.number-requires
 number-requires c =
     let made = matches_as c.in_ok-trace.ensures c.in_ok-matches.ensures in
-    has_number made nodes_option trace_nodes refl
+    has_number made nodes_option trace_nodes refl refl
 
 pub returns : goal.returns
 returns c =
@@ -38,5 +38,5 @@ returns c =
       record { name = c.requires ∙ ap Some (sym trace_name); taken = made.taken },
       says_text made (codes "EXPR") c.in_ok-text.ensures,
       says_text made (codes "ACTIONS") c.in_ok-text-2.ensures,
-      says_number made nodes_option trace_nodes refl c.number.ensures,
+      says_number made nodes_option trace_nodes refl refl c.number.ensures,
     )

@@ -1,0 +1,48 @@
+use Rattle.std.proofs.Common.{◌∙◌, ap, Some, sym, subst, refl, codes}
+use Rattle.ix_cli.specs.Commands.{word, nodes_option, states_option}
+use Rattle.ix_cli.specs.inside.Matches.{IsPlainCommand}
+use Rattle.ix_cli.proofs.Blame.{blamed, blamed_as, handed_up, stuck_known}
+use Rattle.ix_cli.proofs.PlainCommands.{stuck_name, stuck_plain, stuck_expr, stuck_values}
+use Rattle.ix_cli.proofs.PlainCommands.{stuck_nodes, stuck_states}
+use Rattle.ix_cli.proofs.Reading.{has_number, matches_as, says_number, says_text}
+use Rattle.ix_cli.proofs.job.read_stuck.Goals as goal
+
+pub parse-requires : goal.parse-requires
+parse-requires c = subst IsPlainCommand (sym c.in_ok-stuck.ensures) stuck_plain
+
+pub returns-in_err-matches : goal.returns-in_err-matches
+returns-in_err-matches c =
+    let fault = c.in_err-matches.field-0.0 in
+    let refused = blamed_as _ fault c.in_ok-stuck.ensures c.in_err-matches.ensures in
+    handed_up _ fault _ _ c.from_residual-in_err-matches.ensures.1
+    (blamed _ _ stuck_known (c.requires ∙ ap Some (sym stuck_name)) fault refused)
+
+pub text-requires : goal.text-requires
+text-requires c =
+    let made = matches_as c.in_ok-stuck.ensures c.in_ok-matches.ensures in
+    made.texts (word (codes "EXPR")) stuck_expr refl
+
+pub text-requires-2 : goal.text-requires-2
+text-requires-2 c =
+    let made = matches_as c.in_ok-stuck.ensures c.in_ok-matches.ensures in
+    made.texts (word (codes "VALUES")) stuck_values refl
+
+pub number-requires : goal.number-requires
+number-requires c =
+    let made = matches_as c.in_ok-stuck.ensures c.in_ok-matches.ensures in
+    has_number made nodes_option stuck_nodes refl refl
+
+pub number-requires-2 : goal.number-requires-2
+number-requires-2 c =
+    let made = matches_as c.in_ok-stuck.ensures c.in_ok-matches.ensures in
+    has_number made states_option stuck_states refl refl
+
+pub returns : goal.returns
+returns c =
+    let made = matches_as c.in_ok-stuck.ensures c.in_ok-matches.ensures in (
+      record { name = c.requires ∙ ap Some (sym stuck_name); taken = made.taken },
+      says_text made (codes "EXPR") c.in_ok-text.ensures,
+      says_text made (codes "VALUES") c.in_ok-text-2.ensures,
+      says_number made nodes_option stuck_nodes refl refl c.number.ensures,
+      says_number made states_option stuck_states refl refl c.number-2.ensures,
+    )
