@@ -1,14 +1,19 @@
 -- What each status of a run is due to.
 use Rattle.std.proofs.Common.{◌≡◌, ℕ, ◌≤◌, ◌==◌, false, true≢false, List, Option, None, arith, refl, sym, ◌∙◌, ap, subst}
 use Rattle.ix_cli.specs.Words.{Job, trace, replay, serve, work, simplify, bound, follow, lint}
+use Rattle.ix_cli.specs.Words as job
 use Rattle.ix_expr.specs.Form.{Form}
 use Rattle.ix_outside.specs.Counts.{Counts}
+use Rattle.ix_outside.specs.Files.{Listing}
+use Rattle.ix_parse.specs.Symbols.{Meaning}
 use Rattle.ix_outside.specs.Crashes.{Crashes}
 use Rattle.ix_outside.specs.SiteState.{SiteState, OnlyDisk}
 use Rattle.ix_outside.proofs.Counting.{Rose-earlier}
 use Rattle.ix_values.specs.PlainAction.{Word}
 use Rattle.ix_manage.specs.Around.{Around, DiskFailed, FilesFailed, WireFailed}
 use Rattle.ix_manage.specs.Command.{NamesNoJournal, NamesNoSocket, journal_of, socket_of}
+use Rattle.ix_manage.specs.Desk as desk
+use Rattle.ix_manage.specs.Desk.{IsAnswered, Unread}
 use Rattle.ix_manage.specs.Ends as how
 use Rattle.ix_manage.specs.Ends.{EndsOver, JobEnds}
 use Rattle.ix_manage.specs.FollowLines as fed
@@ -87,6 +92,15 @@ module _ (around : Around) where
   of_followed (fed.ends to last) = of_fed to last
   of_followed (fed.lost_answer rest answer split follows feeds) = of_ten
 
+  of_told : {files : Option Listing} {x : Meaning} {job : Job} {end : ℕ} {text : List ℕ}
+      → IsAnswered files x job end text → AreDue around end
+  of_told (desk.not_allowed code fault named reads stops coded) = of_none 11 refl refl refl
+  of_told (desk.reasons a reads allowed valid same) = of_none 0 refl refl refl
+  of_told (desk.many given reads allowed are more) = of_none 3 refl refl refl
+  of_told (desk.menu given offered reads allowed are is verdict) = of_none 0 refl refl refl
+  of_told (desk.many_moves given reads more) = of_none 3 refl refl refl
+  of_told (desk.searched given answer reads is) = of_none 0 refl refl refl
+
   of_worked : {count seed limit status : ℕ} {whole part : List ℕ}
       → Works count seed limit status whole part → AreDue around status
   of_worked (above stands large last) = of_last (of_none 3 refl refl refl) last
@@ -120,6 +134,12 @@ module _ (around : Around) where
   of_session (disk_failed fails rose last) = of_last (of_disk rose) last
   of_session (lost_history none) = of_ten
 
+  of_unread : {job : Job} {end : ℕ} {text : List ℕ} → Unread around job end text → AreDue around end
+  of_unread (desk.bad_actions named bad) = of_none 3 refl refl refl
+  of_unread (desk.lost_actions named rose) = of_file rose
+  of_unread (desk.bad_values named bad) = of_none 3 refl refl refl
+  of_unread (desk.lost_values named rose) = of_file rose
+
   of_job : {job : Job} {status : ℕ} {whole part : List ℕ} {session : Option Session}
       → JobEnds around job status whole part session → AreDue around status
   of_job (how.no_memory last) = of_last (of_none 9 refl refl refl) last
@@ -145,6 +165,8 @@ module _ (around : Around) where
   of_job (how.lost_lines starts rose rests last) = of_last (of_file rose) last
   of_job (how.followed starts reads follows) = of_followed follows
   of_job (how.linted reads last) = of_last (of_none 0 refl refl refl) last
+  of_job (how.unread named reads within unread last) = of_last (of_unread unread) last
+  of_job (how.told named reads within answer last) = of_last (of_told answer) last
 
 -- what a job may touch, by what it has
 touches_calls : (job : Job) (before after : SiteState) → Touches job before after → OnlyCalls before after
@@ -156,6 +178,9 @@ touches_calls (simplify expression) before after same = subst (OnlyCalls before)
 touches_calls (bound expression count) before after same = subst (OnlyCalls before) (sym same) (calls_still before)
 touches_calls (follow expression lines limit) before after same = subst (OnlyCalls before) (sym same) (calls_still before)
 touches_calls (lint expression) before after same = subst (OnlyCalls before) (sym same) (calls_still before)
+touches_calls (job.why expression actions action limit) before after same = subst (OnlyCalls before) (sym same) (calls_still before)
+touches_calls (job.next expression actions values limit) before after same = subst (OnlyCalls before) (sym same) (calls_still before)
+touches_calls (job.stuck expression values limit states) before after same = subst (OnlyCalls before) (sym same) (calls_still before)
 
 touches_disk : (job : Job) (before after : SiteState) → socket_of job ≡ None → Touches job before after → OnlyDisk before after
 touches_disk (trace expression actions limit) before after none same = subst (OnlyDisk before) (sym same) (disk_calls_still before)
@@ -166,6 +191,9 @@ touches_disk (simplify expression) before after none same = subst (OnlyDisk befo
 touches_disk (bound expression count) before after none same = subst (OnlyDisk before) (sym same) (disk_calls_still before)
 touches_disk (follow expression lines limit) before after none same = subst (OnlyDisk before) (sym same) (disk_calls_still before)
 touches_disk (lint expression) before after none same = subst (OnlyDisk before) (sym same) (disk_calls_still before)
+touches_disk (job.why expression actions action limit) before after none same = subst (OnlyDisk before) (sym same) (disk_calls_still before)
+touches_disk (job.next expression actions values limit) before after none same = subst (OnlyDisk before) (sym same) (disk_calls_still before)
+touches_disk (job.stuck expression values limit states) before after none same = subst (OnlyDisk before) (sym same) (disk_calls_still before)
 
 touches_nothing : (job : Job) (before after : SiteState) → journal_of job ≡ None → Touches job before after → after ≡ before
 touches_nothing (trace expression actions limit) before after none same = same
@@ -176,6 +204,9 @@ touches_nothing (simplify expression) before after none same = same
 touches_nothing (bound expression count) before after none same = same
 touches_nothing (follow expression lines limit) before after none same = same
 touches_nothing (lint expression) before after none same = same
+touches_nothing (job.why expression actions action limit) before after none same = same
+touches_nothing (job.next expression actions values limit) before after none same = same
+touches_nothing (job.stuck expression values limit states) before after none same = same
 
 -- the same of a run
 module _ (words : List (List ℕ)) (around : Around) (is : Crashes) where
@@ -183,22 +214,26 @@ module _ (words : List (List ℕ)) (around : Around) (is : Crashes) where
       → EndsOver words around is status whole part session → AreDue around status
   causes (how.other_words none rests last) = of_last around (of_none around 2 refl refl refl) last
   causes (how.no_memory rests last) = of_last around (of_none around 9 refl refl refl) last
-  causes (how.named names it) = of_job around it.ends
+  causes (how.unfit job names unfit rests last) = of_last around (of_none around 2 refl refl refl) last
+  causes (how.named names fit it) = of_job around it.ends
 
   pub calls : {status : ℕ} {whole part : List ℕ} {session : Option Session}
       → EndsOver words around is status whole part session → OnlyCalls around.before around.after
   calls (how.other_words none rests _) = subst (OnlyCalls around.before) (sym rests) (calls_still around.before)
   calls (how.no_memory rests _) = subst (OnlyCalls around.before) (sym rests) (calls_still around.before)
-  calls (how.named {job = job} names it) = touches_calls job around.before around.after it.touches
+  calls (how.unfit job names unfit rests _) = subst (OnlyCalls around.before) (sym rests) (calls_still around.before)
+  calls (how.named {job = job} names fit it) = touches_calls job around.before around.after it.touches
 
   pub no_socket : {status : ℕ} {whole part : List ℕ} {session : Option Session} → NamesNoSocket words
       → EndsOver words around is status whole part session → OnlyDisk around.before around.after
   no_socket none (how.other_words others rests _) = subst (OnlyDisk around.before) (sym rests) (disk_calls_still around.before)
   no_socket none (how.no_memory rests _) = subst (OnlyDisk around.before) (sym rests) (disk_calls_still around.before)
-  no_socket none (how.named {job = job} names it) = touches_disk job around.before around.after (none job names) it.touches
+  no_socket none (how.unfit job names unfit rests _) = subst (OnlyDisk around.before) (sym rests) (disk_calls_still around.before)
+  no_socket none (how.named {job = job} names fit it) = touches_disk job around.before around.after (none job names) it.touches
 
   pub no_journal : {status : ℕ} {whole part : List ℕ} {session : Option Session} → NamesNoJournal words
       → EndsOver words around is status whole part session → around.after ≡ around.before
   no_journal none (how.other_words others rests _) = rests
   no_journal none (how.no_memory rests _) = rests
-  no_journal none (how.named {job = job} names it) = touches_nothing job around.before around.after (none job names) it.touches
+  no_journal none (how.unfit job names unfit rests _) = rests
+  no_journal none (how.named {job = job} names fit it) = touches_nothing job around.before around.after (none job names) it.touches

@@ -1,5 +1,5 @@
 -- How a run ends, by what its parts say.
-use Rattle.std.proofs.Common.{◌≡◌, ℕ, ◌≤◌, List, [], Option, None, Some, Result, Ok, Err, IfOk, IfErr}
+use Rattle.std.proofs.Common.{◌≡◌, ℕ, ◌≤◌, List, [], Option, Some, Result, Ok, Err, IfOk, IfErr}
 use Rattle.std.proofs.Common.{length, refl, sym, subst}
 use Rattle.ix_expr.specs.Form.{Form}
 use Rattle.ix_parse.specs.Faults.{StandsFor, IsPlaced, IsFirstFault}
@@ -18,13 +18,14 @@ use Rattle.ix_manage.specs.Around.{around_of}
 use Rattle.ix_manage.specs.Command.{expression_of, limit_of}
 use Rattle.ix_manage.specs.FollowLines.{FollowEnds}
 use Rattle.ix_manage.specs.Ends.{JobEnds, ReadsRest, bad_text, bad_actions, large, lost_expression, lost_actions, no_memory, traced, bad_script, lost_script, long_lines, lost_lines, followed}
-use Rattle.ix_manage.specs.inside.Refusal.{HasLongLines, longer, refusal_line, refusal_status, RefusesExpression, RefusesActions, RefusesLines, RefusesScript, RefusesStart, RefusesText, IsBadScript}
+use Rattle.ix_manage.specs.inside.Refusal.{HasLongLines, longer, RefusesExpression, RefusesActions, RefusesLines, RefusesScript, RefusesStart, RefusesText, IsBadScript}
 use Rattle.ix_manage.specs.Puts.{LastLine}
 use Rattle.ix_manage.specs.Session.{Session}
 use Rattle.ix_manage.specs.Replay.{HasBadScript, ReadsEvents, bad_line}
 use Rattle.ix_manage.specs.Trace.{HasBadActions, within, large_line, ReadsForm, ReadsPlaced, Starts, Traces}
 use Rattle.ix_manage.specs.inside.Following.{FollowsLines}
 use Rattle.ix_manage.specs.inside.Linting.{placed_meaning}
+use Rattle.ix_manage.specs.inside.Pasts.{EndsWith}
 use Rattle.ix_manage.specs.inside.TracesLines.{TracesLines}
 use Rattle.ix_manage.specs.declared.refusal.Refusal.{Refusal}
 use Rattle.ix_manage.specs.declared.refusal.Refusal.TheVariants.{Bad, Lost, Large, Memory}
@@ -82,13 +83,6 @@ script_refused_later files mid later name (Bad Script code at) only why =
 script_refused_later files mid later name (Lost Script) only why = Rose-earlier files.faults mid.faults later.faults only.faults why
 script_refused_later files mid later name Memory only why = why
 script_refused_later files mid later name _ only why = absurd why
-
--- a job may end with the refusal's line alone, and leaves the site as it is
-abbrev EndsWith : FilesState → FilesState → Job → Refusal → Type 0
-EndsWith files later job refusal =
-    (status : ℕ) (whole part : List ℕ)
-    → LastLine (refusal_status refusal) [] (refusal_line refusal) status whole part
-    → (site : SiteState) → JobEnds (around_of files later site site) job status whole part None
 
 -- what refuses the file of its expression refuses a job
 pub expression_refused : (files later : FilesState) (job : Job) (expression : List ℕ)

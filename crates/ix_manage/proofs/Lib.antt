@@ -21,3 +21,6 @@ pub mod WorkEnding
 pub mod Causes
 pub mod Unhindered
 pub mod FeedLemmas
+pub mod GivenValues
+pub mod Pasts
+pub mod Desking

@@ -6,7 +6,8 @@ use Rattle.ix_outside.specs.Sink.{AppendsPart}
 use Rattle.ix_outside.specs.SinkState.{SinkState}
 use Rattle.ix_outside.proofs.Counting.{Rose-earlier}
 use Rattle.ix_manage.specs.declared.refusal.Refusal.{Refusal}
-use Rattle.ix_manage.specs.declared.refusal.Refusal.TheVariants.{Bad, Lost, Large, Unfollowed, Disk, Wire, Journal, Turns, Memory}
+use Rattle.ix_manage.specs.declared.refusal.Refusal.TheVariants as refusals
+use Rattle.ix_manage.specs.declared.refusal.Refusal.TheVariants.{Bad, Lost, Large, Unfollowed, NotAllowed, Candidates, Disk, Wire, Journal, Turns, Memory}
 use Rattle.ix_manage.specs.declared.early_end.EarlyEnd.{EarlyEnd}
 use Rattle.ix_manage.specs.declared.early_end.EarlyEnd.TheVariants.{Refused, Words, OtherExpression, Output}
 use Rattle.ix_manage.specs.Ends.{Ended}
@@ -143,6 +144,9 @@ not_ten (Bad file code at) = λ same. omega (arith, same)
 not_ten (Lost file) = λ same. omega (arith, same)
 not_ten (Large limit) = λ same. omega (arith, same)
 not_ten (Unfollowed code number) = λ same. omega (arith, same)
+not_ten (NotAllowed code number) = λ same. omega (arith, same)
+not_ten refusals.Words = λ same. omega (arith, same)
+not_ten Candidates = λ same. omega (arith, same)
 not_ten Disk = λ same. omega (arith, same)
 not_ten Wire = λ same. omega (arith, same)
 not_ten (Journal why) = λ same. omega (arith, same)

@@ -85,7 +85,7 @@ front_step all rest next text front action cut valid named so_far = record {
 }
 
 -- nothing is left
-front_end : (all rest : List ℕ) (front : Word) → length rest ≡ 0 → StandBefore all rest front → HasActions all front
+pub front_end : (all rest : List ℕ) (front : Word) → length rest ≡ 0 → StandBefore all rest front → HasActions all front
 front_end all rest front none so_far = record {
   valid = so_far.valid;
   lines = so_far.lines ∙ ap (λ lines. map text_of front ++ lines) (lines_of-none rest none) ∙ append-nil (map text_of front);

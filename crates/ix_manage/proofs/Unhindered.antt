@@ -38,9 +38,15 @@ use Rattle.ix_manager.specs.Images.{IsOwn, IsStartable}
 use Rattle.ix_manager.specs.Runs.{going, opening_of, stopped}
 use Rattle.ix_manager.specs.Starts.{HasText}
 use Rattle.ix_cli.specs.Words.{Job, Names, trace, replay, serve, work, simplify, bound, follow, lint}
+use Rattle.ix_cli.specs.Words as job
 use Rattle.ix_cli.proofs.Named.{no_job, one_job}
 use Rattle.ix_manage.specs.Around.{Around}
-use Rattle.ix_manage.specs.Command.{expression_of, limit_of}
+use Rattle.ix_manage.specs.Command.{expression_of, history_file_of, limit_of, values_file_of}
+use Rattle.ix_manage.specs.Desk as desk
+use Rattle.ix_next.specs.Lists.{HasBadLine}
+use Rattle.ix_manage.specs.Desk.{HasBadValues, HasFitWords, ReadsValues, Unread}
+use Rattle.ix_next.specs.Given.{PlainGiven}
+use Rattle.ix_manage.proofs.GivenValues.{each_given, no_bad_lines}
 use Rattle.ix_manage.specs.Ends as how
 use Rattle.ix_manage.specs.Ends.{EndsOver, JobEnds, KeepsJournal, ReadsRest}
 use Rattle.ix_manage.specs.FollowLines as fed
@@ -134,6 +140,14 @@ module _ (files : Option Listing) (told : IsSome files) where
       fault.fault.no_action
       (good_action fault.before fault.bad fault.behind word reads.has.valid
       (sym fault.split ∙ ap lines_of same ∙ reads.has.lines))
+
+  -- nor are given values
+  no_bad_values : (name : List ℕ) (given : List PlainGiven) {code at : ℕ} → ReadsValues files name given
+      → HasBadValues files name code at → ⊥
+  no_bad_values name given reads (desk.too_long is) = longer_than name reads.bytes 67108864 reads.file reads.short is
+  no_bad_values name given {code = code} {at = at} reads (desk.bad_line bytes file short bad) =
+      let same = one_file name bytes reads.bytes file reads.file in
+      no_bad_lines reads.bytes given reads.good reads.some (subst (λ b. HasBadLine b code at) same bad)
 
   -- nor is a script, each line of which is in the grammar
   no_bad_script : (name : List ℕ) (events : List GivenEvent) (code at : ℕ) → ReadsEvents files name events
@@ -254,6 +268,12 @@ module _ (around : Around) (old new : SinkState) (told : IsSome around.files) (n
   reads_of (follow named lines limit) expression is all =
       (all.0, subst (λ name. ReadsForm around.files name all.0) (some_is is) all.2.reads)
   reads_of (lint named) expression is all = (all.0, subst (λ name. ReadsForm around.files name all.0) (some_is is) all.1)
+  reads_of (job.why named actions action limit) expression is all =
+      (all.0, subst (λ name. ReadsForm around.files name all.0) (some_is is) all.2.reads)
+  reads_of (job.next named actions values limit) expression is all =
+      (all.0, subst (λ name. ReadsForm around.files name all.0) (some_is is) all.3.reads)
+  reads_of (job.stuck named values limit states) expression is all =
+      (all.0, subst (λ name. ReadsForm around.files name all.0) (some_is is) all.2)
 
   -- a job that makes a tree starts
   starts_of : (job : Job) (expression : List ℕ) → expression_of job ≡ Some expression → ReadsRest around.files job
@@ -270,6 +290,58 @@ module _ (around : Around) (old new : SinkState) (told : IsSome around.files) (n
   starts_of (follow named lines limit) expression is rest all =
       (all.0, subst (λ name. Starts around.files name limit all.0) (some_is is) all.2)
   starts_of (lint named) expression is rest all = absurd rest
+  starts_of (job.why named actions action limit) expression is rest all =
+      (all.0, subst (λ name. Starts around.files name limit all.0) (some_is is) all.2)
+  starts_of (job.next named actions values limit) expression is rest all =
+      (all.0, subst (λ name. Starts around.files name limit all.0) (some_is is) all.3)
+  starts_of (job.stuck named values limit states) expression is rest all = absurd rest
+
+  -- the actions that a job takes as a history are read
+  past_of : (job : Job) (actions : List ℕ) → history_file_of job ≡ Some actions → HasAll around job
+      → (word : Word) × ReadsActions around.files actions word
+  past_of (trace named acts limit) actions is all = absurd (none-some actions is)
+  past_of (replay named kept script limit turns) actions is all = absurd (none-some actions is)
+  past_of (serve named kept socket limit turns) actions is all = absurd (none-some actions is)
+  past_of (work count seed limit) actions is all = absurd (none-some actions is)
+  past_of (simplify named) actions is all = absurd (none-some actions is)
+  past_of (bound named count) actions is all = absurd (none-some actions is)
+  past_of (follow named lines limit) actions is all = absurd (none-some actions is)
+  past_of (lint named) actions is all = absurd (none-some actions is)
+  past_of (job.why named acts action limit) actions is all =
+      (all.1, subst (λ name. ReadsActions around.files name all.1) (some_is is) all.3)
+  past_of (job.next named acts values limit) actions is all =
+      (all.1, subst (λ name. ReadsActions around.files name all.1) (some_is is) all.4)
+  past_of (job.stuck named values limit states) actions is all = absurd (none-some actions is)
+
+  -- and so are its given values
+  given_of : (job : Job) (values : List ℕ) → values_file_of job ≡ Some values → HasAll around job
+      → (given : List PlainGiven) × ReadsValues around.files values given
+  given_of (trace named acts limit) values is all = absurd (none-some values is)
+  given_of (replay named kept script limit turns) values is all = absurd (none-some values is)
+  given_of (serve named kept socket limit turns) values is all = absurd (none-some values is)
+  given_of (work count seed limit) values is all = absurd (none-some values is)
+  given_of (simplify named) values is all = absurd (none-some values is)
+  given_of (bound named count) values is all = absurd (none-some values is)
+  given_of (follow named lines limit) values is all = absurd (none-some values is)
+  given_of (lint named) values is all = absurd (none-some values is)
+  given_of (job.why named acts action limit) values is all = absurd (none-some values is)
+  given_of (job.next named acts texts limit) values is all = absurd (none-some values is)
+  given_of (job.stuck named told_values limit states) values is all =
+      (all.1, subst (λ name. ReadsValues around.files name all.1) (some_is is) all.3)
+
+  -- its words are what they must be
+  fit_of : (job : Job) → HasAll around job → HasFitWords job
+  fit_of (trace named actions limit) all = tt
+  fit_of (replay named kept script limit turns) all = tt
+  fit_of (serve named kept socket limit turns) all = tt
+  fit_of (work count seed limit) all = tt
+  fit_of (simplify named) all = tt
+  fit_of (bound named count) all = tt
+  fit_of (follow named lines limit) all = tt
+  fit_of (lint named) all = tt
+  fit_of (job.why named actions action limit) all = all.4
+  fit_of (job.next named actions values limit) all = each_given values all.2 all.5
+  fit_of (job.stuck named values limit states) all = tt
 
   no_large : (job : Job) (expression : List ℕ) → expression_of job ≡ Some expression → ReadsRest around.files job
       → HasAll around job → StartsAbove around.files expression (limit_of job) → ⊥
@@ -298,12 +370,29 @@ module _ (around : Around) (old new : SinkState) (told : IsSome around.files) (n
   no_refusal (bound named count) expression why x keeps starts refuses all = absurd (none-some keeps.journal keeps.has_journal)
   no_refusal (follow named lines limit) expression why x keeps starts refuses all = absurd (none-some keeps.journal keeps.has_journal)
   no_refusal (lint named) expression why x keeps starts refuses all = absurd (none-some keeps.journal keeps.has_journal)
+  no_refusal (job.why named actions action limit) expression cause x keeps starts refuses all =
+      absurd (none-some keeps.journal keeps.has_journal)
+  no_refusal (job.next named actions values limit) expression why x keeps starts refuses all =
+      absurd (none-some keeps.journal keeps.has_journal)
+  no_refusal (job.stuck named values limit states) expression why x keeps starts refuses all =
+      absurd (none-some keeps.journal keeps.has_journal)
   no_refusal (replay named kept script limit turns) expression why x keeps starts refuses all =
       refuses_none expression limit why x all.0 starts
       (subst (λ name. Starts around.files name limit all.0) (some_is keeps.of_expression) all.2) all.4 refuses
   no_refusal (serve named kept socket limit turns) expression why x keeps starts refuses all =
       refuses_none expression limit why x all.0 starts
       (subst (λ name. Starts around.files name limit all.0) (some_is keeps.of_expression) all.1) all.2 refuses
+
+  -- so neither file has a fault
+  no_unread : (job : Job) {end : ℕ} {text : List ℕ} → HasAll around job → Unread around job end text → ⊥
+  no_unread job all (desk.bad_actions {actions = actions} {code = code} {at = at} named bad) =
+      let past = past_of job actions named all in
+      no_bad_actions around.files told actions past.0 code at past.1 bad
+  no_unread job all (desk.lost_actions named rose) = none.files rose
+  no_unread job all (desk.bad_values {values = values} named bad) =
+      let given = given_of job values named all in
+      no_bad_values around.files told values given.0 given.1 bad
+  no_unread job all (desk.lost_values named rose) = none.files rose
 
   of_traced : {expression actions : List ℕ} {limit status : ℕ} {x : Form} {word : Word} {whole part : List ℕ}
       → Starts around.files expression limit x → ReadsActions around.files actions word → status ≢ 10
@@ -382,14 +471,19 @@ module _ (around : Around) (old new : SinkState) (told : IsSome around.files) (n
   of_job is all ended below wire (how.lost_lines starts rose rests _) = absurd (none.files rose)
   of_job is all ended below wire (how.followed starts reads follows) = of_followed starts reads below follows
   of_job is all ended below wire (how.linted reads end) = of_line end below (well.linted reads)
+  of_job {job = job} is all ended below wire (how.unread named reads within unread _) = absurd (no_unread job all unread)
+  of_job is all ended below wire (how.told named reads within answer end) = of_line end below (well.told named reads within answer)
 
   of_words : (is : Crashes) (words : List (List ℕ)) (job : Job) {status : ℕ} {whole part : List ℕ} {session : Option Session}
       → Names words job → HasAll around job → ((played : Session) → session ≡ Some played → IsOver played) → status ≢ 10
       → EndsOver words around is status whole part session → Whole job status whole part session
   of_words is words job named all ended below (how.other_words others rests _) = absurd (no_job words job others named)
   of_words is words job named all ended below (how.no_memory rests end) = of_line end below well.no_memory
+  of_words is words job named all ended below (how.unfit other names unfit rests end) =
+      let same = one_job words other job names named in
+      absurd (unfit (subst HasFitWords (sym same) (fit_of job all)))
   of_words is words job {status = status} {whole = whole} {part = part} {session = session} named all ended below
-      (how.named {job = other} names it) =
+      (how.named {job = other} names fit it) =
       let same = one_job words other job names named in
       subst (λ (j : Job). Whole j status whole part session) same
       (of_job is (subst (HasAll around) (sym same) all) ended below it.wire it.ends)

@@ -1,7 +1,7 @@
 -- What a job names.
 use Rattle.std.specs.Prelude.{◌≡◌, ℕ, List, Option, None, Some}
 use Rattle.ix_cli.specs.Words.{Job, Names, trace, replay, serve, work, simplify, bound}
-use Rattle.ix_cli.specs.Words.{follow, lint}
+use Rattle.ix_cli.specs.Words.{follow, lint, why, next, stuck}
 
 -- the file of its expression, where it has one
 abbrev pub expression_of : Job → Option (List ℕ)
@@ -13,6 +13,37 @@ expression_of (simplify expression) = Some expression
 expression_of (bound expression count) = Some expression
 expression_of (follow expression lines limit) = Some expression
 expression_of (lint expression) = Some expression
+expression_of (why expression actions action limit) = Some expression
+expression_of (next expression actions values limit) = Some expression
+expression_of (stuck expression values limit states) = Some expression
+
+-- the file of the actions that it takes as a history, where it has one
+abbrev pub history_file_of : Job → Option (List ℕ)
+history_file_of (trace expression actions limit) = None
+history_file_of (replay expression journal script limit turns) = None
+history_file_of (serve expression journal socket limit turns) = None
+history_file_of (work count seed limit) = None
+history_file_of (simplify expression) = None
+history_file_of (bound expression count) = None
+history_file_of (follow expression lines limit) = None
+history_file_of (lint expression) = None
+history_file_of (why expression actions action limit) = Some actions
+history_file_of (next expression actions values limit) = Some actions
+history_file_of (stuck expression values limit states) = None
+
+-- the file of its given values, where it has one
+abbrev pub values_file_of : Job → Option (List ℕ)
+values_file_of (trace expression actions limit) = None
+values_file_of (replay expression journal script limit turns) = None
+values_file_of (serve expression journal socket limit turns) = None
+values_file_of (work count seed limit) = None
+values_file_of (simplify expression) = None
+values_file_of (bound expression count) = None
+values_file_of (follow expression lines limit) = None
+values_file_of (lint expression) = None
+values_file_of (why expression actions action limit) = None
+values_file_of (next expression actions values limit) = None
+values_file_of (stuck expression values limit states) = Some values
 
 -- its journal
 abbrev pub journal_of : Job → Option (List ℕ)
@@ -24,6 +55,9 @@ journal_of (simplify expression) = None
 journal_of (bound expression count) = None
 journal_of (follow expression lines limit) = None
 journal_of (lint expression) = None
+journal_of (why expression actions action limit) = None
+journal_of (next expression actions values limit) = None
+journal_of (stuck expression values limit states) = None
 
 -- the socket on which it takes connections
 abbrev pub socket_of : Job → Option (List ℕ)
@@ -35,6 +69,9 @@ socket_of (simplify expression) = None
 socket_of (bound expression count) = None
 socket_of (follow expression lines limit) = None
 socket_of (lint expression) = None
+socket_of (why expression actions action limit) = None
+socket_of (next expression actions values limit) = None
+socket_of (stuck expression values limit states) = None
 
 -- the limit of Size; 0 where it has none, as it makes no tree
 abbrev pub limit_of : Job → ℕ
@@ -46,6 +83,9 @@ limit_of (simplify expression) = 0
 limit_of (bound expression count) = 0
 limit_of (follow expression lines limit) = limit
 limit_of (lint expression) = 0
+limit_of (why expression actions action limit) = limit
+limit_of (next expression actions values limit) = limit
+limit_of (stuck expression values limit states) = limit
 
 -- the words name no job that has a journal
 abbrev pub NamesNoJournal : List (List ℕ) → Type 0

@@ -17,11 +17,12 @@ use Rattle.ix_outside.specs.Counts.{Rose}
 use Rattle.ix_outside.specs.Crashes.{Crashes}
 use Rattle.ix_manager.specs.Runs.{Opening}
 use Rattle.ix_cli.specs.Words.{Job, Names, NamesNoJob, trace, replay, serve, work, simplify}
-use Rattle.ix_cli.specs.Words.{bound, follow, lint}
+use Rattle.ix_cli.specs.Words.{bound, follow, lint, why, next, stuck}
 use Rattle.ix_manage.specs.ActionLines.{line}
 use Rattle.ix_manage.specs.Around.{Around, DiskFailed, FilesFailed, SiteRests, WireFailed}
 use Rattle.ix_manage.specs.BoundLines.{bound_line}
 use Rattle.ix_manage.specs.Command.{expression_of, journal_of, limit_of}
+use Rattle.ix_manage.specs.Desk.{HasFitWords, StartsWithin, IsAnswered, Unread}
 use Rattle.ix_manage.specs.FollowLines.{FollowEnds, ReadsLines}
 use Rattle.ix_manage.specs.Puts.{LastLine, Puts}
 use Rattle.ix_manage.specs.Journal.{OfJournal, OnJournal, RefusesFile, journal_line}
@@ -38,7 +39,7 @@ abbrev pub IsFrom : Form → ℕ → Opening → Type 0
 IsFrom x limit opening = (opening.form ≡ x) × (opening.limit ≡ limit)
 
 -- What a job reads beside its expression before it makes a tree is in its grammar: the script of a
--- replay. A simplify, a bound and a lint make none.
+-- replay. A simplify, a bound, a lint and a stuck aren't refused for it.
 abbrev pub ReadsRest : Option Listing → Job → Type 0
 ReadsRest files (trace expression actions limit) = ⊤
 ReadsRest files (replay expression journal script limit turns) =
@@ -49,6 +50,9 @@ ReadsRest files (simplify expression) = ⊥
 ReadsRest files (bound expression count) = ⊥
 ReadsRest files (follow expression lines limit) = ⊤
 ReadsRest files (lint expression) = ⊥
+ReadsRest files (why expression actions action limit) = ⊤
+ReadsRest files (next expression actions values limit) = ⊤
+ReadsRest files (stuck expression values limit states) = ⊥
 
 -- a job of an expression keeps a journal, and its files are read
 pub record KeepsJournal (files : Option Listing) (job : Job) (expression : List ℕ) : Type 0 where
@@ -168,6 +172,19 @@ pub data JobEnds (around : Around)
       → ReadsPlaced around.files expression x
       → LastLine 0 [] (lint_lines x.places (findings x.form)) status whole part
       → JobEnds around (lint expression) status whole part None
+  unread : {job : Job} {expression : List ℕ} {x : Form} {end status : ℕ}
+      {text whole part : List ℕ}
+      → expression_of job ≡ Some expression
+      → ReadsForm around.files expression x → StartsWithin job x → Unread around job end text
+      → LastLine end [] text status whole part
+      → JobEnds around job status whole part None
+  told : {job : Job} {expression : List ℕ} {x : Meaning} {end status : ℕ}
+      {text whole part : List ℕ}
+      → expression_of job ≡ Some expression
+      → ReadsPlaced around.files expression x → StartsWithin job x.form
+      → IsAnswered around.files x job end text
+      → LastLine end [] text status whole part
+      → JobEnds around job status whole part None
 
 -- what a job may make of the files, the output and the site
 pub record JobOver (around : Around) (job : Job) (is : Crashes) (status : ℕ) (whole part : List ℕ)
@@ -177,8 +194,9 @@ pub record JobOver (around : Around) (job : Job) (is : Crashes) (status : ℕ) (
   pub journal : OnJournal around.files job around.before around.after is session
   pub wire : OnWire job around.before around.after is session
 
--- How a run over a site may end: words that name no job are refused with a text; memory may run out
--- for them; and others end as their job may.
+-- How a run over a site may end: words that name no job are refused with a text, and those that
+-- name one, but for it aren't what they must be, with a line; memory may run out for them; and
+-- others end as their job may.
 pub data EndsOver (words : List (List ℕ)) (around : Around) (is : Crashes)
     : ℕ → List ℕ → List ℕ → Option Session → Type 0 where
   other_words : {text : List ℕ} {status : ℕ} {whole part : List ℕ}
@@ -187,8 +205,12 @@ pub data EndsOver (words : List (List ℕ)) (around : Around) (is : Crashes)
   no_memory : {status : ℕ} {whole part : List ℕ}
       → SiteRests around → LastLine 9 [] (line (codes "refused memory")) status whole part
       → EndsOver words around is status whole part None
+  unfit : {status : ℕ} {whole part : List ℕ} (job : Job)
+      → Names words job → ¬ HasFitWords job → SiteRests around
+      → LastLine 2 [] (line (codes "refused words")) status whole part
+      → EndsOver words around is status whole part None
   named : {job : Job} {status : ℕ} {whole part : List ℕ} {session : Option Session}
-      → Names words job → JobOver around job is status whole part session
+      → Names words job → HasFitWords job → JobOver around job is status whole part session
       → EndsOver words around is status whole part session
 
 -- How a call ended with a status: there are texts and a session with which it may end so, and these

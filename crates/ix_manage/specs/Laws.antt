@@ -2,7 +2,9 @@
 use Rattle.std.specs.Prelude.{◌≡◌, ◌⊎◌, ℕ, ◌≤◌, List, [], ◌++◌, length, codes, Option, None, Some}
 use Rattle.std.specs.Prelude.{IsSome}
 use Rattle.std.specs.Io.KnownBytes.{append_known}
+use Rattle.ix_values.specs.Faults.{IsActionText}
 use Rattle.ix_values.specs.PlainAction.{Word}
+use Rattle.ix_next.specs.Given.{PlainGiven}
 use Rattle.ix_journal.specs.History.{PlainHistory}
 use Rattle.ix_expr.specs.CanonicalText.{canonical_text}
 use Rattle.ix_expr.specs.Form.{Form}
@@ -19,7 +21,7 @@ use Rattle.ix_generate.specs.Workload.{Ask, examinations}
 use Rattle.ix_manager.specs.Images.{IsStartable}
 use Rattle.ix_manager.specs.Runs.{opening_of}
 use Rattle.ix_cli.specs.Words.{Job, Names, trace, replay, serve, work, simplify, bound}
-use Rattle.ix_cli.specs.Words.{follow, lint}
+use Rattle.ix_cli.specs.Words.{follow, lint, why, next, stuck}
 use Rattle.ix_lines.specs.TextLines.{lines_of}
 use Rattle.ix_manage.specs.ActionLines.{line}
 use Rattle.ix_bound.specs.declared.answer.Bound.{Bound}
@@ -29,6 +31,9 @@ use Rattle.ix_lint.specs.Findings.{findings}
 use Rattle.ix_parse.specs.Symbols.{Meaning}
 use Rattle.ix_manage.specs.Around.{Around, DiskFailed, FilesFailed, WireFailed}
 use Rattle.ix_manage.specs.BoundLines.{bound_line}
+use Rattle.ix_manage.specs.Command.{expression_of}
+use Rattle.ix_next.specs.Lists.{AreGiven}
+use Rattle.ix_manage.specs.Desk.{ReadsValues, StartsWithin, IsAnswered}
 use Rattle.ix_manage.specs.Ends.{Ended, EndsOver, IsFrom}
 use Rattle.ix_manage.specs.FollowLines.{FollowsTo, ReadsLines}
 use Rattle.ix_manage.specs.Replay.{Plays, ReadsEvents, session_text}
@@ -49,7 +54,7 @@ pub record OpensStartable (x : Form) (limit : ℕ) (site : SiteState) : Type 0 w
   pub can_start : (opened : Opened) → disk.opened ≡ Some opened → CanStart x limit opened.file
 
 -- what a job reads is there and valid: its expression, whose initial tree is within the limit where
--- it has one, its actions, its script or its lines, and its journal
+-- it has one, its actions, its given values, its script or its lines, and its journal
 abbrev pub HasAll : Around → Job → Type 0
 HasAll around (trace expression actions limit) = (x : Form) × (word : Word)
     × Starts around.files expression limit x × ReadsActions around.files actions word
@@ -63,6 +68,14 @@ HasAll around (work count seed limit) =
 HasAll around (simplify expression) = (x : Form) × ReadsForm around.files expression x
 HasAll around (bound expression count) = (x : Form) × ReadsForm around.files expression x
 HasAll around (lint expression) = (x : Form) × ReadsForm around.files expression x
+HasAll around (why expression actions action limit) = (x : Form) × (word : Word)
+    × Starts around.files expression limit x × ReadsActions around.files actions word
+    × IsActionText action
+HasAll around (next expression actions values limit) = (x : Form) × (word : Word)
+    × (given : List PlainGiven) × Starts around.files expression limit x
+    × ReadsActions around.files actions word × AreGiven values given
+HasAll around (stuck expression values limit states) = (x : Form) × (given : List PlainGiven)
+    × ReadsForm around.files expression x × ReadsValues around.files values given
 HasAll around (follow expression lines limit) = (x : Form) × (bytes : List ℕ)
     × Starts around.files expression limit x × ReadsLines around.files lines bytes
 
@@ -81,8 +94,10 @@ NoneGone before after = (old new : Sends) → before.contents.sends ≡ Some old
 
 -- How a run that nothing hinders may end: with status 0 its whole text is put, and each reply of a
 -- session, by a serve sent. A follow may end with status 11 behind some answers, where an entry is
--- refused. Or there is no memory, status 9: for a trace and a follow behind some answers, and
--- otherwise before any line; where a session runs its replies say so instead.
+-- refused, and so may a why and a next where an action isn't allowed; a next and a stuck with 3
+-- where there are too many candidates. Or there is no memory, status 9: for a trace and a follow
+-- behind some answers, and otherwise before any line; where a session runs its replies say so
+-- instead.
 pub data EndsWhole (around : Around) : Job → ℕ → List ℕ → Option Session → Type 0 where
   no_memory : {job : Job} → EndsWhole around job 9 (line (codes "refused memory")) None
   short : {expression actions : List ℕ} {limit : ℕ} {x : Form} {front history : Word}
@@ -124,6 +139,11 @@ pub data EndsWhole (around : Around) : Job → ℕ → List ℕ → Option Sessi
   linted : {expression : List ℕ} {x : Meaning}
       → ReadsPlaced around.files expression x
       → EndsWhole around (lint expression) 0 (lint_lines x.places (findings x.form)) None
+  told : {job : Job} {expression text : List ℕ} {x : Meaning} {status : ℕ}
+      → expression_of job ≡ Some expression
+      → ReadsPlaced around.files expression x → StartsWithin job x.form
+      → IsAnswered around.files x job status text
+      → EndsWhole around job status text None
 
 -- A run whose words name a job, over files that are told and have all that it reads, and in which
 -- nothing fails, ends whole, if its session had an end or a `stop` within its turns.

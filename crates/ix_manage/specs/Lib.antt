@@ -7,6 +7,7 @@ pub mod Trace
 pub mod Replay
 pub mod Serve
 pub mod Site
+pub mod Desk
 pub mod Ends
 pub mod Puts
 pub mod Session

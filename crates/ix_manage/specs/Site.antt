@@ -2,6 +2,7 @@
 use Rattle.std.specs.Prelude.{◌≡◌, ◌≤◌}
 use Rattle.ix_outside.specs.SiteState.{SiteState, OnlyDisk}
 use Rattle.ix_cli.specs.Words.{Job, trace, replay, serve, work, simplify, bound, follow, lint}
+use Rattle.ix_cli.specs.Words.{why, next, stuck}
 
 -- nothing changed but the counts, none of which fell, the tick, whether a file is attached, and
 -- what the site tells of its connections and its disk
@@ -21,3 +22,6 @@ Touches (simplify expression) before after = after ≡ before
 Touches (bound expression count) before after = after ≡ before
 Touches (follow expression lines limit) before after = after ≡ before
 Touches (lint expression) before after = after ≡ before
+Touches (why expression actions action limit) before after = after ≡ before
+Touches (next expression actions values limit) before after = after ≡ before
+Touches (stuck expression values limit states) before after = after ≡ before

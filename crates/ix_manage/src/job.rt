@@ -9,6 +9,26 @@ pub(crate) struct TraceWords<'a> {
     pub limit: usize,
 }
 
+/// The words of a job that takes the actions of a file as its history.
+#[derive(Clone, Copy)]
+pub(crate) struct HistoryWords<'a> {
+    pub expression: &'a str,
+    pub actions: &'a str,
+    /// The limit of Size.
+    pub limit: usize,
+}
+
+/// The words of a stuck.
+#[derive(Clone, Copy)]
+pub(crate) struct StuckWords<'a> {
+    pub expression: &'a str,
+    pub values: &'a str,
+    /// The limit of Size.
+    pub limit: usize,
+    /// The most states that are visited.
+    pub states: usize,
+}
+
 /// The words of a follow.
 #[derive(Clone, Copy)]
 pub(crate) struct FollowWords<'a> {

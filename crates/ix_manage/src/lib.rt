@@ -14,6 +14,7 @@ ghost use Rattle.ix_manage.specs.Site.{OnlyCalls};
 mod actions;
 mod bound;
 mod early_end;
+mod fit;
 mod follow;
 mod history;
 mod job;
@@ -21,15 +22,20 @@ mod last_line;
 pub mod laws;
 mod lint;
 mod load;
+mod next;
 mod open;
 mod outcome;
+mod past;
 mod refusal;
 mod replay;
 mod run;
 mod serve;
 mod simplify;
 mod start;
+mod stuck;
 mod trace;
+mod values;
+mod why;
 mod work;
 
 use ix_outside::{Files, Sink, Site};
@@ -71,6 +77,23 @@ use std::alloc::Global;
 ///   history has 1,000,000 actions, and 64 where the tree would be above the limit.
 /// - `lint EXPR` puts a line for each thing that looks wrong in the expression of the file EXPR, as
 ///   `lint_lines` of `ix_desk` writes it, with status 0. It makes no tree.
+///
+/// - `why EXPR ACTIONS ACTION` takes the actions of the file ACTIONS as a history, and puts a line
+///   for each part of the expression that refuses ACTION behind it, as `why_lines` of `ix_desk`
+///   writes it, or `permitted`, with status 0. Whether the history is full or the tree would be
+///   above the limit doesn't count for ACTION.
+/// - `next EXPR ACTIONS [VALUE..]` takes the actions of the file ACTIONS as a history, and puts a
+///   line for each action that may come behind it, as `menu_lines` of `ix_desk` writes it, and then
+///   `complete` or `partial`, with status 0. The values are those of VALUE, at most 16, each `V` or
+///   `P=V`, those that are fixed in the expression, and new ones.
+/// - `stuck EXPR VALUES` searches what the actions over the given values of the file VALUES can
+///   lead to, and puts what `stuck_lines` of `ix_desk` writes of it, with status 0.
+///
+/// In a `why` and a `next` the first action of the file that isn't allowed ends the run with
+/// `refused history C at N` and status 11, N being its number, C 62 where it may not come next, 63
+/// where the history has 1,000,000 actions, and 64 where the tree would be above the limit. A word
+/// ACTION or VALUE that isn't what it must be is refused with `refused words` and status 2 before a
+/// file is read.
 ///
 /// `--nodes N` is the limit of Size, from 1 to 1,000,000, which is 100,000 otherwise, and in a
 /// replay and a serve `--turns N` the most events that are taken, from 1 to 1,000,000,000.

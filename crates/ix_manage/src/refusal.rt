@@ -3,10 +3,12 @@ ghost use Rattle.std.specs.Prelude.{◌≡◌, ◌+◌, ◌≤◌, [], ◌∷◌
 ghost use Rattle.arrayvec.specs.ArrayVec.{array_vec_len};
 ghost use Rattle.ix_manage.specs.Journal.{journal_line};
 ghost use Rattle.ix_manage.specs.Trace.{fault_line, large_line};
+ghost use Rattle.ix_manage.specs.declared.refusal.Refusal.TheVariants.{Memory};
 ghost use Rattle.ix_manage.specs.inside.Refusal.{journal_words, lost_line};
 
 use arrayvec::ArrayVec;
 use itoa::Buffer;
+use std::alloc::{AllocError, AllocFailed};
 
 /// A file that the words name.
 #[derive(Clone, Copy)]
@@ -15,6 +17,7 @@ pub(crate) enum Input {
     Actions,
     Script,
     Lines,
+    Values,
 }
 
 impl Input {
@@ -30,6 +33,7 @@ impl Input {
             Input::Actions => b"actions",
             Input::Script => b"script",
             Input::Lines => b"lines",
+            Input::Values => b"values",
         }
     }
 }
@@ -45,6 +49,12 @@ pub(crate) enum Refusal {
     Large { limit: usize },
     /// The entry of this number was refused with this code.
     Unfollowed { code: u8, number: u64 },
+    /// The action of this number isn't allowed behind those before it, by this code.
+    NotAllowed { code: u8, number: u64 },
+    /// A word isn't the action or the given value that it must be.
+    Words,
+    /// There are too many candidates.
+    Candidates,
     /// A call of the disk failed.
     Disk,
     /// The socket couldn't be listened to, or no event came since the wire failed.
@@ -86,6 +96,11 @@ impl Refusal {
             Refusal::Unfollowed { code, number } => {
                 append_fault(&mut line, b"follow", code, number as usize);
             }
+            Refusal::NotAllowed { code, number } => {
+                append_fault(&mut line, b"history", code, number as usize);
+            }
+            Refusal::Words => append(&mut line, b"refused words\n"),
+            Refusal::Candidates => append(&mut line, b"refused candidates\n"),
             Refusal::Disk => append(&mut line, b"refused disk\n"),
             Refusal::Wire => append(&mut line, b"refused wire\n"),
             Refusal::Journal(why) => append_journal(&mut line, why),
@@ -99,15 +114,32 @@ impl Refusal {
         ensures { result ≡ refusal_status self }
     {
         match self {
-            Refusal::Bad { .. } | Refusal::Large { .. } => 3,
+            Refusal::Words => 2,
+            Refusal::Bad { .. } | Refusal::Large { .. } | Refusal::Candidates => 3,
             Refusal::Lost(_) => 4,
-            Refusal::Unfollowed { .. } => 11,
+            Refusal::Unfollowed { .. } | Refusal::NotAllowed { .. } => 11,
             Refusal::Disk => 5,
             Refusal::Wire => 6,
             Refusal::Journal(_) => 8,
             Refusal::Turns => 7,
             Refusal::Memory => 9,
         }
+    }
+}
+
+impl From<AllocError> for Refusal {
+    ghost from_gives = { λ _ refusal. refusal ≡ Memory };
+
+    fn from(_: AllocError) -> Refusal {
+        Refusal::Memory
+    }
+}
+
+impl<T: Drop> From<AllocFailed<T>> for Refusal {
+    ghost from_gives = { λ _ refusal. refusal ≡ Memory };
+
+    fn from(_: AllocFailed<T>) -> Refusal {
+        Refusal::Memory
     }
 }
 

@@ -5,20 +5,27 @@ ghost use Rattle.ix_cli.specs.inside.Jobs.{job_of};
 ghost use Rattle.ix_outside.specs.FilesState.{OnlyFaults};
 ghost use Rattle.ix_outside.specs.SinkState.{OnlyPuts};
 ghost use Rattle.ix_manage.specs.Around.{around_of};
+ghost use Rattle.ix_manage.specs.Desk.{HasFitWords};
 ghost use Rattle.ix_manage.specs.Ends.{EndsOver, JobOver};
 ghost use Rattle.ix_manage.specs.inside.EarlyEnds.{words_end};
 ghost use Rattle.ix_manage.specs.inside.Leaves.{LeavesOutput};
 
 use crate::bound::bound;
 use crate::early_end::EarlyEnd;
+use crate::fit::has_fit_words;
 use crate::follow::follow;
-use crate::job::{FollowWords, ReplayWords, ServeWords, TraceWords, WorkWords};
+use crate::job::{
+    FollowWords, HistoryWords, ReplayWords, ServeWords, StuckWords, TraceWords, WorkWords,
+};
 use crate::lint::lint;
+use crate::next::next;
 use crate::refusal::Refusal;
 use crate::replay::replay;
 use crate::serve::serve;
 use crate::simplify::simplify;
+use crate::stuck::stuck;
 use crate::trace::trace;
+use crate::why::why;
 use crate::work::work;
 use ix_cli::{Job, WordsFault, read_words};
 use ix_outside::{Files, Sink, Site};
@@ -43,6 +50,9 @@ pub(crate) fn run<F: Files, S: Site, K: Sink>(
     ensures puts { OnlyPuts (K.state out.old) (K.state out.new) }
 {
     let job = read_words(alloc, words)?;
+    if !has_fit_words(&job) {
+        return Err(EarlyEnd::Refused(Refusal::Words));
+    }
     run_job(alloc, &job, files, site, out)
 }
 
@@ -66,6 +76,7 @@ fn run_job<F: Files, S: Site, K: Sink>(
     out: &mut K,
 ) -> Result<(), EarlyEnd>
     requires named { (words : List (List ℕ)) × Names words (job_of job.now) }
+    requires fit { HasFitWords (job_of job.now) }
     requires attached { (S.state site.old).attached ≡ false }
 
     ensures leaves { LeavesOutput
@@ -140,5 +151,45 @@ fn run_job<F: Files, S: Site, K: Sink>(
             follow(alloc, names, files, out)
         }
         Job::Lint { expr } => lint(alloc, expr.as_str(), files, out),
+        Job::Why {
+            expr,
+            actions,
+            action,
+            nodes,
+        } => {
+            let names = HistoryWords {
+                expression: expr.as_str(),
+                actions: actions.as_str(),
+                limit: *nodes,
+            };
+            why(alloc, names, action.as_str(), files, out)
+        }
+        Job::Next {
+            expr,
+            actions,
+            values,
+            nodes,
+        } => {
+            let names = HistoryWords {
+                expression: expr.as_str(),
+                actions: actions.as_str(),
+                limit: *nodes,
+            };
+            next(alloc, names, values.as_slice(), files, out)
+        }
+        Job::Stuck {
+            expr,
+            values,
+            nodes,
+            states,
+        } => {
+            let names = StuckWords {
+                expression: expr.as_str(),
+                values: values.as_str(),
+                limit: *nodes,
+                states: *states as usize,
+            };
+            stuck(alloc, names, files, out)
+        }
     }
 }

@@ -77,7 +77,11 @@ pub(crate) fn start_workload(alloc: Global, limit: usize) -> Result<Engine, Refu
     engine_of(alloc, expression, limit)
 }
 
-fn engine_of(alloc: Global, expression: Expression, limit: usize) -> Result<Engine, Refusal>
+pub(crate) fn engine_of(
+    alloc: Global,
+    expression: Expression,
+    limit: usize,
+) -> Result<Engine, Refusal>
     requires least { 1 ≤ limit }
     requires most { limit ≤ most_nodes }
 

@@ -166,7 +166,8 @@ fn put_held<K: Sink>(held: &Held, out: &mut K) -> Result<(), Failed>
     Ok(())
 }
 
-fn last_line(engine: &Engine) -> &'static [u8]
+/// Whether the history is complete.
+pub(crate) fn last_line(engine: &Engine) -> &'static [u8]
     ensures { Verdict engine.now.form engine.now.history result.now }
 {
     if engine.is_complete() {

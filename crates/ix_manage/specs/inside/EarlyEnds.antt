@@ -5,7 +5,8 @@ use Rattle.ix_manager.specs.declared.faults.StartFault.{StartFault}
 use Rattle.ix_manager.specs.declared.faults.StartFault.TheVariants as fault
 use Rattle.ix_manage.specs.declared.early_end.EarlyEnd.{EarlyEnd}
 use Rattle.ix_manage.specs.declared.early_end.EarlyEnd.TheVariants.{Refused, Words, OtherExpression}
-use Rattle.ix_manage.specs.declared.refusal.JournalRefusal.TheVariants.{Foreign, Damaged, Many, Word, Heavy}
+use Rattle.ix_manage.specs.declared.refusal.JournalRefusal.TheVariants.{Foreign, Damaged, Many}
+use Rattle.ix_manage.specs.declared.refusal.JournalRefusal.TheVariants.{Word, Heavy}
 use Rattle.ix_manage.specs.declared.refusal.Refusal.TheVariants.{Disk, Large, Memory, Journal}
 
 -- why the run ends where the words weren't read

@@ -22,7 +22,8 @@ use Rattle.ix_manage.specs.declared.job.FollowWords.{FollowWords}
 use Rattle.ix_manage.specs.declared.refusal.Refusal.{Refusal}
 use Rattle.ix_manage.specs.declared.refusal.Refusal.TheVariants.{Unfollowed, Memory}
 use Rattle.ix_manage.specs.declared.early_end.EarlyEnd.{EarlyEnd}
-use Rattle.ix_manage.specs.declared.early_end.EarlyEnd.TheVariants.{Refused, Words, OtherExpression, Output}
+use Rattle.ix_manage.specs.declared.early_end.EarlyEnd.TheVariants.{Refused, Words, OtherExpression}
+use Rattle.ix_manage.specs.declared.early_end.EarlyEnd.TheVariants.{Output}
 use Rattle.ix_manage.specs.inside.Jobs.{follow_of}
 
 -- the refusal of a fault

@@ -5,7 +5,8 @@ use Rattle.ix_outside.specs.Counts.{Rose}
 use Rattle.ix_outside.specs.Sink.{AppendsPart}
 use Rattle.ix_outside.specs.SinkState.{SinkState}
 use Rattle.ix_manage.specs.declared.early_end.EarlyEnd.{EarlyEnd}
-use Rattle.ix_manage.specs.declared.early_end.EarlyEnd.TheVariants.{Refused, Words, OtherExpression, Output}
+use Rattle.ix_manage.specs.declared.early_end.EarlyEnd.TheVariants.{Refused, Words, OtherExpression}
+use Rattle.ix_manage.specs.declared.early_end.EarlyEnd.TheVariants.{Output}
 use Rattle.ix_manage.specs.Ends.{Ended}
 use Rattle.ix_manage.specs.Puts.{LastLine}
 use Rattle.ix_manage.specs.Session.{Session}

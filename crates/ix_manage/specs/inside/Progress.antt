@@ -21,8 +21,8 @@ opening_at m =
 abbrev pub IsStarted : ManagerState → Type 0
 IsStarted m = m ≡ started (opening_at m) m.store
 
--- what became of a run by an event: a put failed; or none did, and the disk failed, or the event was
--- the end or brought `stop`; or else the run may go on
+-- what became of a run by an event: a put failed; or none did, and the disk failed, or the event
+-- was the end or brought `stop`; or else the run may go on
 abbrev pub IsEventOutcome : Bool → Ending → EventKind → EventOutcome → Type 0
 IsEventOutcome lost ending kind More = (lost ≡ false) × (ending ≡ going) × (kind ≢ End)
 IsEventOutcome lost ending kind Done = (lost ≡ false) × ((kind ≡ End) ⊎ (ending ≡ stopped))

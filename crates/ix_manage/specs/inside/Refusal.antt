@@ -3,9 +3,13 @@ use Rattle.std.specs.Prelude.{◌≡◌, ℕ, ◌<◌, List, [], ◌++◌, codes
 use Rattle.ix_manage.specs.declared.refusal.Refusal.{Refusal}
 use Rattle.ix_manage.specs.declared.refusal.Input.{Input}
 use Rattle.ix_manage.specs.declared.refusal.Input.TheVariants.{Expression, Actions, Script, Lines}
-use Rattle.ix_manage.specs.declared.refusal.Refusal.TheVariants.{Bad, Lost, Large, Unfollowed, Disk, Wire, Journal, Turns, Memory}
+use Rattle.ix_manage.specs.declared.refusal.Input.TheVariants.{Values}
+use Rattle.ix_manage.specs.declared.refusal.Refusal.TheVariants.{Bad, Lost, Large, Unfollowed}
+use Rattle.ix_manage.specs.declared.refusal.Refusal.TheVariants.{NotAllowed, Words, Candidates}
+use Rattle.ix_manage.specs.declared.refusal.Refusal.TheVariants.{Disk, Wire, Journal, Turns, Memory}
 use Rattle.ix_manage.specs.declared.refusal.JournalRefusal.{JournalRefusal}
-use Rattle.ix_manage.specs.declared.refusal.JournalRefusal.TheVariants.{Foreign, Damaged, Many, Word, Heavy}
+use Rattle.ix_manage.specs.declared.refusal.JournalRefusal.TheVariants.{Foreign, Damaged, Many}
+use Rattle.ix_manage.specs.declared.refusal.JournalRefusal.TheVariants.{Word, Heavy}
 use Rattle.ix_outside.specs.Counts.{Rose}
 use Rattle.ix_outside.specs.Files.{HasLonger, Listing}
 use Rattle.ix_outside.specs.FilesState.{FilesState}
@@ -38,6 +42,7 @@ input_word Expression = codes "expression"
 input_word Actions = codes "actions"
 input_word Script = codes "script"
 input_word Lines = codes "lines"
+input_word Values = codes "values"
 
 -- the line that says that a file couldn't be read
 abbrev pub lost_line : List ℕ → List ℕ
@@ -49,6 +54,9 @@ refusal_line (Bad file code at) = fault_line (input_word file) code at
 refusal_line (Lost file) = lost_line (input_word file)
 refusal_line (Large limit) = large_line limit
 refusal_line (Unfollowed code number) = fault_line (codes "follow") code number
+refusal_line (NotAllowed code number) = fault_line (codes "history") code number
+refusal_line Words = line (codes "refused words")
+refusal_line Candidates = line (codes "refused candidates")
 refusal_line Disk = line (codes "refused disk")
 refusal_line Wire = line (codes "refused wire")
 refusal_line (Journal why) = journal_line (journal_words why)
@@ -61,6 +69,9 @@ refusal_status (Bad file code at) = 3
 refusal_status (Lost file) = 4
 refusal_status (Large limit) = 3
 refusal_status (Unfollowed code number) = 11
+refusal_status (NotAllowed code number) = 11
+refusal_status Words = 2
+refusal_status Candidates = 3
 refusal_status Disk = 5
 refusal_status Wire = 6
 refusal_status (Journal why) = 8

@@ -1,5 +1,6 @@
 -- A replay as far as it went.
-use Rattle.std.specs.Prelude.{◌≡◌, ◌⊎◌, Bool, true, false, ℕ, ◌+◌, ◌*◌, ◌^◌, ◌<◌, ◌≤◌, List, [], ◌∷◌, ◌++◌}
+use Rattle.std.specs.Prelude.{◌≡◌, ◌⊎◌, Bool, true, false, ℕ, ◌+◌, ◌*◌, ◌^◌, ◌<◌, ◌≤◌, List, []}
+use Rattle.std.specs.Prelude.{◌∷◌, ◌++◌}
 use Rattle.std.specs.Prelude.{length, Option, None, Some, Result}
 use Rattle.std.specs.Io.KnownBytes.{append_known}
 use Rattle.ix_words.specs.Each.{Each}
@@ -118,8 +119,8 @@ pub record PlaysEvent (old : ManagerState) (was : Player) (new : ManagerState) (
   pub fault : now.failed ≡ true → Rose was.sink.faults now.sink.faults
   pub saves : SavesRun ending old new stretch
 
--- a manager that took the events given so far, none of them the end, and put its replies behind what
--- was known before; it may go on
+-- a manager that took the events given so far, none of them the end, and put its replies behind
+-- what was known before; it may go on
 pub record HasPlayed (opening : Opening) (known : Option (List ℕ)) (m : ManagerState) (player : Player)
     (stretch : Stretch) : Type 0 where
   pub answers : List (List (List Reply))

@@ -25,7 +25,8 @@ use Rattle.ix_manage.specs.Serve.{ServeEnds, with_heard}
 use Rattle.ix_manage.specs.Session.{IsNoEnd, IsOver, Session, Takes, history_line}
 use Rattle.ix_manage.specs.Site.{OnlyCalls}
 use Rattle.ix_manage.specs.declared.early_end.EarlyEnd.{EarlyEnd}
-use Rattle.ix_manage.specs.declared.early_end.EarlyEnd.TheVariants.{Refused, Words, OtherExpression, Output}
+use Rattle.ix_manage.specs.declared.early_end.EarlyEnd.TheVariants.{Refused, Words, OtherExpression}
+use Rattle.ix_manage.specs.declared.early_end.EarlyEnd.TheVariants.{Output}
 use Rattle.ix_manage.specs.declared.outcome.EventOutcome.{EventOutcome}
 use Rattle.ix_manage.specs.declared.outcome.EventOutcome.TheVariants.{Cut}
 use Rattle.ix_manage.specs.inside.Refusal.{refusal_line, refusal_status}
@@ -53,7 +54,8 @@ pub record SentFor (opening : Opening) (history : PlainHistory) (taken : List Gi
       × ((old new : Sends) → stretch.before.contents.sends ≡ Some old
       → stretch.after.contents.sends ≡ Some new → new.gone ≡ old.gone)
 
--- a manager that took these events of a site, none of them the end, and sent its replies; it may go on
+-- a manager that took these events of a site, none of them the end, and sent its replies; it may go
+-- on
 pub record HasServed (opening : Opening) (taken : List GivenEvent) (m : ManagerState)
     (stretch : Stretch) : Type 0 where
   pub answers : List (List (List Reply))

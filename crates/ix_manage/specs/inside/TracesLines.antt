@@ -12,7 +12,8 @@ use Rattle.ix_manage.specs.Session.{Session}
 use Rattle.ix_manage.specs.Trace.{Answers, Traces}
 use Rattle.ix_manage.specs.declared.refusal.Refusal.TheVariants.{Memory}
 use Rattle.ix_manage.specs.declared.early_end.EarlyEnd.{EarlyEnd}
-use Rattle.ix_manage.specs.declared.early_end.EarlyEnd.TheVariants.{Refused, Words, OtherExpression, Output}
+use Rattle.ix_manage.specs.declared.early_end.EarlyEnd.TheVariants.{Refused, Words, OtherExpression}
+use Rattle.ix_manage.specs.declared.early_end.EarlyEnd.TheVariants.{Output}
 
 -- what `trace` may put for a form, a limit and the bytes of an actions file, by the status
 pub record TracesLines (x : Form) (limit : ℕ) (bytes : List ℕ) (status : ℕ) (whole part : List ℕ) (session : Option Session) : Type 0 where

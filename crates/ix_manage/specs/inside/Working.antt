@@ -27,7 +27,8 @@ pub data AsksNext (engine : EngineState) (workload : PlainWorkload)
   refused : ¬ Allows engine (action_of (drawn workload))
       → AsksNext engine workload false engine.history (behind_draw workload)
 
--- a workload and its history behind so many asks of a seed, of which so many were granted and refused
+-- a workload and its history behind so many asks of a seed, of which so many were granted and
+-- refused
 pub record HasAsked (x : Form) (limit seed count granted refused : ℕ) (history : Word)
     (workload : PlainWorkload) : Type 0 where
   pub asks : List Ask

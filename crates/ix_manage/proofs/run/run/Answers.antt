@@ -1,4 +1,4 @@
-use Rattle.std.proofs.Common.{ℕ, List, Option, map, string_bytes, refl}
+use Rattle.std.proofs.Common.{ℕ, List, Option, map, string_bytes, refl, sym, true≢false}
 use Rattle.ix_cli.specs.inside.Jobs.{Explains, job_of}
 use Rattle.ix_cli.specs.declared.fault.WordsFault.{WordsFault}
 use Rattle.ix_cli.specs.declared.fault.WordsFault.TheVariants as fault
@@ -7,8 +7,9 @@ use Rattle.ix_outside.specs.FilesState.{FilesState}
 use Rattle.ix_outside.specs.SinkState.{SinkState}
 use Rattle.ix_outside.specs.SiteState.{SiteState}
 use Rattle.ix_manage.specs.Around.{around_of}
-use Rattle.ix_manage.specs.Ends.{EndsOver, JobOver, other_words, no_memory, named}
+use Rattle.ix_manage.specs.Ends.{EndsOver, JobOver, other_words, no_memory, named, unfit}
 use Rattle.ix_manage.specs.Session.{Session}
+use Rattle.ix_manage.specs.declared.refusal.Refusal.TheVariants as refusal
 use Rattle.ix_manage.specs.declared.refusal.Refusal.TheVariants.{Memory}
 use Rattle.ix_manage.specs.inside.EarlyEnds.{words_end}
 use Rattle.ix_manage.specs.inside.Leaves.{StopsAfter}
@@ -27,7 +28,7 @@ returns-clause-leaves g c =
     let ends : (status : ℕ) (whole part : List ℕ) (session : Option Session)
     → JobOver around (job_of c.in_ok-job.job) crashes status whole part session
     → EndsOver words around crashes status whole part session =
-    λ status whole part session end. named c.in_ok-job.ensures end in
+    λ status whole part session end. named c.in_ok-job.ensures (c.if-not-has_fit_words.ensures.0 refl) end in
     leaves_on ends (g.K.Sink.state c.args.out.now) (g.K.Sink.state c.run_job.new.out)
     c.run_job.result c.run_job.ensures.leaves
 
@@ -47,3 +48,10 @@ returns-in_err-job-clause-leaves g c =
     ends_early _ _ _ c.from_residual.result (words_end c.in_err-job.field-0.0) c.from_residual.ensures.1
     (words_stop (map string_bytes c.args.words.now) files files site (g.S.Site.crashes c.args.site.now)
     (g.K.Sink.state c.args.out.now) c.in_err-job.field-0.0 c.in_err-job.ensures)
+
+-- a word isn't what it must be
+pub returns-then-not-has_fit_words-clause-leaves : goal.returns-then-not-has_fit_words-clause-leaves
+returns-then-not-has_fit_words-clause-leaves g c =
+    nothing_put refusal.Words (g.K.Sink.state c.args.out.now)
+    (λ status whole part last. unfit (job_of c.in_ok-job.job) c.in_ok-job.ensures
+    (λ fit. true≢false (sym (c.if-not-has_fit_words.ensures.1 fit))) refl last)
