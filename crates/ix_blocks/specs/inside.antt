@@ -1,2 +1,3 @@
 -- What contracts between crates and private ones cite, and no claim of the program or law reaches.
 pub mod PlainBlocks
+pub mod Marks

@@ -8,6 +8,7 @@ ghost use Rattle.ix_outside.specs.Disk.{Overwrites};
 ghost use Rattle.ix_blocks.specs.declared.file.NoRoom.TheVariants.{Full};
 ghost use Rattle.ix_blocks.specs.FileBlocks.{block_of, block_count, is_among, DiffersIn};
 ghost use Rattle.ix_blocks.specs.FileBlocks.{changed_blocks};
+ghost use Rattle.ix_blocks.specs.inside.Marks.{MarksOnly};
 ghost use Rattle.ix_blocks.specs.inside.PlainBlocks.{plain_block};
 
 use std::alloc::{AllocError, Global};
@@ -81,7 +82,7 @@ impl File {
 
     /// Writes the bytes at `at`, over what is there and past the end. Where there is no room, the
     /// bytes of the file stay. It is `Full` only if the blocks that changed and those of the range
-    /// are more than `MOST_CHANGED`.
+    /// are more than `MOST_CHANGED`. No block outside the range is newly taken as changed.
     pub fn write_at(&mut self, at: usize, bytes: &[u8]) -> Result<(), NoRoom>
         requires { at ≤ length self.old.bytes.items }
         ensures ok { OnOk result
@@ -89,6 +90,8 @@ impl File {
         ensures err { OnErr result (self.new.bytes.items ≡ self.old.bytes.items) }
         ensures full { result ≡ Err Full → MOST_CHANGED < length self.old.changed.items
             + (div_ceil (at + length bytes.now) BLOCK_BYTES - at / BLOCK_BYTES) }
+        ensures marks { MarksOnly self.old.changed.items self.new.changed.items
+            (at / BLOCK_BYTES) (div_ceil (at + length bytes.now) BLOCK_BYTES) }
         ensures differs { (synced : List ℕ)
             → DiffersIn self.old.changed.items synced self.old.bytes.items
             → DiffersIn self.new.changed.items synced self.new.bytes.items }
@@ -109,12 +112,15 @@ impl File {
     }
 
     /// Cuts the file to its first `count` bytes. Where there is no room, it stays; it is `Full`
-    /// only if `MOST_CHANGED` blocks changed.
+    /// only if `MOST_CHANGED` blocks changed. No block is newly taken as changed except a last one
+    /// that is cut.
     pub fn cut(&mut self, count: usize) -> Result<(), NoRoom>
         requires { count ≤ length self.old.bytes.items }
         ensures ok { OnOk result (self.new.bytes.items ≡ take count self.old.bytes.items) }
         ensures err { OnErr result (self.new.bytes.items ≡ self.old.bytes.items) }
         ensures full { result ≡ Err Full → length self.old.changed.items ≡ MOST_CHANGED }
+        ensures marks { MarksOnly self.old.changed.items self.new.changed.items
+            (count / BLOCK_BYTES) (div_ceil count BLOCK_BYTES) }
         ensures differs { (synced : List ℕ)
             → DiffersIn self.old.changed.items synced self.old.bytes.items
             → DiffersIn self.new.changed.items synced self.new.bytes.items }
@@ -171,8 +177,7 @@ fn mark(changed: &mut Vec<usize>, number: usize) -> Result<(), NoRoom>
     requires { length changed.old.items ≤ 120 }
     ensures few { length changed.new.items ≤ 120 }
     ensures has { OnOk result (is_among changed.new.items number ≡ true) }
-    ensures keeps { (other : ℕ) → is_among changed.old.items other ≡ true
-        → is_among changed.new.items other ≡ true }
+    ensures marks { MarksOnly changed.old.items changed.new.items number (number + 1) }
     ensures full { result ≡ Err Full → length changed.old.items ≡ 120 }
     ensures grows { length changed.new.items ≤ length changed.old.items + 1 }
 {
@@ -193,8 +198,7 @@ fn mark_all(changed: &mut Vec<usize>, from: usize, to: usize) -> Result<(), NoRo
     ensures few { length changed.new.items ≤ 120 }
     ensures has { OnOk result ((number : ℕ) → from ≤ number → number < to
         → is_among changed.new.items number ≡ true) }
-    ensures keeps { (other : ℕ) → is_among changed.old.items other ≡ true
-        → is_among changed.new.items other ≡ true }
+    ensures marks { MarksOnly changed.old.items changed.new.items from to }
     ensures full { result ≡ Err Full → 120 < length changed.old.items + (to - from) }
 {
     for number in from..to {
