@@ -1,4 +1,4 @@
-//! The site at work, each test in a new folder, with its clients in the same thread.
+//! The site at work, each trial in a new folder, with its clients in the same thread.
 use super::*;
 use ix_outside::EventKind;
 use std::io::{Read, Write};
@@ -8,128 +8,208 @@ use std::{env, fs, process};
 
 type Site64<'a> = ManySite<'a, HostRuntime>;
 
-/// Makes a folder for one test.
-fn new_folder(rt: &HostRuntime, test: &str) -> io::Result<String> {
+/// What is done in a trial, or has to be seen. Clients are numbered as they connect, from 0.
+#[derive(Clone, Copy)]
+enum Step {
+    /// The site listens, or this fails.
+    Listen(bool),
+    /// So many clients connect, and send this each.
+    Connect(usize, &'static str),
+    /// This client sends this.
+    Write(usize, &'static str),
+    /// This client reads this.
+    Read(usize, &'static str),
+    /// This client goes away.
+    Leave(usize),
+    /// The next event is on this connection, and is this, or its end where this is empty.
+    Came(u8, &'static str),
+    /// Each of the 64 connections has its turn, and is sent this.
+    EachCame(&'static str),
+    /// There is no next event.
+    NothingCame,
+    /// The site sends this on this connection, or this fails.
+    Send(u8, &'static str, bool),
+}
+
+/// Makes a folder for one trial.
+fn new_folder(rt: &HostRuntime, trial: &str) -> io::Result<String> {
     let parent = env::temp_dir(rt)?;
     let run = process::id(rt.process());
-    let folder = format!(in rt.alloc(); "{}/ix_many-{run}-{test}", parent.as_str())?;
+    let folder = format!(in rt.alloc(); "{}/ix_many-{run}-{trial}", parent.as_str())?;
     fs::create_dir(rt, &folder)?;
     Ok(folder)
 }
 
-/// The connection and the kind of the next event.
-fn came(site: &mut Site64<'_>, buf: &mut [u8; 64]) -> Option<(u8, EventKind)> {
-    match site.next(buf) {
-        Ok(event) => Some((event.conn, event.kind)),
-        Err(WireFailed) => None,
-    }
-}
-
-#[test]
-fn two_clients_are_served_in_turn(rt: HostRuntime) -> Result<(), Fail> {
-    let folder = new_folder(&rt, "turn")?;
-    let socket = format!(in rt.alloc(); "{folder}/socket")?;
-    let mut site = ManySite::new(rt.alloc(), &rt);
-    let mut buf = [0; 64];
-    assert_eq!(rt; came(&mut site, &mut buf), None);
-    assert!(rt; site.listen(&socket).is_ok());
-    let mut first = UnixStream::connect(&rt, &socket)?;
-    let mut second = UnixStream::connect(&rt, &socket)?;
-    first.write_all(b"sta")?;
-    second.write_all(b"may a\n")?;
-    assert_eq!(rt; came(&mut site, &mut buf), Some((0, EventKind::Bytes(3))));
-    assert!(rt; &buf[..3] == b"sta".as_slice());
-    first.write_all(b"tus\n")?;
-    assert_eq!(rt; came(&mut site, &mut buf), Some((1, EventKind::Bytes(6))));
-    assert!(rt; &buf[..6] == b"may a\n".as_slice());
-    assert!(rt; site.send(1, b"yes\n").is_ok());
-    assert!(rt; site.send(2, b"yes\n").is_err());
-    assert_eq!(rt; came(&mut site, &mut buf), Some((0, EventKind::Bytes(4))));
-    let mut reply = [0; 4];
-    second.read_exact(&mut reply)?;
-    assert!(rt; reply == *b"yes\n");
-    drop(second);
-    assert_eq!(rt; came(&mut site, &mut buf), Some((1, EventKind::Closed)));
-    assert!(rt; site.send(1, b"no\n").is_err());
-    let mut third = UnixStream::connect(&rt, &socket)?;
-    third.write_all(b"x")?;
-    assert_eq!(rt; came(&mut site, &mut buf), Some((1, EventKind::Bytes(1))));
-    fs::remove_dir_all(&rt, &folder)?;
-    Ok(())
-}
-
-#[test]
-fn whoever_was_granted_comes_first_once(rt: HostRuntime) -> Result<(), Fail> {
-    let folder = new_folder(&rt, "holder")?;
-    let socket = format!(in rt.alloc(); "{folder}/socket")?;
-    let mut site = ManySite::new(rt.alloc(), &rt);
-    let mut buf = [0; 64];
-    assert!(rt; site.listen(&socket).is_ok());
-    let mut first = UnixStream::connect(&rt, &socket)?;
-    let mut second = UnixStream::connect(&rt, &socket)?;
-    first.write_all(b"ask a 5\n")?;
-    second.write_all(b"ask b 5\n")?;
-    assert_eq!(rt; came(&mut site, &mut buf), Some((0, EventKind::Bytes(8))));
-    assert!(rt; site.send(0, b"granted 1-1\n").is_ok());
-    first.write_all(b"confirm 1-1\n")?;
-    assert_eq!(rt; came(&mut site, &mut buf), Some((0, EventKind::Bytes(12))));
-    assert!(rt; site.send(0, b"granted 1-2\n").is_ok());
-    first.write_all(b"confirm 1-2\n")?;
-    assert_eq!(rt; came(&mut site, &mut buf), Some((1, EventKind::Bytes(8))));
-    fs::remove_dir_all(&rt, &folder)?;
-    Ok(())
-}
-
-/// Connects so many clients, each of which sends a byte.
-fn connect_all(rt: &HostRuntime, socket: &str, count: usize) -> io::Result<Vec<UnixStream>> {
-    let mut clients = Vec::with_capacity(rt.alloc(), count)?;
+/// Connects so many clients, each of which sends this.
+fn connect(
+    rt: &HostRuntime,
+    socket: &str,
+    clients: &mut Vec<Option<UnixStream>>,
+    count: usize,
+    text: &str,
+) -> io::Result<()> {
     for _ in 0..count {
         let mut client = UnixStream::connect(rt, socket)?;
-        client.write_all(b"x")?;
-        clients.push(client)?;
+        client.write_all(text.as_bytes())?;
+        clients.push(Some(client))?;
     }
-    Ok(clients)
+    Ok(())
 }
 
-/// Whether the next events are a byte on each connection in turn.
-fn each_has_its_turn(site: &mut Site64<'_>, buf: &mut [u8; 64]) -> bool {
+/// Whether the client was there and took these bytes.
+fn write(client: Option<&mut Option<UnixStream>>, text: &str) -> bool {
+    match client {
+        Some(Some(stream)) => stream.write_all(text.as_bytes()).is_ok(),
+        _ => false,
+    }
+}
+
+/// Whether the client was sent this.
+fn reads(client: Option<&mut Option<UnixStream>>, text: &str) -> bool {
+    let mut buf = [0; 64];
+    match client {
+        Some(Some(stream)) => {
+            matches!(stream.read(&mut buf), Ok(count) if count == text.len())
+                && buf.starts_with(text.as_bytes())
+        }
+        _ => false,
+    }
+}
+
+/// Whether the client was there. It goes away.
+fn leaves(client: Option<&mut Option<UnixStream>>) -> bool {
+    match client {
+        Some(slot) => slot.take().is_some(),
+        None => false,
+    }
+}
+
+/// Whether the next event is on this connection, and is this, or its end where this is empty.
+fn comes(site: &mut Site64<'_>, conn: u8, text: &str) -> bool {
+    let mut buf = [0; 64];
+    let kind = match text.len() {
+        0 => EventKind::Closed,
+        count => EventKind::Bytes(count),
+    };
+    match site.next(&mut buf) {
+        Ok(event) => {
+            event.conn == conn && event.kind == kind && buf.starts_with(text.as_bytes())
+        }
+        Err(WireFailed) => false,
+    }
+}
+
+/// Whether each connection comes in turn, and is sent this.
+fn each_comes(site: &mut Site64<'_>, text: &str) -> bool {
     for conn in 0..64 {
-        if came(site, buf) != Some((conn, EventKind::Bytes(1))) {
+        if !comes(site, conn, text) {
             return false;
         }
     }
     true
 }
 
-#[test]
-fn the_65th_is_taken_behind_a_closed_one(rt: HostRuntime) -> Result<(), Fail> {
-    let folder = new_folder(&rt, "full")?;
+/// Does what the step says. Whether it is seen.
+fn holds(
+    rt: &HostRuntime,
+    socket: &str,
+    site: &mut Site64<'_>,
+    clients: &mut Vec<Option<UnixStream>>,
+    step: Step,
+) -> bool {
+    match step {
+        Step::Listen(listens) => site.listen(socket).is_ok() == listens,
+        Step::Connect(count, text) => connect(rt, socket, clients, count, text).is_ok(),
+        Step::Write(client, text) => write(clients.get_mut(client), text),
+        Step::Read(client, text) => reads(clients.get_mut(client), text),
+        Step::Leave(client) => leaves(clients.get_mut(client)),
+        Step::Came(conn, text) => comes(site, conn, text),
+        Step::EachCame(text) => each_comes(site, text),
+        Step::NothingCame => site.next(&mut [0; 64]).is_err(),
+        Step::Send(conn, text, sends) => site.send(conn, text.as_bytes()).is_ok() == sends,
+    }
+}
+
+/// Does the steps in this folder. The number of the first one that isn't seen.
+fn fault_in(rt: &HostRuntime, folder: &str, steps: &[Step]) -> io::Result<Option<usize>> {
     let socket = format!(in rt.alloc(); "{folder}/socket")?;
-    let mut site = ManySite::new(rt.alloc(), &rt);
-    let mut buf = [0; 64];
-    assert!(rt; site.listen(&socket).is_ok());
-    let _before = connect_all(&rt, &socket, 5)?;
-    let mut leaving = UnixStream::connect(&rt, &socket)?;
-    leaving.write_all(b"x")?;
-    let _behind = connect_all(&rt, &socket, 59)?;
-    assert!(rt; each_has_its_turn(&mut site, &mut buf));
-    drop(leaving);
-    assert_eq!(rt; came(&mut site, &mut buf), Some((5, EventKind::Closed)));
-    assert_eq!(rt; came(&mut site, &mut buf), Some((5, EventKind::Bytes(1))));
-    fs::remove_dir_all(&rt, &folder)?;
+    let mut site = ManySite::new(rt.alloc(), rt);
+    let mut clients = Vec::new(rt.alloc());
+    let mut fault = None;
+    for (number, step) in steps.iter().enumerate() {
+        if !holds(rt, &socket, &mut site, &mut clients, *step) {
+            fault = Some(number);
+            break;
+        }
+    }
+    Ok(fault)
+}
+
+/// Does the steps in a new folder. The number of the first one that isn't seen.
+fn fault(rt: &HostRuntime, trial: &str, steps: &[Step]) -> io::Result<Option<usize>> {
+    let folder = new_folder(rt, trial)?;
+    let found = fault_in(rt, &folder, steps);
+    fs::remove_dir_all(rt, &folder)?;
+    found
+}
+
+const IN_TURN: &[Step] = &[
+    Step::NothingCame,
+    Step::Listen(true),
+    Step::Listen(false),
+    Step::Connect(2, ""),
+    Step::Write(0, "sta"),
+    Step::Write(1, "may a\n"),
+    Step::Came(0, "sta"),
+    Step::Write(0, "tus\n"),
+    Step::Came(1, "may a\n"),
+    Step::Send(1, "yes\n", true),
+    Step::Send(2, "yes\n", false),
+    Step::Came(0, "tus\n"),
+    Step::Read(1, "yes\n"),
+    Step::Leave(1),
+    Step::Came(1, ""),
+    Step::Send(1, "no\n", false),
+    Step::Connect(1, "x"),
+    Step::Came(1, "x"),
+];
+
+#[test]
+fn two_clients_are_served_in_turn(rt: HostRuntime) -> Result<(), Fail> {
+    assert_eq!(rt; fault(&rt, "turn", IN_TURN)?, None);
     Ok(())
 }
 
+const FIRST_ONCE: &[Step] = &[
+    Step::Listen(true),
+    Step::Connect(1, "ask a 5\n"),
+    Step::Connect(1, "ask b 5\n"),
+    Step::Came(0, "ask a 5\n"),
+    Step::Send(0, "granted 1-1\n", true),
+    Step::Write(0, "confirm 1-1\n"),
+    Step::Came(0, "confirm 1-1\n"),
+    Step::Send(0, "granted 1-2\n", true),
+    Step::Write(0, "confirm 1-2\n"),
+    Step::Came(1, "ask b 5\n"),
+];
+
 #[test]
-fn a_socket_is_listened_to_once(rt: HostRuntime) -> Result<(), Fail> {
-    let folder = new_folder(&rt, "once")?;
-    let socket = format!(in rt.alloc(); "{folder}/socket")?;
-    let mut site = ManySite::new(rt.alloc(), &rt);
-    let mut buf = [0; 64];
-    assert_eq!(rt; came(&mut site, &mut buf), None);
-    assert!(rt; site.listen(&socket).is_ok());
-    assert!(rt; site.listen(&socket).is_err());
-    assert_eq!(rt; (site.wire_faults, site.send_faults), (2, 0));
-    fs::remove_dir_all(&rt, &folder)?;
+fn whoever_was_granted_comes_first_once(rt: HostRuntime) -> Result<(), Fail> {
+    assert_eq!(rt; fault(&rt, "holder", FIRST_ONCE)?, None);
+    Ok(())
+}
+
+const BEHIND_A_CLOSED_ONE: &[Step] = &[
+    Step::Listen(true),
+    Step::Connect(65, "x"),
+    Step::EachCame("x"),
+    Step::Leave(5),
+    Step::Came(5, ""),
+    Step::Came(5, "x"),
+];
+
+#[test]
+fn the_65th_is_taken_behind_a_closed_one(rt: HostRuntime) -> Result<(), Fail> {
+    assert_eq!(rt; fault(&rt, "full", BEHIND_A_CLOSED_ONE)?, None);
     Ok(())
 }
