@@ -155,17 +155,25 @@ fn matched_parameters(rt: HostRuntime) -> Result<(), Fail> {
     Ok(())
 }
 
+// Whether the expression contains each action, and whether it accepts nothing.
+fn contents(expr: Expr, action: &Action, other: &Action) -> Result<[bool; 3], Fail> {
+    let expression = Expression::new(numbered(expr)?).map_err(|_| "refused")?;
+    let expr = expression.expr();
+    let (first, second) = (
+        contains(expr, &Env::new(), action),
+        contains(expr, &Env::new(), other),
+    );
+    Ok([first, second, accepts_empty(expr)])
+}
+
 // In `any $p ?a($p)` the parameter may be any value.
 #[test]
 fn alphabets(rt: HostRuntime) -> Result<(), Fail> {
     let m = value(b"m")?;
     let action = Action::new(name(b"a")?, &[m]);
     let other = Action::new(name(b"b")?, &[m]);
-    let whole = numbered(expression(rt.alloc(), b"P?1")?)?;
-    let expression = Expression::new(whole).map_err(|_| "refused")?;
-    assert!(rt; contains(expression.expr(), &Env::new(), &action));
-    assert!(rt; !contains(expression.expr(), &Env::new(), &other));
-    assert!(rt; accepts_empty(expression.expr()));
+    let contents = contents(expression(rt.alloc(), b"P?1")?, &action, &other)?;
+    assert!(rt; contents == [true, false, true]);
     Ok(())
 }
 
@@ -190,8 +198,9 @@ const MENTIONED: [(&[u8], &[u8], bool); 12] = [
 #[test]
 fn mentioned_names(rt: HostRuntime) -> Result<(), Fail> {
     for (text, sought, is_mentioned) in MENTIONED {
-        let expr = expression(rt.alloc(), text)?;
-        assert_eq!(rt; mentions(&expr, &name(sought)?), is_mentioned);
+        let sought = name(sought)?;
+        let found = mentions(&expression(rt.alloc(), text)?, &sought);
+        assert_eq!(rt; found, is_mentioned);
     }
     Ok(())
 }
@@ -217,20 +226,24 @@ const SEEN: [(&[u8], &[u8], &[u8], &[u8], bool); 14] = [
     (b"Q?*1", b"a", b"v", b"v", true),
 ];
 
+// The action of this name with one or two values, each a byte.
+fn action(text: &[u8], bytes: &[u8]) -> Result<Action, Fail> {
+    let action = name(text)?;
+    match bytes {
+        [first] => Ok(Action::new(action, &[value(&[*first])?])),
+        [first, second] => Ok(Action::new(action, &[value(&[*first])?, value(&[*second])?])),
+        _ => Err("one value or two".into()),
+    }
+}
+
 #[test]
 fn seen_values(rt: HostRuntime) -> Result<(), Fail> {
-    for (text, action, bytes, sought, is_seen) in SEEN {
-        let expr = expression(rt.alloc(), text)?;
-        let mut values = Vec::new(rt.alloc());
-        for byte in bytes {
-            values.push(value(&[*byte])?).map_err(|_| AllocError)?;
-        }
-        assert!(rt; values.len() <= 4);
-        let action = Action::new(name(action)?, values.as_slice());
-        assert_eq!(rt;
-            sees(&expr, &name(b"p")?, &value(sought)?, &action),
-            is_seen
-        );
+    let p = name(b"p")?;
+    for (text, called, bytes, sought, is_seen) in SEEN {
+        let action = action(called, bytes)?;
+        let sought = value(sought)?;
+        let found = sees(&expression(rt.alloc(), text)?, &p, &sought, &action);
+        assert_eq!(rt; found, is_seen);
     }
     Ok(())
 }

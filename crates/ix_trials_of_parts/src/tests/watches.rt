@@ -49,16 +49,21 @@ fn watch_three(alloc: Global) -> Result<Three, Fail> {
     })
 }
 
+// Whether a watch that is there is added again, and no other one comes by that.
+fn is_watched_again(mut three: Three) -> bool {
+    let before = three.watches.len();
+    let added = three.watches.add(three.second, three.one, false);
+    let has_first = three.watches.has(&three.second, &three.one);
+    let has_second = three.watches.has(&three.second, &three.two);
+    matches!(added, Ok(Added::Again))
+        && (before, three.watches.len()) == (3, 3)
+        && (has_first, has_second) == (true, false)
+}
+
 #[test]
 fn watched_again(rt: HostRuntime) -> Result<(), Fail> {
     assert!(rt; Watches::new(rt.alloc()).is_empty());
-    let mut three = watch_three(rt.alloc())?;
-    assert_eq!(rt; three.watches.len(), 3);
-    let again = three.watches.add(three.second, three.one, false);
-    assert!(rt; matches!(again, Ok(Added::Again)));
-    assert_eq!(rt; three.watches.len(), 3);
-    assert!(rt; three.watches.has(&three.second, &three.one));
-    assert!(rt; !three.watches.has(&three.second, &three.two));
+    assert!(rt; is_watched_again(watch_three(rt.alloc())?));
     Ok(())
 }
 
@@ -114,15 +119,22 @@ fn watch_many(alloc: Global, many: usize) -> Result<Watches, Fail> {
     Ok(watches)
 }
 
+// Whether 4,096 watches take no other one, but the first one again.
+fn are_full(mut watches: Watches, action: Action, first: Name, last: Name) -> bool {
+    let before = watches.len();
+    let other = watches.add(last, action, true);
+    let again = watches.add(first, action, false);
+    matches!(other, Err(WatchFault::Full))
+        && matches!(again, Ok(Added::Again))
+        && (before, watches.len()) == (4096, 4096)
+}
+
 #[test]
 fn the_watch_after_4096(rt: HostRuntime) -> Result<(), Fail> {
     let action = call(b"p1").ok_or("action")?;
     let first = numbered(0).ok_or("name")?;
     let last = numbered(4096).ok_or("name")?;
-    let mut watches = watch_many(rt.alloc(), 4096)?;
-    assert_eq!(rt; watches.len(), 4096);
-    assert!(rt; matches!(watches.add(last, action, true), Err(WatchFault::Full)));
-    assert!(rt; matches!(watches.add(first, action, false), Ok(Added::Again)));
-    assert_eq!(rt; watches.len(), 4096);
+    let watches = watch_many(rt.alloc(), 4096)?;
+    assert!(rt; are_full(watches, action, first, last));
     Ok(())
 }
