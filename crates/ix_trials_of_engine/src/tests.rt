@@ -13,7 +13,9 @@ use std::test::Fail;
 mod bounds;
 mod findings;
 mod follows;
+mod menus;
 mod refusals;
+mod stuck;
 mod trees;
 
 fn expression(alloc: Global, text: &str) -> Result<Expression, Fail> {

@@ -1,10 +1,10 @@
 //! The parts that refuse an action after another one, worked out by hand.
 
 use super::{action, expression};
-use ix_expr::Env;
+use ix_expr::{Env, Expr};
 use ix_step::{initial, step};
 use ix_values::Value;
-use ix_why::{Part, why};
+use ix_why::{Part, node_at, why};
 use std::alloc::Global;
 use std::test::Fail;
 
@@ -68,6 +68,29 @@ fn refusals_by_hand(rt: HostRuntime) -> Result<(), Fail> {
             Value::read(value.as_bytes()),
         ));
         assert!(rt; parts.iter().map(seen).eq(wanted), "{asked} of {text}");
+    }
+    Ok(())
+}
+
+// The sign of an expression's operator, `a` for an atom without arguments, `b` for one with some.
+fn sign(expr: Option<&Expr>) -> u8 {
+    match expr {
+        Some(Expr::Atom(atom)) if atom.args().is_empty() => b'a',
+        Some(Expr::Atom(_)) => b'b',
+        Some(Expr::Opt(_)) => b'?',
+        Some(Expr::Seq(..)) => b'-',
+        Some(Expr::And(..)) => b'&',
+        Some(_) => b'$',
+        None => b' ',
+    }
+}
+
+#[test]
+fn nodes_by_hand(rt: HostRuntime) -> Result<(), Fail> {
+    let expression = expression(rt.alloc(), "(a - b(u)) & any $p ?c($p,$p)")?;
+    for (node, wanted) in b"&-ab$?b ".iter().enumerate() {
+        let found = sign(node_at(&expression, node));
+        assert!(rt; found == *wanted, "node {node}");
     }
     Ok(())
 }

@@ -122,8 +122,11 @@ pub(super) const BOTH: &[u8] = b"all $p *(any $x (call($p,$x) - perform($p,$x)))
 mod bounds;
 mod follows;
 mod lints;
+mod menus;
+mod reasons;
 mod refusals;
 mod replays;
+mod searches;
 mod simplifies;
 mod traces;
 mod works;

@@ -12,6 +12,16 @@ fn words_of(alloc: Global, text: &str) -> Result<Vec<String>, AllocError> {
     Ok(words)
 }
 
+// Texts, each behind a space.
+fn joined(alloc: Global, texts: &[String]) -> Result<String, AllocError> {
+    let mut joined = String::new(alloc);
+    for text in texts {
+        joined.push_str(" ")?;
+        joined.push_str(text.as_str())?;
+    }
+    Ok(joined)
+}
+
 // A job as a text: its fields behind its name, each behind a space.
 fn shown(alloc: Global, job: &Job) -> Result<String, AllocError> {
     match job {
@@ -39,6 +49,27 @@ fn shown(alloc: Global, job: &Job) -> Result<String, AllocError> {
         Job::Bound { expr, count } => format!(in alloc; "bound {expr} {count}"),
         Job::Follow { expr, lines, nodes } => format!(in alloc; "follow {expr} {lines} {nodes}"),
         Job::Lint { expr } => format!(in alloc; "lint {expr}"),
+        Job::Why {
+            expr,
+            actions,
+            action,
+            nodes,
+        } => format!(in alloc; "why {expr} {actions} {action} {nodes}"),
+        Job::Next {
+            expr,
+            actions,
+            values,
+            nodes,
+        } => {
+            let values = joined(alloc, values.as_slice())?;
+            format!(in alloc; "next {expr} {actions} {nodes}{values}")
+        }
+        Job::Stuck {
+            expr,
+            values,
+            nodes,
+            states,
+        } => format!(in alloc; "stuck {expr} {values} {nodes} {states}"),
     }
 }
 
@@ -78,6 +109,16 @@ const JOBS: &[(&str, &str)] = &[
     ("follow x l", "follow x l 100000"),
     ("follow --nodes 8 x l", "follow x l 8"),
     ("lint x", "lint x"),
+    ("why x a b", "why x a b 100000"),
+    ("why --nodes 8 x a b(c)", "why x a b(c) 8"),
+    ("next x a", "next x a 100000"),
+    ("next x a p=u v --nodes 8", "next x a 8 p=u v"),
+    (
+        "next x a 1 2 3 4 5 6 7 8 9 10 11 12 13 14 15 16",
+        "next x a 100000 1 2 3 4 5 6 7 8 9 10 11 12 13 14 15 16",
+    ),
+    ("stuck x v", "stuck x v 100000 100000"),
+    ("stuck x v --states 9 --nodes 8", "stuck x v 8 9"),
 ];
 
 // Whether the words of a text are answered so.
@@ -161,6 +202,18 @@ const REFUSED: &[(&str, &str)] = &[
         "error: invalid value '1000001' for '<K>': ",
     ),
     (
+        "why x a",
+        "error: the following required arguments were not provided:\n  <ACTION>\n",
+    ),
+    (
+        "next x a 1 2 3 4 5 6 7 8 9 10 11 12 13 14 15 16 17",
+        "error: unexpected value '17' for '[VALUE]...' found; no more were expected\n",
+    ),
+    (
+        "stuck x v --states 0",
+        "error: invalid value '0' for '--states <states>': ",
+    ),
+    (
         "simplify x --nodes 8",
         "error: unexpected argument '--nodes' found\n",
     ),
@@ -197,6 +250,9 @@ Commands:
   bound EXPR K
   follow EXPR LINES [--nodes N]
   lint EXPR
+  why EXPR ACTIONS ACTION [--nodes N]
+  next EXPR ACTIONS [VALUE..] [--nodes N]
+  stuck EXPR VALUES [--nodes N] [--states N]
 
 For more information on a command, put '--help' behind its name.
 ";
