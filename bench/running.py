@@ -97,9 +97,9 @@ class Running:
     def open_files(self) -> int:
         return len(os.listdir(f"/proc/{self.process.pid}/fd"))
 
-    def settled(self, open_files: int) -> bool:
-        """Whether it comes to have so many open files: what its clients closed it reads to the end first."""
-        end = time.monotonic() + LIMIT
+    def settled(self, open_files: int, limit: float = LIMIT) -> bool:
+        """Whether it comes to have so many open files in this time: what its clients closed it reads to the end first."""
+        end = time.monotonic() + limit
         while self.open_files() != open_files and time.monotonic() < end:
             time.sleep(0.02)
         return self.open_files() == open_files
