@@ -108,10 +108,10 @@ class Asks:
         """Sends the first ask of the line if the reservation may be free. Those whose clients are gone leave it."""
         while self._line and self._may_send():
             request, _ = self._line.popitem(last=False)
-            if request.client.hung_up():
-                self.sender.give_up(request)
-            else:
+            if not request.client.hung_up():
                 self._send_as_next(request)
+                break
+            self.sender.give_up(request)
         if self._hurried and self._passes_nobody():
             hurried, self._hurried = self._hurried, {}
             for request in hurried:

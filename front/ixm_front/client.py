@@ -56,9 +56,7 @@ class Client:
         self.rights_of: Policy | None = None  # the policy by which these are
         self.is_closed = False
         self.has_hung_up = False  # no reply reaches it any more
-        self._is_told: bool | None = None  # while lines are taken that the loop has told of: whether it told a hang-up too
-        self._poll = select.poll()
-        self._poll.register(sock.fileno(), 0)
+        self._is_told = False  # the loop has told of a hang-up
         self._reader = LineReader()
         self._out = b""
         self._reads = False
@@ -68,7 +66,7 @@ class Client:
     def serve(self) -> None:
         """Takes lines as long as none is unanswered, and reads on."""
         reader = self._reader
-        while self.request is None and not self._out and not self.has_hung_up:
+        while reader.held and self.request is None and not self._out and not self.has_hung_up:
             line = reader.next()
             if line is None:
                 break
@@ -115,9 +113,14 @@ class Client:
     def hung_up(self) -> bool:
         """Whether the system knows by now that no reply reaches it."""
         if not self.has_hung_up:
-            # It is polled for no event, so what is told is that the other end is closed, or an error.
-            self.has_hung_up = bool(self._poll.poll(0)) if self._is_told is None else self._is_told
+            # While it is read the loop tells of it, in each turn before anything else.
+            self.has_hung_up = self._is_told if self._reads else self._is_polled_gone()
         return self.has_hung_up
+
+    def _is_polled_gone(self) -> bool:
+        poll = select.poll()
+        poll.register(self.sock.fileno(), 0)  # for no event, so what is told is that the other end is closed, or an error
+        return bool(poll.poll(0))
 
     def rest(self) -> None:
         """Reads nothing for now."""
@@ -186,13 +189,11 @@ class Client:
                 self._begun = self._heard
             reader.feed(data)
             self._is_told = flags & HUNG_UP != 0
-            self.serve()
-            self._is_told = None
         else:
             self._has_ended = True
             self._read_if(False)
             self.hung_up()
-            self.serve()
+        self.serve()
 
     def _set_out(self, out: bytes) -> None:
         if len(out) != len(self._out):

@@ -264,8 +264,7 @@ class Front:
                 metrics.sent_again += 1
             else:
                 self._answer(request, reply, now)
-            if self._asks:
-                self._asks.send_next()
+            self._asks.send_next()
         else:
             told_reply = self._watches.replied(request, reply)
             if told_reply is None:

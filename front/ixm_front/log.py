@@ -24,7 +24,7 @@ SLOW = 1.0  # seconds behind which a write that hasn't ended counts as failing
 TAIL = 1 << 16  # bytes of a file's end in which its last record is looked for
 CHAIN = re.compile(rb'(\{"n": ([0-9]+), .*), "chain": "([0-9a-f]{32})"\}')
 
-PLAIN = re.compile(rb"[ !#-\[\]-~]*")  # what stands in JSON as it is
+is_plain = re.compile(rb"[ !#-\[\]-~]*").fullmatch  # whether it stands in JSON as it is
 
 quoted = json.JSONEncoder().encode
 
@@ -45,7 +45,7 @@ Item = Record | str
 def line_text(line: bytes) -> bytes:
     """A line or a reply as JSON, without its line end: bytes that aren't ASCII as \\xNN."""
     line = line.rstrip(b"\n")
-    if PLAIN.fullmatch(line):
+    if is_plain(line):
         return b'"%b"' % line
     return quoted(line.decode("ascii", "backslashreplace")).encode()
 
@@ -215,15 +215,17 @@ class Log:
 
     def _turn(self) -> bool:
         """Takes what is in the queue, and writes it. False where it was the end."""
-        items = self._items()
-        for item in items:
-            if isinstance(item, tuple):
+        words = set()
+        for item in self._items():
+            if isinstance(item, str):
+                words.add(item)
+            else:
                 self._left.append((item[0], self._file.rendered(item)))
         if self._left:
             self._put()
-        if REOPEN in items:
+        if REOPEN in words:
             self.on_opened(self._file.open_again())
-        return END not in items
+        return END not in words
 
     def _items(self) -> list[Item]:
         """What there is to do, once there is something, or a write that failed is to be tried again."""

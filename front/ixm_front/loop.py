@@ -7,13 +7,15 @@ import asyncio
 import select
 import selectors
 from collections.abc import Callable, Mapping
+from operator import itemgetter
 from time import monotonic
 from typing import Any
 
 READ, WRITE = selectors.EVENT_READ, selectors.EVENT_WRITE
 IN, OUT = select.EPOLLIN, select.EPOLLOUT
-HUNG_UP = select.EPOLLHUP | select.EPOLLERR  # what is told of a file whose other end takes nothing more
+HUNG_UP = select.EPOLLHUP | select.EPOLLERR  # what is told of a file whose other end takes nothing more; above IN and OUT
 AT_ONCE = 256  # events that one turn takes; the others come in the next, in their order
+FLAGS = itemgetter(1)  # of an event
 Keys = list[tuple[selectors.SelectorKey, int]]
 Read = Callable[[int], None]  # is given what the system says of the file
 Write = Callable[[], None]
@@ -92,6 +94,8 @@ class TurnSelector(selectors.BaseSelector):
         while True:
             has_more = self.flush()
             events = self._epoll.poll(0 if has_more else timeout, AT_ONCE)
+            if len(events) > 1:
+                events.sort(key=FLAGS, reverse=True)  # hang-ups first, so that nothing more is begun for those
             found = self._called(events)
             if found or self._is_wanted or not (events or has_more):
                 return found
@@ -108,10 +112,10 @@ class TurnSelector(selectors.BaseSelector):
             calls = self._calls.get(fd)
             if calls is not None:
                 read, write = calls
-                if write is not None and flags & ~IN:
+                if write is not None and flags != IN:
                     write()
                     read = self._calls.get(fd, (None, None))[0]
-                if read is not None and flags & ~OUT:
+                if read is not None and flags != OUT:
                     read(flags)
             elif fd in self._keys:
                 key = self._keys[fd]
