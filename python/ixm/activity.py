@@ -1,5 +1,5 @@
 """How one action comes into the history exactly once, whoever is killed meanwhile. docs/engines.md
-has the states of it as a table, in the words used here.
+has the states of it, in the words used here.
 
 All of it is written once, as coroutines over what an engine does outside of itself (`Outside`): the
 engine that blocks and the one for asyncio run the same code.

@@ -5,7 +5,7 @@ import java.math.BigInteger;
 import java.util.Optional;
 
 /** How one action comes into the history exactly once, whoever is killed meanwhile. docs/engines.md
- * has its states as a table, in the words used here. */
+ * has its states, in the words used here. */
 final class Activity {
     /** A connection that the manager reads. */
     interface Talk {

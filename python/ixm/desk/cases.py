@@ -78,9 +78,9 @@ def results(expression: Expanded, text: str) -> list[tuple[Case, str | None]]:
     for case in read_cases(text):
         try:
             found.append((case, wrong(case, program.trace(expression, case.actions))))
-        except program.NoAction as error:
-            at = offset(text, case.lines[error.number])
-            raise Fault(at, f"{case.actions[error.number]} is no action") from None
+        except program.Stopped as stopped:
+            at = offset(text, case.lines[stopped.number])
+            raise Fault(at, f"{case.actions[stopped.number]} {stopped.sentence}") from None
     return found
 
 

@@ -24,10 +24,11 @@ TITLES = {
 }
 STYLE = "text { font: 15px monospace; fill: #111111; stroke: none } polyline { fill: none }"
 FRAMES = {"any": "#fff7e0", "every": "#eaf6ea", "sync": "#e8f3fa", "all": "#f6edf8"}
-# The line of a frame around what is marked, by the kind of the mark, from the inside to the outside.
+# The frame around what is marked, by the kind of the mark, from the inside to the outside. What refuses an action is lit.
 MARKS = {
-    "found": 'rx="9" stroke="#4b3ba8" stroke-width="4" stroke-linecap="round" stroke-dasharray="0 8"',
-    "refused": 'stroke="#b00020" stroke-width="3" stroke-dasharray="7 4"',
+    "found": 'fill="none" rx="9" stroke="#4b3ba8" stroke-width="4" stroke-linecap="round" stroke-dasharray="0 8"',
+    "refused": 'fill="none" stroke="#b00020" stroke-width="3" stroke-dasharray="7 4"',
+    "refusing": 'fill="#ffe9a8" rx="4" stroke="#8a4b00" stroke-width="4"',
 }
 
 
@@ -190,7 +191,7 @@ def marked(inner: Figure, edge: str, marks: Sequence[Mark]) -> Figure:
     def put(x: int, y: int) -> list[str]:
         top, height = y - inner.above - GAP, inner.above + inner.below + GAP + 6
         begin, end = x + (width - inner.width) // 2, x + width
-        shapes = [box(x, top, width, height, f'fill="none" {edge}')]
+        shapes = [box(x, top, width, height, edge)]
         shapes.append(f'<text x="{x + 8}" y="{top + 17}" font-weight="bold">{sign}</text>')
         shapes += [line((x, y), (begin, y)), line((begin + inner.width, y), (end, y))]
         return titled("; ".join(mark.sentence for mark in marks), shapes + inner.put(begin, y))

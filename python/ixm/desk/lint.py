@@ -1,9 +1,9 @@
 """What looks wrong in rules, as the program's `lint` says it, in sentences for their author."""
 
 import re
-from dataclasses import dataclass
 
 from ixm.desk import program
+from ixm.desk.found import Finding, findings
 from ixm.desk.parts import Expanded
 from ixm.desk.texts import place
 
@@ -23,16 +23,6 @@ SENTENCES = {
 PLACES = ("at", "first", "other")
 
 
-@dataclass(frozen=True)
-class Finding:
-    """What looks wrong: its offset into the source, a sentence, and where its nodes begin in the expression's text, which
-    are several if it is in a part that is used several times."""
-
-    at: int
-    sentence: str
-    nodes: list[int]
-
-
 def told(line: str, source: str, expression: Expanded) -> tuple[int, str]:
     """What a line of the program says: where its node begins in the expression's text, and a sentence."""
     for pattern, sentence in SENTENCES.items():
@@ -43,13 +33,9 @@ def told(line: str, source: str, expression: Expanded) -> tuple[int, str]:
     raise program.Unusable(f"{program.path()} finds what the desk doesn't know: {line}")
 
 
-def findings(source: str, expression: Expanded) -> list[Finding]:
+def looks_wrong(source: str, expression: Expanded) -> list[Finding]:
     """What looks wrong in an expression, in the program's order."""
     said = program.run("lint", [expression.text])
     if said.status:
         raise said.failure(expression)
-    nodes = dict[tuple[int, str], list[int]]()
-    for line in said.lines:
-        node, sentence = told(line, source, expression)
-        nodes.setdefault((expression.source(node), sentence), []).append(node)
-    return [Finding(*key, found) for key, found in nodes.items()]
+    return findings((told(line, source, expression) for line in said.lines), expression)

@@ -13,6 +13,7 @@ from ixm.desk.texts import Fault
 
 REFUSED = re.compile(r"refused expression (\d+) (?:at (\d+)|large (\d+))")
 ACTIONS = re.compile(r"refused actions (\d+) at (\d+)")
+HISTORY = re.compile(r"refused history (\d+) at (\d+)")
 UNBOUNDED = re.compile(r"unbounded (\d+) node (\d+)")
 SENTENCES = {
     1: "the text is longer than the program reads",
@@ -37,18 +38,27 @@ UNBOUNDED_SENTENCES = {
     53: "no one place of its actions tells the value, so an action may belong to several",
     54: "many of these may have begun, and each of them may be the one that goes on",
 }
+STOPS = {
+    62: "isn't permitted here",
+    63: "is one more than a history has",
+    64: "makes the state larger than the limit of nodes",
+}
 
 
 class Unusable(Exception):
     """The program can't be run, or says what the desk doesn't know."""
 
 
-class NoAction(Exception):
-    """One of the actions is none: its number, from 0."""
+class Stopped(Exception):
+    """The history doesn't go on with one of its actions: its number, from 0, and what is to say of it."""
 
-    def __init__(self, number: int) -> None:
-        super().__init__(number)
-        self.number = number
+    def __init__(self, number: int, sentence: str) -> None:
+        super().__init__(number, sentence)
+        self.number, self.sentence = number, sentence
+
+
+class TooMany(Exception):
+    """The values that are given make more candidates than the program tries."""
 
 
 def path() -> str:
@@ -69,12 +79,35 @@ class Said:
     def last(self) -> str:
         return self.lines[-1] if self.lines else ""
 
-    def failure(self, expression: Expanded) -> Exception:
-        """Why the program gave no answer: a fault in the rules, if it says so."""
+    def failure(self, expression: Expanded, history: str = "") -> Exception:
+        """Why the program gave no answer: a fault in the rules or in the history, if it says so."""
         refused = REFUSED.fullmatch(self.last())
         if refused and int(refused.group(1)) in SENTENCES:
             return Fault(expression.source(int(refused.group(2) or 0)), SENTENCES[int(refused.group(1))])
+        none, stopped = ACTIONS.fullmatch(self.last()), HISTORY.fullmatch(self.last())
+        if none:
+            return Stopped(history.encode()[: int(none.group(2))].count(b"\n"), "is no action")
+        if stopped and int(stopped.group(1)) in STOPS:
+            return Stopped(int(stopped.group(2)) - 1, STOPS[int(stopped.group(1))])
+        if self.last() == "refused candidates":
+            return TooMany("these are more candidates than the program tries")
         return Unusable(f"{path()} ended with status {self.status} and the line: {self.last()}")
+
+
+def started(*words: str) -> Said:
+    """Runs the program with these words."""
+    whole = [path(), *words]
+    try:
+        ended = subprocess.run(whole, stdin=subprocess.DEVNULL, stdout=subprocess.PIPE, encoding="utf-8")
+    except OSError as error:
+        raise Unusable(f"{whole[0]} can't be run: {error.strerror}") from None
+    return Said(ended.returncode, ended.stdout.splitlines())
+
+
+def commands() -> list[str]:
+    """The commands that the program has, as it tells them itself."""
+    named = (re.match(r"  ([a-z]+) ", line) for line in started().lines)
+    return [found.group(1) for found in named if found]
 
 
 def run(command: str, texts: Sequence[str], *words: str) -> Said:
@@ -84,24 +117,27 @@ def run(command: str, texts: Sequence[str], *words: str) -> Said:
         for name, text in zip(files, texts):
             with open(name, "w", encoding="utf-8", newline="") as file:
                 file.write(text)
-        whole = [path(), command, *files, *words]
-        try:
-            ended = subprocess.run(whole, stdin=subprocess.DEVNULL, stdout=subprocess.PIPE, encoding="utf-8")
-        except OSError as error:
-            raise Unusable(f"{whole[0]} can't be run: {error.strerror}") from None
-    return Said(ended.returncode, ended.stdout.splitlines())
+        return started(command, *files, *words)
+
+
+def lines(actions: Sequence[str]) -> str:
+    return "".join(f"{action}\n" for action in actions)
+
+
+def after(command: str, expression: Expanded, history: str, *words: str) -> list[str]:
+    """What a command says of an expression and of a history, which is lines of actions."""
+    said = run(command, [expression.text, history], *words)
+    if said.status == 0 and said.lines:
+        return said.lines
+    raise said.failure(expression, history)
 
 
 def trace(expression: Expanded, actions: Sequence[str]) -> list[str]:
     """What the program says of each action, and last `complete` or `partial`."""
-    text = "".join(f"{action}\n" for action in actions)
-    said = run("trace", [expression.text, text])
-    if said.status == 0 and len(said.lines) == len(actions) + 1:
-        return said.lines
-    no_action = ACTIONS.fullmatch(said.last())
-    if no_action:
-        raise NoAction(text.encode()[: int(no_action.group(2))].count(b"\n"))
-    raise said.failure(expression)
+    said = after("trace", expression, lines(actions))
+    if len(said) != len(actions) + 1:
+        raise Unusable(f"{path()} says {len(said)} lines of {len(actions)} actions")
+    return said
 
 
 def simplify(expression: Expanded) -> str:

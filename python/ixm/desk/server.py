@@ -23,6 +23,7 @@ PAGES = {"": ("desk.html", HTML), "desk.js": ("desk.js", SCRIPT), "desk.css": ("
 JSON = "application/json"
 LARGEST = 1 << 20  # bytes of a question
 DROPPED = 16 << 20  # bytes of a refused one that are read all the same
+MOST = 1000000  # the largest number in a question
 STYLE_HASH = b64encode(hashlib.sha256(STYLE.encode()).digest()).decode()
 POLICY = (
     f"default-src 'none'; script-src 'self'; style-src 'self' 'sha256-{STYLE_HASH}'; connect-src 'self'; "
@@ -80,6 +81,12 @@ class Body:
         if not isinstance(found, list) or any("\n" in self.checked(name, line) for line in found):
             raise Refused(400, f"{name} are no lines")
         return found
+
+    def question(self) -> Question:
+        """What a panel is asked."""
+        explained, values = self.number("explained", MOST), self.number("values", MOST)
+        texts, actions = (self.text("rules"), self.text("cases")), self.lines("actions")
+        return Question(*texts, actions, explained, values, self.lines("given"))
 
 
 class Desk(socketserver.ThreadingTCPServer):
@@ -157,16 +164,15 @@ class Handler(BaseHTTPRequestHandler):
     def asked(self) -> tuple[str, bytes]:
         name = self.wanted()
         body = self.body()
-        if name == "houses":
-            return JSON, as_json([house.name for house in self.server.houses])
+        if name == "begin":
+            return JSON, as_json({"houses": [house.name for house in self.server.houses], "commands": program.commands()})
         if name == "read":
             text, stamp = self.kept(body).read()
             return JSON, as_json({"text": text, "stamp": stamp})
         if name == "save":
             return JSON, as_json(self.save(body))
         if name in PANELS:
-            texts = body.text("rules"), body.text("cases"), body.lines("actions")
-            return JSON, as_json(answer(name, Question(*texts, body.number("values", 1000000))))
+            return JSON, as_json(answer(name, body.question()))
         raise Refused(404, "there is no such question")
 
     def body(self) -> Body:

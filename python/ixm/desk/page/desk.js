@@ -9,19 +9,31 @@ const SAID = {
     full: "permitted, but the history is full",
     large: "permitted, but the state would be larger than the limit",
 };
-// Each panel shows the answer to the question of its name (panels.py), in the section of its name.
+const SEARCHING = "Searching ..";
+// Each panel shows the answer to the question of its name (panels.py), in the section of its name. Some take given values
+// from a field. What is of a command is hidden where the program hasn't it.
 const PANELS = {
     rules: {show: showRules},
     lint: {show: showLint},
     drawing: {show: showDrawing},
     history: {show: showHistory},
+    next: {show: showNext, field: "given", command: true},
+    why: {show: showWhy, command: true},
+    stuck: {show: (answer) => house.searched === house.rules.text && showSearch(answer), field: "moves", command: true},
     suite: {show: showSuite, idle: () => !house.cases.text.trim()},
 };
+const AFTER_RULES = ["lint", "history", "suite"];
+const AFTER_HISTORY = ["next", "why", "drawing"];
 const KINDS = ["rules", "cases"];
+const FIELDS = ["given", "moves"];
 // What is of one file and not of the next.
-const SHOWN = ["looks", "found", "drawn", "bound", "refused", "actions", "state", "used", "counts", "wrong", "action-fault"];
-const houses = []; // of each file: its texts, its history, those before it for undo, and the actions used before
+const SHOWN = ["looks", "found", "drawn", "bound", "refused", "actions", "state", "used", "counts", "wrong", "action-fault",
+    "given-fault", "tried", "many", "menu", "refusal", "parts", "moves-fault", "searched", "gone"];
+// Of each file: its texts, its history, those before it for undo and those undone, which of its actions is explained, the
+// actions used before, and what stands in the fields.
+const houses = [];
 let house = null;
+let commands = []; // of the program
 
 const find = (name) => document.getElementById(name);
 
@@ -67,10 +79,9 @@ async function ask(name) {
     panel.asking = true;
     const failed = await fails(async () => {
         const one = house;
-        const texts = {rules: one.rules.text, cases: one.cases.text};
-        const values = Number(find("values").value);
-        const answer = panel.idle?.() ? {} : await post(name, {...texts, values, actions: one.actions});
-        if (!panel.again && one === house) {
+        const answer = panel.idle?.() ? {} : await post(name, question(panel));
+        const stopped = answer.stopped !== undefined && name !== "history"; // which the history's answer mends
+        if (!panel.again && one === house && !stopped) {
             find(name).classList.toggle("old", Boolean(answer.fault));
             if (name === "rules" || !answer.fault) {
                 panel.show(answer);
@@ -87,8 +98,17 @@ async function ask(name) {
     }
 }
 
-function askAllButRules() {
-    Object.keys(PANELS).filter((name) => name !== "rules").forEach(ask);
+// What a panel is asked. Without `why` no action is explained.
+function question(panel) {
+    const given = panel.field ? find(panel.field).value.split(/\s+/).filter((word) => word) : [];
+    const explained = commands.includes("why") ? explainedNumber() : house.actions.length;
+    const texts = {rules: house.rules.text, cases: house.cases.text};
+    return {...texts, actions: house.actions, explained, values: Number(find("values").value), given};
+}
+
+// Asks for these panels, but for those whose command the program hasn't.
+function askAll(names) {
+    names.filter((name) => !PANELS[name].command || commands.includes(name)).forEach(ask);
 }
 
 // The offset into a text of a line and a column, which count characters from 1.
@@ -100,7 +120,8 @@ function offset(text, line, column) {
 
 // A button that says a sentence about a place of a text, and leads there.
 function leading(kind, fault) {
-    const made = element("button", {type: "button"}, `${fault.line}:${fault.column}: ${fault.sentence}`);
+    const text = `${fault.line}:${fault.column}: ${fault.sentence}`;
+    const made = element("button", {type: "button", className: "leading"}, text);
     made.addEventListener("click", () => {
         const at = offset(house[kind].text, fault.line, fault.column);
         find(`${kind}-text`).setSelectionRange(at, at);
@@ -144,7 +165,8 @@ function showRules(answer) {
         }
     } else {
         give("expression-export", `${house.file}.expression`, answer.expression, "text/plain");
-        askAllButRules();
+        showSearch({});
+        askAll(AFTER_RULES);
     }
 }
 
@@ -171,9 +193,9 @@ function drawIn(name, svg) {
 }
 
 function showHistory(answer) {
-    if (answer.none !== undefined) {
-        const [none] = house.actions.splice(answer.none, 1);
-        find("action-fault").textContent = `${none} is no action`;
+    if (answer.stopped !== undefined) {
+        const [none] = house.actions.splice(answer.stopped, 1);
+        find("action-fault").textContent = `${none} ${answer.sentence}`;
         find("action").value = none;
         house.before.pop();
         house.before = house.before.filter((actions) => !actions.includes(none));
@@ -181,14 +203,117 @@ function showHistory(answer) {
         return;
     }
     house.actions.forEach((action) => house.used.add(action));
-    find("actions").replaceChildren(...house.actions.map((action, number) => {
-        const said = answer.lines[number];
-        return element("li", {}, `${action} `, element("span", {className: said === "yes" ? "yes" : "no"}, SAID[said]));
-    }));
+    house.lines = answer.lines;
+    house.listed = house.actions;
+    showActions();
     find("actions").scrollTop = find("actions").scrollHeight;
     find("state").textContent = answer.state;
-    house.lines = answer.lines;
     showUsed();
+    askAll(AFTER_HISTORY);
+}
+
+// The number of the action that is explained: the one that was chosen, or else the last.
+function explainedNumber() {
+    return house.explained ?? Math.max(house.actions.length - 1, 0);
+}
+
+// Lists the actions of which the program has said something. One that is refused can be chosen, so that it is explained.
+function showActions() {
+    find("actions").replaceChildren(...house.listed.map((action, number) => {
+        const said = house.lines[number];
+        const explains = said === "no" && commands.includes("why");
+        const made = element(explains ? "button" : "span", {className: said === "yes" ? "yes" : "no"}, SAID[said]);
+        if (explains) {
+            Object.assign(made, {type: "button", title: "Why?", ariaLabel: `refused: why ${action}?`});
+            made.setAttribute("aria-pressed", String(number === explainedNumber()));
+            made.addEventListener("click", () => explain(number));
+        }
+        return element("li", {}, `${action} `, made);
+    }));
+}
+
+function explain(number) {
+    house.explained = number;
+    showActions();
+    find("actions").children[number].querySelector("button").focus();
+    askAll(["why", "drawing"]);
+}
+
+function showWhy(answer) {
+    find("refusal").textContent = answer.action ? `${answer.action} is refused` : "A refused action is explained here";
+    showPlaces("parts", "rules", answer.parts);
+}
+
+// Shows what may come. The keyboard stays in the menu.
+function showNext(answer) {
+    const focused = ["menu", "naming"].some((name) => find(name).contains(document.activeElement));
+    const was = document.activeElement.textContent;
+    const actions = answer.actions ?? [];
+    const first = answer.count > actions.length ? `, of which the first ${actions.length} are shown` : "";
+    find("given-fault").textContent = answer.faulty ?? "";
+    find("many").textContent = answer.faulty ? "" : `What may come of these values: ${answer.count}${first}.`;
+    const left = answer.left ? ` without ${answer.left} earlier ones` : "";
+    find("tried").textContent = answer.tried?.length ? `and those of the history${left}: ${answer.tried.join(" ")}` : "";
+    find("menu").replaceChildren(...actions.map((action) => {
+        const made = element("button", {type: "button"}, action);
+        made.addEventListener("click", () => choose(action));
+        return element("li", {}, made);
+    }));
+    find("naming").hidden = true;
+    if (focused) {
+        (offered(was) ?? find("menu").querySelector("button") ?? find("menu")).focus();
+    }
+}
+
+// The menu's button of this action.
+function offered(action) {
+    return [...find("menu").querySelectorAll("button")].find((one) => one.textContent === action);
+}
+
+// Adds an action of the menu to the history. For new values it asks for names.
+function choose(action) {
+    const signs = [...new Set(action.match(/\$\d/g))];
+    if (!signs.length) {
+        goOn([...house.actions, action]);
+        return;
+    }
+    house.chosen = action;
+    find("names").replaceChildren(...signs.map((sign) => {
+        const field = {name: sign, required: true, pattern: "[A-Za-z0-9_]{1,32}", autocomplete: "off", spellcheck: false};
+        return element("label", {}, `${sign} of ${action} is `, element("input", field));
+    }));
+    find("naming").hidden = false;
+    find("names").querySelector("input").focus();
+}
+
+function giveNames(event) {
+    event.preventDefault();
+    const names = Object.fromEntries(new FormData(find("naming")));
+    unname();
+    goOn([...house.actions, house.chosen.replace(/\$\d/g, (sign) => names[sign])]);
+}
+
+function unname() {
+    find("naming").hidden = true;
+    offered(house.chosen)?.focus();
+}
+
+async function search(event) {
+    event.preventDefault();
+    showSearch({sentence: SEARCHING});
+    house.searched = house.rules.text;
+    await ask("stuck");
+    if (find("searched").textContent === SEARCHING) {
+        showSearch({}); // nothing came, or of other rules
+    }
+}
+
+function showSearch(answer) {
+    find("moves-fault").textContent = answer.faulty ?? "";
+    find("searched").textContent = answer.sentence ?? "";
+    house.found = answer.history ?? [];
+    find("play").hidden = !house.found.length;
+    showPlaces("gone", "rules", answer.gone ?? []);
 }
 
 // Adds a button for each action used before that has none. The others stay, so that the keyboard stays at them.
@@ -204,18 +329,32 @@ function showUsed() {
 // Makes these the actions of the history.
 function goOn(actions) {
     house.before.push(house.actions);
+    house.after = [];
+    turnTo(actions);
+}
+
+function turnTo(actions) {
     house.actions = actions;
+    house.explained = null;
     find("action-fault").textContent = "";
     ask("history");
 }
 
 function undo() {
-    if (house.before.length) {
-        house.actions = house.before.pop();
-        find("action-fault").textContent = "";
-        ask("history");
+    step(house.before, house.after, "There is nothing to undo.");
+}
+
+function redo() {
+    step(house.after, house.before, "There is nothing to do again.");
+}
+
+// Goes to the last of these histories, and keeps the one that it leaves with those.
+function step(from, to, none) {
+    if (from.length) {
+        to.push(house.actions);
+        turnTo(from.pop());
     } else {
-        find("action-fault").textContent = "There is nothing to undo.";
+        find("action-fault").textContent = none;
     }
 }
 
@@ -322,16 +461,20 @@ function show(one) {
     house = one;
     document.title = `${one.file} - desk`;
     KINDS.forEach((kind) => put(kind, one[kind].text));
+    FIELDS.forEach((name) => { find(name).value = one.fields[name] ?? ""; });
     SHOWN.forEach((name) => find(name).replaceChildren());
-    find("simple").hidden = true;
-    find("again").hidden = true;
+    ["simple", "again", "naming", "play"].forEach((name) => { find(name).hidden = true; });
     ask("rules");
 }
 
 async function begin() {
-    for (const [number, name] of (await post("houses", {})).entries()) {
+    const told = await post("begin", {});
+    commands = told.commands;
+    Object.keys(PANELS).forEach((name) => { find(name).hidden = PANELS[name].command && !commands.includes(name); });
+    for (const [number, name] of told.houses.entries()) {
         const file = name.replace(/.*\//, "");
-        const one = {number, file, actions: [], before: [], used: new Set(), lines: []};
+        const history = {actions: [], before: [], after: [], lines: [], explained: null};
+        const one = {number, file, ...history, used: new Set(), fields: {}};
         await read(one);
         houses.push(one);
         find("house").append(element("option", {value: number}, name));
@@ -344,8 +487,16 @@ function listen() {
     find("house").addEventListener("change", (event) => show(houses[event.target.value]));
     find("values").addEventListener("input", () => ask("drawing"));
     find("undo").addEventListener("click", undo);
+    find("redo").addEventListener("click", redo);
     find("begin").addEventListener("click", () => goOn([]));
     find("keep").addEventListener("submit", keepCase);
+    find("naming").addEventListener("submit", giveNames);
+    find("unnamed").addEventListener("click", unname);
+    find("naming").addEventListener("keydown", (event) => event.key === "Escape" && unname());
+    FIELDS.forEach((name) => find(name).addEventListener("input", (event) => { house.fields[name] = event.target.value; }));
+    find("given").addEventListener("input", () => askAll(["next"]));
+    find("search").addEventListener("submit", search);
+    find("play").addEventListener("click", () => goOn(house.found));
     find("add").addEventListener("submit", (event) => {
         event.preventDefault();
         const action = find("action").value.trim();
@@ -356,13 +507,19 @@ function listen() {
     });
     find("save").addEventListener("click", () => fails(save));
     find("again").addEventListener("click", () => fails(readAgain));
-    document.addEventListener("keydown", (event) => {
-        if ((event.ctrlKey || event.metaKey) && event.key.toLowerCase() === "s") {
-            event.preventDefault();
-            fails(save);
-        }
-    });
+    document.addEventListener("keydown", pressed);
     addEventListener("beforeunload", (event) => houses.some(isUnsaved) && event.preventDefault());
+}
+
+// Ctrl+S saves. Ctrl+Z and Ctrl+Y are of the history, except in a field, which has its own.
+function pressed(event) {
+    const typing = event.target.matches("input, textarea");
+    const name = {s: "save", z: event.shiftKey ? "redo" : "undo", y: "redo"}[event.key.toLowerCase()];
+    if (!(event.ctrlKey || event.metaKey) || !name || (typing && name !== "save")) {
+        return;
+    }
+    event.preventDefault();
+    find(name).click();
 }
 
 listen();
