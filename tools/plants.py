@@ -1,7 +1,7 @@
 #!/usr/bin/env python3
 """plants.py NAME..: runs `rt plant` on these crates, and writes what it counted into the table of docs/gate.md.
 
-The last cells of a crate's row say how many planted bodies were refused, how many couldn't be judged, and the day; a
+The last columns of a crate's row say how many planted bodies were refused, how many couldn't be judged, and the day; a
 crate that has no row gets one. What was let through is a list below the table, which is written by hand. It ends with 1
 if a run of `rt plant` doesn't end or leaves bodies out, and if a body is let through of a crate that isn't in the list."""
 import datetime
@@ -10,6 +10,7 @@ import subprocess
 import sys
 
 PAGE = "docs/gate.md"
+KEPT = 46  # columns of a row that stand before these
 
 
 def counts(crate):
@@ -28,13 +29,13 @@ def counts(crate):
 
 def with_row(page, crate, found):
     """The page with the crate's row."""
-    unjudged = " %d" % found["not-judged"] if found["not-judged"] else ""
-    counted = " %d |%s | %s |" % (found["refused"], unjudged, datetime.date.today().isoformat())
-    row = re.compile(r"(?m)^(\| `%s` \|(?:[^|\n]*\|){3}).*$" % crate)
+    day = datetime.date.today().isoformat()
+    counted = " %8d %11s  %s" % (found["refused"], found["not-judged"] or "", day)
+    row = re.compile(r"(?m)^    %s\b.*$" % crate)
     if row.search(page):
-        return row.sub(lambda it: it[1] + counted, page)
-    end = list(re.finditer(r"(?m)^\| `ix_\w+` \|.*\n", page))[-1].end()
-    return page[:end] + "| `%s` | | | |%s\n" % (crate, counted) + page[end:]
+        return row.sub(lambda it: it[0][:KEPT].ljust(KEPT) + counted, page)
+    end = list(re.finditer(r"(?m)^    ix_\w+.*\n", page))[-1].end()
+    return page[:end] + ("    " + crate).ljust(KEPT) + counted + "\n" + page[end:]
 
 
 def main():
