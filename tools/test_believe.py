@@ -319,7 +319,7 @@ HIDING = {
 }
 
 PAGES = {
-    "a module of the page is gone": changed(PAGE, "Meaning `ts`, ", "", "its lists aren't those of the claims"),
+    "a module of the page is gone": changed(PAGE, ", Meaning `ts`", "", "its lists aren't those of the claims"),
     "a module of the page is a way's no more": changed(PAGE, "Meaning `ts`", "Meaning `s`",
                                                        "its lists aren't those of the claims"),
     "a module of the page stands before one that it uses": changed(

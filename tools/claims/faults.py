@@ -50,15 +50,18 @@ def last_of(full: str) -> str:
 
 
 def renames(reading: Reading) -> Iterator[str]:
-    """Imports that give a name of ours, or of a library, to something else."""
+    """Imports that give a name of ours, or of a library, to something else, where the crate or one below it has that name."""
     ours, all_imports = names_of_ours(reading), imports(reading)
-    of_libraries = {written for _, _, written, full in all_imports
-                    if written == last_of(full) and (full.split(".") + [""])[1] not in reading.tree.crates}
+    of_libraries: dict[str, set[str]] = {}
+    for _, crate, written, full in all_imports:
+        if written == last_of(full) and (full.split(".") + [""])[1] not in reading.tree.crates:
+            of_libraries.setdefault(crate, set()).add(written)
     for path, crate, written, full in all_imports:
         if written == last_of(full) or reading.names.resolve(full).is_module:
             continue
-        below = set().union(*(ours.get(name, set()) for name in reading.tree.at_or_below(crate)))
-        if written in below or written in of_libraries or "◌" in written + full:
+        below = set().union(*(ours.get(name, set()) | of_libraries.get(name, set())
+                              for name in reading.tree.at_or_below(crate)))
+        if written in below or "◌" in written + full:
             yield "%s: %s is imported as %s, which is the name of something else" % (path, full, written)
 
 
