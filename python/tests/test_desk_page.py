@@ -216,6 +216,23 @@ class TestPage(Case):
         page.wait_text("#searched", "")
         self.assertFalse(page.find("#play").is_displayed())
 
+    def test_a_search_says_how_far_it_came(self) -> None:
+        self.needs("stuck")
+        self.play("stuck", "")
+        self.write("words", "")
+        os.unlink(f"{self.folder}/said")
+        os.mkfifo(f"{self.folder}/said")  # so each answer waits for the one below
+        page = self.opened(rules="*(a - b)")
+        page.find("#moves").send_keys("u" + Keys.ENTER)
+        never = "No history of these values is stuck: each can be completed. States: 20000."
+        for states, sentence, lines in ((1000, "Searching ..", "more than 1000 states\n"),
+                                        (10000, "More than 1000 states. Searching ..", "more than 10000 states\n"),
+                                        (100000, "More than 10000 states. Searching ..", "never stuck 20000\n")):
+            page.wait_text("#searched", sentence)
+            page.wait("the question", lambda: f"--states={states}\n" in self.kept("words"))
+            self.write("said", lines)
+        page.wait_text("#searched", never)
+
     def test_what_the_program_has_not_is_hidden(self) -> None:
         self.play("", "Usage: ixm COMMAND WORDS\n\nCommands:\n  trace EXPR ACTIONS\n", 2)
         page = self.opened(rules=DOORS)

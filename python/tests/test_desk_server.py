@@ -101,7 +101,7 @@ def request(desk: Desk, name: str, body: Any = None, headers: Headers | None = N
 
 def asked(rules: str, **others: object) -> dict[str, object]:
     """A question about these rules, and else about nothing but these."""
-    return {"rules": rules, "cases": "", "actions": [], "explained": 0, "values": 3, "given": [], **others}
+    return {"rules": rules, "cases": "", "actions": [], "explained": 0, "values": 3, "given": [], "states": 9, **others}
 
 
 def framed(svg: str, kind: str) -> list[tuple[str, str]]:

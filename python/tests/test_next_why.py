@@ -90,6 +90,7 @@ class TestLines(Case):
             with self.subTest(lines):
                 found = read_search(lines.split(";"), expand(text))
                 self.assertEqual((found.sentence, found.history), (sentence, history))
+                self.assertEqual(found.has_more, lines.startswith("more"))
                 told = [f"{one.at} {one.sentence.removesuffix(' never comes again')}" for one in found.gone]
                 self.assertEqual(told, gone)
         for lines in ("stuck after 1", "stuck after 0;a", "never stuck", "never stuck 2;a"):
@@ -167,6 +168,7 @@ class TestPanels(Case):
         desk = self.served(rules=text)
         answer = request(desk, "stuck", asked(text, given=["u", "p=v", "u"]))[1]
         self.assertEqual((answer["sentence"], answer["history"], self.kept("text")), (sentence, history, "u\np=v\n"))
+        self.assertEqual((answer["more"], self.kept("words").split()[3:]), (False, ["--states=9"]))
         self.assertEqual(told(answer, "gone")[2:], ["1:14: a never comes again", "1:18: c never comes again"])
         self.assertEqual(request(desk, "stuck", asked(text)), (200, {"faulty": "give one value at least"}))
 

@@ -20,7 +20,7 @@ SHOWN = 200  # actions that the page shows of those that may come
 @dataclass(frozen=True)
 class Question:
     """What the page has: the texts as typed, the history's actions and the number of the one that is explained, how many
-    values `bound` is asked for, and the values that are given."""
+    values `bound` is asked for, the values that are given, and how many states are searched."""
 
     rules: str
     cases: str
@@ -28,6 +28,7 @@ class Question:
     explained: int
     values: int
     given: list[str]
+    states: int
 
 
 def placed(text: str, at: int, sentence: str) -> Answer:
@@ -128,10 +129,11 @@ def explained(question: Question, expression: Expanded) -> Answer:
 def search(question: Question, expression: Expanded) -> Answer:
     """Whether a history of the given values can be stuck."""
     try:
-        found = stuck.search(expression, question.given)
+        found = stuck.search(expression, question.given, question.states)
     except (menu.NoValue, program.TooMany) as error:
         return {"faulty": str(error)}
-    return {"sentence": found.sentence, "history": found.history, "gone": all_placed(question.rules, found.gone)}
+    told: Answer = {"sentence": found.sentence, "history": found.history, "more": found.has_more}
+    return {**told, "gone": all_placed(question.rules, found.gone)}
 
 
 def suite(question: Question, expression: Expanded) -> Answer:

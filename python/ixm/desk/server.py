@@ -86,7 +86,7 @@ class Body:
         """What a panel is asked."""
         explained, values = self.number("explained", MOST), self.number("values", MOST)
         texts, actions = (self.text("rules"), self.text("cases")), self.lines("actions")
-        return Question(*texts, actions, explained, values, self.lines("given"))
+        return Question(*texts, actions, explained, values, self.lines("given"), self.number("states", MOST))
 
 
 class Desk(socketserver.ThreadingTCPServer):

@@ -23,11 +23,13 @@ GONE = re.compile(r"never again at (\d+): (.+)")
 
 @dataclass(frozen=True)
 class Search:
-    """What was found: a sentence, a shortest history that is stuck if there is one, and which actions it ends for good."""
+    """What was found: a sentence, a shortest history that is stuck if there is one, which actions it ends for good, and
+    whether there are more states than were searched."""
 
     sentence: str
     history: list[str]
     gone: list[Finding]
+    has_more: bool
 
 
 def read_search(lines: Sequence[str], expression: Expanded) -> Search:
@@ -39,12 +41,15 @@ def read_search(lines: Sequence[str], expression: Expanded) -> Search:
             gone = [GONE.fullmatch(line) for line in lines[count + 1 :]]
             if len(lines) > count and all(gone):
                 told = [(int(one.group(1)), f"{one.group(2)} never comes again") for one in gone if one]
-                return Search(sentence.format(*found.groups()), list(lines[1 : count + 1]), findings(told, expression))
+                has_more = pattern.startswith("more")
+                history = list(lines[1 : count + 1])
+                return Search(sentence.format(*found.groups()), history, findings(told, expression), has_more)
     raise program.Unusable(f"{program.path()} says what the desk doesn't know: {lines[0]}")
 
 
-def search(expression: Expanded, given: Sequence[str]) -> Search:
-    """Whether a history of these values can be stuck."""
+def search(expression: Expanded, given: Sequence[str], states: int) -> Search:
+    """Whether a history of these values can be stuck, if there are at most so many states."""
     if not given:
         raise NoValue("give one value at least")
-    return read_search(program.after("stuck", expression, program.lines(checked(given, MOST))), expression)
+    values = program.lines(checked(given, MOST))
+    return read_search(program.after("stuck", expression, values, f"--states={states}"), expression)

@@ -10,6 +10,7 @@ const SAID = {
     large: "permitted, but the state would be larger than the limit",
 };
 const SEARCHING = "Searching ..";
+const STATES = [1000, 10000, 100000]; // how many a search goes through, one number after the other
 // Each panel shows the answer to the question of its name (panels.py), in the section of its name. Some take given values
 // from a field. What is of a command is hidden where the program hasn't it.
 const PANELS = {
@@ -94,7 +95,7 @@ async function ask(name) {
     panel.failed = failed;
     panel.asking = false;
     if (panel.again) {
-        ask(name);
+        await ask(name);
     }
 }
 
@@ -103,7 +104,8 @@ function question(panel) {
     const given = panel.field ? find(panel.field).value.split(/\s+/).filter((word) => word) : [];
     const explained = commands.includes("why") ? explainedNumber() : house.actions.length;
     const texts = {rules: house.rules.text, cases: house.cases.text};
-    return {...texts, actions: house.actions, explained, values: Number(find("values").value), given};
+    const {actions, states = STATES[0]} = house;
+    return {...texts, actions, explained, values: Number(find("values").value), given, states};
 }
 
 // Asks for these panels, but for those whose command the program hasn't.
@@ -302,18 +304,25 @@ async function search(event) {
     event.preventDefault();
     showSearch({sentence: SEARCHING});
     house.searched = house.rules.text;
+    house.states = STATES[0];
     await ask("stuck");
-    if (find("searched").textContent === SEARCHING) {
+    if (!PANELS.stuck.asking && find("searched").textContent.endsWith(SEARCHING)) {
         showSearch({}); // nothing came, or of other rules
     }
 }
 
+// Shows what a search found, or how far it came, and then it goes on through more states.
 function showSearch(answer) {
+    const next = answer.more && STATES.find((states) => states > house.states);
     find("moves-fault").textContent = answer.faulty ?? "";
-    find("searched").textContent = answer.sentence ?? "";
+    find("searched").textContent = next ? `More than ${house.states} states. ${SEARCHING}` : answer.sentence ?? "";
     house.found = answer.history ?? [];
     find("play").hidden = !house.found.length;
     showPlaces("gone", "rules", answer.gone ?? []);
+    if (next) {
+        house.states = next;
+        ask("stuck");
+    }
 }
 
 // Adds a button for each action used before that has none. The others stay, so that the keyboard stays at them.
