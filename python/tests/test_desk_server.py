@@ -5,6 +5,7 @@ import http.client
 import json
 import os
 import re
+import signal
 import subprocess
 import sys
 import tempfile
@@ -79,6 +80,11 @@ class Case(unittest.TestCase):
     def kept(self, name: str) -> str:
         with open(f"{self.folder}/{name}", encoding="utf-8", newline="") as file:
             return file.read()
+
+
+def takes_interrupts() -> None:
+    """Has a process end by an interrupt also where these tests run in the background, where a shell has it ignored."""
+    signal.signal(signal.SIGINT, signal.SIG_DFL)
 
 
 def request(desk: Desk, name: str, body: Any = None, headers: Headers | None = None) -> tuple[int, Any]:
@@ -254,14 +260,15 @@ class TestServer(Case):
         for words in (["open", "test"], ["./test"], ["./test", "test"]):
             words = [sys.executable, "-m", "ixm.desk", *words]
             environment = {**os.environ, "PYTHONPATH": f"{TOP}/python"}
-            with subprocess.Popen(words, cwd=self.folder, env=environment, stdout=subprocess.PIPE, text=True) as process:
+            with subprocess.Popen(words, cwd=self.folder, env=environment, stdout=subprocess.PIPE, text=True,
+                                  preexec_fn=takes_interrupts) as process:
                 assert process.stdout
                 address = re.fullmatch(r"http://(127\.0\.0\.1:\d+)/([\w-]{32})/\n", process.stdout.readline())
                 assert address
                 with contextlib.closing(http.client.HTTPConnection(address.group(1))) as connection:
                     connection.request("GET", f"/{address.group(2)}/")
                     self.assertEqual(connection.getresponse().status, 200)
-                process.send_signal(2)
+                process.send_signal(signal.SIGINT)
                 self.assertEqual(process.wait(), 0)
 
     def test_words(self) -> None:
