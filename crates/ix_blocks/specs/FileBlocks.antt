@@ -1,6 +1,5 @@
 -- A file cut into blocks, and what a sync of it brings.
-use Rattle.std.specs.Prelude.{◌≡◌, ◌⊎◌, ℕ, ◌<◌, ◌≤◌, ◌*◌, ◌==◌, nat_lt, Bool, true, false, List}
-use Rattle.std.specs.Prelude.{length, take, drop}
+use Rattle.std.specs.Prelude.{◌≡◌, ℕ, ◌<◌, ◌*◌, ◌==◌, nat_lt, Bool, false, List, length, take, drop}
 use Rattle.std.specs.Prelude.{length as list_length, map, filter, Some}
 use Rattle.std.specs.List.{list_any}
 use Rattle.std.specs.Int.{div_ceil}
