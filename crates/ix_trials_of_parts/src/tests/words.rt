@@ -22,6 +22,34 @@ fn joined(alloc: Global, texts: &[String]) -> Result<String, AllocError> {
     Ok(joined)
 }
 
+// A job of the rule author's desk as a text.
+fn shown_desk(alloc: Global, job: &Job) -> Result<String, AllocError> {
+    match job {
+        Job::Why {
+            expr,
+            actions,
+            action,
+            nodes,
+        } => format!(in alloc; "why {expr} {actions} {action} {nodes}"),
+        Job::Next {
+            expr,
+            actions,
+            values,
+            nodes,
+        } => {
+            let values = joined(alloc, values.as_slice())?;
+            format!(in alloc; "next {expr} {actions} {nodes}{values}")
+        }
+        Job::Stuck {
+            expr,
+            values,
+            nodes,
+            states,
+        } => format!(in alloc; "stuck {expr} {values} {nodes} {states}"),
+        _ => String::from_str(alloc, "not of the desk"),
+    }
+}
+
 // A job as a text: its fields behind its name, each behind a space.
 fn shown(alloc: Global, job: &Job) -> Result<String, AllocError> {
     match job {
@@ -49,27 +77,7 @@ fn shown(alloc: Global, job: &Job) -> Result<String, AllocError> {
         Job::Bound { expr, count } => format!(in alloc; "bound {expr} {count}"),
         Job::Follow { expr, lines, nodes } => format!(in alloc; "follow {expr} {lines} {nodes}"),
         Job::Lint { expr } => format!(in alloc; "lint {expr}"),
-        Job::Why {
-            expr,
-            actions,
-            action,
-            nodes,
-        } => format!(in alloc; "why {expr} {actions} {action} {nodes}"),
-        Job::Next {
-            expr,
-            actions,
-            values,
-            nodes,
-        } => {
-            let values = joined(alloc, values.as_slice())?;
-            format!(in alloc; "next {expr} {actions} {nodes}{values}")
-        }
-        Job::Stuck {
-            expr,
-            values,
-            nodes,
-            states,
-        } => format!(in alloc; "stuck {expr} {values} {nodes} {states}"),
+        of_the_desk => shown_desk(alloc, of_the_desk),
     }
 }
 
