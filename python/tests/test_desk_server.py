@@ -25,13 +25,14 @@ from tests.test_lint import FINDINGS, KEEPS
 TOP = os.path.join(os.path.dirname(os.path.abspath(__file__)), "..", "..")
 DOORS = "*(open - close)\n"
 CASES = "complete a door\n    open\n    close\nrefused twice\n    open\n    open\n"
-# Rules, the code of the node that `bound` refuses in them, and the line and the column of its sign or word.
+# Rules, the code of the first node that `bound` refuses in them, and the line and the column of the sign or the word of each.
 UNBOUNDED = [
-    ("a - b - a", 51, (1, 7)),
-    ("a - a - b", 51, (1, 3)),
-    ("any $p ?(a | (b | *(#d)))", 52, (1, 19)),
-    ("c |\nall $p (call($p,x) | call(x,$p))", 53, (2, 1)),
-    ("let v = b - #c; // a part\na | v", 54, (1, 13)),
+    ("a - b - a", 51, [(1, 7)]),
+    ("a - a - b", 51, [(1, 3)]),
+    ("any $p ?(a | (b | *(#d)))", 52, [(1, 19), (1, 21)]),
+    ("c |\nall $p (call($p,x) | call(x,$p))", 53, [(2, 1)]),
+    ("let v = b - #c; // a part\na | v", 54, [(1, 13)]),
+    ("let v = b - #c; // a part\n(a - a) | v + v", 51, [(2, 4), (2, 13), (1, 13), (1, 13)]),
 ]
 # What tells the frames of each kind.
 FRAMES = {"found": {"stroke-dasharray": "0 8"}, "refused": {"stroke-dasharray": "7 4"}, "refusing": {"fill": "#ffe9a8"}}
@@ -167,12 +168,12 @@ class TestServer(Case):
 
     def test_the_node_without_a_bound_is_placed(self) -> None:
         desk = self.served(rules=DOORS)
-        for text, code, place in UNBOUNDED:
+        for text, code, places in UNBOUNDED:
             with self.subTest(text):
                 answer = request(desk, "drawing", asked(text))[1]
                 self.assertTrue(answer["bound"].startswith(f"unbounded {code} "), answer["bound"])
-                self.assertEqual([(one["line"], one["column"]) for one in answer["refused"]], [place])
-                self.assertEqual([sign for sign, _ in framed(answer["shown"], "refused")], ["!"])
+                self.assertEqual([(one["line"], one["column"]) for one in answer["refused"]], list(dict.fromkeys(places)))
+                self.assertEqual([sign for sign, _ in framed(answer["shown"], "refused")], ["!"] * len(places))
 
     def test_what_looks_wrong_is_placed(self) -> None:
         desk = self.served(rules=DOORS)

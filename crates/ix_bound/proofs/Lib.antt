@@ -4,3 +4,4 @@ pub mod Named
 pub mod Keyed
 pub mod Sets
 pub mod Bounded
+pub mod Found

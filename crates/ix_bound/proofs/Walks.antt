@@ -1,9 +1,18 @@
 -- Where a walk comes to, from where it comes to over the parts.
-use Rattle.std.proofs.Common.{◌≡◌, ◌+◌, ℕ, suc, List, [], ◌∷◌, ◌++◌, length, Option, Some, None, sym, ap, ◌∙◌, subst, arith}
+use Rattle.std.proofs.Common.{◌≡◌, ◌⊎◌, inl, inr, ◌+◌, ℕ, suc, List, [], ◌∷◌, ◌++◌, length, Option, Some, None, sym, ap, ◌∙◌, subst, arith}
+use Rattle.ix_expr.specs.declared.expr.Expr.{Expr}
 use Rattle.ix_bound.specs.declared.walk.Walked.{Walked}
 use Rattle.ix_bound.specs.declared.walk.Walked.TheVariants.{Passed, Refused}
 use Rattle.ix_bound.specs.Refusals.{first_refused}
 use Rattle.ix_bound.specs.inside.Walked.{WalksTo}
+
+-- of an expression that is one of the five with two operands
+pub two : {e : Expr} (P : Expr → Type 0) {a b c d f : Expr} → P a → P b → P c → P d → P f → (e ≡ a) ⊎ ((e ≡ b) ⊎ ((e ≡ c) ⊎ ((e ≡ d) ⊎ (e ≡ f)))) → P e
+two P a b c d f (inl x) = subst P (sym x) a
+two P a b c d f (inr (inl x)) = subst P (sym x) b
+two P a b c d f (inr (inr (inl x))) = subst P (sym x) c
+two P a b c d f (inr (inr (inr (inl x)))) = subst P (sym x) d
+two P a b c d f (inr (inr (inr (inr x)))) = subst P (sym x) f
 
 one_more : (n : ℕ) → n + 1 ≡ suc n
 one_more n = omega arith

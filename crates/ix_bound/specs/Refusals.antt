@@ -5,6 +5,7 @@ use Rattle.ix_expr.specs.Form.{any, every, sync, all, times}
 use Rattle.ix_bound.specs.Names.{share_a_name}
 use Rattle.ix_bound.specs.Heads.{is_headed}
 use Rattle.ix_bound.specs.Keys.{is_keyed}
+use Rattle.ix_bound.specs.declared.refused.RefusedNode.{RefusedNode}
 
 -- why the node itself is refused: 51, its operands share a name; 52, its operand isn't headed; 53,
 -- it isn't keyed; 54, it is a `#` or a `times`
@@ -39,3 +40,14 @@ abbrev pub first_refused : ℕ → List (Option ℕ) → Option (ℕ × ℕ)
 first_refused n [] = None
 first_refused n (None ∷ codes) = first_refused (suc n) codes
 first_refused n (Some code ∷ codes) = Some (code, n)
+
+-- all refused nodes, each with its code, where the nodes are numbered from n
+abbrev pub refused_among : ℕ → List (Option ℕ) → List RefusedNode
+refused_among n [] = []
+refused_among n (None ∷ codes) = refused_among (suc n) codes
+refused_among n (Some code ∷ codes) =
+    record { code = code; node = n } ∷ refused_among (suc n) codes
+
+-- those of an expression
+abbrev pub refused_nodes : Form → List RefusedNode
+refused_nodes x = refused_among 0 (codes_of x)

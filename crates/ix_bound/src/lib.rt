@@ -7,8 +7,10 @@ mod keys;
 pub mod laws;
 mod names;
 mod number;
+mod refused;
 mod walk;
 mod whole;
 
 pub use answer::Bound;
+pub use refused::{RefusedNode, refused_nodes};
 pub use whole::bound;

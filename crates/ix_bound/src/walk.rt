@@ -19,7 +19,7 @@ pub(crate) enum Walked {
 }
 
 /// Why the node itself is refused, if it is.
-fn code_of(expr: &Expr) -> Option<u8>
+pub(crate) fn code_of(expr: &Expr) -> Option<u8>
     ensures { result ≡ code_of (form_of expr.now) }
 {
     match expr {

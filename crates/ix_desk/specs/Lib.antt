@@ -1,3 +1,4 @@
+pub mod BoundLines
 pub mod LintLines
 pub mod MenuLines
 pub mod StuckLines

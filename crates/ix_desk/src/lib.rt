@@ -3,12 +3,14 @@
 //! Its tests are in `ix_trials_of_managers`, commands/lints.rt and commands/desks.rt.
 #![tactic(auto)]
 
+mod bound;
 mod lint;
 mod menu;
 mod stuck;
 mod why;
 mod write;
 
+pub use bound::bound_lines;
 pub use lint::lint_lines;
 pub use menu::menu_lines;
 pub use stuck::stuck_lines;

@@ -6,6 +6,8 @@ use Rattle.ix_expr.specs.Form.{Form}
 use Rattle.ix_simplify.specs.Rewriting.{Becomes}
 use Rattle.ix_bound.specs.declared.answer.Bound.{Bound}
 use Rattle.ix_bound.specs.Bounds.{IsBound}
+use Rattle.ix_bound.specs.Refusals.{refused_nodes}
+use Rattle.ix_desk.specs.BoundLines.{bound_lines}
 use Rattle.ix_desk.specs.LintLines.{lint_lines}
 use Rattle.ix_lint.specs.Findings.{findings}
 use Rattle.ix_outside.specs.Contents.{GivenEvent}
@@ -20,7 +22,6 @@ use Rattle.ix_cli.specs.Words.{Job, Names, NamesNoJob, trace, replay, serve, wor
 use Rattle.ix_cli.specs.Words.{bound, follow, lint, why, next, stuck}
 use Rattle.ix_manage.specs.ActionLines.{line}
 use Rattle.ix_manage.specs.Around.{Around, DiskFailed, FilesFailed, SiteRests, WireFailed}
-use Rattle.ix_manage.specs.BoundLines.{bound_line}
 use Rattle.ix_manage.specs.Command.{expression_of, journal_of, limit_of}
 use Rattle.ix_manage.specs.Desk.{HasFitWords, StartsWithin, IsAnswered, Unread}
 use Rattle.ix_manage.specs.FollowLines.{FollowEnds, ReadsLines}
@@ -147,10 +148,10 @@ pub data JobEnds (around : Around)
       → ReadsForm around.files expression x → Becomes x s
       → LastLine 0 [] (line (canonical_text s)) status whole part
       → JobEnds around (simplify expression) status whole part None
-  bounded : {expression : List ℕ} {count : ℕ} {x : Form} (answer : Bound) {status : ℕ}
+  bounded : {expression : List ℕ} {count : ℕ} {x : Meaning} (answer : Bound) {status : ℕ}
       {whole part : List ℕ}
-      → ReadsForm around.files expression x → IsBound x count answer
-      → LastLine 0 [] (bound_line answer) status whole part
+      → ReadsPlaced around.files expression x → IsBound x.form count answer
+      → LastLine 0 [] (bound_lines x.places answer (refused_nodes x.form)) status whole part
       → JobEnds around (bound expression count) status whole part None
   long_lines : {expression lines : List ℕ} {limit : ℕ} {x : Form} {status : ℕ}
       {whole part : List ℕ}

@@ -26,11 +26,12 @@ use Rattle.ix_lines.specs.TextLines.{lines_of}
 use Rattle.ix_manage.specs.ActionLines.{line}
 use Rattle.ix_bound.specs.declared.answer.Bound.{Bound}
 use Rattle.ix_bound.specs.Bounds.{IsBound}
+use Rattle.ix_bound.specs.Refusals.{refused_nodes}
+use Rattle.ix_desk.specs.BoundLines.{bound_lines}
 use Rattle.ix_desk.specs.LintLines.{lint_lines}
 use Rattle.ix_lint.specs.Findings.{findings}
 use Rattle.ix_parse.specs.Symbols.{Meaning}
 use Rattle.ix_manage.specs.Around.{Around, DiskFailed, FilesFailed, WireFailed}
-use Rattle.ix_manage.specs.BoundLines.{bound_line}
 use Rattle.ix_manage.specs.Command.{expression_of}
 use Rattle.ix_next.specs.Lists.{AreGiven}
 use Rattle.ix_manage.specs.Desk.{ReadsValues, StartsWithin, IsAnswered}
@@ -129,9 +130,10 @@ pub data EndsWhole (around : Around) : Job → ℕ → List ℕ → Option Sessi
   simplified : {expression : List ℕ} {x : Form} (s : Form)
       → ReadsForm around.files expression x → Becomes x s
       → EndsWhole around (simplify expression) 0 (line (canonical_text s)) None
-  bounded : {expression : List ℕ} {count : ℕ} {x : Form} (answer : Bound)
-      → ReadsForm around.files expression x → IsBound x count answer
-      → EndsWhole around (bound expression count) 0 (bound_line answer) None
+  bounded : {expression : List ℕ} {count : ℕ} {x : Meaning} (answer : Bound)
+      → ReadsPlaced around.files expression x → IsBound x.form count answer
+      → EndsWhole around (bound expression count) 0
+      (bound_lines x.places answer (refused_nodes x.form)) None
   followed : {expression lines bytes text last : List ℕ} {limit status : ℕ} {x : Form}
       → Starts around.files expression limit x → ReadsLines around.files lines bytes
       → FollowsTo x limit (lines_of bytes) status text last

@@ -1,7 +1,6 @@
 pub mod Command
 pub mod Around
 pub mod ActionLines
-pub mod BoundLines
 pub mod FollowLines
 pub mod Trace
 pub mod Replay

@@ -67,8 +67,9 @@ use std::alloc::Global;
 /// - `simplify EXPR` puts the canonical text of what the expression of the file EXPR becomes by the
 ///   laws of `ix_simplify`, with status 0. It makes no tree.
 /// - `bound EXPR K` puts how large the tree of a history with at most K different values can get, K
-///   from 0 to 1,000,000: `bound B`, `above 1000000`, or `unbounded C node N`, as the `bound` of
-///   `ix_bound` answers for the expression of the file EXPR, with status 0. It makes no tree.
+///   from 0 to 1,000,000, as `bound_lines` of `ix_desk` writes it of the expression of the file
+///   EXPR: `bound B`, `above 1000000`, or `unbounded C node N` and behind it a line for each node
+///   for which there is no bound, with status 0. It makes no tree.
 /// - `follow EXPR LINES` feeds the lines of the file LINES to a follower of the expression of the
 ///   file EXPR, and puts one line for each: `other`, `early N`, `old N` or `taken N`, N being the
 ///   number of the entry; and then `complete` or `partial`, with status 0. The first entry that the

@@ -116,11 +116,6 @@ def parse(text: str) -> Form:
     return found
 
 
-def nodes(form: Form) -> list[int]:
-    """The places of the nodes as the program counts them, from 0. `a - b - c` has two of `-`."""
-    return [*reversed(form.at), *(at for operand in form.operands for at in nodes(operand))]
-
-
 def marked(form: Form, marks: Mapping[int, Sequence[Mark]]) -> Form:
     """The form with these marks, which are given by the places of the nodes that have them."""
     own = tuple(mark for at in reversed(form.at) for mark in marks.get(at, ()))

@@ -7,8 +7,8 @@ from dataclasses import dataclass
 
 from ixm.desk import cases, menu, program, stuck, why
 from ixm.desk.drawing import draw
-from ixm.desk.forms import Mark, marked, nodes, parse
-from ixm.desk.found import Finding
+from ixm.desk.forms import Mark, marked, parse
+from ixm.desk.found import Finding, findings
 from ixm.desk.lint import looks_wrong
 from ixm.desk.parts import Expanded, expand
 from ixm.desk.texts import Fault, place
@@ -60,20 +60,18 @@ def put(marks: defaultdict[int, list[Mark]], kind: str, found: Iterable[Finding]
 
 
 def drawing(question: Question, expression: Expanded) -> Answer:
-    """The drawing, with the node that `bound` refuses, those that `lint` finds and those that refuse the action that is
+    """The drawing, with the nodes that `bound` refuses, those that `lint` finds and those that refuse the action that is
     explained, what `bound` says, and what `simplify` makes of the rules if it differs."""
     form, marks = parse(expression.text), defaultdict[int, list[Mark]](list)
     put(marks, "found", looks_wrong(question.rules, expression), str)
     put(marks, "refusing", refusing(question, expression)[1], letters)
-    line, number, sentence = program.bound(expression, question.values)
-    refused = list[Answer]()
-    if number is not None:
-        at = nodes(form)[number]
-        marks[at].append(Mark("refused", "!", sentence))
-        refused.append(placed(question.rules, expression.origin(at), sentence))
+    line, unbounded = program.bound(expression, question.values)
+    refused = findings(unbounded, expression)
+    put(marks, "refused", refused, lambda _: "!")
     simple = program.simplify(expression)
     other: Answer = {} if simple == form.text() else {"text": simple, "svg": draw(parse(simple))}
-    return {"svg": draw(form), "shown": draw(marked(form, marks)), "bound": line, "refused": refused, "simple": other}
+    return {"svg": draw(form), "shown": draw(marked(form, marks)), "bound": line,
+            "refused": all_placed(question.rules, refused), "simple": other}
 
 
 def lint(question: Question, expression: Expanded) -> Answer:

@@ -14,7 +14,7 @@ from ixm.desk.texts import Fault
 REFUSED = re.compile(r"refused expression (\d+) (?:at (\d+)|large (\d+))")
 ACTIONS = re.compile(r"refused actions (\d+) at (\d+)")
 HISTORY = re.compile(r"refused history (\d+) at (\d+)")
-UNBOUNDED = re.compile(r"unbounded (\d+) node (\d+)")
+UNBOUNDED = re.compile(r"(\d+) node \d+ at (\d+)")
 SENTENCES = {
     1: "the text is longer than the program reads",
     2: "nothing of the language begins with this",
@@ -148,13 +148,18 @@ def simplify(expression: Expanded) -> str:
     raise said.failure(expression)
 
 
-def bound(expression: Expanded, values: int) -> tuple[str, int | None, str]:
-    """What the program says of the state's size with so many values: its line, and the node that has no bound with a
-    sentence, if there is one."""
+def unbounded(line: str) -> tuple[int, str]:
+    """Where a node that has no bound begins in the expression's text, and a sentence that says why it has none."""
+    refused = UNBOUNDED.fullmatch(line)
+    if not refused or int(refused.group(1)) not in UNBOUNDED_SENTENCES:
+        raise Unusable(f"{path()} says of a node without a bound: {line}")
+    return int(refused.group(2)), UNBOUNDED_SENTENCES[int(refused.group(1))]
+
+
+def bound(expression: Expanded, values: int) -> tuple[str, list[tuple[int, str]]]:
+    """What the program says of the state's size with so many values: its first line, and each node that has no bound, by
+    its place in the expression's text, with a sentence."""
     said = run("bound", [expression.text], str(values))
     if said.status or not said.lines:
         raise said.failure(expression)
-    refused = UNBOUNDED.fullmatch(said.lines[0])
-    if refused and int(refused.group(1)) in UNBOUNDED_SENTENCES:
-        return said.lines[0], int(refused.group(2)), UNBOUNDED_SENTENCES[int(refused.group(1))]
-    return said.lines[0], None, ""
+    return said.lines[0], [unbounded(line) for line in said.lines[1:]]

@@ -1,18 +1,10 @@
 -- The left part of a node has a refused one.
-use Rattle.std.proofs.Common.{◌≡◌, ◌+◌, ◌∷◌, ◌++◌, ◌⊎◌, inl, inr, ℕ, List, Option, Some, None, refl, sym, ap, ◌∙◌, subst}
+use Rattle.std.proofs.Common.{◌≡◌, ◌+◌, ◌∷◌, ◌++◌, ℕ, List, Option, Some, None, refl, sym, ap, ◌∙◌, subst}
 use Rattle.ix_expr.specs.declared.expr.Expr.{Expr}
 use Rattle.ix_expr.specs.inside.FormOf.{form_of}
 use Rattle.ix_bound.specs.Refusals.{code_of, codes_of, first_refused}
-use Rattle.ix_bound.proofs.Walks.{refused_before}
+use Rattle.ix_bound.proofs.Walks.{two, refused_before}
 use Rattle.ix_bound.proofs.walk.+walk.Goals as goal
-
--- of an expression that is one of the five with two operands
-two : {e : Expr} (P : Expr → Type 0) {a b c d f : Expr} → P a → P b → P c → P d → P f → (e ≡ a) ⊎ ((e ≡ b) ⊎ ((e ≡ c) ⊎ ((e ≡ d) ⊎ (e ≡ f)))) → P e
-two P a b c d f (inl x) = subst P (sym x) a
-two P a b c d f (inr (inl x)) = subst P (sym x) b
-two P a b c d f (inr (inr (inl x))) = subst P (sym x) c
-two P a b c d f (inr (inr (inr (inl x)))) = subst P (sym x) d
-two P a b c d f (inr (inr (inr (inr x)))) = subst P (sym x) f
 
 pub returns-in-Refused : goal.returns-in-Refused
 returns-in-Refused t c =
