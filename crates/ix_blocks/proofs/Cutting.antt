@@ -27,7 +27,7 @@ block_cut file n count e =
 
 -- a block is told by what stands before its end, and by what stands from its beginning on
 
-same_before : (at n : ℕ) (file other : List ℕ) → n * 4096 + 4096 ≤ at → take at file ≡ take at other → block_of file n ≡ block_of other n
+pub same_before : (at n : ℕ) (file other : List ℕ) → n * 4096 + 4096 ≤ at → take at file ≡ take at other → block_of file n ≡ block_of other n
 same_before at n file other h e =
     sym (drop-take (n * 4096) 4096 file)
     ∙ ap (drop (n * 4096)) (sym (shorter file) ∙ ap (take (n * 4096 + 4096)) e ∙ shorter other)

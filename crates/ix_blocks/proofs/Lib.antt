@@ -6,3 +6,14 @@ pub mod Hearing
 pub mod Runs
 pub mod Cutting
 pub mod Syncing
+pub mod Later
+pub mod Moving
+pub mod Onward
+pub mod Tellings
+pub mod Syncs
+pub mod Checking
+pub mod SyncCalls
+pub mod Attaching
+pub mod Taking
+pub mod ReadingOn
+pub mod InMemory

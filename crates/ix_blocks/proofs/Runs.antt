@@ -88,7 +88,7 @@ start-fine newest =
 pub after-fine : (newest : ℕ) (events : List Event) → Fine (world_after newest events)
 after-fine newest events = run-fine events (empty_store newest) (start-fine newest)
 
-run-append : (before after : List Event) (w : World) → after_events (before ++ after) w ≡ after_events after (after_events before w)
+pub run-append : (before after : List Event) (w : World) → after_events (before ++ after) w ≡ after_events after (after_events before w)
 run-append [] after w = refl
 run-append (event ∷ before) after w = run-append before after (happens w event)
 
@@ -101,7 +101,7 @@ writes-nothing t register n = chosen (fits t register) refl
     chosen false e = refl
 
 -- this owner attached, and then another one
-record IsOver (old : ℕ) (changes : List Change) : Type 0 where
+pub record IsOver (old : ℕ) (changes : List Change) : Type 0 where
   pub written : HasWritten old 0 changes
   pub past : last_owner changes ≢ Some old
 
@@ -156,7 +156,7 @@ module _ (w : World) (fine : Fine w) (old : ℕ) where
   over-event over (hears which) = over-heard over (slice_get w.answers which)
   over-event over elsewhere = over
 
-over-run : (old : ℕ) (events : List Event) (w : World) → Fine w → IsOver old w.changes → IsOver old (after_events events w).changes
+pub over-run : (old : ℕ) (events : List Event) (w : World) → Fine w → IsOver old w.changes → IsOver old (after_events events w).changes
 over-run old [] w fine over = over
 over-run old (event ∷ events) w fine over = over-run old events (happens w event) (event-fine w fine event) (over-event w fine old over event)
 

@@ -6,6 +6,7 @@ ghost use Rattle.ix_blocks.specs.FileLaws.{SyncsAreWhole, SyncsMakeTheFile};
 ghost use Rattle.ix_blocks.specs.Laws.{AnsweredWritesStand, AttachesKeepTheFile, LooksTellWhoOwns};
 ghost use Rattle.ix_blocks.specs.Laws.{EachWritesOnceInOrder, EarlierOwnersWriteNothing};
 ghost use Rattle.ix_blocks.specs.Laws.{SettledFilesStay, SyncsAreOfTheLastOwner};
+ghost use Rattle.ix_blocks.specs.Protocol.{OwnedFilesStay};
 
 /// Whatever many owners of a file do that keep to attach and sync, and whenever what they sent
 /// comes to the store, however often, in any order, or never: once another owner has attached, no
@@ -50,4 +51,10 @@ pub fn syncs_are_whole()
 /// was synced, and from the moment on at which the sync changes it, the one in memory.
 pub fn each_moment_has_one_of_two()
     ensures { EachMomentHasOneOfTwo }
+{}
+
+/// Over a store that tells, the file of the owner that attached last is the one that it synced,
+/// until it syncs again, whatever comes of all that was ever sent, and whoever attaches.
+pub fn owned_files_stay()
+    ensures { OwnedFilesStay }
 {}
