@@ -1,6 +1,6 @@
 -- What a run makes of the journal that it attached.
 use Rattle.std.proofs.Common.{◌≡◌, ◌⊎◌, inl, inr, ℕ, ◌+◌, ◌≤◌, List, [], ◌++◌, length, append-nil}
-use Rattle.std.proofs.Common.{false, Option, None, Some, refl, sym, ◌∙◌, ap, subst, arith}
+use Rattle.std.proofs.Common.{false, Option, None, Some, Result, refl, sym, ◌∙◌, ap, subst, arith}
 use Rattle.std.proofs.lemmas.Option.{none-some}
 use Rattle.ix_journal.specs.History.{PlainHistory, actions_of}
 use Rattle.ix_expr.specs.CanonicalText.{canonical_text}
@@ -12,10 +12,12 @@ use Rattle.ix_outside.specs.Crashes.{Crashes, AreLawful, Elapses, LeavesTheFile}
 use Rattle.ix_outside.specs.Disk.{Disk, HasNothingOpened, Opened, IsOpened, MakesFile, Stays}
 use Rattle.ix_outside.specs.SiteState.{SiteState}
 use Rattle.ix_outside.specs.inside.DiskCalls.{KeepsOpened, span}
+use Rattle.ix_manager.specs.Handled.{ManagerState}
 use Rattle.ix_manager.specs.Images as image
 use Rattle.ix_manager.specs.Images.{EachPrefixIsWithin, EndsAs, IsOwn, IsStartable, Keeps, with_failed}
 use Rattle.ix_manager.specs.Runs.{Opening, Run}
 use Rattle.ix_manager.specs.Starts.{HasText}
+use Rattle.ix_manager.specs.declared.faults.StartFault.{StartFault}
 use Rattle.ix_manager.specs.inside.StartAnswers.{StartLeaves}
 use Rattle.ix_manager.specs.Runs.{opening_of}
 use Rattle.ix_manager.proofs.SavingLemmas.{keeps_longer}
@@ -85,7 +87,7 @@ pub record KeepsAlong (x : Form) (h : PlainHistory) (played : Session) (before a
 module _ (x : Form) (limit : ℕ) (at mid : SiteState) (p q : Crashes) (d : Disk)
     (name : List ℕ) (told : at.disk ≡ Some d)
     (now : (image : List ℕ) → p.now image → image ≡ d.file)
-    (leaves : StartLeaves x limit d.file (span at mid p q))
+    (result : Result ManagerState StartFault) (leaves : StartLeaves x limit d.file result (span at mid p q))
   where
     abbrev opened : Opened
     opened = record { name = name; tick = at.tick; file = d.file }

@@ -206,10 +206,10 @@ module _ (x : Form) (limit : ℕ) (file : List ℕ) (history : PlainHistory) (bo
       let same : starts.boots ≡ 1000000 = one_number file starts.boots 1000000 starts.holds holds in
       let few = starts.few in omega (arith, same, few)
   not_refused (journal.word {history = word} {number = number} opens is) =
-      let same = one_history file word history opens.1 starts.recovers in
+      let same = one_history file word history opens.recovers starts.recovers in
       is.not_partial (subst (λ w. IsPartial x [] (take number (actions_of w))) (sym same) (starts.within number).partial)
   not_refused (journal.large {history = word} {number = number} opens is) =
-      let same = one_history file word history opens.1 starts.recovers in
+      let same = one_history file word history opens.recovers starts.recovers in
       let above = is.above in
       let within = subst (λ w. tree_size x (take number (actions_of w)) ≤ limit) (sym same) (starts.within number).size in
       absurd (omega (arith, above, within))

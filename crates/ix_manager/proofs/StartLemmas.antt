@@ -36,8 +36,9 @@ use Rattle.ix_store.specs.declared.fault.OpenFault.TheVariants as refused
 use Rattle.ix_store.proofs.Opened.{ready_not_new}
 use Rattle.ix_manager.specs.Images as image
 use Rattle.ix_manager.specs.Images.{IsOwn, IsWithin, EachPrefixIsWithin, IsStartable}
-use Rattle.ix_manager.specs.Starts.{HasText}
-use Rattle.ix_manager.specs.inside.StartAnswers.{IsStartFault, StartLeaves}
+use Rattle.ix_manager.specs.Handled.{ManagerState}
+use Rattle.ix_manager.specs.Starts.{HasText, OpensAs}
+use Rattle.ix_manager.specs.inside.StartAnswers.{IsStartFault, MayRecord, StartLeaves}
 use Rattle.ix_manager.specs.Runs.{opening_of}
 use Rattle.ix_manager.specs.declared.faults.StartFault.{StartFault}
 use Rattle.ix_manager.specs.declared.faults.StartFault.TheVariants as start
@@ -49,8 +50,8 @@ use Rattle.ix_manager.proofs.SavingLemmas.{journal_holds, journal_recovers}
 use Rattle.ix_manager.proofs.RecoverLemmas.{few_kept, none_within, each_within, no_word, heavy, longer}
 
 -- no call
-pub leaves_none : (x : Form) (limit : ℕ) (file : List ℕ) (site : SiteState) (crashes : Crashes) → AreLawful site crashes
-    → StartLeaves x limit file (span site site crashes crashes)
+pub leaves_none : {result : Result ManagerState StartFault} (x : Form) (limit : ℕ) (file : List ℕ) (site : SiteState) (crashes : Crashes)
+    → AreLawful site crashes → StartLeaves x limit file result (span site site crashes crashes)
 leaves_none x limit file site crashes lawful = record {
   recovers = λ history is at left. inl ((lawful.left_now at).0 left);
   boots = λ boots holds at left. inl ((lawful.left_now at).0 left);
@@ -130,7 +131,8 @@ module _ (x : Form) (limit : ℕ) (file : List ℕ) (old new : SiteState) (was i
   own_store (inr (inr ready)) at left = inl ((leaves.stays (ready_not_new file (canonical_text x) ready)).1 at left)
 
   -- no boot was written behind it
-  pub leaves_store : tree_size x [] ≤ limit → StartLeaves x limit file (span old new was is)
+  pub leaves_store : {result : Result ManagerState StartFault} → tree_size x [] ≤ limit
+      → StartLeaves x limit file result (span old new was is)
   leaves_store within = record {
     recovers = recovers_store;
     boots = λ boots holds at left. elim (holds_store boots holds at left) [ inl now ↦ inl now | inr same ↦ inr (inl same) ];
@@ -207,9 +209,9 @@ module _ (x : Form) (limit : ℕ) (file : List ℕ) (old mid new : SiteState) (w
         inr (subst (λ (w : PlainHistory). Recovers at w) (one_history file h k opens.recovers of_file) recovered)
   ]
 
-  boots_booted : (boots : ℕ) → HoldsBoots file boots → (at : List ℕ) → is.left old.tick at
-      → was.now at ⊎ HoldsBoots at boots ⊎ HoldsBoots at (boots + 1)
-  boots_booted boots of_file at left =
+  boots_booted : (result : Result ManagerState StartFault) → MayRecord result → (boots : ℕ) → HoldsBoots file boots
+      → (at : List ℕ) → is.left old.tick at → was.now at ⊎ HoldsBoots at boots ⊎ (MayRecord result × HoldsBoots at (boots + 1))
+  boots_booted result may boots of_file at left =
       let same = one_number file marks.boots boots opens.holds of_file in
       elim (since at left) [
         | inl earlier ↦ elim (holds_store x limit file old mid was then leaves boots of_file at earlier)
@@ -217,8 +219,11 @@ module _ (x : Form) (limit : ℕ) (file : List ℕ) (old mid new : SiteState) (w
         | inr later ↦ let found = images at later in elim found.1 [
           | inl without ↦ inr (inl (subst (λ n. HoldsBoots at n) same
               (journal_holds at (canonical_text x) h marks found.0 without)))
-          | inr with_it ↦ inr (inr (subst (λ n. HoldsBoots at (n + 1)) same
-              (journal_holds at (canonical_text x) h (booted marks) found.0 with_it)))
+          | inr with_it ↦ inr (inr (
+            may,
+            subst (λ n. HoldsBoots at (n + 1)) same
+                (journal_holds at (canonical_text x) h (booted marks) found.0 with_it),
+          ))
         ]
       ]
 
@@ -231,25 +236,25 @@ module _ (x : Form) (limit : ℕ) (file : List ℕ) (old mid new : SiteState) (w
     ]
   ]
 
-  pub leaves_booted : tree_size x [] ≤ limit → AreAllowed x limit (actions_of h) → marks.boots < 1000000
-      → StartLeaves x limit file (span old new was is)
-  leaves_booted within allowed few = record {
+  pub leaves_booted : (result : Result ManagerState StartFault) → MayRecord result → tree_size x [] ≤ limit
+      → AreAllowed x limit (actions_of h) → marks.boots < 1000000 → StartLeaves x limit file result (span old new was is)
+  leaves_booted result may within allowed few = record {
     recovers = recovers_booted;
-    boots = boots_booted;
+    boots = boots_booted result may;
     own = own_booted;
     refused = λ no. absurd (no h (marks.boots + 1) (resumed x limit file h marks.boots within allowed few opens));
   }
 
 -- the same, of a text, a form and a history that have another spelling
-pub started_leaves : (x : Form) (limit : ℕ) (disk : Disk) (old mid new : SiteState) (was then is : Crashes) (text : List ℕ)
-    (h pairs : PlainHistory) (form : Form) (store : Keeping)
-    → text ≡ canonical_text x → form ≡ x → pairs ≡ h → old.disk ≡ Some disk
+pub started_leaves : {result : Result ManagerState StartFault} (x : Form) (limit : ℕ) (disk : Disk) (old mid new : SiteState)
+    (was then is : Crashes) (text : List ℕ) (h pairs : PlainHistory) (form : Form) (store : Keeping)
+    → MayRecord result → text ≡ canonical_text x → form ≡ x → pairs ≡ h → old.disk ≡ Some disk
     → LeavesOnStart text disk.file (span old mid was then) → DiskCalls (span old mid was then) → DiskCalls (span mid new then is)
     → Opens disk.file text h store.marks.boots
     → ForSome mid.disk (λ _. LeavesOnly (IsBootedOrNot (canonical_text form) pairs store.marks) (span mid new then is))
     → tree_size x [] ≤ limit → AreAllowed x limit (actions_of h) → store.marks.boots < 1000000
-    → StartLeaves x limit disk.file (span old new was is)
-started_leaves x limit disk old mid new was then is text h pairs form store text_is form_is pairs_are told leaves before calls
+    → StartLeaves x limit disk.file result (span old new was is)
+started_leaves {result = result} x limit disk old mid new was then is text h pairs form store may text_is form_is pairs_are told leaves before calls
     opens images =
     let told_then = stays_told old.disk mid.disk disk before.opened told in
     leaves_booted x limit disk.file old mid new was then is
@@ -257,7 +262,7 @@ started_leaves x limit disk old mid new was then is text h pairs form store text
     (subst (λ (t : List ℕ). Opens disk.file t h store.marks.boots) text_is opens)
     (subst (λ (f : Form). LeavesOnly (IsBootedOrNot (canonical_text f) h store.marks) (span mid new then is)) form_is
     (subst (λ (k : PlainHistory). LeavesOnly (IsBootedOrNot (canonical_text form) k store.marks) (span mid new then is)) pairs_are
-    (images told_then.0 told_then.1)))
+    (images told_then.0 told_then.1))) result may
 
 -- a store that wasn't opened isn't refused as large
 pub never_large : {T : Type 0} (why : OpenFault) (fault : StartFault) (limit : ℕ) → fault ≡ open_fault_of why
@@ -298,21 +303,27 @@ few_recovered file h of_file =
 
 -- why an engine of this expression and limit didn't take the history
 pub resume_fault : (x : Form) (limit : ℕ) (file : List ℕ) (h : PlainHistory) (boots : ℕ) (stopped : ResumeFault) → tree_size x [] ≤ limit
-    → Opens file (canonical_text x) h boots → StopsAt x limit (actions_of h) stopped
+    → boots < 1000000 → Opens file (canonical_text x) h boots → StopsAt x limit (actions_of h) stopped
     → IsStartFault x limit file (record_fault_of stopped.number stopped.why)
-resume_fault x limit file h boots stopped within opens at = told stopped.why at.refused
+resume_fault x limit file h boots stopped within few opens at = told stopped.why at.refused
   where
-    own : IsOwn x file × Recovers file h
-    own = (own_of x file opens.recovers.entries opens.own opens.recovers.keeps, opens.recovers)
+    opened : OpensAs x file h
+    opened = record {
+      own = own_of x file opens.recovers.entries opens.own opens.recovers.keeps;
+      recovers = opens.recovers;
+      boots = boots;
+      holds = opens.holds;
+      few = few;
+    }
 
     each : EachPrefixIsWithin x limit at.before
     each = each_within x limit at.before (initial_within x limit within) at.allowed
 
     told : (why : PrepareFault) → IsRefused x limit at.before at.action why → IsStartFault x limit file (record_fault_of stopped.number why)
     told prepare.NotPartial refused =
-        (h, own, no_word x limit (actions_of h) at.before at.action at.behind stopped.number at.parts at.number each refused)
+        (h, opened, no_word x limit (actions_of h) at.before at.action at.behind stopped.number at.parts at.number each refused)
     told (prepare.Over l) refused =
-        (h, own, heavy x limit (actions_of h) at.before at.action at.behind stopped.number at.parts at.number each l refused, refused.0)
+        (h, opened, heavy x limit (actions_of h) at.before at.action at.behind stopped.number at.parts at.number each l refused, refused.0)
     told prepare.Full refused =
         let few = few_recovered file h opens.recovers in
         let room = longer x limit (actions_of h) at.before at.action at.behind stopped.number at.parts at.number each in

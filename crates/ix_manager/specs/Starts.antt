@@ -6,7 +6,8 @@ use Rattle.ix_expr.specs.Form.{Form}
 use Rattle.ix_expr.specs.Meaning.{IsPartial}
 use Rattle.ix_can.specs.TreeOf.{tree_size}
 use Rattle.ix_journal.specs.Kinds.{IsUnopened}
-use Rattle.ix_journal.specs.Recovery.{Recovers}
+use Rattle.ix_journal.specs.Recovery.{HoldsBoots, Recovers}
+use Rattle.ix_journal.specs.declared.TheConstants.{MOST_BOOTS}
 use Rattle.ix_store.specs.Opening.{IsReadyWith}
 use Rattle.ix_manager.specs.Images.{IsOwn, EachPrefixIsWithin}
 
@@ -32,6 +33,10 @@ pub record IsHeavy (x : Form) (limit : ℕ) (word : Word) (number : ℕ) : Type 
   pub partial : IsPartial x [] (take number word)
   pub above : limit < tree_size x (take number word)
 
--- the file is the expression's, and recovers this history
-abbrev pub OpensAs : Form → List ℕ → PlainHistory → Type 0
-OpensAs x file history = IsOwn x file × Recovers file history
+-- the file is the expression's, recovers this history, and holds fewer boots than it may
+pub record OpensAs (x : Form) (file : List ℕ) (history : PlainHistory) : Type 0 where
+  pub own : IsOwn x file
+  pub recovers : Recovers file history
+  pub boots : ℕ
+  pub holds : HoldsBoots file boots
+  pub few : boots < MOST_BOOTS

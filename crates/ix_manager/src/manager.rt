@@ -89,7 +89,7 @@ impl Manager {
     ///
     /// The faults are met in their order, but `Disk` and `Memory` at any step; where the initial
     /// tree is above the limit, no call of the site is made. After these two a journal that was to
-    /// be made anew may be so in part, and after `Disk` the boot may be recorded.
+    /// be made anew may be so in part. No boot is recorded but after Ok, and maybe after `Disk`.
     pub fn start<S: Site>(
         alloc: Global,
         site: &mut S,
@@ -116,7 +116,7 @@ impl Manager {
 
         // What the disk is left with, whatever the answer.
         ensures leaves { ForSome (S.state site.old).disk (λ disk.
-            StartLeaves expression limit disk.file
+            StartLeaves expression limit disk.file result
             (stretch_of S.state S.crashes site.old site.new)) }
         ensures calls { DiskCalls (stretch_of S.state S.crashes site.old site.new) }
     {

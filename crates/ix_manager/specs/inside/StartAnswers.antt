@@ -43,15 +43,24 @@ StartsFrom x limit file (Ok m) =
     IsStartable (opening_of x limit m.machine.history m.machine.boot) file
 StartsFrom x limit file (Err why) = IsStartFault x limit file why
 
--- What a crash since a start began may leave, by the file as it read then: an image that might have
--- been left before, or one that recovers the same and holds as many boots or one more; and where
--- the file is unfinished or has the expression's text, one that the expression may open. Where no
--- run starts from the file, it stays, and nothing else may be left than before.
-pub record StartLeaves (x : Form) (limit : ℕ) (file : List ℕ) (stretch : Stretch) : Type 0 where
+-- only a start that answers Ok, or whose disk failed, records a boot
+abbrev pub MayRecord : Result ManagerState StartFault → Type 0
+MayRecord (Ok m) = ⊤
+MayRecord (Err fault.Disk) = ⊤
+MayRecord (Err _) = ⊥
+
+-- What a crash since a start began may leave, by its answer and by the file as it read then: an
+-- image that might have been left before, or one that recovers the same and holds as many boots,
+-- or one more where it may record one; and where the file is unfinished or has the expression's
+-- text, one that the expression may open. Where no run starts from the file, it stays, and nothing
+-- else may be left than before.
+pub record StartLeaves (x : Form) (limit : ℕ) (file : List ℕ)
+    (result : Result ManagerState StartFault) (stretch : Stretch) : Type 0 where
   pub recovers : (history : PlainHistory) → Recovers file history
       → LeavesOnly (λ image. stretch.was.now image ⊎ Recovers image history) stretch
   pub boots : (boots : ℕ) → HoldsBoots file boots → LeavesOnly
-      (λ image. stretch.was.now image ⊎ HoldsBoots image boots ⊎ HoldsBoots image (boots + 1))
+      (λ image. stretch.was.now image ⊎ HoldsBoots image boots
+      ⊎ (MayRecord result × HoldsBoots image (boots + 1)))
       stretch
   pub own : IsUnfinished file ⊎ HasText file (canonical_text x)
       → LeavesOnly (λ image. stretch.was.now image ⊎ IsOwn x image) stretch

@@ -48,7 +48,7 @@ returns-in_err-start-clause-stops g c =
     (λ d is e after. subst (λ n. UsesJournal x n None e.file (record { name = name; tick = at.tick; file = d.file }) q)
     (sym it.limit_is)
     (start_uses x limit at mid p q d name is
-    (left_at at.disk p.now c.in_ok-attach.ensures.now d is) (told.leaves d is)
+    (left_at at.disk p.now c.in_ok-attach.ensures.now d is) (Err why) (told.leaves d is)
     (g.met.S.Site.lawful c.start.new.site) told.calls.passes.left.later e after)))
     (disk_calls_then before at mid c.in_ok-attach.ensures.rest told.calls.rest) sink why (λ l same. told.only_large l (ap Err same))
     (fault_kind limit (tree_size x _) (Err why) why refl told.large)
@@ -80,7 +80,7 @@ returns-clause-starts g c =
       keeps = λ some.
           let disk = the_value at.disk some in
           start_keeps x limit at mid p q disk.0 c.args.journal.now disk.1
-          (left_at at.disk p.now c.in_ok-attach.ensures.now disk.0 disk.1) (told.leaves disk.0 disk.1)
+          (left_at at.disk p.now c.in_ok-attach.ensures.now disk.0 disk.1) (Ok m) (told.leaves disk.0 disk.1)
           m.machine.history m.machine.boot (told.not_large small disk.0 disk.1);
       fits = told.fits;
       since = λ sends known.
@@ -92,7 +92,7 @@ returns-clause-starts g c =
           (λ some.
           let disk = the_value at.disk (kept_told at.disk mid.disk told.calls.opened some) in
           start_keeps x limit at mid p q disk.0 c.args.journal.now disk.1
-          (left_at at.disk p.now c.in_ok-attach.ensures.now disk.0 disk.1) (told.leaves disk.0 disk.1)
+          (left_at at.disk p.now c.in_ok-attach.ensures.now disk.0 disk.1) (Ok m) (told.leaves disk.0 disk.1)
           m.machine.history m.machine.boot (told.not_large small disk.0 disk.1))
           (λ now is. (
             ap (λ (s : Sends). s.sent) (some_is (sym is ∙ ap (λ (k : Contents). k.sends) contents ∙ known)),

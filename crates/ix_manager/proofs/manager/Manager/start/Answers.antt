@@ -97,7 +97,7 @@ returns-in-Err-resume-clause-not_large g c = λ small disk is.
     (subst (λ most. StopsAt c.in-Ok-new.engine.form most c.in-Ok-take_apart.actions.items stopped) c.in-Ok-new.ensures.limit
     c.in-Err-resume.ensures.refused)) in
     subst (λ (fault : StartFault). IsStartFault x limit disk.file fault) (sym c.record_fault.ensures)
-    (resume_fault x limit disk.file history boots stopped small opens at)
+    (resume_fault x limit disk.file history boots stopped small c.in-Ok-start.ensures.room opens at)
 
 pub returns-in-Err-resume-clause-leaves : goal.returns-in-Err-resume-clause-leaves
 returns-in-Err-resume-clause-leaves g c = λ disk is.
@@ -179,7 +179,7 @@ returns-in-Ok-start_machine-clause-leaves g c = λ disk is.
     let new = c.start_machine.new.site in
     started_leaves x limit disk (g.S.Site.state old) (g.S.Site.state mid) (g.S.Site.state new) (g.S.Site.crashes old) (g.S.Site.crashes mid)
     (g.S.Site.crashes new) c.deref.result.now history (zip c.in-Ok-take_apart.tickets.items engine.history) engine.form
-    (kept c.in-Ok-start.opened.0) text form pairs is (c.in-Ok-start.ensures.images disk is) c.start.ensures.calls c.start_machine.ensures.calls
+    (kept c.in-Ok-start.opened.0) tt text form pairs is (c.in-Ok-start.ensures.images disk is) c.start.ensures.calls c.start_machine.ensures.calls
     (c.in-Ok-start.ensures.opened disk is) c.start_machine.ensures.images c.in-Ok-new.ensures.within allowed c.in-Ok-start.ensures.room
 
 pub returns-in-Ok-start_machine-clause-calls : goal.returns-in-Ok-start_machine-clause-calls
@@ -214,7 +214,7 @@ returns-clause-leaves g c = λ disk is.
     let new = c.start_machine.new.site in
     started_leaves x limit disk (g.S.Site.state old) (g.S.Site.state mid) (g.S.Site.state new) (g.S.Site.crashes old) (g.S.Site.crashes mid)
     (g.S.Site.crashes new) c.deref.result.now history (zip c.in-Ok-take_apart.tickets.items engine.history) engine.form
-    (kept c.in-Ok-start.opened.0) text form pairs is (c.in-Ok-start.ensures.images disk is) c.start.ensures.calls c.start_machine.ensures.calls
+    (kept c.in-Ok-start.opened.0) tt text form pairs is (c.in-Ok-start.ensures.images disk is) c.start.ensures.calls c.start_machine.ensures.calls
     (c.in-Ok-start.ensures.opened disk is) c.start_machine.ensures.images c.in-Ok-new.ensures.within allowed c.in-Ok-start.ensures.room
 
 pub returns-clause-calls : goal.returns-clause-calls
