@@ -26,19 +26,19 @@ use Rattle.ix_manager.specs.inside.Saving.{OnlySends, Saves, SavesJournal, Confi
 use Rattle.ix_manager.specs.inside.WireState.{WireState, wired, SendsAll}
 use Rattle.ix_manager.proofs.AcknowledgedLemmas.{the_value, is_there, none_sent, one_acknowledged}
 use Rattle.ix_manager.proofs.AcknowledgedLemmas.{acknowledged_front, acknowledged_split}
-use Rattle.ix_manager.proofs.AcknowledgedLemmas.{TellsNoConfirm, none_confirms, confirmed_number}
+use Rattle.ix_manager.proofs.AcknowledgedLemmas.{TellsWithin, acknowledged_within, confirmed_number}
 use Rattle.ix_manager.proofs.SavingLemmas.{still_told, journal_keeps, keeps_longer, keeps_fewer}
 use Rattle.ix_manager.proofs.SavingLemmas.{fits_images}
 use Rattle.ix_manager.proofs.SendLemmas.{silent_keeps, carries}
 
--- replies of which none is a confirm's were sent over calls that saved the journal
+-- replies that tell of no later action were sent over calls that saved the journal
 pub saves_acknowledges : (e : Ending) (x : Form) (h new : MachineState) (store : Keeping) (conn : ℕ)
     (replies : List Reply)
     (before after : WireState) (p q : Crashes) → AreLawful after.site q
     → Saves e x h new store (span before.site after.site p q)
-    → SendsAll conn replies before after → Each TellsNoConfirm replies
+    → SendsAll conn replies before after → Each (TellsWithin (length h.history)) replies
     → Acknowledges x (length h.history) (with_failed e new.history) replies (span before.site after.site p q)
-saves_acknowledges e x h new store conn replies before after p q lawful saves sends none told s s'
+saves_acknowledges e x h new store conn replies before after p q lawful saves sends within told s s'
     is is' left since =
     let by_then = saves.sends.by_then s s' is is' left since in
     let sent = carries conn s s' sends.order is is' in
@@ -48,12 +48,14 @@ saves_acknowledges e x h new store conn replies before after p q lawful saves se
     let both = length-append s.sent by_then.more in
     let most = by_then.no_longer in
     let count = sent.count in
+    let keeps = saves.keeps told left.image (lawful.since_left before.site.tick left since) in
     record {
-      keeps = saves.keeps told left.image (lawful.since_left before.site.tick left since);
+      keeps = keeps;
       sent = by_then.more;
       behind = by_then.behind;
       carried = omega arith;
-      acknowledged = λ n is. absurd (none_confirms none is);
+      acknowledged = λ n is.
+          let most = acknowledged_within within is in let long = keeps.long in omega (arith, most, long);
     }
 
 module _ (conn : ℕ) (ticket : Ticket) (one : Reply) (old new : Journaled) (was_gone gone : Bool)

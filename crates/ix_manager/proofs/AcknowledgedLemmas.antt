@@ -1,13 +1,14 @@
 -- What is acknowledged, and what is sent, over calls one after the other.
-use Rattle.std.proofs.Common.{◌≡◌, ◌⊎◌, ℕ, ◌+◌, ◌≤◌, Bool, List, [], ◌∷◌, ◌++◌, length}
+use Rattle.std.proofs.Common.{◌≡◌, ◌⊎◌, ℕ, ◌≤◌, Bool, List, [], ◌∷◌, ◌++◌, length}
 use Rattle.std.proofs.Common.{append_assoc, append-nil, Option, None, Some, IsSome, Result, Ok, Err}
 use Rattle.std.proofs.Common.{true≢false, inl, inr, refl, sym, ◌∙◌, ap, subst, arith}
-use Rattle.std.proofs.lemmas.List.{length-append}
+use Rattle.std.proofs.lemmas.List.{length-append, length-map}
 use Rattle.std.specs.Option.{option_map}
 use Rattle.std.specs.Prelude.{⊤}
 use Rattle.ix_words.specs.Each.{Each, no_item, item}
 use Rattle.ix_values.specs.PlainAction.{PlainAction}
 use Rattle.ix_values.specs.declared.tickets.Ticket.{Ticket}
+use Rattle.ix_journal.specs.History.{Spent}
 use Rattle.ix_expr.specs.Form.{Form}
 use Rattle.ix_outside.specs.Contents.{Contents, SentBytes, Sends, SendsBytes, with_pair, with_gone}
 use Rattle.ix_outside.specs.Crashes.{Crashes, AreLawful, Elapses, OneCall}
@@ -15,12 +16,13 @@ use Rattle.ix_outside.specs.SiteState.{SiteState}
 use Rattle.ix_outside.specs.inside.DiskCalls.{DiskCalls, span}
 use Rattle.ix_proto.specs.Requests as request
 use Rattle.ix_proto.specs.Requests.{PlainRequest}
+use Rattle.ix_proto.specs.declared.reply.Outcome.TheVariants as became
 use Rattle.ix_proto.specs.declared.reply.Reply.{Reply}
-use Rattle.ix_proto.specs.declared.reply.Reply.TheVariants.{Confirmed, Refused}
+use Rattle.ix_proto.specs.declared.reply.Reply.TheVariants.{Confirmed, Entry, Outcome}
 use Rattle.ix_manager.specs.Machine as machine
 use Rattle.ix_manager.specs.Machine.{MachineState, MachineWatch, Step, Polls}
 use Rattle.ix_manager.specs.Acknowledged as acked
-use Rattle.ix_manager.specs.Acknowledged.{IsAcknowledged}
+use Rattle.ix_manager.specs.Acknowledged.{IsAcknowledged, TellsNumber}
 use Rattle.ix_manager.specs.inside.Acknowledging.{IsSentBetween, SendsMore}
 use Rattle.ix_manager.specs.inside.Core.{change_replies}
 use Rattle.ix_manager.proofs.SendLemmas.{not_told, some_is}
@@ -33,9 +35,9 @@ the_value (Some value) is = (value, refl)
 pub is_there : {A : Type 0} (told : Option A) (value : A) → told ≡ Some value → IsSome told
 is_there told value is = subst (λ t. IsSome t) (sym is) refl
 
--- the first reply is this action's confirm, and the pair has a byte of it
+-- the first reply tells of this action, and the pair has a byte of it
 abbrev IsFirst : ℕ → Reply → SentBytes → Type 0
-IsFirst n reply pair = (reply ≡ Confirmed n)
+IsFirst n reply pair = TellsNumber n reply
     × ((replies : List Reply) (pairs : List SentBytes)
     → IsAcknowledged n (reply ∷ replies) (pair ∷ pairs))
 
@@ -43,18 +45,18 @@ first_or_later : {n : ℕ} {reply : Reply} {pair : SentBytes} {replies : List Re
     {pairs : List SentBytes}
     → IsAcknowledged n (reply ∷ replies) (pair ∷ pairs) → IsFirst n reply pair
     ⊎ IsAcknowledged n replies pairs
-first_or_later (acked.first conn byte bytes) =
-    inl (refl, λ replies pairs. acked.first conn byte bytes)
+first_or_later (acked.first conn byte bytes tells) =
+    inl (tells, λ replies pairs. acked.first conn byte bytes tells)
 first_or_later (acked.later rest) = inr rest
 
 -- where nothing was sent nothing was acknowledged
 pub none_sent : {n : ℕ} {replies : List Reply} → IsAcknowledged n replies [] → ⊥
 none_sent is = elim is [ ]
 
--- the one reply whose confirm was acknowledged
+-- the one reply that acknowledged an action
 pub one_acknowledged : {n : ℕ} {reply : Reply} {pairs : List SentBytes}
-    → IsAcknowledged n (reply ∷ []) pairs → reply ≡ Confirmed n
-one_acknowledged (acked.first conn byte bytes) = refl
+    → IsAcknowledged n (reply ∷ []) pairs → TellsNumber n reply
+one_acknowledged (acked.first conn byte bytes tells) = tells
 one_acknowledged (acked.later rest) = absurd (no_reply rest)
   where
     no_reply : {n : ℕ} {pairs : List SentBytes} → IsAcknowledged n [] pairs → ⊥
@@ -75,7 +77,7 @@ acknowledged_front (reply ∷ replies) others (pair ∷ pairs) few is = elim (fi
 pub acknowledged_more : {n : ℕ} {replies : List Reply} {pairs : List SentBytes}
     (others : List Reply)
     → IsAcknowledged n replies pairs → IsAcknowledged n (replies ++ others) pairs
-acknowledged_more others (acked.first conn byte bytes) = acked.first conn byte bytes
+acknowledged_more others (acked.first conn byte bytes tells) = acked.first conn byte bytes tells
 acknowledged_more others (acked.later rest) = acked.later (acknowledged_more others rest)
 
 -- of two lists of replies, the first of which was sent to its end, one acknowledges it
@@ -94,53 +96,68 @@ acknowledged_split (reply ∷ replies) others (pair ∷ pairs) more same is = el
   ]
 ]
 
--- a reply that isn't a confirm's
-abbrev pub TellsNoConfirm : Reply → Type 0
-TellsNoConfirm (Confirmed number) = ⊥
-TellsNoConfirm _ = ⊤
+-- the reply tells of no action but one of the first so many
+abbrev pub TellsWithin : ℕ → Reply → Type 0
+TellsWithin most (Confirmed number) = number ≤ most
+TellsWithin most (Outcome (became.Confirmed place)) = place ≤ most
+TellsWithin most (Entry number a) = number ≤ most
+TellsWithin most _ = ⊤
 
--- such replies acknowledge nothing
-pub none_confirms : {n : ℕ} {replies : List Reply} {pairs : List SentBytes}
-    → Each TellsNoConfirm replies → IsAcknowledged n replies pairs → ⊥
-none_confirms no_item is = elim is [ ]
-none_confirms (item isnt others) (acked.first conn byte bytes) = isnt
-none_confirms (item isnt others) (acked.later rest) = none_confirms others rest
+told_within : (n most : ℕ) (reply : Reply) → TellsNumber n reply → TellsWithin most reply → n ≤ most
+told_within n most (Confirmed number) tells within = omega (arith, tells, within)
+told_within n most (Outcome (became.Confirmed place)) tells within = omega (arith, tells, within)
+told_within n most (Entry number a) tells within = omega (arith, tells, within)
+told_within n most _ tells within = absurd tells
 
-polls_confirm_none : {allowed : PlainAction → Type 0} {name : List ℕ}
+-- such replies acknowledge no other action
+pub acknowledged_within : {n most : ℕ} {replies : List Reply} {pairs : List SentBytes}
+    → Each (TellsWithin most) replies → IsAcknowledged n replies pairs → n ≤ most
+acknowledged_within no_item is = elim is [ ]
+acknowledged_within {n = n} {most = most} (item {a = reply} within others)
+    (acked.first conn byte bytes tells) = told_within n most reply tells within
+acknowledged_within (item within others) (acked.later rest) = acknowledged_within others rest
+
+polls_within : {most : ℕ} {allowed : PlainAction → Type 0} {name : List ℕ}
     {watches after : List MachineWatch} {changes : List Reply}
-    → Polls allowed name watches changes after → Each TellsNoConfirm changes
-polls_confirm_none machine.done = no_item
-polls_confirm_none (machine.other isnt polls) = polls_confirm_none polls
-polls_confirm_none (machine.same is tells polls) = polls_confirm_none polls
-polls_confirm_none (machine.changed is tells polls) = item tt (polls_confirm_none polls)
+    → Polls allowed name watches changes after → Each (TellsWithin most) changes
+polls_within machine.done = no_item
+polls_within (machine.other isnt polls) = polls_within polls
+polls_within (machine.same is tells polls) = polls_within polls
+polls_within (machine.changed is tells polls) = item tt (polls_within polls)
 
--- a step that leaves the history as long as it was answers no confirm
-pub no_confirm_answered : {x : Form} {limit : ℕ} {s after : MachineState} {asked : PlainRequest}
+-- a step that leaves the history as long as it was tells of no action that isn't in it
+pub answered_within : {x : Form} {limit : ℕ} {s after : MachineState} {asked : PlainRequest}
     {replies : List Reply}
     → Step x limit s asked replies after → length after.history ≡ length s.history
-    → Each TellsNoConfirm replies
-no_confirm_answered {s = s} (machine.confirmed {ticket = ticket} a deadline held open_still) same =
+    → Each (TellsWithin (length s.history)) replies
+answered_within {s = s} (machine.confirmed {ticket = ticket} a deadline held open_still) same =
     let longer = length-append s.history ((Some ticket, a) ∷ []) in absurd (omega arith)
-no_confirm_answered (machine.polled polls) same = item tt (polls_confirm_none polls)
-no_confirm_answered _ same = item tt no_item
+answered_within (machine.outcome_confirmed {ticket = ticket} before behind a split place) same =
+    let all = ap length split in
+    let parts = length-append before ((Some ticket, a) ∷ behind) in
+    item (omega (arith, all, parts, place)) no_item
+answered_within {s = s} (machine.entry {a = a} before behind split place) same =
+    let all = ap length split in
+    let parts = length-append before (a ∷ behind) in
+    let actions = length-map s.history (λ (spent : Spent). spent.1) in
+    item (omega (arith, all, parts, actions, place)) no_item
+answered_within (machine.polled polls) same = item tt (polls_within polls)
+answered_within _ same = item tt no_item
 
 -- the replies that tell changes
-pub changes_confirm_none : (changes : List (PlainAction × Bool))
-    → Each TellsNoConfirm (change_replies changes)
-changes_confirm_none [] = no_item
-changes_confirm_none (change ∷ changes) = item tt (changes_confirm_none changes)
+pub changes_within : (most : ℕ) (changes : List (PlainAction × Bool))
+    → Each (TellsWithin most) (change_replies changes)
+changes_within most [] = no_item
+changes_within most (change ∷ changes) = item tt (changes_within most changes)
 
 -- a confirm that was confirmed tells the length of the history then
 pub confirmed_number : {x : Form} {limit n : ℕ} {ticket : Ticket} {s after : MachineState} {one : Reply}
-    → Step x limit s (request.confirm ticket) (one ∷ []) after → one ≡ Confirmed n
+    → Step x limit s (request.confirm ticket) (one ∷ []) after → TellsNumber n one
     → n ≤ length after.history
-confirmed_number {n = n} {ticket = ticket} {s = s} (machine.confirmed a deadline held open_still) is =
-    let number : length s.history + 1 ≡ n = cc in
-    let longer = length-append s.history ((Some ticket, a) ∷ []) in omega arith
-confirmed_number (machine.confirm_expired has isnt) is =
-    absurd (let no : Refused 31 0 ≡ Confirmed _ = is in cc)
-confirmed_number (machine.confirm_no_such isnt) is =
-    absurd (let no : Refused 30 0 ≡ Confirmed _ = is in cc)
+confirmed_number {ticket = ticket} {s = s} (machine.confirmed a deadline held open_still) number =
+    let longer = length-append s.history ((Some ticket, a) ∷ []) in omega (arith, number, longer)
+confirmed_number (machine.confirm_expired has isnt) tells = absurd tells
+confirmed_number (machine.confirm_no_such isnt) tells = absurd tells
 
 -- all that was sent before, and nothing more
 pub between_none : (before after : List SentBytes) → length before ≤ length after

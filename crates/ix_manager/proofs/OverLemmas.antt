@@ -1,5 +1,5 @@
 -- What is answered over a site.
-use Rattle.std.proofs.Common.{◌≡◌, ℕ, Bool, false, List, [], ◌∷◌, ◌++◌, Some, Result, Ok, Err, refl, sym, ap, subst}
+use Rattle.std.proofs.Common.{length, ◌≡◌, ℕ, Bool, false, List, [], ◌∷◌, ◌++◌, Some, Result, Ok, Err, refl, sym, ap, subst}
 use Rattle.std.specs.Option.{ForSome}
 use Rattle.ix_values.specs.PlainAction.{PlainAction}
 use Rattle.ix_values.specs.declared.tickets.Ticket.{Ticket}
@@ -40,7 +40,7 @@ use Rattle.ix_manager.specs.inside.Over.{OverJournal}
 use Rattle.ix_manager.specs.inside.OverSite.{ending_after}
 use Rattle.ix_manager.specs.inside.Saving.{FitsJournal, OnlySends, Saves, SavesJournal, Finds, Commits, ConfirmsOver}
 use Rattle.ix_manager.specs.inside.WireState.{WireState, wired, SendsAll, AnswersRequest, AnswersItem, wire_span, wire_stretch}
-use Rattle.ix_manager.proofs.AcknowledgedLemmas.{TellsNoConfirm}
+use Rattle.ix_manager.proofs.AcknowledgedLemmas.{TellsWithin}
 use Rattle.ix_manager.proofs.AcknowledgeSteps.{saves_acknowledges, confirm_acknowledges}
 use Rattle.ix_manager.proofs.AnswerLemmas.{confirm_answered, confirm_failed, line_answered, line_refused, long_line_refused}
 use Rattle.ix_manager.proofs.SavingLemmas.{saves_none, saves_same, saves_sends, answered_saves, appended_saves, failed_saves, reserves_none, spent_on}
@@ -181,10 +181,10 @@ pub request_over : (conn : ℕ) (request : Request) (go : Go) (old new : Journal
     → (replies : List Reply)
     → AnswersRequest conn request (ending_after go) replies old.machine new.machine before after
     → OnlySends (span before.site after.site p q)
-    → Each TellsNoConfirm replies
+    → Each (TellsWithin (length old.machine.state.history)) replies
     → OverJournal (AnswersRequest conn request) (Ok go) old new (wire_span before after p q)
 request_over conn request go old new before after p q lawful lawful' fits same reserves store replies answers
-    only none =
+    only within =
     let x = old.machine.form in
     let h = old.machine.state in
     let w = new.machine.state in
@@ -199,7 +199,7 @@ request_over conn request go old new before after p q lawful lawful' fits same r
       made = answers;
       saves = saves;
       acknowledges = saves_acknowledges (ending_after go) x h w (kept new.store) conn
-          replies before after p q lawful' saves answers.sends none;
+          replies before after p q lawful' saves answers.sends within;
     }
 
 -- a line that is a request

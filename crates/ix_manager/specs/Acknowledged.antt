@@ -1,20 +1,30 @@
--- Which confirms were acknowledged, and the images that keep each of them.
+-- Which actions were acknowledged, and the images that keep each of them.
 use Rattle.std.specs.Prelude.{◌≡◌, ℕ, ◌≤◌, List, ◌∷◌, ◌++◌, length}
 use Rattle.ix_journal.specs.History.{PlainHistory}
 use Rattle.ix_expr.specs.Form.{Form}
 use Rattle.ix_outside.specs.Contents.{SentBytes}
 use Rattle.ix_outside.specs.Crashes.{Left}
+use Rattle.ix_proto.specs.declared.reply.Outcome.TheVariants as became
 use Rattle.ix_proto.specs.declared.reply.Reply.{Reply}
-use Rattle.ix_proto.specs.declared.reply.Reply.TheVariants.{Confirmed}
+use Rattle.ix_proto.specs.declared.reply.Reply.TheVariants.{Confirmed, Entry, Outcome}
 use Rattle.ix_manager.specs.Images.{Keeps}
 
--- The confirm of the history's action of this number was acknowledged: of its reply at least one
+-- the reply tells of the history's action of this number: that it was confirmed, that its ticket
+-- was, or which one it is
+abbrev pub TellsNumber : ℕ → Reply → Type 0
+TellsNumber n (Confirmed number) = number ≡ n
+TellsNumber n (Outcome (became.Confirmed place)) = place ≡ n
+TellsNumber n (Entry number a) = number ≡ n
+TellsNumber n _ = ⊥
+
+-- The history's action of this number was acknowledged: of a reply that tells of it at least one
 -- byte had been sent. The sends carry the replies one by one, in order; no send carries those that
 -- are left over.
 pub data IsAcknowledged (n : ℕ) : List Reply → List SentBytes → Type 0 where
-  first : {replies : List Reply} {sent : List SentBytes} (conn byte : ℕ) (bytes : List ℕ)
-      → IsAcknowledged n (Confirmed n ∷ replies)
-      (record { conn = conn; bytes = byte ∷ bytes } ∷ sent)
+  first : {reply : Reply} {replies : List Reply} {sent : List SentBytes}
+      (conn byte : ℕ) (bytes : List ℕ)
+      → TellsNumber n reply
+      → IsAcknowledged n (reply ∷ replies) (record { conn = conn; bytes = byte ∷ bytes } ∷ sent)
   later : {reply : Reply} {pair : SentBytes} {replies : List Reply} {sent : List SentBytes}
       → IsAcknowledged n replies sent → IsAcknowledged n (reply ∷ replies) (pair ∷ sent)
 

@@ -5,7 +5,7 @@ use Rattle.ix_manager.specs.inside.Core.{Core}
 use Rattle.ix_manager.specs.inside.WireState.{wired}
 use Rattle.ix_words.specs.Each.{item, no_item}
 use Rattle.ix_watch.specs.inside.Watches.{changes_of}
-use Rattle.ix_manager.proofs.AcknowledgedLemmas.{no_confirm_answered, changes_confirm_none}
+use Rattle.ix_manager.proofs.AcknowledgedLemmas.{answered_within, changes_within}
 use Rattle.ix_manager.proofs.AnswerLemmas.{one_answered, stop_answered, poll_answered}
 use Rattle.ix_manager.proofs.HistoryLemmas.{number_rises, told_reserves}
 use Rattle.ix_manager.proofs.OverLemmas.{request_over, confirm_request}
@@ -26,7 +26,7 @@ returns-in-One g c =
     (number_rises c.answer.ensures.tickets))
     c.send_reply.ensures.only
     (let asked = c.requires.plain in
-    no_confirm_answered (c.in-One.ensures.answers.0 asked.0 asked.1 asked.2)
+    answered_within (c.in-One.ensures.answers.0 asked.0 asked.1 asked.2)
     (ap length c.answer.ensures.history))
 
 -- a poll is told
@@ -45,7 +45,7 @@ returns-in-Poll g c =
     (poll_answered c.args.conn c.args.request.now c.in-Poll.name old c.answer.new.self c.tell.new.self before after
     polls.0 polls.1 c.answer.ensures.form c.answer.ensures.limit c.tell.ensures c.send_changes.ensures.sends)
     c.send_changes.ensures.only (item tt
-    (changes_confirm_none (changes_of c.in-Poll.name c.answer.new.self.noted)))
+    (changes_within (length old.state.history) (changes_of c.in-Poll.name c.answer.new.self.noted)))
 
 -- a confirm
 pub returns-in-Confirm : goal.returns-in-Confirm
