@@ -29,7 +29,7 @@ later_join (rises moment first) rest = rises moment (later_join first rest)
 later_join (answered step first) rest = answered step (later_join first rest)
 later_join (restarts may first) rest = restarts may (later_join first rest)
 
-steps_later : {x : Form} {limit : ℕ} {s after : MachineState} {items : List Item} {replies : List (List Reply)} {ending : Ending}
+pub steps_later : {x : Form} {limit : ℕ} {s after : MachineState} {items : List Item} {replies : List (List Reply)} {ending : Ending}
     → Steps x limit s items replies after ending → Later x s after
 steps_later none = stays
 steps_later (last step ends) = answered step stays
@@ -63,16 +63,16 @@ later_grows {s = s} {later = later} (restarts {kept = kept} may rest) =
     grows_twice s.history kept later.history (kept_grows may) (later_grows rest)
 
 -- the reply to a `log` tells an entry of the history
-abbrev TellsEntry : PlainRequest → List Reply → Word → Type 0
+abbrev pub TellsEntry : PlainRequest → List Reply → Word → Type 0
 TellsEntry (request.log number) (reply.Entry told a ∷ []) word = IsEntryOf word number a
 TellsEntry _ _ word = ⊤
 
-entry_told : {x : Form} {limit : ℕ} {s after : MachineState} {asked : PlainRequest} {replies : List Reply}
+pub entry_told : {x : Form} {limit : ℕ} {s after : MachineState} {asked : PlainRequest} {replies : List Reply}
     → Step x limit s asked replies after → TellsEntry asked replies (word_of after)
 entry_told (entry before behind split place) = record { before = before; behind = behind; split = split; place = place }
 entry_told _ = tt
 
-entry_stays : (one two : PlainHistory) (number : ℕ) (a : PlainAction) → Grows one two → IsEntryOf (actions_of one) number a → IsEntryOf (actions_of two) number a
+pub entry_stays : (one two : PlainHistory) (number : ℕ) (a : PlainAction) → Grows one two → IsEntryOf (actions_of one) number a → IsEntryOf (actions_of two) number a
 entry_stays one two number a grows is = record {
   before = is.before;
   behind = is.behind ++ actions_of grows.0;
@@ -98,7 +98,7 @@ whole_prefix kept rest all is long =
     one_prefix kept all rest [] (is ∙ sym (append-nil all)) (let counts = length-append kept rest in let same = ap length is in omega (arith, counts, same, long))
 
 -- a step stays in its boot
-changes_boot : {s u : MachineState} → Changes s u → u.boot ≡ s.boot
+pub changes_boot : {s u : MachineState} → Changes s u → u.boot ≡ s.boot
 changes_boot (keeps h k b n m) = b
 changes_boot (empties h k b n m) = b
 changes_boot (grants a deadline h k b n m) = b

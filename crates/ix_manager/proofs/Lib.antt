@@ -27,3 +27,6 @@ pub mod StartLemmas
 pub mod TicketLemmas
 pub mod StartTickets
 pub mod LaterLemmas
+pub mod RequestsApart
+pub mod AnsweredLemmas
+pub mod ToldLemmas

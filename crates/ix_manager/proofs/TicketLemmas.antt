@@ -183,11 +183,14 @@ over_starts {s = s} may over = record {
   shut = λ a deadline is. free_holds _ a deadline is;
 }
 
+pub stays_over : {x : Form} {s later : MachineState} {ticket : Ticket} → Later x s later → IsOver s ticket → IsOver later ticket
+stays_over stays over = over
+stays_over {s = s} {ticket = ticket} (rises moment rest) over = stays_over rest (over_rises s ticket moment over)
+stays_over (answered step rest) over = stays_over rest (over_changes (item_changes step) over)
+stays_over (restarts may rest) over = stays_over rest (over_starts may over)
+
 pub later_over : {x : Form} {s later : MachineState} {ticket : Ticket} → Later x s later → IsOver s ticket → IsAbsent ticket later.history
-later_over stays over = over.absent
-later_over {s = s} {ticket = ticket} (rises moment rest) over = later_over rest (over_rises s ticket moment over)
-later_over (answered step rest) over = later_over rest (over_changes (item_changes step) over)
-later_over (restarts may rest) over = later_over rest (over_starts may over)
+later_over rest over = (stays_over rest over).absent
 
 -- a slot with the ticket is held by it
 pub held_with : (slot : Slot) (ticket : Ticket) → HasTicket slot ticket → (a : PlainAction) × (deadline : ℕ) × (slot ≡ Held ticket a deadline)

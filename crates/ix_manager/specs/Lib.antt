@@ -11,5 +11,7 @@ pub mod Handled
 pub mod Granted
 pub mod Later
 pub mod LaterLaws
+pub mod Answered
+pub mod ToldLaws
 pub mod Starts
 pub mod inside

@@ -6,6 +6,12 @@ ghost use Rattle.ix_manager.specs.MachineLaws.{OnlySomeWantMemory, OpenTicketsAr
 ghost use Rattle.ix_manager.specs.MachineLaws.{PollsTellWhatChanged};
 ghost use Rattle.ix_manager.specs.RunLaws.{AnyCuttingGivesTheSameRun, CallsMakeARun};
 ghost use Rattle.ix_manager.specs.RunLaws.{SentRepliesAreTheWire, UnmarkedRepliesAreTheText};
+ghost use Rattle.ix_manager.specs.ToldLaws.{AcknowledgedEntriesAreKept};
+ghost use Rattle.ix_manager.specs.ToldLaws.{AcknowledgedOutcomesAreKept};
+ghost use Rattle.ix_manager.specs.ToldLaws.{TicketsAreOfTheirBoot, ToldEntriesAreKept};
+ghost use Rattle.ix_manager.specs.ToldLaws.{ToldOutcomesStay, ToldTicketsStayOver};
+
+use ix_values::texts_tell_tickets_apart;
 
 /// A confirm with the ticket of the open reservation is confirmed: ticket and action join the
 /// history, and the slot is free.
@@ -85,3 +91,41 @@ pub fn told_entries_stay()
 pub fn later_states_are_these()
     ensures { LaterStatesAreThese }
 {}
+
+/// A ticket that a run granted is of its boot, so runs of two boots grant no ticket both.
+pub fn tickets_are_of_their_boot()
+    ensures { TicketsAreOfTheirBoot }
+{}
+
+/// A ticket of which a run told that it is over isn't in its history, nor in what a confirm that
+/// failed may leave: whatever line asked, and wherever in the run.
+pub fn told_tickets_stay_over()
+    ensures { ToldTicketsStayOver }
+{
+    texts_tell_tickets_apart();
+}
+
+/// Where a run told the number that a ticket was confirmed with, it is the ticket's in its history.
+pub fn told_outcomes_stay()
+    ensures { ToldOutcomesStay }
+{
+    texts_tell_tickets_apart();
+}
+
+/// An entry that a run told is in its history.
+pub fn told_entries_are_kept()
+    ensures { ToldEntriesAreKept }
+{}
+
+/// An entry that a run told is in each image that a crash left behind the first byte of the reply:
+/// also where the confirm of its action came in the same piece.
+pub fn acknowledged_entries_are_kept()
+    ensures { AcknowledgedEntriesAreKept }
+{}
+
+/// So is the ticket of which a run told the number that it was confirmed with, at that number.
+pub fn acknowledged_outcomes_are_kept()
+    ensures { AcknowledgedOutcomesAreKept }
+{
+    texts_tell_tickets_apart();
+}
