@@ -1,6 +1,6 @@
 -- What a run makes of the journal that it attached.
 use Rattle.std.proofs.Common.{◌≡◌, ◌⊎◌, inl, inr, ℕ, ◌+◌, ◌≤◌, List, [], ◌++◌, length, append-nil}
-use Rattle.std.proofs.Common.{false, Option, None, Some, Result, refl, sym, ◌∙◌, ap, subst, arith}
+use Rattle.std.proofs.Common.{false, Option, None, Some, Result, true≢false, refl, sym, ◌∙◌, ap, subst, arith}
 use Rattle.std.proofs.lemmas.Option.{none-some}
 use Rattle.ix_journal.specs.History.{PlainHistory, actions_of}
 use Rattle.ix_expr.specs.CanonicalText.{canonical_text}
@@ -24,7 +24,8 @@ use Rattle.ix_manager.proofs.SavingLemmas.{keeps_longer}
 use Rattle.ix_manager.proofs.WithinLemmas.{kept_images_are_startable, runs_stay_within}
 use Rattle.ix_cli.specs.Words.{Job}
 use Rattle.ix_manage.specs.Command.{expression_of, journal_of, limit_of}
-use Rattle.ix_manage.specs.Journal.{GoesOnFrom, OfJournal, OfOpened, OnJournal, OpensJournal, UsesJournal, session_of}
+use Rattle.ix_manage.specs.Journal as reopens
+use Rattle.ix_manage.specs.Journal.{GoesOnFrom, OfJournal, OfOpened, OnJournal, OpensJournal, Reopens, UsesJournal, session_of}
 use Rattle.ix_outside.specs.Files.{Listing}
 use Rattle.ix_manage.specs.Session.{Session}
 use Rattle.ix_manage.specs.Trace.{ReadsForm}
@@ -62,25 +63,54 @@ own_text x file (image.new (inl unfinished)) = inl unfinished
 own_text x file (image.new (inr unopened)) = inr (inl unopened)
 own_text x file (image.ready history marks gate is) = inr (inr (is.journal.first, is.journal.ready))
 
--- a run can start from the image again, or it holds a million boots
-abbrev Reopens : Form → ℕ → List ℕ → Type 0
-Reopens x limit image =
-    ((kept : PlainHistory) × (boot : ℕ) × IsStartable (opening_of x limit kept boot) image) ⊎ HoldsBoots image 1000000
+-- what may be left now may have been left since
+pub left_by_now : (before after : SiteState) (is : Crashes) → AreLawful after is → before.tick ≤ after.tick
+    → (image : List ℕ) → is.now image → is.left before.tick image
+left_by_now before after is lawful le image left =
+    lawful.left_earlier before.tick after.tick image le ((lawful.left_now image).1 left)
 
-with_kept : {x : Form} {limit : ℕ} {image : List ℕ} (kept : PlainHistory)
-    → ((boot : ℕ) × IsStartable (opening_of x limit kept boot) image) ⊎ HoldsBoots image 1000000 → Reopens x limit image
-with_kept kept (inl starts) = inl (kept, starts.0, starts.1)
-with_kept kept (inr many) = inr many
+-- how many boots an image holds: as many as the opening's boot, or one less
+abbrev IsNear : ℕ → ℕ → Type 0
+IsNear boot boots = (boot ≡ boots + 1) ⊎ (boot ≡ boots)
 
--- over a stretch of calls each image keeps the history that a run started from, and no other actions
--- than those of its last one; and ends as the run does
-pub record KeepsAlong (x : Form) (h : PlainHistory) (played : Session) (before after : ℕ) (q r : Crashes)
+-- an image that holds so many boots, and keeps the first actions of a history within the limit
+can_reopen : (opening : Opening) (least : ℕ) (history : PlainHistory) (image : List ℕ) (boots : ℕ)
+    → EachPrefixIsWithin opening.form opening.limit (actions_of history) → opening.boot ≤ 1000000
+    → Keeps opening.form least history image → HoldsBoots image boots → IsNear opening.boot boots → Reopens opening image
+can_reopen opening least history image boots within most keeps holds near =
+    elim (kept_images_are_startable opening.form opening.limit least history image within keeps) [
+      | inl starts ↦
+          let same : starts.1.boots ≡ boots = one_number image starts.1.boots boots starts.1.holds holds in
+          let following : starts.0 ≡ starts.1.boots + 1 = starts.1.next in
+          elim near [
+            | inl less ↦
+                let boot : starts.0 ≡ opening.boot = omega (arith, same, following, less) in
+                reopens.again keeps.kept
+                (subst (λ n. IsStartable (opening_of opening.form opening.limit keeps.kept n) image) boot starts.1)
+            | inr all ↦
+                let boot : starts.0 ≡ opening.boot + 1 = omega (arith, same, following, all) in
+                reopens.next keeps.kept
+                (subst (λ n. IsStartable (opening_of opening.form opening.limit keeps.kept n) image) boot starts.1)
+          ]
+      | inr many ↦
+          let same : boots ≡ 1000000 = one_number image boots 1000000 holds many in
+          elim near [
+            | inl less ↦ absurd (omega (arith, same, less, most))
+            | inr all ↦ reopens.never (all ∙ same) many
+          ]
+    ]
+
+-- over a stretch of calls each image keeps the history and the boots that a run started from, and no
+-- other actions than those of its last one; and ends as the run does
+pub record KeepsAlong (x : Form) (h : PlainHistory) (boot : ℕ) (played : Session) (before after : ℕ) (q r : Crashes)
     : Type 0 where
   pub passes : Elapses before after q.left r.left
   pub rest : PlainHistory
   pub grows : h ++ rest ≡ with_failed played.ending played.last.history
   pub keeps : (image : List ℕ) → r.left before image
       → Keeps x (length h) (with_failed played.ending played.last.history) image
+  pub boots : (image : List ℕ) → r.left before image → HoldsBoots image boot
+  pub boots_now : (image : List ℕ) → r.now image → HoldsBoots image boot
   pub ends : (image : List ℕ) → r.now image → EndsAs played.ending played.last.history image
 
 -- a start, from the attached file on
@@ -115,9 +145,21 @@ module _ (x : Form) (limit : ℕ) (at mid : SiteState) (p q : Crashes) (d : Disk
       long = omega arith;
     }
 
-    left_since_start : AreLawful mid q → at.tick ≤ mid.tick → (image : List ℕ) → q.now image → q.left at.tick image
-    left_since_start lawful le image left =
-        lawful.left_earlier at.tick mid.tick image le ((lawful.left_now image).1 left)
+    -- and a run can start from it again
+    pub start_reopens : (h : PlainHistory) (boot : ℕ) → IsStartable (opening_of x limit h boot) d.file
+        → (image : List ℕ) → q.left at.tick image → Reopens (opening_of x limit h boot) image
+    start_reopens h boot s image left = elim (leaves.boots s.boots s.holds image left) [
+      | inl first ↦ reopens.again h (subst (λ (file : List ℕ). IsStartable (opening_of x limit h boot) file) (sym (now image first)) s)
+      | inr holds ↦ elim holds [
+        | inl same ↦ holding s.boots (inl s.next) same
+        | inr more ↦ holding (s.boots + 1) (inr s.next) more.1
+      ]
+    ]
+      where
+        holding : (boots : ℕ) → IsNear boot boots → HoldsBoots image boots → Reopens (opening_of x limit h boot) image
+        holding boots near holds =
+            can_reopen (opening_of x limit h boot) (length h) h image boots s.within
+            (let few = s.few in let following = s.next in omega (arith, few, following)) (start_keeps h boot s image left) holds near
 
     file_stays : (one two : Option Disk) → MakesFile Stays one two → (e : Disk) → one ≡ Some d → two ≡ Some e → e.file ≡ d.file
     file_stays None two makes e first second = absurd (none-some d first)
@@ -133,18 +175,17 @@ module _ (x : Form) (limit : ℕ) (at mid : SiteState) (p q : Crashes) (d : Disk
     start_uses lawful le e after = record {
       startable = λ h boot s. record {
         from = refl;
+        boots = λ none. absurd (true≢false (sym none));
         holds = record {
-          ends = λ image left. start_recovers h boot s image (left_since_start lawful le image left);
+          ends = λ image left. start_recovers h boot s image (left_by_now at mid q lawful le image left);
           keeps = λ image left. start_keeps h boot s image left;
-          reopens = λ image left.
-              with_kept (start_keeps h boot s image left).kept
-              (kept_images_are_startable x limit (length h) h image s.within (start_keeps h boot s image left));
+          reopens = λ image left. start_reopens h boot s image left;
         };
       };
       other = λ no. record {
         none_taken = refl;
         file_is = file_stays at.disk mid.disk (leaves.refused no).0 e told after;
-        only = λ image left. now image ((leaves.refused no).1 image (left_since_start lawful le image left));
+        only = λ image left. now image ((leaves.refused no).1 image (left_by_now at mid q lawful le image left));
         only_since = λ image left. now image ((leaves.refused no).1 image left);
       };
     }
@@ -163,6 +204,7 @@ one_opening {x = x} {limit = limit} file g h boot next s t =
 module _ (x : Form) (limit : ℕ) (tick : ℕ) (d : Disk) (name : List ℕ) (mid : ℕ) (q : Crashes)
     (h : PlainHistory) (boot : ℕ) (starts : IsStartable (opening_of x limit h boot) d.file)
     (kept : (image : List ℕ) → q.left tick image → Keeps x (length h) h image)
+    (opens_again : (image : List ℕ) → q.left tick image → Reopens (opening_of x limit h boot) image)
   where
     abbrev attached : Opened
     attached = record { name = name; tick = tick; file = d.file }
@@ -171,7 +213,7 @@ module _ (x : Form) (limit : ℕ) (tick : ℕ) (d : Disk) (name : List ℕ) (mid
       abbrev played : Session
       played = session_of (opening_of x limit h boot) session
 
-      module _ (opening_is : played.opening ≡ opening_of x limit h boot) (along : KeepsAlong x h played mid end q r)
+      module _ (opening_is : played.opening ≡ opening_of x limit h boot) (along : KeepsAlong x h boot played mid end q r)
           (run : Run played.opening played.taken played.answers played.last played.ending)
         where
           within : EachPrefixIsWithin x limit (actions_of (with_failed played.ending played.last.history))
@@ -186,19 +228,26 @@ module _ (x : Form) (limit : ℕ) (tick : ℕ) (d : Disk) (name : List ℕ) (mid
             | inr since ↦ along.keeps image since
           ]
 
+          reopens_along : (image : List ℕ) → r.left tick image → Reopens (opening_of x limit h boot) image
+          reopens_along image left = elim (along.passes.nothing_else tick image le left) [
+            | inl earlier ↦ opens_again image earlier
+            | inr since ↦
+                can_reopen (opening_of x limit h boot) (length h) (with_failed played.ending played.last.history) image boot within
+                (let few = starts.few in let following = starts.next in omega (arith, few, following))
+                (along.keeps image since) (along.boots image since) (inr refl)
+          ]
+
           goes_on : GoesOnFrom (opening_of x limit h boot) session attached r
           goes_on = record {
             from = opening_is;
+            boots = λ some. along.boots_now;
             holds = record {
               ends = along.ends;
               keeps = λ image left.
                   subst (λ (o : Opening). Keeps o.form (length h) (with_failed played.ending played.last.history) image)
                   (sym opening_is) (keeps image left);
               reopens = λ image left.
-                  let kept = keeps image left in
-                  subst (λ (o : Opening). Reopens o.form o.limit image) (sym opening_is)
-                  (with_kept kept.kept
-                  (kept_images_are_startable x limit (length h) (with_failed played.ending played.last.history) image within kept));
+                  subst (λ (o : Opening). Reopens o image) (sym opening_is) (reopens_along image left);
             };
           }
 

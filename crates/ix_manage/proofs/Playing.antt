@@ -10,7 +10,7 @@ use Rattle.ix_can.specs.TreeOf.{tree_size}
 use Rattle.ix_cli.specs.Words.{Job}
 use Rattle.ix_outside.specs.Contents.{GivenEvent}
 use Rattle.ix_outside.specs.Counts.{Rose}
-use Rattle.ix_outside.specs.Crashes.{Crashes}
+use Rattle.ix_outside.specs.Crashes.{AreLawful, Crashes}
 use Rattle.ix_outside.specs.Disk.{Disk as SiteDisk, Opened}
 use Rattle.ix_outside.specs.Files.{Listing}
 use Rattle.ix_outside.specs.FilesState.{FilesState}
@@ -52,7 +52,7 @@ use Rattle.ix_manage.specs.inside.ReplayProgress.{OnlyUsesDisk, ReplaysOn, disk_
 use Rattle.ix_manage.specs.inside.Progress as progress
 use Rattle.ix_manage.proofs.Causes.{replay_ends_earlier}
 use Rattle.ix_manage.proofs.Devices.{disk_calls_then}
-use Rattle.ix_manage.proofs.Opening.{KeepsAlong, on_journal, session_uses}
+use Rattle.ix_manage.proofs.Opening.{KeepsAlong, left_by_now, on_journal, session_uses}
 use Rattle.ix_manage.proofs.Stops.{nothing_put, nothing_put_of}
 
 -- what holds of the file that was attached, by another name
@@ -225,7 +225,7 @@ module _ (x : Form) (limit : ℕ) (name : List ℕ) (before mid end : SiteState)
     pub session_on_journal : (session_of opening session).opening ≡ opening
         → Run (session_of opening session).opening (session_of opening session).taken (session_of opening session).answers
         (session_of opening session).last (session_of opening session).ending
-        → (IsSome end.disk → KeepsAlong x m.machine.history (session_of opening session) mid.tick end.tick q r)
+        → (IsSome end.disk → KeepsAlong x m.machine.history m.machine.boot (session_of opening session) mid.tick end.tick q r)
         → OnJournal files job before end r session
     session_on_journal opening_is run along =
         on_journal files job it.expression name x it.of_expression it.has_journal it.reads session before start.at end r
@@ -234,6 +234,7 @@ module _ (x : Form) (limit : ℕ) (name : List ℕ) (before mid end : SiteState)
         (sym it.limit_is)
         (session_uses x limit start.at.tick d name mid.tick q m.machine.history m.machine.boot (start.starts d is)
         (start.keeps (subst (λ (o : Option SiteDisk). IsSome o) (sym is) refl))
+        (start.reopens (subst (λ (o : Option SiteDisk). IsSome o) (sym is) refl))
         session end.tick r start.later opening_is
         (along (subst (λ (o : Option SiteDisk). IsSome o) (sym after) refl)) run e.file))
 
@@ -249,26 +250,30 @@ module _ (x : Form) (limit : ℕ) (m : ManagerState) (fresh : m ≡ started (ope
 
 -- a journal is kept along a stretch over which its history is saved
 pub along_saves : (x : Form) (h : PlainHistory) (boot : ℕ) (played : Session) (store : Keeping) (a b : SiteState) (p q : Crashes)
-    → IsSome b.disk → Saves played.ending x (start_of h boot) played.last store (span a b p q)
-    → KeepsAlong x h played a.tick b.tick p q
-along_saves x h boot played store a b p q some saves = record {
+    → AreLawful b q → IsSome b.disk → Saves played.ending x (start_of h boot) played.last store (span a b p q)
+    → KeepsAlong x h boot played a.tick b.tick p q
+along_saves x h boot played store a b p q lawful some saves = record {
   passes = saves.passes.left;
   rest = saves.rest;
   grows = saves.grows;
   keeps = saves.keeps some;
+  boots = saves.boots some;
+  boots_now = λ image left. saves.boots some image (left_by_now a b q lawful saves.passes.left.later image left);
   ends = saves.ends some;
 }
 
 -- also where its disk is told alone
 pub along_alone : (x : Form) (h : PlainHistory) (boot : ℕ) (played : Session) (store : Keeping) (a b : SiteState) (p q : Crashes)
-    → IsSome b.disk
+    → AreLawful b q → IsSome b.disk
     → Saves played.ending x (start_of h boot) played.last store (span (disk_alone a) (disk_alone b) (without_sends p) (without_sends q))
-    → KeepsAlong x h played a.tick b.tick p q
-along_alone x h boot played store a b p q some saves = record {
+    → KeepsAlong x h boot played a.tick b.tick p q
+along_alone x h boot played store a b p q lawful some saves = record {
   passes = saves.passes.left;
   rest = saves.rest;
   grows = saves.grows;
   keeps = saves.keeps some;
+  boots = saves.boots some;
+  boots_now = λ image left. saves.boots some image (left_by_now a b q lawful saves.passes.left.later image left);
   ends = saves.ends some;
 }
 
@@ -302,7 +307,7 @@ module _ (x : Form) (names : ReplayWords) (script : List ℕ) (before : SiteStat
         })
 
     -- a run was started, and took events
-    pub session_plays : (mid end : SiteState) (q r : Crashes) (m : ManagerState)
+    pub session_plays : (mid end : SiteState) (q r : Crashes) → AreLawful end r → (m : ManagerState)
         → StartsOver x names.limit names.journal.now before mid q m
         → OnlyUsesDisk mid end → (final : MachineState)
         → (status : ℕ) (whole part : List ℕ) (session : Option Session)
@@ -310,7 +315,7 @@ module _ (x : Form) (names : ReplayWords) (script : List ℕ) (before : SiteStat
         (record { before = disk_alone mid; after = disk_alone end; was = without_sends q; is = without_sends r })
         status whole part session
         → PlaysOver x names script before end r status whole part session
-    session_plays mid end q r m start uses final status whole part session on = λ files later reads has.
+    session_plays mid end q r lawful m start uses final status whole part session on = λ files later reads has.
         let it = on.1 in
         let job = job_played files.contents reads has in
         let opening_is = it.opening_is ∙ opening_fresh x names.limit m start.fresh in
@@ -331,6 +336,6 @@ module _ (x : Form) (names : ReplayWords) (script : List ℕ) (before : SiteStat
           touches = disk_calls_then before mid end start.only uses.rest;
           journal = session_on_journal x names.limit names.journal.now before mid end q r m start files.contents (replay_of names) job uses.opened
               (Some it.played) opening_is (it.plays events.0 events.1).takes.run
-              (λ some. along_alone x m.machine.history m.machine.boot it.played it.store mid end q r some saves);
+              (λ some. along_alone x m.machine.history m.machine.boot it.played it.store mid end q r lawful some saves);
           wire = λ socket none. absurd (none-some socket none);
         })

@@ -6,10 +6,11 @@ use Rattle.std.specs.Option.{option_map}
 use Rattle.std.proofs.lemmas.List.{length_push}
 use Rattle.std.proofs.lemmas.Option.{none-some}
 use Rattle.ix_journal.specs.History.{PlainHistory}
+use Rattle.ix_journal.specs.Recovery.{HoldsBoots}
 use Rattle.ix_expr.specs.Form.{Form}
-use Rattle.ix_outside.specs.Contents.{Contents, GivenEvent, Sends, with_name}
+use Rattle.ix_outside.specs.Contents.{Contents, GivenEvent, Sends, SentBytes, with_name}
 use Rattle.ix_outside.specs.Counts.{Rose}
-use Rattle.ix_outside.specs.Crashes.{Crashes, AreLawful, IsSentByThen, LeavesTheSame, OneCall, Stretch}
+use Rattle.ix_outside.specs.Crashes.{Crashes, AreLawful, IsSentByThen, LeavesTheSame, Left, OneCall, Stretch}
 use Rattle.ix_outside.specs.Disk.{Disk, Opened}
 use Rattle.ix_outside.specs.Files.{Listing}
 use Rattle.ix_outside.specs.Sink.{AppendsPart}
@@ -75,6 +76,11 @@ no_replies : {before : Sends} {events : List GivenEvent} {answers : List (List (
 no_replies begin none = refl
 no_replies (takes {events = events} given last marked wire sends) none =
     let long = ap length none in let more = length_push events given in absurd (omega (arith, long, more))
+
+-- no send carries a reply where there is none
+carries_none : (sent : List SentBytes) (replies : List Reply) → length sent ≤ length replies → replies ≡ [] → sent ≡ []
+carries_none [] replies few none = refl
+carries_none (pair ∷ sent) replies few none = absurd (let count = ap length none in omega (arith, few, count))
 
 -- a site that was listened to
 module _ (socket : List ℕ) (a b : SiteState) (p q : Crashes) (heard : b.contents ≡ with_name socket a.contents)
@@ -291,7 +297,7 @@ module _ (x : Form) (names : ServeWords) (before : SiteState) where
         wire = λ socket same. it.only.contents;
       })
 
-  module _ (mid end : SiteState) (q r : Crashes) (m : ManagerState)
+  module _ (mid end : SiteState) (q r : Crashes) (lawful : AreLawful end r) (m : ManagerState)
       (start : StartsOver x names.limit names.journal.now before mid q m)
       (serves : OnlyServed mid end) (final : MachineState)
     where
@@ -312,10 +318,30 @@ module _ (x : Form) (names : ServeWords) (before : SiteState) where
           ap (λ (o : Opened). o.tick) (some_is (sym is ∙ kept.2 ∙ first))
       along (inr untold) now opened told is = absurd (none-some now (sym untold ∙ told))
 
-      wire_from : (socket : List ℕ) (session : Session) → session.opening ≡ opening_of x names.limit m.machine.history m.machine.boot
+      -- the boot is kept before anything is sent
+      boots_from : (session : Session) (store : Keeping) → session.opening ≡ opening_of x names.limit m.machine.history m.machine.boot
+          → Saves session.ending x (start_of m.machine.history m.machine.boot) session.last store (span mid end q r)
+          → (old : Sends) → before.contents.sends ≡ Some old → IsSome end.disk → (left : Left) → r.left_since start.at.tick left
+          → (left.sent ≡ old.sent) ⊎ HoldsBoots left.image session.opening.boot
+      boots_from session store opening_is saves old told some left left_since =
+          elim (saves.passes.left_since.nothing_else start.at.tick left start.later left_since) [
+            | inl earlier ↦
+                let wired = (start.since old told).wired old (ap (λ (k : Contents). k.sends) start.only.contents ∙ told) in
+                let was = wired.2 (saves.told some) left earlier in
+                inl (was.behind
+                ∙ ap (λ (sent : List SentBytes). old.sent ++ sent) (carries_none was.sent wired.0 was.carried (no_replies wired.1 refl))
+                ∙ append-nil old.sent)
+            | inr later ↦
+                inr (subst (λ (o : Opening). HoldsBoots left.image o.boot) (sym opening_is)
+                (saves.boots some left.image (lawful.since_left mid.tick left later)))
+          ]
+
+      wire_from : (socket : List ℕ) (session : Session) (store : Keeping)
+          → session.opening ≡ opening_of x names.limit m.machine.history m.machine.boot
+          → Saves session.ending x (start_of m.machine.history m.machine.boot) session.last store (span mid end q r)
           → ServesFrom socket session (record { before = mid; after = end; was = q; is = r })
           → ServesWire socket session before end r
-      wire_from socket session opening_is wire = record {
+      wire_from socket session store opening_is saves wire = record {
         given = λ old new told told'. wire.given old new (ap (λ (k : Contents). k.given) start.only.contents ∙ told) told';
         sends = λ old new told told'.
             let mid_told = ap (λ (k : Contents). k.sends) start.only.contents ∙ told in
@@ -328,6 +354,9 @@ module _ (x : Form) (names : ServeWords) (before : SiteState) where
               wire = wired.1;
               keeps = λ now opened told_disk is left left_since.
                   wired.2 (subst (λ (o : Option Disk). IsSome o) (sym told_disk) refl) left
+                  (subst (λ t. r.left_since t left) (along serves.opened now opened told_disk is) left_since);
+              boots = λ now opened told_disk is left left_since.
+                  boots_from session store opening_is saves old told (subst (λ (o : Option Disk). IsSome o) (sym told_disk) refl) left
                   (subst (λ t. r.left_since t left) (along serves.opened now opened told_disk is) left_since);
             };
         whole = λ none old new told told'.
@@ -346,7 +375,7 @@ module _ (x : Form) (names : ServeWords) (before : SiteState) where
         touches = touches;
         journal = session_on_journal x names.limit names.journal.now before mid end q r m start files.contents (serve_of names)
             (job_served_by files.contents reads) serves.opened None refl run_begins
-            (λ some. along_saves x m.machine.history m.machine.boot (session_of (opening_of x names.limit m.machine.history m.machine.boot) None) store mid end q r some
+            (λ some. along_saves x m.machine.history m.machine.boot (session_of (opening_of x names.limit m.machine.history m.machine.boot) None) store mid end q r lawful some
             (subst (λ y. Saves going y (start_of m.machine.history m.machine.boot) (start_of m.machine.history m.machine.boot) store (span mid end q r)) form saves));
         wire = λ socket same. contents ∙ start.only.contents;
       }
@@ -362,7 +391,8 @@ module _ (x : Form) (names : ServeWords) (before : SiteState) where
             touches = touches;
             journal = session_on_journal x names.limit names.journal.now before mid end q r m start files.contents (serve_of names)
                 (job_served_by files.contents reads) serves.opened (Some played) opening_is it.takes.run
-                (λ some. along_saves x m.machine.history m.machine.boot played it.store mid end q r some saves);
+                (λ some. along_saves x m.machine.history m.machine.boot played it.store mid end q r lawful some saves);
             wire = λ socket same.
-                subst (λ name. ServesWire name played before end r) (some_is same) (wire_from names.socket.now played opening_is wire);
+                subst (λ name. ServesWire name played before end r) (some_is same)
+                (wire_from names.socket.now played it.store opening_is saves wire);
           }

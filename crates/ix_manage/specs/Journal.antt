@@ -1,11 +1,12 @@
 -- What a replay and a serve make of their journal.
-use Rattle.std.specs.Prelude.{◌≡◌, ◌≢◌, ◌⊎◌, ℕ, List, [], ◌++◌, length, codes, decimal, ⊤}
-use Rattle.std.specs.Prelude.{Option, None, Some}
+use Rattle.std.specs.Prelude.{◌≡◌, ◌≢◌, ◌⊎◌, ℕ, ◌+◌, List, [], ◌++◌, length, codes, decimal, ⊤}
+use Rattle.std.specs.Prelude.{Option, None, Some, IsSome}
 use Rattle.ix_journal.specs.History.{PlainHistory, actions_of}
 use Rattle.ix_expr.specs.CanonicalText.{canonical_text}
 use Rattle.ix_expr.specs.Form.{Form}
 use Rattle.ix_journal.specs.Kinds.{IsForeign}
 use Rattle.ix_journal.specs.Recovery.{HoldsBoots, IsDamaged, IsMany}
+use Rattle.ix_journal.specs.declared.TheConstants.{MOST_BOOTS}
 use Rattle.ix_outside.specs.Crashes.{Crashes}
 use Rattle.ix_outside.specs.Disk.{Disk, Opened}
 use Rattle.ix_outside.specs.Files.{Listing}
@@ -64,24 +65,34 @@ session_of opening None = record {
 }
 session_of opening (Some session) = session
 
+-- A run of the opening's expression can start from the image: in the opening's boot, of which there
+-- is no record, or in the next one; or there is that record, and no boot may follow.
+pub data Reopens (opening : Opening) (image : List ℕ) : Type 0 where
+  again : (kept : PlainHistory)
+      → IsStartable (opening_of opening.form opening.limit kept opening.boot) image
+      → Reopens opening image
+  next : (kept : PlainHistory)
+      → IsStartable (opening_of opening.form opening.limit kept (opening.boot + 1)) image
+      → Reopens opening image
+  never : opening.boot ≡ MOST_BOOTS → HoldsBoots image MOST_BOOTS → Reopens opening image
+
 -- The journal holds a session's history: its file does, and so does each image that a crash now may
 -- leave; and each image that a crash since it was attached may have left keeps all that it held
--- then, and no others than the confirmed actions, in order, and a run can start from it again, or
--- it holds a million boots.
+-- then, and no others than the confirmed actions, in order, and the boots up to the session's, or
+-- one less, so that a run can start from it again.
 pub record HoldsHistory (least : ℕ) (session : Session) (opened : Opened) (is : Crashes)
     : Type 0 where
   pub ends : (image : List ℕ) → is.now image → EndsAs session.ending session.last.history image
   pub keeps : (image : List ℕ) → is.left opened.tick image
       → Keeps session.opening.form least (with_failed session.ending session.last.history) image
-  pub reopens : (image : List ℕ) → is.left opened.tick image
-      → ((kept : PlainHistory) × (boot : ℕ)
-      × IsStartable (opening_of session.opening.form session.opening.limit kept boot) image)
-      ⊎ HoldsBoots image 1000000
+  pub reopens : (image : List ℕ) → is.left opened.tick image → Reopens session.opening image
 
--- a run from a file that is startable: the session is from what the file recovers, and is held
+-- a run from a file that is startable: the session is from what the file recovers, and is held; and
+-- where one came to be, each image that a crash now may leave holds its boot
 pub record GoesOnFrom (opening : Opening) (session : Option Session) (opened : Opened)
     (is : Crashes) : Type 0 where
   pub from : (session_of opening session).opening ≡ opening
+  pub boots : IsSome session → (image : List ℕ) → is.now image → HoldsBoots image opening.boot
   pub holds : HoldsHistory (length opening.history) (session_of opening session) opened is
 
 -- a file that isn't startable is left alone: no event is taken, and it and nothing else is left

@@ -1,6 +1,7 @@
 -- What `serve` puts, and what it makes of its connections.
-use Rattle.std.specs.Prelude.{◌≡◌, ℕ, ◌<◌, List, [], ◌∷◌, ◌++◌, length, Bool, Option, None, Some}
-use Rattle.std.specs.Prelude.{codes}
+use Rattle.std.specs.Prelude.{◌≡◌, ◌⊎◌, ℕ, ◌<◌, List, [], ◌∷◌, ◌++◌, length, Bool, codes}
+use Rattle.std.specs.Prelude.{Option, None, Some}
+use Rattle.ix_journal.specs.Recovery.{HoldsBoots}
 use Rattle.ix_outside.specs.Contents.{GivenEvent, Sends}
 use Rattle.ix_outside.specs.Counts.{Counts, Rose}
 use Rattle.ix_outside.specs.Crashes.{Crashes, Left}
@@ -37,7 +38,8 @@ with_heard name sends = record sends { heard = sends.heard ++ name ∷ [] }
 -- What a session sent since, on no other socket than this: its replies are the wire of its run, one
 -- send each, and which of them the sends carry. Each image that a crash since the journal was
 -- attached may have left, beside what had been sent by then, keeps the confirmed actions, the first
--- ones and no others: all that it held at first, and each that was acknowledged by then.
+-- ones and no others: all that it held at first, and each that was acknowledged by then. If more
+-- had been sent by then than before, it holds the session's boot.
 pub record SendsReplies (socket : List ℕ) (session : Session) (old new : Sends) (disk : Option Disk)
     (is : Crashes) : Type 0 where
   pub marks : List Bool
@@ -48,6 +50,9 @@ pub record SendsReplies (socket : List ℕ) (session : Session) (old new : Sends
       → (left : Left) → is.left_since opened.tick left
       → KeepsAcknowledged session.opening.form (length session.opening.history)
       (with_failed session.ending session.last.history) replies old.sent left
+  pub boots : (now : Disk) (opened : Opened) → disk ≡ Some now → now.opened ≡ Some opened
+      → (left : Left) → is.left_since opened.tick left
+      → (left.sent ≡ old.sent) ⊎ HoldsBoots left.image session.opening.boot
 
 -- A session's events are those that the site gave since, and its replies are what it sent since,
 -- each where the site tells it. Where the count of sends didn't rise, no send answered Gone.

@@ -21,7 +21,7 @@ use Rattle.ix_manager.specs.inside.Serving.{ServesSince}
 use Rattle.ix_manage.specs.Around.{around_of}
 use Rattle.ix_manage.specs.Command.{expression_of, journal_of, limit_of}
 use Rattle.ix_manage.specs.Ends.{JobEnds, ReadsRest}
-use Rattle.ix_manage.specs.Journal.{OnJournal}
+use Rattle.ix_manage.specs.Journal.{OnJournal, Reopens}
 use Rattle.ix_manage.specs.Session.{Session}
 use Rattle.ix_manage.specs.Trace.{ReadsForm}
 use Rattle.ix_manage.specs.declared.early_end.EarlyEnd.{EarlyEnd}
@@ -67,6 +67,8 @@ pub record StartsOver (x : Form) (limit : ℕ) (journal : List ℕ) (before afte
   pub starts : ForSome at.disk (λ disk. IsStartable (opening_of x limit m.machine.history m.machine.boot) disk.file)
   pub keeps : IsSome at.disk → (image : List ℕ) → is.left at.tick image
       → Keeps x (length m.machine.history) m.machine.history image
+  pub reopens : IsSome at.disk → (image : List ℕ) → is.left at.tick image
+      → Reopens (opening_of x limit m.machine.history m.machine.boot) image
   pub fits : FitsSite m after is
   pub since : (sends : Sends) → before.contents.sends ≡ Some sends
       → ServesSince at.tick x (length m.machine.history) m.machine.history sends [] [] unmarked after is

@@ -11,7 +11,7 @@ use Rattle.ix_manage.specs.declared.refusal.Refusal.TheVariants.{Disk}
 use Rattle.ix_manage.specs.inside.EarlyEnds.{unstarted_end}
 use Rattle.ix_manage.specs.Journal.{UsesJournal}
 use Rattle.ix_manage.proofs.Devices.{disk_calls_then}
-use Rattle.ix_manage.proofs.Opening.{left_at, none_opened, of_journal, on_journal, some_is, start_keeps, start_uses}
+use Rattle.ix_manage.proofs.Opening.{left_at, none_opened, of_journal, on_journal, some_is, start_keeps, start_reopens, start_uses}
 use Rattle.ix_manage.proofs.Playing.{disk_stops, fault_kind, start_stops, started_small}
 use Rattle.ix_manage.proofs.Stops.{handed_on}
 use Rattle.ix_manage.proofs.open.open.Goals as goal
@@ -80,6 +80,11 @@ returns-clause-starts g c =
       keeps = λ some.
           let disk = the_value at.disk some in
           start_keeps x limit at mid p q disk.0 c.args.journal.now disk.1
+          (left_at at.disk p.now c.in_ok-attach.ensures.now disk.0 disk.1) (Ok m) (told.leaves disk.0 disk.1)
+          m.machine.history m.machine.boot (told.not_large small disk.0 disk.1);
+      reopens = λ some.
+          let disk = the_value at.disk some in
+          start_reopens x limit at mid p q disk.0 c.args.journal.now disk.1
           (left_at at.disk p.now c.in_ok-attach.ensures.now disk.0 disk.1) (Ok m) (told.leaves disk.0 disk.1)
           m.machine.history m.machine.boot (told.not_large small disk.0 disk.1);
       fits = told.fits;

@@ -29,7 +29,7 @@ returns-clause-leaves g c =
     let r = g.S.Site.crashes c.run_script.new.site in
     leaves_on
     (session_plays c.args.expression c.args.names c.args.script before c.requires.events
-    mid end q r c.in_ok-manager.manager c.in_ok-manager.ensures.starts c.run_script.ensures.site
+    mid end q r (g.met.S.Site.lawful c.run_script.new.site) c.in_ok-manager.manager c.in_ok-manager.ensures.starts c.run_script.ensures.site
     c.run_script.new.manager.machine)
     (g.K.Sink.state c.args.out.now) (g.K.Sink.state c.run_script.new.out)
     c.run_script.result c.run_script.ensures.leaves

@@ -24,7 +24,7 @@ returns-clause-leaves g c =
     leaves_on
     (session_serves c.args.expression c.args.names (g.S.Site.state c.args.site.now)
     (g.S.Site.state c.open.new.site) (g.S.Site.state take.new.site)
-    (g.S.Site.crashes c.open.new.site) (g.S.Site.crashes take.new.site)
+    (g.S.Site.crashes c.open.new.site) (g.S.Site.crashes take.new.site) (g.met.S.Site.lawful take.new.site)
     c.in_ok-manager.manager c.in_ok-manager.ensures.starts take.ensures.site take.new.manager.machine)
     (g.K.Sink.state c.args.out.now) (g.K.Sink.state take.new.out)
     take.result take.ensures.leaves
