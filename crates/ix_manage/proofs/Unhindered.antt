@@ -31,7 +31,8 @@ use Rattle.ix_outside.specs.Sink.{AppendsPart}
 use Rattle.ix_outside.specs.SinkState.{SinkState}
 use Rattle.ix_script.specs.Events.{AreEvents}
 use Rattle.ix_script.specs.Grammar.{InGrammar}
-use Rattle.ix_script.proofs.LineParts.{no_fault}
+use Rattle.ix_script.specs.Pieces.{pieces_of}
+use Rattle.ix_script.proofs.LineParts.{events_computed, no_fault}
 use Rattle.ix_generate.specs.Workload.{examinations}
 use Rattle.ix_manager.specs.Images as image
 use Rattle.ix_manager.specs.Images.{IsOwn, IsStartable}
@@ -54,10 +55,10 @@ use Rattle.ix_manage.specs.FollowLines.{FollowEnds, ReadsLines}
 use Rattle.ix_manage.specs.Journal as journal
 use Rattle.ix_manage.specs.Journal.{OfJournal, OfOpened, RefusesFile}
 use Rattle.ix_manage.specs.Laws as well
-use Rattle.ix_manage.specs.Laws.{CanStart, EndsWhole, HasAll, NothingFails, OpensStartable, UnhinderedRunsEndWhole}
+use Rattle.ix_manage.specs.Laws.{CanStart, ComesToEnd, EndsWhole, HasAll, NothingFails, OpensStartable, UnhinderedRunsEndWhole, of_script, of_session}
 use Rattle.ix_manage.specs.Puts.{LastLine, lost, put}
 use Rattle.ix_manage.specs.Replay as played
-use Rattle.ix_manage.specs.Replay.{HasBadScript, ReadsEvents, ReplayEnds}
+use Rattle.ix_manage.specs.Replay.{AreFirst, HasBadScript, ReadsEvents, ReplayEnds}
 use Rattle.ix_manage.specs.Serve as wired
 use Rattle.ix_manage.specs.Serve.{OnWire, ServeEnds}
 use Rattle.ix_manage.specs.Session.{IsNoEnd, IsOver, MayGoOn, Session, disk_failed, history_line, lost_history, out_of_turns, over}
@@ -158,6 +159,14 @@ module _ (files : Option Listing) (told : IsSome files) where
       no_fault fault.bad code fault.fault.0
       (good_line 0 fault.before fault.bad fault.behind events
       (subst (λ lines. AreEvents 0 lines events) (sym (ap lines_of same) ∙ fault.split) reads.has))
+
+  -- a script has one list of events
+  one_script : (name : List ℕ) (one other : List GivenEvent) → ReadsEvents files name one → ReadsEvents files name other → one ≡ other
+  one_script name one other first second =
+      let same = one_file name second.bytes first.bytes second.file first.file in
+      events_computed 0 (lines_of first.bytes) one first.has
+      ∙ sym (events_computed 0 (lines_of first.bytes) other
+      (subst (λ bytes. AreEvents 0 (lines_of bytes) other) same second.has))
 
 -- a file that has no bytes is startable
 empty_startable : (x : Form) (limit : ℕ) → tree_size x [] ≤ limit → IsStartable (opening_of x limit [] 1) []
@@ -408,16 +417,32 @@ module _ (around : Around) (old new : SinkState) (told : IsSome around.files) (n
   of_followed starts reads below (fed.ends to end) = of_line end below (well.followed starts reads to)
   of_followed starts reads below (fed.lost_answer rest answer split follows feeds) = absurd (below refl)
 
+  -- a replay takes all its turns only where its events don't end within them
+  takes_the_end : {expression kept script : List ℕ} {limit turns : ℕ} {given : List GivenEvent} {session : Session}
+      → ComesToEnd around.files (replay expression kept script limit turns) (Some session)
+      → ReadsEvents around.files script given → AreFirst given session.taken
+      → length session.taken ≡ turns → MayGoOn session → ⊥
+  takes_the_end {script = script} {turns = turns} {given = given} {session = session} (of_script events reads end) has first all more =
+      let taken : session.taken ≡ pieces_of 4096 turns events =
+      first ∙ ap (λ n. pieces_of 4096 n given) all
+      ∙ ap (λ them. pieces_of 4096 turns them) (one_script around.files told script given events has reads) in
+      end (subst (Each IsNoEnd) taken more.0)
+  takes_the_end {session = session} (of_session ended) has first all more = not_more session (ended session refl) more
+
+  is_over : {expression kept socket : List ℕ} {limit turns : ℕ} {session : Session}
+      → ComesToEnd around.files (serve expression kept socket limit turns) (Some session) → IsOver session
+  is_over {session = session} (of_session ended) = ended session refl
+
   of_replayed : {expression kept script : List ℕ} {limit turns status : ℕ} {session : Session} {whole part : List ℕ}
       → EndsWhole around (replay expression kept script limit turns) 0 (played.session_text session) (Some session)
-      → IsOver session → status ≢ 10
+      → (length session.taken ≡ turns → MayGoOn session → ⊥) → status ≢ 10
       → ReplayEnds turns around.before.counts around.after.counts session status whole part
       → Whole (replay expression kept script limit turns) status whole part (Some session)
-  of_replayed ends is below (played.ends (over was)) = (ends, refl)
-  of_replayed {session = session} ends is below (played.ends (out_of_turns all more _)) = absurd (not_more session is more)
-  of_replayed ends is below (played.ends (disk_failed fails rose _)) = absurd (none.disk rose)
-  of_replayed ends is below (played.ends (lost_history taken)) = absurd (below refl)
-  of_replayed ends is below (played.lost_reply losing) = absurd (below refl)
+  of_replayed ends never below (played.ends (over was)) = (ends, refl)
+  of_replayed ends never below (played.ends (out_of_turns all more _)) = absurd (never all more)
+  of_replayed ends never below (played.ends (disk_failed fails rose _)) = absurd (none.disk rose)
+  of_replayed ends never below (played.ends (lost_history taken)) = absurd (below refl)
+  of_replayed ends never below (played.lost_reply losing) = absurd (below refl)
 
   of_served : {expression kept socket : List ℕ} {limit turns status : ℕ} {session : Session} {whole part : List ℕ}
       → EndsWhole around (serve expression kept socket limit turns) 0 (history_line session.opening.history) (Some session)
@@ -438,7 +463,7 @@ module _ (around : Around) (old new : SinkState) (told : IsSome around.files) (n
   of_worked x stands small below (worked.asked other within asks end) = of_line end below (well.worked other asks)
 
   of_job : {job : Job} {status : ℕ} {whole part : List ℕ} {session : Option Session} (is : Crashes) → HasAll around job
-      → ((played : Session) → session ≡ Some played → IsOver played) → status ≢ 10
+      → ComesToEnd around.files job session → status ≢ 10
       → OnWire job around.before around.after is session → JobEnds around job status whole part session
       → Whole job status whole part session
   of_job is all ended below wire (how.no_memory end) = of_line end below well.no_memory
@@ -458,11 +483,12 @@ module _ (around : Around) (old new : SinkState) (told : IsSome around.files) (n
   of_job is all ended below wire (how.bad_script {script = script} {code = code} {at = at} reads bad rests _) =
       absurd (no_bad_script around.files told script all.1 code at all.3 bad)
   of_job is all ended below wire (how.lost_script reads rose rests _) = absurd (none.files rose)
-  of_job is all ended below wire (how.replayed {session = session} starts reads from plays so) =
-      of_replayed (well.replayed starts reads from plays) (ended session refl) below so
+  of_job is all ended below wire (how.replayed starts reads from plays so) =
+      of_replayed (well.replayed starts reads from plays)
+      (takes_the_end ended reads plays.first) below so
   of_job is all ended below wire (how.no_wire starts rose _) = absurd (none.wire rose)
   of_job is all ended below wire (how.served {socket = socket} {session = session} starts from takes so) =
-      of_served (well.served starts from takes ((wire socket refl).whole none.sends)) (ended session refl) below so
+      of_served (well.served starts from takes ((wire socket refl).whole none.sends)) (is_over ended) below so
   of_job is all ended below wire (how.worked works) = of_worked all.0 all.1 all.2 below works
   of_job is all ended below wire (how.simplified s reads becomes end) = of_line end below (well.simplified s reads becomes)
   of_job is all ended below wire (how.bounded answer reads within end) = of_line end below (well.bounded answer reads within)
@@ -475,7 +501,8 @@ module _ (around : Around) (old new : SinkState) (told : IsSome around.files) (n
   of_job is all ended below wire (how.told named reads within answer end) = of_line end below (well.told named reads within answer)
 
   of_words : (is : Crashes) (words : List (List ℕ)) (job : Job) {status : ℕ} {whole part : List ℕ} {session : Option Session}
-      → Names words job → HasAll around job → ((played : Session) → session ≡ Some played → IsOver played) → status ≢ 10
+      → Names words job → HasAll around job
+      → ComesToEnd around.files job session → status ≢ 10
       → EndsOver words around is status whole part session → Whole job status whole part session
   of_words is words job named all ended below (how.other_words others rests _) = absurd (no_job words job others named)
   of_words is words job named all ended below (how.no_memory rests end) = of_line end below well.no_memory
@@ -486,7 +513,8 @@ module _ (around : Around) (old new : SinkState) (told : IsSome around.files) (n
       (how.named {job = other} names fit it) =
       let same = one_job words other job names named in
       subst (λ (j : Job). Whole j status whole part session) same
-      (of_job is (subst (HasAll around) (sym same) all) ended below it.wire it.ends)
+      (of_job is (subst (HasAll around) (sym same) all)
+      (subst (λ (j : Job). ComesToEnd around.files j session) (sym same) ended) below it.wire it.ends)
 
 -- nothing of no text went out
 part_of_nothing : (known : Option (List ℕ)) (part : List ℕ) (now : Option (List ℕ)) → part ≡ [] → AppendsPart known part now → now ≡ known

@@ -15,6 +15,7 @@ use Rattle.ix_outside.specs.Contents.{GivenEvent, Sends}
 use Rattle.ix_outside.specs.Counts.{Rose}
 use Rattle.ix_outside.specs.Crashes.{Crashes}
 use Rattle.ix_outside.specs.Disk.{Disk, Opened}
+use Rattle.ix_outside.specs.Files.{Listing}
 use Rattle.ix_outside.specs.SinkState.{SinkState}
 use Rattle.ix_outside.specs.SiteState.{SiteState}
 use Rattle.ix_generate.specs.Workload.{Ask, examinations}
@@ -37,7 +38,7 @@ use Rattle.ix_next.specs.Lists.{AreGiven}
 use Rattle.ix_manage.specs.Desk.{ReadsValues, StartsWithin, IsAnswered}
 use Rattle.ix_manage.specs.Ends.{Ended, EndsOver, IsFrom}
 use Rattle.ix_manage.specs.FollowLines.{FollowsTo, ReadsLines}
-use Rattle.ix_manage.specs.Replay.{Plays, ReadsEvents, session_text}
+use Rattle.ix_manage.specs.Replay.{EndsWithin, Plays, ReadsEvents, session_text}
 use Rattle.ix_manage.specs.Session.{IsOver, Session, Takes, history_line}
 use Rattle.ix_manage.specs.Trace.{Answers, ReadsActions, ReadsForm, ReadsPlaced, Starts, Verdict}
 use Rattle.ix_manage.specs.Work.{Asked, history_of, work_line}
@@ -79,6 +80,15 @@ HasAll around (stuck expression values limit states) = (x : Form) × (given : Li
     × ReadsForm around.files expression x × ReadsValues around.files values given
 HasAll around (follow expression lines limit) = (x : Form) × (bytes : List ℕ)
     × Starts around.files expression limit x × ReadsLines around.files lines bytes
+
+-- the events of a run come to an end within its turns: those of its script, whatever its session
+-- was; or those of its session, where one came to be, with the end or a `stop`
+pub data ComesToEnd (files : Option Listing) : Job → Option Session → Type 0 where
+  of_script : {expression journal script : List ℕ} {limit turns : ℕ} {session : Option Session}
+      (events : List GivenEvent) → ReadsEvents files script events → EndsWithin turns events
+      → ComesToEnd files (replay expression journal script limit turns) session
+  of_session : {job : Job} {session : Option Session}
+      → ((played : Session) → session ≡ Some played → IsOver played) → ComesToEnd files job session
 
 -- no call failed around a run, no put of its output did, and no connection was found gone
 pub record NothingFails (around : Around) (old new : SinkState) : Type 0 where
@@ -148,12 +158,12 @@ pub data EndsWhole (around : Around) : Job → ℕ → List ℕ → Option Sessi
       → EndsWhole around job status text None
 
 -- A run whose words name a job, over files that are told and have all that it reads, and in which
--- nothing fails, ends whole, if its session had an end or a `stop` within its turns.
+-- nothing fails, ends whole, if its events come to an end within its turns.
 abbrev pub UnhinderedRunsEndWhole : {S : Type 0} → (S → Crashes) → Type 0
 UnhinderedRunsEndWhole {S = S} crashes = (site : S) (words : List (List ℕ)) (job : Job)
     (around : Around) (status : ℕ) (old new : SinkState)
     → Names words job → IsSome around.files → HasAll around job → NothingFails around old new
     → (it : Ended (EndsOver words around (crashes site)) status old new)
-    → ((session : Session) → it.session ≡ Some session → IsOver session)
+    → ComesToEnd around.files job it.session
     → EndsWhole around job status it.whole it.session
     × (new.written ≡ append_known old.written it.whole)

@@ -1,5 +1,6 @@
 -- What `replay` puts.
 use Rattle.std.specs.Prelude.{◌≡◌, ℕ, ◌≤◌, List, [], ◌∷◌, ◌++◌, length, Option}
+use Rattle.ix_words.specs.Each.{Each}
 use Rattle.ix_journal.specs.History.{PlainHistory}
 use Rattle.ix_outside.specs.Contents.{GivenEvent, send_text}
 use Rattle.ix_outside.specs.Counts.{Counts}
@@ -9,7 +10,7 @@ use Rattle.ix_manager.specs.Wire.{all_replies, replies_text, reply_line}
 use Rattle.ix_script.specs.Events.{HasEvents}
 use Rattle.ix_script.specs.Grammar.{IsFirstScriptFault}
 use Rattle.ix_script.specs.Pieces.{pieces_of}
-use Rattle.ix_manage.specs.Session.{Session, SessionEnds, Takes, replay_text}
+use Rattle.ix_manage.specs.Session.{IsNoEnd, Session, SessionEnds, Takes, replay_text}
 
 -- the script of this name has these events, with whole pieces
 pub record ReadsEvents (files : Option Listing) (name : List ℕ)
@@ -30,6 +31,10 @@ pub data HasBadScript (files : Option Listing) (name : List ℕ) : ℕ → ℕ �
 -- these are the first events, in pieces of at most 4,096 bytes
 abbrev pub AreFirst : List GivenEvent → List GivenEvent → Type 0
 AreFirst events taken = taken ≡ pieces_of 4096 (length taken) events
+
+-- the first so many of these pieces have the end among them
+abbrev pub EndsWithin : ℕ → List GivenEvent → Type 0
+EndsWithin turns events = ¬ Each IsNoEnd (pieces_of 4096 turns events)
 
 -- a session takes the first of a script's events
 pub record Plays (turns : ℕ) (events : List GivenEvent) (session : Session) : Type 0 where
