@@ -20,6 +20,8 @@ pub mod ShortLines
 pub mod WorkEnding
 pub mod Causes
 pub mod Unhindered
+pub mod TwoRuns
+pub mod Managed
 pub mod FeedLemmas
 pub mod GivenValues
 pub mod Pasts

@@ -13,4 +13,6 @@ pub mod Session
 pub mod Journal
 pub mod Work
 pub mod Laws
+pub mod TwoRuns
+pub mod Managed
 pub mod inside
