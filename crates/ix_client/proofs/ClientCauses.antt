@@ -214,7 +214,7 @@ of_fault fault.Memory = tt
 of_fault fault.Odd = tt
 of_fault fault.Link = tt
 
-of_ask : (a : PlainAction) (lease : ℕ) (how : Ended) (s u : LinkState) → Serves a lease how s u → IsOfAsk how
+pub of_ask : (a : PlainAction) (lease : ℕ) (how : Ended) (s u : LinkState) → Serves a lease how s u → IsOfAsk how
 of_ask a lease how s u (Ok g, t, asks, (confirmed, v, confirms, goes)) = of_from confirmed how v u goes
 of_ask a lease how s u (Err why, t, asks, (is, same)) = subst IsOfAsk (sym is) (of_fault why)
 

@@ -9,6 +9,7 @@ pub mod TurnLemmas
 pub mod ClientCauses
 pub mod RunLemmas
 pub mod RefusalLemmas
+pub mod ClientTold
 pub mod RequestsApart
 pub mod JournalSound
 pub mod CallLines

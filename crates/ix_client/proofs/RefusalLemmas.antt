@@ -141,9 +141,9 @@ again_at a another code x y limit most s u replies form limits refuses step =
     refuses_again same code refuses
 
 pub refusals_last : RefusalsLast
-refusals_last old new before after a lease code another replies u over (Ok g, t, asks, (confirmed, v, confirms, goes)) step =
+refusals_last old new before after a lease code over (Ok g, t, asks, (confirmed, v, confirms, goes)) another replies u step =
     absurd (grant_from confirmed (ended.Refused code) v new goes)
-refusals_last old new before after a lease code another replies u over (Err why, t, asks, (is, same)) step =
+refusals_last old new before after a lease code over (Err why, t, asks, (is, same)) another replies u step =
     let told : Asks a lease (Err (fault.Refused code)) old t = subst (λ w. Asks a lease (Err w) old t) (refused_why why is) asks in
     let first : IsToldOver old t before after = record {
       before_is = over.before_is;

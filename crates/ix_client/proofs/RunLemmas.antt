@@ -215,7 +215,7 @@ from_done g (confirm.Unsure back) number s t u after later confirms turns told k
     (turns_done number after later turns refl told (subst (λ (v : Grant). Knows v t) (sym same) there) rest)
 
 pub done_runs_are_permanent : DoneRunsArePermanent
-done_runs_are_permanent old new before after a lease number later over (Ok g, t, asks, (confirmed, v, confirms, goes)) rest =
+done_runs_are_permanent old new before after a lease number over (Ok g, t, asks, (confirmed, v, confirms, goes)) later rest =
     let confirmed_told = from_before (comes_to confirmed) (ended.Done number) v new after goes over.after_is in
     let asked_told = heard_before (request.confirm g.ticket) confirms.heard t v confirmed_told.0 confirms.hears confirmed_told.1 in
     let first : IsToldOver old t before asked_told.0 = record { before_is = over.before_is; after_is = asked_told.1; sound = over.sound } in
@@ -233,7 +233,7 @@ done_runs_are_permanent old new before after a lease number later over (Ok g, t,
       subst (λ b. IsPairOf later.history number (Some g.ticket, b)) fresh.1
           (from_done g confirmed number t v new after later confirms goes over.after_is knows rest),
     )
-done_runs_are_permanent old new before after a lease number later over (Err why, t, asks, (is, same)) rest = absurd (no_done why is)
+done_runs_are_permanent old new before after a lease number over (Err why, t, asks, (is, same)) later rest = absurd (no_done why is)
   where
     no_done : (why : AskFault) → ended.Done number ≢ ends_with why
     no_done (fault.Refused code) e = cc

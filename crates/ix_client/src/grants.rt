@@ -1,4 +1,5 @@
 //! Grants, and what the calls answer.
+ghost use Rattle.std.specs.Prelude.{◌≡◌};
 
 use ix_values::{Action, Ticket};
 use std::marker::Model;
@@ -19,6 +20,22 @@ impl Model for Granted {
     ghost view = { λ g. record { ticket = g.ticket; action = g.action } };
 }
 
+impl Granted {
+    /// The ticket under which the action is reserved.
+    pub fn ticket(&self) -> Ticket
+        ensures { result ≡ self.now.ticket }
+    {
+        self.ticket
+    }
+
+    /// The action that is reserved.
+    pub fn action(&self) -> &Action
+        ensures { result.now ≡ self.now.action }
+    {
+        &self.action
+    }
+}
+
 /// A granted action of which it isn't known what became of it. It must be settled: the compiler
 /// refuses a program that lets go of it.
 #[derive(Debug)]
@@ -33,6 +50,30 @@ impl Model for Pending {
     ghost Value = { Grant };
 
     ghost view = { λ g. record { ticket = g.ticket; action = g.action } };
+}
+
+impl Pending {
+    /// The grant of this ticket and this action again, of which a program wrote them down before it
+    /// confirmed it, and crashed. What is promised of a settling is promised of what was granted.
+    pub fn of(ticket: Ticket, action: Action) -> Pending
+        ensures { result ≡ record { ticket = ticket; action = action } }
+    {
+        Pending { ticket, action }
+    }
+
+    /// The ticket that was granted.
+    pub fn ticket(&self) -> Ticket
+        ensures { result ≡ self.now.ticket }
+    {
+        self.ticket
+    }
+
+    /// The action of which it isn't known what became of it.
+    pub fn action(&self) -> &Action
+        ensures { result.now ≡ self.now.action }
+    {
+        &self.action
+    }
 }
 
 /// Why an ask wasn't granted.

@@ -6,6 +6,7 @@ ghost use Rattle.ix_outside.specs.Counts.{Rose};
 ghost use Rattle.ix_outside.specs.SinkState.{OnlyPuts};
 ghost use Rattle.ix_proto.specs.Requests.{IsLease};
 ghost use Rattle.ix_client.specs.Client.{ClientEnds, NamesAsk, Runs, Serves, ends_with};
+ghost use Rattle.ix_client.specs.ClientLaws.{TellsDone, TellsRefused};
 ghost use Rattle.ix_client.specs.Rising.{RoseBy};
 ghost use Rattle.ix_client.specs.Endings.{PutsLine};
 ghost use Rattle.ix_client.specs.Rising.{EitherRose};
@@ -55,6 +56,14 @@ pub fn client<L: Link, K: Sink>(words: &[String], link: &mut L, out: &mut K) -> 
         → ¬ EitherRose (L.state link.old) (L.state link.new)
         → ¬ Rose (K.state out.old).faults (K.state out.new).faults
         → (result ≡ 0) ⊎ (result ≡ 3) }
+
+    // What the line of an ask tells, over a link that tells its manager.
+    ensures done { (a : PlainAction) (lease : ℕ) → NamesAsk (map string_bytes words.now) a lease
+        → result ≡ 0 → TellsDone a (L.state link.old) (L.state link.new)
+        (K.state out.old) (K.state out.new) }
+    ensures refused { (a : PlainAction) (lease : ℕ) → NamesAsk (map string_bytes words.now) a lease
+        → result ≡ 3 → TellsRefused a (L.state link.old) (L.state link.new)
+        (K.state out.old) (K.state out.new) }
 {
     let ended = run(words, link);
     finish(ended, out)

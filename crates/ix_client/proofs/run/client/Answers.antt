@@ -2,6 +2,7 @@ use Rattle.std.proofs.Common.{map}
 use Rattle.std.specs.Prelude.{string_bytes}
 use Rattle.ix_client.specs.Client.{ClientEnds}
 use Rattle.ix_client.proofs.ClientCauses.{link_cause, never_cause, plain_run, reply_cause, unsure_cause}
+use Rattle.ix_client.proofs.ClientTold.{refused_run, told_run}
 use Rattle.ix_client.proofs.run.client.Goals as goal
 
 pub returns : goal.returns
@@ -24,4 +25,6 @@ returns g c =
       balked = reply_cause words c.finish.result s u before after run;
       unsure = unsure_cause words c.finish.result s u before after run;
       plain = plain_run words c.finish.result s u before after run;
+      done = told_run words c.finish.result s u before after run;
+      refused = refused_run words c.finish.result s u before after run;
     }
