@@ -7,7 +7,7 @@ use Rattle.ix_proto.specs.inside.ReplyTexts.{IsReplyText}
 use Rattle.ix_proto.specs.declared.reply.Reply.{Reply}
 use Rattle.ix_manager.specs.Machine.{MachineState}
 use Rattle.ix_client.specs.Hearing.{Hears}
-use Rattle.ix_client.specs.Links.{Answers, Fails, GivesLine, IsExpected, IsLineWith, LinkState, NoFewer, TellsBy, Told}
+use Rattle.ix_client.specs.Links.{Answers, Fails, GivesLine, IsExpected, IsLineOf, IsLineWith, LinkState, MakesCall, NoFewer, TellsBy, Told}
 use Rattle.ix_client.specs.declared.link.LinkFailed.{LinkFailed}
 
 -- what is told came of the state before in a weaker way too
@@ -34,13 +34,18 @@ no_text line none with_ = absurd (none (record { reply = with_.told; valid = wit
 -- a line that was read
 pub heard_line : TextsTellRepliesApart → (asked : PlainRequest) (line : List ℕ) (read : Option Reply) (old new : LinkState)
     → MatchOption read (IsReplyText line → ⊥) (λ told. IsReply told × (reply_text told ≡ line))
+    → (sent : List ℕ) → IsLineOf asked sent → MakesCall sent old new
     → NoFewer old new → GivesLine asked line old new → Hears asked (Ok read) old new
-heard_line apart asked line None old new none counts gives = record {
+heard_line apart asked line None old new none sent of made counts gives = record {
+  once = made.calls;
+  line = subst (IsLineOf asked) (sym made.line) of;
   counts = counts;
   cause = elim gives.expected [ inl with_ ↦ no_text line none with_ | inr rose ↦ rose ];
   told = tells_weaker (λ x limit s u with_. no_text line none with_) old.told new.told gives.told;
 }
-heard_line apart asked line (Some read) old new is counts gives = record {
+heard_line apart asked line (Some read) old new is sent of made counts gives = record {
+  once = made.calls;
+  line = subst (IsLineOf asked) (sym made.line) of;
   counts = counts;
   cause = elim gives.expected [
     | inl with_ ↦ inl (of_text apart (IsExpected asked) line read is.0 is.1 with_)
@@ -52,5 +57,12 @@ heard_line apart asked line (Some read) old new is counts gives = record {
 }
 
 -- a call that failed
-pub heard_nothing : (asked : PlainRequest) (failed : LinkFailed) (old new : LinkState) → NoFewer old new → Fails old new → Hears asked (Err failed) old new
-heard_nothing asked failed old new counts fails = record { counts = counts; cause = fails.counted; told = fails.told }
+pub heard_nothing : (asked : PlainRequest) (failed : LinkFailed) (old new : LinkState) (sent : List ℕ) → IsLineOf asked sent → MakesCall sent old new
+    → NoFewer old new → Fails old new → Hears asked (Err failed) old new
+heard_nothing asked failed old new sent of made counts fails = record {
+  once = made.calls;
+  line = subst (IsLineOf asked) (sym made.line) of;
+  counts = counts;
+  cause = fails.counted;
+  told = fails.told;
+}

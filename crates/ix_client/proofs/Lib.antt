@@ -1,4 +1,5 @@
 pub mod LineLemmas
+pub mod ShortLines
 pub mod HearingLemmas
 pub mod Lasting
 pub mod StepFacts
@@ -9,6 +10,7 @@ pub mod TurnLemmas
 pub mod ClientCauses
 pub mod RunLemmas
 pub mod RefusalLemmas
+pub mod ClientCalls
 pub mod ClientTold
 pub mod RequestsApart
 pub mod JournalSound

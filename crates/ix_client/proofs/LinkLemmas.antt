@@ -1,5 +1,6 @@
 -- What is kept of a manager in a link, and what the link tells then.
-use Rattle.std.proofs.Common.{◌≡◌, ◌⊎◌, inl, inr, ℕ, ◌≤◌, true, List, Option, Some, None, sym, ◌∙◌, subst, arith}
+use Rattle.std.proofs.Common.{◌≡◌, ◌⊎◌, inl, inr, ℕ, ◌≤◌, true, List, Option, Some, None, Result, Ok, Err, true≢false, refl, sym, ◌∙◌, subst, arith}
+use Rattle.std.specs.Prelude.{is_some}
 use Rattle.ix_memory.specs.Calls.{one_more}
 use Rattle.ix_memory.specs.inside.MemorySiteState.{MemorySiteState}
 use Rattle.ix_outside.specs.Counts.{Rose}
@@ -11,9 +12,10 @@ use Rattle.ix_manager.specs.Handled.{ManagerState}
 use Rattle.ix_manager.specs.Later.{Later}
 use Rattle.ix_manager.specs.Machine.{MachineState}
 use Rattle.ix_manager.proofs.LaterLemmas.{later_join}
-use Rattle.ix_client.specs.Links.{Answers, Fails, GivesLine, IsExpected, IsLineWith, TellsBy, failed}
-use Rattle.ix_client.specs.inside.ManagerLinks.{IsManagerOf, IsManagerWhere, ManagerLinkState, link_state, told_of}
+use Rattle.ix_client.specs.Links.{Answers, Calls, Fails, GivesLine, IsExpected, IsLineWith, TellsBy, failed}
+use Rattle.ix_client.specs.inside.ManagerLinks.{IsManagerOf, IsManagerWhere, ManagerLinkState, link_state, call_noted, told_of}
 use Rattle.ix_client.specs.inside.Passing.{AnswersOver, ExchangesOver, Keeps, StartedFrom, StartsAgain, TellsDisk}
+use Rattle.ix_client.specs.declared.link.LinkFailed.{LinkFailed}
 use Rattle.ix_client.specs.declared.manager_link.Passed.{Passed}
 use Rattle.ix_client.specs.declared.manager_link.Passed.TheVariants.{Answered, Ended, Lost}
 use Rattle.ix_client.proofs.OverLemmas.{fits_again}
@@ -150,3 +152,19 @@ fails_in_front one m old started new there where_ told starts more is =
       counted = omega (arith, more);
       told = subst (λ o. TellsBy (λ x most. Later x) (told_of o old.site) (told_of started.manager started.site)) (sym there) tells;
     })
+
+-- the manager of a link that has one
+pub some_manager : (manager : Option ManagerState) → is_some manager ≡ true → (m : ManagerState) × (manager ≡ Some m)
+some_manager (Some m) some = (m, refl)
+some_manager None some = absurd (true≢false (sym some))
+
+-- a call that was noted before
+pub calls_noted : (asked : PlainRequest) (result : Result (Unit {0}) LinkFailed) (sent line : List ℕ) (old before new : ManagerLinkState)
+    → before ≡ call_noted sent old → Calls asked result line (link_state before) (link_state new) → Calls asked result line (link_state old) (link_state new)
+calls_noted asked result sent line old before new is calls =
+    by result (subst (λ b. Calls asked result line (link_state b) (link_state new)) is calls)
+  where
+    by : (result : Result (Unit {0}) LinkFailed) → Calls asked result line (link_state (call_noted sent old)) (link_state new)
+        → Calls asked result line (link_state old) (link_state new)
+    by (Ok done) gives = record { expected = gives.expected; told = gives.told }
+    by (Err fault) fails = record { counted = fails.counted; told = fails.told }

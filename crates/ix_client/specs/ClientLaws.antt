@@ -54,7 +54,8 @@ RefusalsLast =
 
 -- the line `done` with a number was put; where the link told its manager before the run and behind
 -- it, the action is the pair of that number for good
-pub record TellsDone (a : PlainAction) (old new : LinkState) (before after : SinkState) : Type 0 where
+pub record TellsDone (a : PlainAction) (old new : LinkState) (before after : SinkState)
+    : Type 0 where
   pub number : ℕ
   pub line : after.written ≡ append_known before.written (line_of (ended.Done number))
   pub lasts : (was is : Told) → IsToldOver old new was is → IsDoneIn was is a number

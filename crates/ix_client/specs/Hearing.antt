@@ -2,6 +2,7 @@
 use Rattle.std.specs.Prelude.{◌≡◌, ◌⊎◌, ℕ, None, Some, Result, Ok, Err}
 use Rattle.ix_values.specs.PlainAction.{PlainAction}
 use Rattle.ix_expr.specs.Form.{Form}
+use Rattle.ix_memory.specs.Calls.{one_more}
 use Rattle.ix_outside.specs.Counts.{Rose}
 use Rattle.ix_proto.specs.Requests as request
 use Rattle.ix_proto.specs.Requests.{PlainRequest}
@@ -9,7 +10,7 @@ use Rattle.ix_manager.specs.Later.{Later}
 use Rattle.ix_manager.specs.Machine.{MachineState}
 use Rattle.ix_client.specs.Grant.{Grant}
 use Rattle.ix_client.specs.Grants.{Heard, asked_by, cancelled_by, confirmed_by, settled_by}
-use Rattle.ix_client.specs.Links.{Answers, IsExpected, LinkState, NoFewer, TellsBy}
+use Rattle.ix_client.specs.Links.{Answers, IsExpected, IsLineOf, LinkState, NoFewer, TellsBy}
 use Rattle.ix_client.specs.declared.grants.AskFault.{AskFault}
 use Rattle.ix_client.specs.declared.grants.Cancel.{Cancel}
 use Rattle.ix_client.specs.declared.grants.Confirm.{Confirm}
@@ -27,8 +28,10 @@ ComesOf asked (Err failed) x limit s u = Later x s u
 ComesOf asked (Ok None) x limit s u = ⊥
 ComesOf asked (Ok (Some told)) x limit s u = Answers asked told x limit s u
 
--- one request, and what is heard of it
+-- one call, whose line is the request's, and what is heard of it
 pub record Hears (asked : PlainRequest) (heard : Heard) (old new : LinkState) : Type 0 where
+  pub once : new.calls ≡ one_more old.calls
+  pub line : IsLineOf asked new.line
   pub counts : NoFewer old new
   pub cause : HasCause asked heard old new
   pub told : TellsBy (ComesOf asked heard) old.told new.told

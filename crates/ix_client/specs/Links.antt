@@ -4,6 +4,7 @@ use Rattle.std.specs.Prelude.{Result, Ok, Err, ⊤}
 use Rattle.ix_values.specs.declared.tickets.Ticket.{Ticket}
 use Rattle.ix_expr.specs.Form.{Form}
 use Rattle.ix_lines.specs.Words.{words_of}
+use Rattle.ix_memory.specs.Calls.{one_more}
 use Rattle.ix_outside.specs.Counts.{Rose}
 use Rattle.ix_proto.specs.Replies.{IsReply, reply_text}
 use Rattle.ix_proto.specs.Requests as request
@@ -21,9 +22,12 @@ pub record Told : Type 0 where
   pub limit : ℕ
   pub machine : MachineState
 
--- how many calls failed, how many gave a line that wasn't expected, each up to 2 ^ 64 - 1, and the
+-- how many calls were made, how many of them failed, how many gave a line that wasn't expected,
+-- each up to 2 ^ 64 - 1; the line of the last call, with no bytes before the first; and the
 -- manager, where the link tells it
 pub record LinkState : Type 0 where
+  pub calls : ℕ
+  pub line : List ℕ
   pub faults : ℕ
   pub balks : ℕ
   pub told : Option Told
@@ -32,6 +36,11 @@ pub record LinkState : Type 0 where
 pub record NoFewer (old new : LinkState) : Type 0 where
   pub faults : old.faults ≤ new.faults
   pub balks : old.balks ≤ new.balks
+
+-- one more call was made, with this line
+pub record MakesCall (sent : List ℕ) (old new : LinkState) : Type 0 where
+  pub calls : new.calls ≡ one_more old.calls
+  pub line : new.line ≡ sent
 
 -- a manager of the same expression and limit, whose state came so of the other's
 pub record GoesOn (Comes : Form → ℕ → MachineState → MachineState → Type 0) (old new : Told)

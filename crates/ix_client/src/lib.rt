@@ -19,6 +19,7 @@ mod turns;
 pub use calls::{ask, cancel, confirm, settle};
 pub use expected::is_expected;
 pub use grants::{AskFault, Cancel, Confirm, Granted, Pending, Settle};
+pub use lines::keep_line;
 pub use link::{Link, LinkFailed};
 pub use manager_link::ManagerLink;
 pub use run::client;

@@ -5,7 +5,7 @@ ghost use Rattle.ix_values.specs.PlainAction.{text_of};
 ghost use Rattle.ix_values.specs.Tickets.{IsTicket, ticket_text};
 ghost use Rattle.ix_proto.specs.Requests.{IsLease};
 ghost use Rattle.ix_proto.specs.Requests as request;
-ghost use Rattle.ix_client.specs.Links.{IsLineOf};
+ghost use Rattle.ix_client.specs.Links.{IsCall, IsLineOf};
 
 use arrayvec::ArrayVec;
 use itoa::Buffer;
@@ -13,6 +13,17 @@ use ix_values::{Action, Ticket};
 
 /// A line is at most 180 bytes long.
 pub(crate) type Line = ArrayVec<u8, 256>;
+
+/// The line of a call, for a link to keep.
+pub fn keep_line(line: &[u8]) -> ArrayVec<u8, 256>
+    requires { IsCall line.now }
+    ensures { result.items ≡ line.now }
+{
+    let Ok(kept) = ArrayVec::try_from(line) else {
+        unreachable!();
+    };
+    kept
+}
 
 pub(crate) fn ask_line(action: &Action, lease: u32) -> Line
     requires { IsLease lease }

@@ -3,7 +3,7 @@ ghost use Rattle.std.specs.Prelude.{◌≡◌, []};
 ghost use Rattle.ix_proto.specs.Requests.{PlainRequest};
 ghost use Rattle.ix_client.specs.Links.{Calls, IsCall, IsLineOf, LinkState};
 ghost use Rattle.ix_client.specs.Sound.{IsSoundWhereTold};
-ghost use Rattle.ix_client.specs.Links.{NoFewer};
+ghost use Rattle.ix_client.specs.Links.{MakesCall, NoFewer};
 
 use arrayvec::ArrayVec;
 
@@ -13,9 +13,10 @@ pub struct LinkFailed;
 
 /// The way to a manager: requests go out, and the first line of each reply comes back.
 ///
-/// A link counts the calls that failed, and the lines that came and weren't an expected reply. Each
-/// count goes up to 2^64 - 1, and one that stands there counts as risen. A link may tell the
-/// manager behind it: its expression, its limit and the state of its machine.
+/// A link counts its calls, those that failed, and the lines that came and weren't an expected
+/// reply. Each count goes up to 2^64 - 1, and one that stands there counts as risen. It keeps the
+/// line of its last call (`keep_line`). A link may tell the manager behind it: its expression, its
+/// limit and the state of its machine.
 pub trait Link {
     /// What a proof knows of the link.
     ghost state: { Self → LinkState };
@@ -28,6 +29,7 @@ pub trait Link {
     fn call(&mut self, line: &[u8], out: &mut ArrayVec<u8, 256>) -> Result<(), LinkFailed>
         requires empty { out.old.items ≡ [] }
         requires line { IsCall line.now }
+        ensures once { MakesCall line.now (state self.old) (state self.new) }
         ensures counts { NoFewer (state self.old) (state self.new) }
         ensures calls { (asked : PlainRequest) → IsLineOf asked line.now
             → Calls asked result out.new.items (state self.old) (state self.new) };

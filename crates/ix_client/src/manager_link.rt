@@ -13,13 +13,15 @@ ghost use Rattle.ix_manager.specs.inside.OverSite.{FitsSite};
 ghost use Rattle.ix_client.specs.Links.{Calls, IsCall, IsExpected, IsLineOf, IsLineWith};
 ghost use Rattle.ix_client.specs.Links.{NoFewer};
 ghost use Rattle.ix_manager.specs.Handled.{ManagerState};
-ghost use Rattle.ix_client.specs.inside.ManagerLinks.{IsManagerWhere, IsOver, link_state};
+ghost use Rattle.ix_client.specs.inside.ManagerLinks.{IsManagerWhere, IsOver, NotesStay};
+ghost use Rattle.ix_client.specs.inside.ManagerLinks.{link_state, call_noted};
 ghost use Rattle.ix_client.specs.inside.Passing.{EndsInLine, ExchangesOver, IsShortLine, Keeps};
 ghost use Rattle.ix_client.specs.inside.Passing.{StartedFrom};
 ghost use Rattle.ix_client.specs.inside.Starting.{TellsStarted};
 ghost use Rattle.ix_client.specs.lemmas.SoundTold.{told_is_sound};
 
 use crate::expected::is_expected;
+use crate::lines::keep_line;
 use crate::link::{Link, LinkFailed};
 use arrayvec::ArrayVec;
 use ix_manager::{Manager, StartFault};
@@ -63,6 +65,7 @@ pub struct ManagerLink {
     site: MemorySite,
     fail: Vec<(u64, bool)>,
     calls: u64,
+    line: ArrayVec<u8, 256>,
     faults: u64,
     balks: u64,
 }
@@ -81,6 +84,8 @@ impl Model for ManagerLink {
       limit = l.limit;
       manager = l.manager;
       site = l.site;
+      calls = l.calls;
+      line = l.line.items;
       faults = l.faults;
       balks = l.balks;
     } };
@@ -103,6 +108,8 @@ impl ManagerLink {
         requires least { 1 ≤ limit }
         requires most { limit ≤ most_size }
         requires attached { site.attached ≡ false }
+        ensures calls { IfOk result (λ l. l.calls ≡ 0) }
+        ensures line { IfOk result (λ l. l.line ≡ []) }
         ensures faults { IfOk result (λ l. l.faults ≡ 0) }
         ensures balks { IfOk result (λ l. l.balks ≡ 0) }
         ensures text { IfOk result (λ l. l.text ≡ text.now) }
@@ -126,6 +133,7 @@ impl ManagerLink {
                 site,
                 fail,
                 calls: 0,
+                line: ArrayVec::new(),
                 faults: 0,
                 balks: 0,
             }),
@@ -133,13 +141,15 @@ impl ManagerLink {
         }
     }
 
-    /// Whether the next call is told to fail, and then whether behind its step. It counts the call.
-    fn next_failure(&mut self) -> Option<bool>
-        ensures { self.new ≡ self.old }
+    /// Notes a call with this line. Whether it is told to fail, and then whether behind its step.
+    fn note(&mut self, line: &[u8]) -> Option<bool>
+        requires { IsCall line.now }
+        ensures { self.new ≡ call_noted line.now self.old }
     {
-        let number = self.calls;
+        let failing = failure_at(&self.fail, self.calls);
         self.calls = self.calls.saturating_add(1);
-        failure_at(&self.fail, number)
+        self.line = keep_line(line);
+        failing
     }
 
     fn has_manager(&self) -> bool
@@ -154,6 +164,7 @@ impl ManagerLink {
         requires line { IsCall line.now }
         ensures text { self.new.text ≡ self.old.text }
         ensures limit { self.new.limit ≡ self.old.limit }
+        ensures notes { NotesStay self.old self.new }
         ensures faults { self.new.faults ≡ self.old.faults }
         ensures balks { self.new.balks ≡ self.old.balks }
         ensures keeps { (m : ManagerState) → self.old.manager ≡ Some m
@@ -170,6 +181,7 @@ impl ManagerLink {
 
     /// Starts the manager again. Where that fails there is none, and one more fault.
     fn start_again(&mut self)
+        ensures notes { NotesStay self.old self.new }
         ensures faults { self.old.faults ≤ self.new.faults }
         ensures balks { self.new.balks ≡ self.old.balks }
         ensures told { self.new.site.told ≡ self.old.site.told }
@@ -187,6 +199,7 @@ impl ManagerLink {
 
     /// A call that fails in front of its step.
     fn fail(&mut self) -> Result<(), LinkFailed>
+        ensures notes { NotesStay self.old self.new }
         ensures counts { NoFewer (link_state self.old) (link_state self.new) }
         ensures calls { (m : ManagerState) → self.old.manager ≡ Some m → (asked : PlainRequest)
             → Calls asked result [] (link_state self.old) (link_state self.new) }
@@ -201,6 +214,7 @@ impl ManagerLink {
     fn fail_behind(&mut self, line: &[u8], out: &mut ArrayVec<u8, 256>) -> Result<(), LinkFailed>
         requires empty { out.old.items ≡ [] }
         requires line { IsCall line.now }
+        ensures notes { NotesStay self.old self.new }
         ensures counts { NoFewer (link_state self.old) (link_state self.new) }
         ensures calls { (m : ManagerState) → self.old.manager ≡ Some m → (asked : PlainRequest)
             → IsLineOf asked line.now
@@ -218,6 +232,7 @@ impl ManagerLink {
     fn pass_on(&mut self, line: &[u8], out: &mut ArrayVec<u8, 256>) -> Result<(), LinkFailed>
         requires empty { out.old.items ≡ [] }
         requires line { IsCall line.now }
+        ensures notes { NotesStay self.old self.new }
         ensures counts { NoFewer (link_state self.old) (link_state self.new) }
         ensures calls { (m : ManagerState) → self.old.manager ≡ Some m → (asked : PlainRequest)
             → IsLineOf asked line.now
@@ -242,6 +257,7 @@ impl ManagerLink {
     /// Counts the reply, unless it is an expected one.
     fn answer(&mut self, line: &[u8], reply: &[u8]) -> Result<(), LinkFailed>
         ensures ok { result ≡ Ok tt }
+        ensures notes { NotesStay self.old self.new }
         ensures faults { self.new.faults ≡ self.old.faults }
         ensures balks { self.old.balks ≤ self.new.balks }
         ensures manager { self.new.manager ≡ self.old.manager }
@@ -274,7 +290,7 @@ impl Link for ManagerLink {
     ghost state = { link_state };
 
     fn call(&mut self, line: &[u8], out: &mut ArrayVec<u8, 256>) -> Result<(), LinkFailed> {
-        let failing = self.next_failure();
+        let failing = self.note(line);
         if !self.has_manager() {
             self.count_fault();
             return Err(LinkFailed);

@@ -7,9 +7,8 @@ ghost use Rattle.ix_outside.specs.SinkState.{OnlyPuts};
 ghost use Rattle.ix_proto.specs.Requests.{IsLease};
 ghost use Rattle.ix_client.specs.Client.{ClientEnds, NamesAsk, Runs, Serves, ends_with};
 ghost use Rattle.ix_client.specs.ClientLaws.{TellsDone, TellsRefused};
-ghost use Rattle.ix_client.specs.Rising.{RoseBy};
 ghost use Rattle.ix_client.specs.Endings.{PutsLine};
-ghost use Rattle.ix_client.specs.Rising.{EitherRose};
+ghost use Rattle.ix_client.specs.Rising.{CallsAtMost, EitherRose, RoseBy};
 
 use crate::calls::{ask, confirm};
 use crate::ended::Ended;
@@ -28,7 +27,8 @@ const LONGEST_LEASE: u64 = 86_400_000;
 /// socket, and gives its status. Takes no memory of its own.
 ///
 /// The action is asked for and confirmed. Where the confirm is unsure the grant is settled, at most
-/// 8 times, each followed by a confirm where the reservation is still open. One line is put:
+/// 8 times, each followed by a confirm where the reservation is still open: at most 18 calls. One
+/// line is put:
 ///
 /// - `done N`, status 0: the action is the one of the number N of the history.
 /// - `ixc SOCKET ACTION MILLIS`, status 0: there are no words. The link isn't called.
@@ -45,6 +45,7 @@ pub fn client<L: Link, K: Sink>(words: &[String], link: &mut L, out: &mut K) -> 
     ensures ends { ClientEnds (map string_bytes words.now) result
         (L.state link.old) (L.state link.new) (K.state out.old) (K.state out.new) }
     ensures puts { OnlyPuts (K.state out.old) (K.state out.new) }
+    ensures calls { CallsAtMost 18 (L.state link.old) (L.state link.new) }
 
     // What a status tells of the counts of the link.
     ensures never { result ≡ 4 → EitherRose (L.state link.old) (L.state link.new) }

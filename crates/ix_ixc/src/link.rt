@@ -1,9 +1,9 @@
 //! The way to a real manager.
-ghost use Rattle.std.specs.Prelude.{◌≡◌};
+ghost use Rattle.std.specs.Prelude.{◌≡◌, []};
 ghost use Rattle.ix_ixc.specs.inside.Untold.{untold_link};
 
 use arrayvec::ArrayVec;
-use ix_client::{Link, LinkFailed, is_expected};
+use ix_client::{Link, LinkFailed, is_expected, keep_line};
 use std::io::{ErrorKind, Read, Write};
 use std::marker::Model;
 use std::net::Net;
@@ -20,27 +20,37 @@ const LONGEST_REPLY: usize = 255;
 pub(crate) struct RealLink<'a, R> {
     rt: &'a R,
     socket: &'a str,
+    calls: u64,
+    line: ArrayVec<u8, 256>,
     faults: u64,
     balks: u64,
 }
 
-/// Contracts see how many calls failed, and how many gave a line that wasn't an expected reply.
+/// Contracts see how many calls were made, how many failed, how many gave a line that wasn't an
+/// expected reply, and the line of the last call.
 impl<'a, R> Model for RealLink<'a, R> {
     ghost use Rattle.ix_ixc.specs.inside.Untold.{RealLinkState};
 
     ghost Value = { RealLinkState };
 
-    ghost view = { λ link. record { faults = link.faults; balks = link.balks } };
+    ghost view = { λ link. record {
+      calls = link.calls;
+      line = link.line.items;
+      faults = link.faults;
+      balks = link.balks;
+    } };
 }
 
 impl<'a, R> RealLink<'a, R> {
     /// No call was made yet.
     pub(crate) fn new(rt: &'a R, socket: &'a str) -> Self
-        ensures { result ≡ record { faults = 0; balks = 0 } }
+        ensures { result ≡ record { calls = 0; line = []; faults = 0; balks = 0 } }
     {
         RealLink {
             rt,
             socket,
+            calls: 0,
+            line: ArrayVec::new(),
             faults: 0,
             balks: 0,
         }
@@ -53,6 +63,8 @@ impl<R: Net> Link for RealLink<'_, R> {
     ghost sound = { λ _. tt };
 
     fn call(&mut self, line: &[u8], out: &mut ArrayVec<u8, 256>) -> Result<(), LinkFailed> {
+        self.calls = self.calls.saturating_add(1);
+        self.line = keep_line(line);
         if !exchange(self.rt, self.socket, line, out) {
             self.faults = self.faults.saturating_add(1);
             return Err(LinkFailed);

@@ -7,6 +7,7 @@ use Rattle.ix_values.specs.declared.tickets.Ticket.{Ticket}
 use Rattle.ix_journal.specs.History.{PlainHistory, Spent}
 use Rattle.ix_lease.specs.declared.Slot.TheVariants.{Held}
 use Rattle.ix_lines.specs.Feeding.{unfinished}
+use Rattle.ix_memory.specs.Calls.{one_more}
 use Rattle.ix_memory.specs.inside.MemorySiteState.{MemorySiteState, crashes_of, state_of}
 use Rattle.ix_parse.specs.Faults.{StandsFor}
 use Rattle.ix_step.specs.inside.Limits.{most_size}
@@ -18,12 +19,14 @@ use Rattle.ix_client.specs.Links.{LinkState, Told}
 use Rattle.ix_client.specs.Sound.{pairs_of}
 
 -- the text of the expression, the limit of Size, the manager, unless none could be started, its
--- site, and the two counts
+-- site, and the link's counts and line
 pub record ManagerLinkState : Type 0 where
   pub text : List ℕ
   pub limit : ℕ
   pub manager : Option ManagerState
   pub site : MemorySiteState
+  pub calls : ℕ
+  pub line : List ℕ
   pub faults : ℕ
   pub balks : ℕ
 
@@ -70,10 +73,21 @@ told_of (Some m) site = told_where (site.told && is_sound m.machine) (told_by m)
 
 abbrev pub link_state : ManagerLinkState → LinkState
 link_state link = record {
+  calls = link.calls;
+  line = link.line;
   faults = link.faults;
   balks = link.balks;
   told = told_of link.manager link.site;
 }
+
+-- a call with this line was noted
+abbrev pub call_noted : List ℕ → ManagerLinkState → ManagerLinkState
+call_noted line link = record link { calls = one_more link.calls; line = line }
+
+-- what is noted of calls stays
+pub record NotesStay (old new : ManagerLinkState) : Type 0 where
+  pub calls : new.calls ≡ old.calls
+  pub line : new.line ≡ old.line
 
 -- a reservation's deadline fits into 64 bits
 abbrev pub HasTime : MachineState → Type 0

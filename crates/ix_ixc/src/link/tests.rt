@@ -12,7 +12,7 @@ fn a_link_to_an_absent_socket_fails_and_counts(rt: HostRuntime) -> Result<(), Fa
     let mut link = RealLink::new(&rt, &absent);
     let mut out = ArrayVec::<u8, 256>::new();
     assert_eq!(rt; link.call(b"confirm 1-1\n", &mut out), Err(LinkFailed));
-    assert_eq!(rt; (link.faults, link.balks), (1, 0));
+    assert_eq!(rt; (link.calls, link.faults, link.balks), (1, 1, 0));
     Ok(())
 }
 

@@ -4,7 +4,7 @@ ghost use Rattle.std.specs.Prelude.{None};
 mod over_managers;
 
 use arrayvec::ArrayVec;
-use ix_client::{Link, LinkFailed, client, is_expected};
+use ix_client::{Link, LinkFailed, client, is_expected, keep_line};
 use ix_memory::MemorySink;
 use std::alloc::Global;
 use std::test::Fail;
@@ -18,16 +18,26 @@ const ROOM: usize = 1024;
 struct Script<'a> {
     lines: &'a [&'a [u8]],
     next: usize,
+    calls: u64,
+    line: ArrayVec<u8, 256>,
     faults: u64,
     balks: u64,
 }
 
 impl Link for Script<'_> {
-    ghost state = { λ link. record { faults = link.faults; balks = link.balks; told = None } };
+    ghost state = { λ link. record {
+      calls = link.calls;
+      line = link.line.items;
+      faults = link.faults;
+      balks = link.balks;
+      told = None;
+    } };
 
     ghost sound = { λ _. tt };
 
-    fn call(&mut self, _line: &[u8], out: &mut ArrayVec<u8, 256>) -> Result<(), LinkFailed> {
+    fn call(&mut self, line: &[u8], out: &mut ArrayVec<u8, 256>) -> Result<(), LinkFailed> {
+        self.calls = self.calls.saturating_add(1);
+        self.line = keep_line(line);
         let line = match self.lines.get(self.next) {
             Some(line) => *line,
             None => b"",
@@ -73,6 +83,8 @@ fn ends_so(
     let mut link = Script {
         lines,
         next: 0,
+        calls: 0,
+        line: ArrayVec::new(),
         faults: 0,
         balks: 0,
     };
@@ -158,6 +170,8 @@ fn ended(alloc: Global, lines: &[&[u8]], put: &[u8]) -> Result<(u8, usize, u64, 
     let mut link = Script {
         lines,
         next: 0,
+        calls: 0,
+        line: ArrayVec::new(),
         faults: 0,
         balks: 0,
     };

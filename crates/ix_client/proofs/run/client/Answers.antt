@@ -2,6 +2,7 @@ use Rattle.std.proofs.Common.{map}
 use Rattle.std.specs.Prelude.{string_bytes}
 use Rattle.ix_client.specs.Client.{ClientEnds}
 use Rattle.ix_client.proofs.ClientCauses.{link_cause, never_cause, plain_run, reply_cause, unsure_cause}
+use Rattle.ix_client.proofs.ClientCalls.{runs_calls}
 use Rattle.ix_client.proofs.ClientTold.{refused_run, told_run}
 use Rattle.ix_client.proofs.run.client.Goals as goal
 
@@ -20,6 +21,7 @@ returns g c =
     record {
       ends = run;
       puts = c.finish.ensures.puts;
+      calls = runs_calls words c.run-ended.result s u c.run-ended.ensures;
       never = never_cause words c.finish.result s u before after run;
       failed = link_cause words c.finish.result s u before after run;
       balked = reply_cause words c.finish.result s u before after run;

@@ -15,6 +15,8 @@ returns-in-Ok-start-clause-tells c = λ told.
       limit = c.args.limit;
       manager = Some c.in-Ok-start.manager;
       site = c.start.new.site;
+      calls = 0;
+      line = c.new.result.items;
       faults = 0;
       balks = 0;
     })
