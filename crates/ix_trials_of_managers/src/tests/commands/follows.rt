@@ -1,28 +1,52 @@
 //! What a follow puts.
 use super::*;
 
-// The lines of the rows, and a last line that isn't ended.
+const FOLLOW: [&str; 3] = ["follow", "expression", "actions"];
+
+const FEW_NODES: [&str; 5] = ["follow", "--nodes", "6", "expression", "actions"];
+
+const LOST: [&str; 3] = ["follow", "expression", "x"];
+
+const FOLLOWS: [(&[&str], &[u8], &[u8], u8, &[u8]); 6] = [
+    (
+        &FOLLOW,
+        b"a - b",
+        b"entry 2 b\nentry 1 a\nentry 1 a\nyes\nentry 2 b",
+        0,
+        b"early 2\ntaken 1\nold 1\nother\ntaken 2\ncomplete\n",
+    ),
+    (
+        &FOLLOW,
+        b"a - b",
+        b"entry 1 a\nentry 1 b\n",
+        11,
+        b"taken 1\nrefused follow 61 at 1\n",
+    ),
+    (
+        &FOLLOW,
+        b"a - b",
+        b"entry 1 b\n",
+        11,
+        b"refused follow 62 at 1\n",
+    ),
+    (&FOLLOW, b"a - b", b"", 0, b"partial\n"),
+    (
+        &FEW_NODES,
+        b"#(a - b)",
+        b"entry 1 a\nentry 2 a\n",
+        11,
+        b"taken 1\nrefused follow 64 at 2\n",
+    ),
+    (&LOST, b"a - b", b"", 4, b"refused file lines\n"),
+];
+
+// The lines of the rows, a last line that isn't ended, a tree above the limit, and a lost file.
 #[test]
 fn follows_are_put(rt: HostRuntime) -> Result<(), Fail> {
-    let cases: [(&[u8], u8, &[u8]); 4] = [
-        (
-            b"entry 2 b\nentry 1 a\nentry 1 a\nyes\nentry 2 b",
-            0,
-            b"early 2\ntaken 1\nold 1\nother\ntaken 2\ncomplete\n",
-        ),
-        (
-            b"entry 1 a\nentry 1 b\n",
-            11,
-            b"taken 1\nrefused follow 61 at 1\n",
-        ),
-        (b"entry 1 b\n", 11, b"refused follow 62 at 1\n"),
-        (b"", 0, b"partial\n"),
-    ];
-    for (lines, status, bytes) in cases {
-        let words = ["follow", "expression", "actions"];
-        let got = run_on(rt.alloc(), &words, b"a - b", lines, None)?;
+    for (words, expression, lines, status, bytes) in FOLLOWS {
+        let got = run_on(rt.alloc(), words, expression, lines, None)?;
         assert_eq!(rt; got.status, status);
-        assert!(rt; got.bytes.as_slice() == bytes, "what {lines:?} puts");
+        assert!(rt; got.bytes.as_slice() == bytes, "what {words:?} puts");
     }
     Ok(())
 }

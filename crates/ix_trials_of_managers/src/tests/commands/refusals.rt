@@ -35,26 +35,30 @@ fn other_words_are_refused(rt: HostRuntime) -> Result<(), Fail> {
     Ok(())
 }
 
+const FAULTS: [(&[u8], &[u8]); 15] = [
+    (b"a | - b", b"refused expression 3 at 4\n"),
+    (b"", b"refused expression 4 at 0\n"),
+    (b"all $p (a($p) - b)", b"refused expression 7 at 16\n"),
+    (b"a -", b"refused expression 4 at 3\n"),
+    (b"a ! b", b"refused expression 2 at 2\n"),
+    (b"a b", b"refused expression 3 at 2\n"),
+    (b"any $p a($q)", b"refused expression 5 at 7\n"),
+    (b"any $p any $p a($p)", b"refused expression 6 at 7\n"),
+    (b"all(x)", b"refused expression 12 at 0\n"),
+    (b"times", b"refused expression 12 at 0\n"),
+    (b"times (a)", b"refused expression 12 at 0\n"),
+    (b"times 1 a", b"refused expression 16 at 6\n"),
+    (b"times a", b"refused expression 16 at 6\n"),
+    (b"a(p,q,r,s,t)", b"refused expression 10 at 9\n"),
+    (
+        b"n23456789_123456789_123456789_123",
+        b"refused expression 11 at 0\n",
+    ),
+];
+
 #[test]
 fn faults_of_expressions_are_told(rt: HostRuntime) -> Result<(), Fail> {
-    let cases: [(&[u8], &[u8]); 12] = [
-        (b"a | - b", b"refused expression 3 at 4\n"),
-        (b"", b"refused expression 4 at 0\n"),
-        (b"all $p (a($p) - b)", b"refused expression 7 at 16\n"),
-        (b"a -", b"refused expression 4 at 3\n"),
-        (b"a ! b", b"refused expression 2 at 2\n"),
-        (b"a b", b"refused expression 3 at 2\n"),
-        (b"any $p a($q)", b"refused expression 5 at 7\n"),
-        (b"any $p any $p a($p)", b"refused expression 6 at 7\n"),
-        (b"all(x)", b"refused expression 12 at 0\n"),
-        (b"times", b"refused expression 12 at 0\n"),
-        (b"a(p,q,r,s,t)", b"refused expression 10 at 9\n"),
-        (
-            b"n23456789_123456789_123456789_123",
-            b"refused expression 11 at 0\n",
-        ),
-    ];
-    for (expression, bytes) in cases {
+    for (expression, bytes) in FAULTS {
         let same = check(rt.alloc(), expression, b"a", 3, bytes)?;
         assert!(rt; same, "what {expression:?} puts");
     }

@@ -116,35 +116,44 @@ const ENOUGH: [&str; 8] = [
 
 const LOST: [&str; 4] = ["replay", "expression", "-", "x"];
 
+const REPLAYS: [(&[&str], &[u8], &[u8], u8, &[u8]); 6] = [
+    (
+        &NODES,
+        b"#(a - b)",
+        b"1 0 ask a 5\n1 0 confirm 1-1\n1 0 ask a 5\n1 0 confirm 1-2\n1 0 ask a 5\n1 0 status",
+        0,
+        b"history 0\n0 granted 1-1\n0 confirmed 1\n0 granted 1-2\n0 confirmed 2\n\
+            0 refused 22 large 8\n0 status partial 2 nodes 8\n",
+    ),
+    (&FEW, b"a - b", b"", 3, b"refused expression 14 large 1\n"),
+    (
+        &TURNS,
+        b"a",
+        b"1 0 status\n2 0 status",
+        7,
+        b"history 0\n0 status partial 0 nodes 1\nrefused turns\n",
+    ),
+    (
+        &ENOUGH,
+        b"a",
+        b"1 0 status\n2 0 may a",
+        0,
+        b"history 0\n0 status partial 0 nodes 1\n0 yes\n",
+    ),
+    (&LOST, b"a", b"", 4, b"refused file script\n"),
+    (
+        &REPLAY,
+        b"a - b",
+        b"1 0 ask a 5\n1 0 confirm 1-1\n1 0 ask b 5\n1 0 confirm 1-2\n1 0 status",
+        0,
+        b"history 0\n0 granted 1-1\n0 confirmed 1\n0 granted 1-2\n0 confirmed 2\n\
+            0 status complete 2 nodes 1\n",
+    ),
+];
+
 #[test]
 fn replays_end(rt: HostRuntime) -> Result<(), Fail> {
-    let cases: [(&[&str], &[u8], &[u8], u8, &[u8]); 5] = [
-        (
-            &NODES,
-            b"#(a - b)",
-            b"1 0 ask a 5\n1 0 confirm 1-1\n1 0 ask a 5\n1 0 confirm 1-2\n1 0 ask a 5\n1 0 status",
-            0,
-            b"history 0\n0 granted 1-1\n0 confirmed 1\n0 granted 1-2\n0 confirmed 2\n\
-                0 refused 22 large 8\n0 status partial 2 nodes 8\n",
-        ),
-        (&FEW, b"a - b", b"", 3, b"refused expression 14 large 1\n"),
-        (
-            &TURNS,
-            b"a",
-            b"1 0 status\n2 0 status",
-            7,
-            b"history 0\n0 status partial 0 nodes 1\nrefused turns\n",
-        ),
-        (
-            &ENOUGH,
-            b"a",
-            b"1 0 status\n2 0 may a",
-            0,
-            b"history 0\n0 status partial 0 nodes 1\n0 yes\n",
-        ),
-        (&LOST, b"a", b"", 4, b"refused file script\n"),
-    ];
-    for (words, expression, script, status, bytes) in cases {
+    for (words, expression, script, status, bytes) in REPLAYS {
         let same = check_replay(rt.alloc(), words, expression, script, status, bytes)?;
         assert!(rt; same, "what {words:?} puts");
     }

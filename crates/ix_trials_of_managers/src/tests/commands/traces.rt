@@ -32,39 +32,47 @@ fn check_under(
     Ok(got.status == status && got.bytes.as_slice() == bytes)
 }
 
+const OPERATORS: [(&[u8], &[u8], &[u8]); 11] = [
+    (
+        b"(a - b) @ (b - c)",
+        b"b\na\nb\nc",
+        b"no\nyes\nyes\nyes\ncomplete\n",
+    ),
+    (
+        b"*(?a - ?b)",
+        b"b\na\nb\nb",
+        b"yes\nyes\nyes\nyes\ncomplete\n",
+    ),
+    (
+        b"(a - b) + (a - c)",
+        b"a\nc\na\nb",
+        b"yes\nyes\nyes\nyes\ncomplete\n",
+    ),
+    (
+        b"#(a - b)",
+        b"a\na\nb\nb\nb",
+        b"yes\nyes\nyes\nyes\nno\ncomplete\n",
+    ),
+    (
+        b"(a - b) & (a - ?b)",
+        b"b\na\nb",
+        b"no\nyes\nyes\ncomplete\n",
+    ),
+    (b"(a | b) - c", b"a\nb\nc", b"yes\nno\nyes\ncomplete\n"),
+    (b"a & b", b"a\nb", b"no\nno\npartial\n"),
+    (b"?(a - b)", b"", b"complete\n"),
+    (
+        b"times 2 (a - b)",
+        b"a\na\na\nb\nb",
+        b"yes\nyes\nno\nyes\nyes\ncomplete\n",
+    ),
+    (b"times 2 a", b"a", b"yes\npartial\n"),
+    (b"times 2 ?a", b"", b"complete\n"),
+];
+
 #[test]
 fn all_operators_are_answered(rt: HostRuntime) -> Result<(), Fail> {
-    let cases: [(&[u8], &[u8], &[u8]); 8] = [
-        (
-            b"(a - b) @ (b - c)",
-            b"b\na\nb\nc",
-            b"no\nyes\nyes\nyes\ncomplete\n",
-        ),
-        (
-            b"*(?a - ?b)",
-            b"b\na\nb\nb",
-            b"yes\nyes\nyes\nyes\ncomplete\n",
-        ),
-        (
-            b"(a - b) + (a - c)",
-            b"a\nc\na\nb",
-            b"yes\nyes\nyes\nyes\ncomplete\n",
-        ),
-        (
-            b"#(a - b)",
-            b"a\na\nb\nb\nb",
-            b"yes\nyes\nyes\nyes\nno\ncomplete\n",
-        ),
-        (
-            b"(a - b) & (a - ?b)",
-            b"b\na\nb",
-            b"no\nyes\nyes\ncomplete\n",
-        ),
-        (b"(a | b) - c", b"a\nb\nc", b"yes\nno\nyes\ncomplete\n"),
-        (b"a & b", b"a\nb", b"no\nno\npartial\n"),
-        (b"?(a - b)", b"", b"complete\n"),
-    ];
-    for (expression, actions, bytes) in cases {
+    for (expression, actions, bytes) in OPERATORS {
         let same = check(rt.alloc(), expression, actions, 0, bytes)?;
         assert!(rt; same, "what {expression:?} puts");
     }
@@ -106,38 +114,67 @@ fn all_quantifiers_are_answered(rt: HostRuntime) -> Result<(), Fail> {
     Ok(())
 }
 
+const LIMITED: [(&str, &[u8], &[u8], u8, &[u8]); 13] = [
+    (
+        "3",
+        b"a - b | c",
+        b"9",
+        3,
+        b"refused expression 14 large 3\n",
+    ),
+    ("3", b"a + b", b"a", 3, b"refused expression 14 large 3\n"),
+    ("4", b"*(a - b)", b"a\nb\na", 0, b"yes\nyes\nyes\npartial\n"),
+    ("3", b"*(a - b)", b"a", 0, b"large\ncomplete\n"),
+    ("13", b"(a - b) + (a - c)", b"a", 0, b"yes\npartial\n"),
+    ("12", b"(a - b) + (a - c)", b"a", 0, b"large\npartial\n"),
+    (
+        "8",
+        b"#(a - b)",
+        b"a\na\na\nb",
+        0,
+        b"yes\nyes\nlarge\nyes\npartial\n",
+    ),
+    (
+        "5",
+        b"any $p (a - b($p))",
+        b"a\nb(u)",
+        0,
+        b"yes\nyes\ncomplete\n",
+    ),
+    ("1000000", b"a", b"b\na", 0, b"no\nyes\ncomplete\n"),
+    (
+        "1",
+        b"times 2 a",
+        b"",
+        3,
+        b"refused expression 14 large 1\n",
+    ),
+    (
+        "8",
+        b"#(a - b)",
+        b"a\na\nb\na",
+        0,
+        b"yes\nyes\nyes\nyes\npartial\n",
+    ),
+    (
+        "4",
+        b"all $p *(a($p) - b($p))",
+        b"a(u)",
+        0,
+        b"large\ncomplete\n",
+    ),
+    (
+        "8",
+        b"all $p *(a($p) - b($p))",
+        b"a(u)\nb(u)\na(v)\nb(v)",
+        0,
+        b"yes\nyes\nyes\nyes\ncomplete\n",
+    ),
+];
+
 #[test]
 fn trees_above_the_limit_are_large(rt: HostRuntime) -> Result<(), Fail> {
-    let cases: [(&str, &[u8], &[u8], u8, &[u8]); 9] = [
-        (
-            "3",
-            b"a - b | c",
-            b"9",
-            3,
-            b"refused expression 14 large 3\n",
-        ),
-        ("3", b"a + b", b"a", 3, b"refused expression 14 large 3\n"),
-        ("4", b"*(a - b)", b"a\nb\na", 0, b"yes\nyes\nyes\npartial\n"),
-        ("3", b"*(a - b)", b"a", 0, b"large\ncomplete\n"),
-        ("13", b"(a - b) + (a - c)", b"a", 0, b"yes\npartial\n"),
-        ("12", b"(a - b) + (a - c)", b"a", 0, b"large\npartial\n"),
-        (
-            "8",
-            b"#(a - b)",
-            b"a\na\na\nb",
-            0,
-            b"yes\nyes\nlarge\nyes\npartial\n",
-        ),
-        (
-            "5",
-            b"any $p (a - b($p))",
-            b"a\nb(u)",
-            0,
-            b"yes\nyes\ncomplete\n",
-        ),
-        ("1000000", b"a", b"b\na", 0, b"no\nyes\ncomplete\n"),
-    ];
-    for (limit, expression, actions, status, bytes) in cases {
+    for (limit, expression, actions, status, bytes) in LIMITED {
         let same = check_under(rt.alloc(), limit, expression, actions, status, bytes)?;
         assert!(rt; same, "what {expression:?} puts under {limit:?}");
     }
