@@ -144,7 +144,7 @@ NAMES = {
         ("crates/aid/specs/Weak.antt", "", "-- Weak.\nabbrev pub Rose : Type 0\nRose = Type 0\n"),
         (MANAGE, USE_ROSE, "Rattle.aid.specs.Weak.{Rose}")], "module aid Weak is new", stays=False),
     "a definition is taken out of a headline": Way([
-        (SERVE, "      → KeepsAcknowledged session", "      → Other session")], "no claim reaches KeepsAcknowledged"),
+        (JOURNAL, "image → Reopens session", "image → Other session")], "no claim reaches Reopens"),
     "a clause cites a lemma of proofs": Way([
         (MANAGE, "ghost use " + USE_ROSE, "ghost use Rattle.ix_manage.proofs.Fooling.{hides};\nghost use " + USE_ROSE),
         (MANAGE, CLAUSE, "    ensures more { hides result }\n" + CLAUSE)], "Rattle.ix_manage.proofs.Fooling.hides"),
@@ -223,7 +223,7 @@ TEXTS = {
         (PROMISES, "`complete_words_are_partial`", "`complete_words_are_whole`")],
         "nothing is called complete_words_are_whole"),
     "a promise names another law": changed(PROMISES, "`over_tickets_stay_over`", "`told_entries_stay`"),
-    "a promise says more": changed(PROMISES, "an entry that was told is", "an entry that was told or wasn't is"),
+    "a promise says more": changed(PROMISES, "no later state, nor the next run,", "no later state, and maybe the next run,"),
     "a premise of promises is dropped": changed(PROMISES, "before a `stop`, ", ""),
 }
 
