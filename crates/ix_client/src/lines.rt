@@ -15,14 +15,12 @@ use ix_values::{Action, Ticket};
 pub(crate) type Line = ArrayVec<u8, 256>;
 
 /// The line of a call, for a link to keep.
+#[tactic(auto, using(crate::proofs::ShortLines::call_short))]
 pub fn keep_line(line: &[u8]) -> ArrayVec<u8, 256>
     requires { IsCall line.now }
     ensures { result.items ≡ line.now }
 {
-    let Ok(kept) = ArrayVec::try_from(line) else {
-        unreachable!();
-    };
-    kept
+    ArrayVec::try_from(line).unwrap_or(ArrayVec::new())
 }
 
 pub(crate) fn ask_line(action: &Action, lease: u32) -> Line
