@@ -136,6 +136,10 @@ NAMES = {
         (JOURNAL, "Images.{EndsAs, IsStartable, Keeps, with_failed}",
          "Images.{EndsAs, IsStartable, with_failed}\nuse Rattle.aid.proofs.Weak.{Keeps}")],
         "Rattle.aid.proofs.Weak.Keeps"),
+    "the same of what was acknowledged": Way(AID + [
+        ("crates/aid/proofs/Weak.antt", "", "-- Weak.\nabbrev pub KeepsAcknowledged : Type 0\nKeepsAcknowledged = Type 0\n"),
+        (SERVE, "use " + USE_KEEPS, "use Rattle.aid.proofs.Weak.{KeepsAcknowledged}")],
+        "Rattle.aid.proofs.Weak.KeepsAcknowledged"),
     "the same, and the true one is imported as a binder's name": Way(AID + [
         (SERVE, "use " + USE_KEEPS, "use Rattle.aid.proofs.Weak.{KeepsAcknowledged}\n"
          "use Rattle.ix_manager.specs.Acknowledged.{KeepsAcknowledged as left}")],
