@@ -15,7 +15,7 @@ from .support import HERE, TIMEOUT, Client, Front, Place, listens, metric, page,
 # Each task of its own and each call that comes from outside, with what raises there.
 ENDING = ("link.Link._connect", "front.Front.sweep", "front.Front.ask_status", "pages.Pages.write", "front.Front.take",
           "front.Front.replied", "link.Link.flush", "log.LogFile.put", "log.LogFile.rendered", "front.Front.welcome",
-          "asks.Asks._look")
+          "asks.Asks._look", "main.Program.look_at_names", "main.notify", "front.Front.read_policy", "log.LogFile.open_again")
 
 
 class Faults(Place):
@@ -23,6 +23,7 @@ class Faults(Place):
         """A front in which this function raises as soon as the file `now` is there."""
         front = Front(self.folder, self.run_of.path, "--page", f"{self.folder}/page", "--every", "0.2", *options)
         front.words[:1] = [f"{HERE}/faulty", name, fault, f"{self.folder}/now"]
+        front.environment = {**os.environ, "WATCHDOG_USEC": "200000"}
         front.stderr = subprocess.DEVNULL
         self.addCleanup(front.stop, signal.SIGKILL)
         return front.start()
@@ -35,6 +36,7 @@ class Faults(Place):
         """Has all parts of a front do something, until it ends."""
         end = time.monotonic() + TIMEOUT / 2
         while front.status() is None and time.monotonic() < end:
+            os.kill(front.pid, signal.SIGHUP)
             try:
                 with Client(front.path, timeout=2) as holder, Client(front.path, timeout=2) as other:
                     other.request("front wait 10")

@@ -12,7 +12,7 @@ import sys
 import time
 import unittest
 
-from .support import Client, Front, Manager, Place, listens, metric, records, wait_until
+from .support import HERE, Client, Front, Manager, Place, listens, metric, records, wait_until
 from .test_monitoring import free_port
 
 AUTHORITY = """
@@ -190,6 +190,23 @@ class Tls(Place):
             process.wait()
         found = records(self.folder, lambda found: any(it.get("reply") == "confirmed 1" for it in found))
         self.assertEqual({it["cert"] for it in found if "reply" in it}, {"lab.example"})
+
+    def test_a_fault_at_a_client_costs_it_its_connection(self) -> None:
+        """Each client has a task of its own, and what raises in one is told."""
+        self.through.stop()
+        self.through.words[:1] = [f"{HERE}/faulty", "tls.name_in", "ValueError", f"{self.folder}/now"]
+        self.through.start()
+        ward = self.of("ward")
+        self.assertTrue(ward.told("status").startswith("status "))
+        with open(f"{self.folder}/now", "w"):
+            pass
+        try:
+            self.assertIsNone(self.of("lab").request("status"))
+        except OSError:
+            pass
+        records(self.folder, lambda found: any(it.get("event") == "fault passed over" for it in found))
+        for client in (ward, self.of("lab")):
+            self.assertTrue(client.told("status").startswith("status "))
 
     def test_one_that_is_revoked_is_cut_off(self) -> None:
         lab, ward = self.of("lab"), self.of("ward")
