@@ -8,6 +8,7 @@ import gc
 import os
 import resource
 import signal
+import socket
 import sys
 import traceback
 from collections.abc import Callable, Coroutine
@@ -21,8 +22,10 @@ from .loop import TurnSelector, new_loop
 from .options import Options, address, is_address, read_options
 from .pages import Pages
 from .policy import PolicyFault
+from .records import told
 from .service import handed_over, notify, watchdog_seconds
 from .tls import Files, Guests
+from .who import peer_of
 
 SWEEP = 0.5  # seconds between two looks at the limits of time
 LAST_REPLIES = 2.0  # seconds for the replies that are still to come when the front ends
@@ -69,6 +72,7 @@ class Program:
         self.log.on_fault = lambda fault: self.from_thread(self.fail, fault)
         self.log.on_opened = lambda why: self.from_thread(self.log_opened, why)
         self.pages.on_fault = self.pass_over
+        self.pages.refused = self.refuse_reader
 
     # Faults
 
@@ -135,6 +139,11 @@ class Program:
     def refuse_guest(self, why: str, where: str) -> None:
         """Somebody of the network wasn't let in."""
         self.front.turn_away(why, f'"address": {quoted(where.rpartition(":")[0])}')
+
+    def refuse_reader(self, sock: socket.socket) -> None:
+        """Somebody got no page, since too many read one."""
+        with contextlib.suppress(OSError):
+            self.front.turn_away("readers", told(peer_of(sock)))
 
     def begin(self) -> None:
         """Begins everything."""

@@ -57,12 +57,14 @@ class Pages:
         self.health = health
         self.view = view
         self.on_fault: Callable[[BaseException], None] = lambda fault: None  # one that cost a reader its page
+        self.refused: Callable[[socket.socket], None] = lambda sock: None  # a reader there were too many for
         self._readers: set[asyncio.Task[None]] = set()
         screen_policy()  # is read now, since later no open file may be free
 
     def take(self, sock: socket.socket) -> None:
         """Answers whoever has connected, or closes the connection where there are too many."""
         if len(self._readers) >= READERS:
+            self.refused(sock)
             sock.close()
             return
         sock.setblocking(False)

@@ -10,7 +10,7 @@ import socket
 import subprocess
 import time
 
-from .support import HERE, TIMEOUT, Client, Front, Place, listens, metric, page, read_records, wait_until
+from .support import HERE, TIMEOUT, Client, Front, Place, listens, metric, page, read_records, records, wait_until
 
 # Each task of its own and each call that comes from outside, with what raises there.
 ENDING = ("link.Link._connect", "front.Front.sweep", "front.Front.ask_status", "pages.Pages.write", "front.Front.take",
@@ -101,6 +101,24 @@ class Faults(Place):
             front.allow(resource.RLIMIT_NOFILE, before)
             self.assertEqual(client.request("may do(a)"), "yes")
         wait_until(lambda: " 200 OK" in page(self.folder, "/health"), "the page has places again")
+
+    def test_readers_of_the_page_have_a_limit_of_their_own(self) -> None:
+        """Those above it are closed at once and told in the log, and nobody else is kept waiting."""
+        front = self.front(self.run_of.path, "--page", f"{self.folder}/page")
+        socks = [socket.socket(socket.AF_UNIX) for _ in range(40)]
+        for sock in socks:
+            sock.settimeout(TIMEOUT)
+            sock.connect(f"{self.folder}/page")
+        self.assertEqual([sock.recv(1) for sock in socks[32:]], [b""] * 8)
+        with Client(front.path) as client:
+            self.assertEqual(client.request("may do(a)"), "yes")
+        for sock in socks:
+            sock.close()
+        found = records(self.folder, lambda found: any(it.get("event") == "turned away" for it in found))
+        away = [it for it in found if it.get("event") == "turned away"]
+        self.assertEqual({(it["limit"], it["uid"], it["pid"]) for it in away}, {("readers", os.getuid(), os.getpid())})
+        counted = 'ixm_front_turned_away_total{limit="readers"}'
+        wait_until(lambda: (metric(self.folder, counted) or 0) >= 8, "it is counted")
 
     def test_the_file_of_its_socket_is_gone(self) -> None:
         front = Front(self.folder, self.run_of.path)
