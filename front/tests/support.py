@@ -17,6 +17,7 @@ from typing import Any
 
 HERE = os.path.dirname(os.path.abspath(__file__))
 IXM = os.path.abspath(os.environ.get("IXM", f"{HERE}/../../ixm"))
+IXC = os.environ.get("IXC", "")  # nothing where it isn't to be tried
 FRONT = f"{HERE}/../ixm-front"
 AUDIT = f"{HERE}/../audit"
 TIMEOUT = 60.0  # seconds behind which a wait has failed

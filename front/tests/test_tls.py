@@ -12,7 +12,7 @@ import sys
 import time
 import unittest
 
-from .support import HERE, Client, Front, Manager, Place, listens, metric, records, wait_until
+from .support import HERE, IXC, TIMEOUT, Client, Front, Manager, Place, listens, metric, records, wait_until
 from .test_monitoring import free_port
 
 AUTHORITY = """
@@ -185,6 +185,10 @@ class Tls(Place):
             with Client(f"{self.folder}/lab") as client:
                 ticket = client.ticket("do(a)")
                 self.assertEqual(client.request(f"confirm {ticket}"), "confirmed 1")
+            if IXC:
+                words = [IXC, f"{self.folder}/lab", "do(b)", "60000"]
+                ran = subprocess.run(words, stdout=subprocess.PIPE, text=True, timeout=TIMEOUT)
+                self.assertEqual((ran.stdout, ran.returncode), ("done 2\n", 0))
         finally:
             process.kill()
             process.wait()
