@@ -168,7 +168,7 @@ class Program:
 
     def look_at_names(self) -> None:
         """Where a socket's file is gone, nobody finds the front any more: it ends, to be started again."""
-        for door in self.doors:
+        for door in self.doors if not self.ended.is_set() else ():
             if isinstance(door, NamedDoor) and not door.is_found():
                 self.fail(FileNotFoundError(f"{door.path} was removed"))
 

@@ -79,6 +79,23 @@ class Pages(Place):
             # A reservation outlives the front, since it belongs to whoever presents its ticket.
             self.assertEqual(client.request(f"confirm {ticket}"), "confirmed 1")
 
+    def test_a_reply_that_is_due_at_its_end(self) -> None:
+        """It is waited for, also behind the next look at the limits and at the sockets' files, which are gone by then."""
+        manager = self.manager()
+        front = self.paged(manager.path)
+        with Client(front.path) as client:
+            self.assertEqual(client.request("may do(a)"), "yes")
+            os.kill(manager.pid, signal.SIGSTOP)
+            try:
+                client.send("may do(b)")
+                wait_until(lambda: "ixm_front_up 1\n" in page(self.folder, "/metrics"), "it is sent")
+                os.kill(front.pid, signal.SIGTERM)
+                time.sleep(1.2)
+            finally:
+                os.kill(manager.pid, signal.SIGCONT)
+            self.assertEqual(client.reply(), "yes")
+        self.assertEqual(front.stop(), 0)
+
     def test_stop_goes_through_where_it_is_allowed(self) -> None:
         manager = self.manager()
         front = self.front(manager.path)
