@@ -77,6 +77,11 @@ class Asks:
         """Whether a reservation is open, as far as is known."""
         return not self._is_free and monotonic() < self.until
 
+    def go_on(self, ticket: bytes, holder: Client, since: float, until: float) -> None:
+        """The front of before knew of this reservation."""
+        self.since = since
+        self._hold(ticket, holder, until, monotonic())
+
     def add(self, request: ClientLine) -> None:
         """Takes an ask to the end of the line, or sends it at once where nobody is before it."""
         wait = request.client.wait

@@ -8,6 +8,7 @@ from time import monotonic
 from typing import TYPE_CHECKING, Protocol
 
 from .lines import LineReader
+from .handing import Kept
 from .loop import HUNG_UP, TurnSelector
 from .options import Options
 from .protocol import LONGEST, number
@@ -56,6 +57,8 @@ class Client:
         self.rights_of: Policy | None = None  # the policy by which these are
         self.is_closed = False
         self.has_hung_up = False  # no reply reaches it any more
+        self.is_kept = False  # no more is taken of it, since the next front goes on with it
+        self.put_back = 0.0  # when the line came that was put back for the next front
         self._is_told = False  # the loop has told of a hang-up
         self._reader = LineReader()
         self._out = b""
@@ -65,6 +68,8 @@ class Client:
 
     def serve(self) -> None:
         """Takes lines as long as none is unanswered, and reads on."""
+        if self.is_kept:
+            return
         reader = self._reader
         while reader.held and self.request is None and not self._out and not self.has_hung_up:
             line = reader.next()
@@ -143,8 +148,34 @@ class Client:
             lines.append(line)
         return lines
 
+    def keep(self, is_put_back: bool) -> None:
+        """Takes no more of it. A line that is put back stands in front of what is held again."""
+        self.is_kept = True
+        self._read_if(False)
+        if self.request is not None and is_put_back:
+            self._reader.held = self.request.line + b"\n" + self._reader.held
+            self.put_back = self.request.came
+            self.request = None
+
+    def kept(self) -> Kept | None:
+        """What the next front has to know of it; nothing where a reply is due, or it is gone."""
+        if self.request is not None or self.is_closed or self.hung_up():
+            return None
+        return Kept(self.wait, self._reader.held.decode("latin-1"), self._reader.skipping, self._out.decode("latin-1"),
+                    self.ticket.decode("ascii"), self._has_ended)
+
+    def go_on(self, kept: Kept) -> None:
+        """Goes on where the front of before stood."""
+        self.wait, self.ticket, self._has_ended = kept.wait, kept.ticket.encode(), kept.has_ended
+        self._reader.held, self._reader.skipping = kept.held.encode("latin-1"), kept.skipping
+        self._set_out(kept.out.encode("latin-1"))
+        self._watch()
+        self.serve()
+
     def why_late(self, now: float) -> str | None:
         """The limit of time that it has passed, if any."""
+        if self.is_kept:
+            return None
         options = self.owner.options
         if self._out:
             return "unread replies" if now - self._blocked > options.read_time else None

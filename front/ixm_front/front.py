@@ -13,6 +13,7 @@ from . import protocol
 from .asks import Asks
 from .client import Client
 from .gate import Gate
+from .handing import State, hand_over, is_kept, number_of
 from .link import Link
 from .log import Log, quoted
 from .loop import TurnSelector
@@ -76,18 +77,24 @@ class Front:
 
     def welcome(self, sock: socket.socket, who: Who) -> None:
         """Takes a connection, or closes it where there are too many."""
+        client = self._let_in(sock, who)
+        if client is not None:
+            client.serve()
+
+    def _let_in(self, sock: socket.socket, who: Who) -> Client | None:
+        """Takes a connection, of which nothing is read yet. None where there are too many."""
         self.metrics.connections += 1
         limit = self._places.take(who)
         if limit is not None:
             self.turn_away(limit, told(who))
             sock.close()
-            return
+            return None
         sock.setblocking(False)
         self._count += 1
         client = Client(self, sock, who, self._count)
         self.clients.add(client)
         self.records.connected(client)
-        client.serve()
+        return client
 
     def turn_away(self, limit: str, who: str) -> None:
         """Counts and tells that a connection wasn't taken."""
@@ -503,8 +510,52 @@ class Front:
         return not self._gate and all(isinstance(request, OwnLine) for request in self.link.unanswered)
 
     def let_go(self) -> None:
-        """Closes the clients whose lines haven't been sent, as the front is about to end, and takes no more lines."""
+        """Takes no more lines, as the front is about to end. Clients of this machine are kept for the next one where they
+        can be; else those whose lines haven't been sent are closed."""
         self.is_ending = True
         for client in list(self.clients):
-            if client.request is None or client.request.sent == 0.0:
+            if is_kept() and not client.who.name:
+                self._keep(client)
+            elif client.request is None or client.request.sent == 0.0:
                 self.close(client, "front ends")
+
+    def _keep(self, client: Client) -> None:
+        """Keeps a client. Its line is put back where it waits for the manager, and not where it waits for the log."""
+        request = client.request
+        client.keep(request is not None and (self._asks.remove(request) or self._held.pop(request, request) is None))
+
+    def hand_over(self) -> None:
+        """Hands the clients that are kept over to the next front, in the order of their asks."""
+        for client in self.clients:
+            if client.is_kept:
+                self._keep(client)  # an ask may wait again meanwhile
+        state, socks, holder = State(tickets=self._rights.tickets()), [], self._asks.holder
+        for client in sorted(self.clients, key=lambda client: client.put_back):
+            kept = client.kept() if client.is_kept else None
+            if kept is not None:
+                state.clients[number_of(client.sock)] = kept
+                socks.append(client.sock)
+        if holder is not None and self._asks.is_open() and not holder.is_closed:
+            state.holder = number_of(holder.sock)
+            state.reservation = self._asks.ticket.decode("ascii"), self._asks.since, self._asks.until
+        if socks:
+            hand_over(socks, state)
+
+    def go_on(self, socks: list[socket.socket], state: State) -> None:
+        """Goes on with the clients of the front of before."""
+        self._rights.go_on(state.tickets)
+        clients: dict[str, Client] = {}
+        for sock in socks:
+            number = number_of(sock)
+            if number not in state.clients:
+                sock.close()
+                continue
+            client = self._let_in(sock, peer_of(sock))
+            if client is not None:
+                clients[number] = client
+        if state.holder in clients:
+            ticket, since, until = state.reservation
+            self._asks.go_on(ticket.encode(), clients[state.holder], since, until)
+        for number, kept in state.clients.items():
+            if number in clients:
+                clients[number].go_on(kept)

@@ -17,6 +17,7 @@ from typing import Any
 
 from .doors import Door, NamedDoor, tcp_socket
 from .front import Front
+from .handing import CLIENT, is_kept
 from .log import Log, quoted
 from .loop import TurnSelector, new_loop
 from .options import Options, address, is_address, read_options
@@ -112,7 +113,8 @@ class Program:
 
     def open_doors(self) -> None:
         """Begins to listen, on what was handed over and what is named."""
-        options, handed = self.options, handed_over()
+        options = self.options
+        handed, state = handed_over()
         if options.tls_cert and options.tls_key and options.tls_ca:
             files = Files(options.tls_cert, options.tls_key, options.tls_ca, options.tls_crl)
             self.guests = Guests(self.loop, files, options.silent_time, self.front.welcome, self.refuse_guest)
@@ -129,6 +131,7 @@ class Program:
             self.doors.append(NamedDoor(options.socket, options.mode, options.group, self.loop, self.front.accept))
         for door in self.doors:
             door.open()
+        self.front.go_on(handed[CLIENT], state)
 
     def page_door(self, place: str) -> Door:
         """Where the pages are read."""
@@ -218,6 +221,9 @@ class Program:
         if self.guests is not None:
             self.guests.close()
         await asyncio.sleep(0)
+        if is_kept():
+            with contextlib.suppress(OSError):
+                self.front.hand_over()
         self.front.records.event("front ends")
         self.log.end(LAST_RECORDS)
         self.remove_file()

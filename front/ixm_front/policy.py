@@ -188,6 +188,14 @@ class Rights:
         if len(self._tickets) > TICKETS:
             self._tickets.popitem(last=False)
 
+    def tickets(self) -> list[tuple[str, str]]:
+        """Whose the tickets are, the oldest first."""
+        return [(ticket.decode("ascii"), key) for ticket, key in self._tickets.items()]
+
+    def go_on(self, tickets: list[tuple[str, str]]) -> None:
+        """The front of before knew whose these are."""
+        self._tickets.update((ticket.encode(), key) for ticket, key in tickets)
+
     def refusal(self, client: Client, verb: bytes, line: bytes) -> Refusal | None:
         """How a line is refused here; none where the manager decides."""
         permissions: tuple[Permission, ...] | None = None

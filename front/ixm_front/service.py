@@ -5,24 +5,31 @@ from __future__ import annotations
 import os
 import socket
 
+from .handing import CLIENT, STATE, State, taken_over
+
 FIRST_HANDED = 3  # the number of the first open file that is handed over
-NAMES = ("front", "page", "tls")
+NAMES = ("front", "page", "tls", CLIENT)
 
 
-def handed_over() -> dict[str, list[socket.socket]]:
-    """The sockets that listen already, by what they are for. One whose name says nothing else is the front's."""
+def handed_over() -> tuple[dict[str, list[socket.socket]], State]:
+    """The sockets that listen already and those of clients of the front of before, by what they are for, and what that
+    front told. A socket whose name says nothing else is the front's."""
     found: dict[str, list[socket.socket]] = {name: [] for name in NAMES}
+    told: list[int] = []
     count, process = os.environ.pop("LISTEN_FDS", "0"), os.environ.pop("LISTEN_PID", "")
     names = os.environ.pop("LISTEN_FDNAMES", "").split(":")
     if process != str(os.getpid()) or not count.isdigit():
-        return found
+        return found, State()
     for place in range(int(count)):
+        if names[place:place + 1] == [STATE]:
+            told.append(FIRST_HANDED + place)
+            continue
         sock = socket.socket(fileno=FIRST_HANDED + place)
         sock.setblocking(False)
         os.set_inheritable(sock.fileno(), False)
         name = names[place] if place < len(names) else ""
         found[name if name in NAMES else "front"].append(sock)
-    return found
+    return found, taken_over(told) if told or found[CLIENT] else State()
 
 
 def watchdog_seconds() -> float | None:

@@ -173,7 +173,9 @@ class Doors(Place):
                 client = self.client(paths[0])
                 client.send("may do(a)")
                 process = self.started([sock.fileno() for sock in socks], manager.path)
-                self.assertEqual(told.recv(4096), b"READY=1")
+                while (said := told.recv(4096)).startswith(b"FDSTORE=1\n"):
+                    pass  # what the one before handed over, which nobody keeps here
+                self.assertEqual(said, b"READY=1")
                 self.assertEqual(told.recv(4096), b"WATCHDOG=1")
                 self.assertEqual(client.reply(), "yes", expected)
                 self.assertIn("the front answers\n", page(self.folder, "/live"))
