@@ -50,3 +50,15 @@ fn follows_are_put(rt: HostRuntime) -> Result<(), Fail> {
     }
     Ok(())
 }
+
+// The most bytes of a file of lines.
+const MOST_LINES: usize = 67_108_864;
+
+#[test]
+fn longer_lines_are_refused(rt: HostRuntime) -> Result<(), Fail> {
+    let lines = vec![in rt.alloc(); b'x'; MOST_LINES + 1]?;
+    let got = run_on(rt.alloc(), &FOLLOW, b"a", &lines, None)?;
+    assert_eq!(rt; got.status, 3);
+    assert!(rt; got.bytes.as_slice() == b"refused lines 7 at 67108864\n".as_slice());
+    Ok(())
+}
