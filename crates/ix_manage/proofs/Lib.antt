@@ -26,3 +26,4 @@ pub mod FeedLemmas
 pub mod GivenValues
 pub mod Pasts
 pub mod Desking
+mod SentLines

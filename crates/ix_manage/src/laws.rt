@@ -1,9 +1,10 @@
 //! The laws of runs, the contracts of functions that do nothing.
 ghost use Rattle.ix_manage.specs.Laws.{UnhinderedRunsEndWhole};
-ghost use Rattle.ix_manage.specs.Managed.{HistoriesAreManaged};
+ghost use Rattle.ix_manage.specs.Managed.{HistoriesAreManaged, SentLinesTell};
 ghost use Rattle.ix_manage.specs.TwoRuns.{OverTicketsStayOut, TicketsAreGrantedOnce};
 
 use ix_outside::Site;
+use ix_proto::laws::texts_tell_replies_apart;
 use ix_values::texts_tell_tickets_apart;
 
 /// What `manage` says of a run is complete: where the words name a job, what it reads is there and
@@ -32,3 +33,11 @@ pub fn over_tickets_stay_out<S: Site>()
 pub fn histories_are_managed()
     ensures { HistoriesAreManaged }
 {}
+
+/// Each line that such a run sent is one that followers are promised to take: where it is an entry,
+/// it tells the action that the history has at its number, and so has each later history.
+pub fn sent_lines_tell()
+    ensures { SentLinesTell }
+{
+    texts_tell_replies_apart();
+}
