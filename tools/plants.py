@@ -1,15 +1,16 @@
 #!/usr/bin/env python3
-"""plants.py NAME..: runs `rt plant` on these crates, and writes what it counted into the table of docs/gate.md.
+"""plants.py NAME..: runs `rt plant` on these crates, and writes what it counted into the table tools/minutes.
 
 The last columns of a crate's row say how many planted bodies were refused, how many couldn't be judged, and the day; a
-crate that has no row gets one. What was let through is a list below the table, which is written by hand. It ends with 1
+crate that has no row gets one. What was let through is a list in docs/gate.md, which is written by hand. It ends with 1
 if a run of `rt plant` doesn't end or leaves bodies out, and if a body is let through of a crate that isn't in the list."""
 import datetime
 import re
 import subprocess
 import sys
 
-PAGE = "docs/gate.md"
+TABLE = "tools/minutes"
+PAGE = "docs/gate.md"  # the list of what was let through
 KEPT = 46  # columns of a row that stand before these
 
 
@@ -27,26 +28,27 @@ def counts(crate):
     return found, [line for line in lines if line.startswith(("proves", "no-ensures", "untested"))]
 
 
-def with_row(page, crate, found):
-    """The page with the crate's row."""
+def with_row(table, crate, found):
+    """The table with the crate's row."""
     day = datetime.date.today().isoformat()
     counted = " %8d %11s  %s" % (found["refused"], found["not-judged"] or "", day)
     row = re.compile(r"(?m)^    %s\b.*$" % crate)
-    if row.search(page):
-        return row.sub(lambda it: it[0][:KEPT].ljust(KEPT) + counted, page)
-    end = list(re.finditer(r"(?m)^    ix_\w+.*\n", page))[-1].end()
-    return page[:end] + ("    " + crate).ljust(KEPT) + counted + "\n" + page[end:]
+    if row.search(table):
+        return row.sub(lambda it: it[0][:KEPT].ljust(KEPT) + counted, table)
+    end = list(re.finditer(r"(?m)^    ix_\w+.*\n", table))[-1].end()
+    return table[:end] + ("    " + crate).ljust(KEPT) + counted + "\n" + table[end:]
 
 
 def main():
     is_right = True
     for crate in sys.argv[1:]:
         found, told = counts(crate)
+        with open(TABLE) as file:
+            table = with_row(file.read(), crate, found)
+        with open(TABLE, "w") as file:
+            file.write(table)
         with open(PAGE) as file:
-            page = with_row(file.read(), crate, found)
-        with open(PAGE, "w") as file:
-            file.write(page)
-        is_listed = re.search(r"(?m)^- `%s`:" % crate, page)
+            is_listed = re.search(r"(?m)^- `%s`:" % crate, file.read())
         print(crate, found["refused"], "refused,", found["not-judged"], "not judged,", found["proves"], "let through")
         for line in told:
             print("   ", line)
