@@ -3,8 +3,8 @@
 //!
 //! Of etcd nothing is told, as of no device: what its transactions are is trusted, and what follows
 //! of several owners is proved in `ix_blocks`. Proved here is that every answer is read safely,
-//! that each request ends by the clock, that each fault is counted, and that no reply goes out
-//! unless this owner was sure of the file since the last event.
+//! that each fault is counted, and that no reply goes out unless this owner was sure of the file
+//! since the last event. That each request ends by the clock is code that no clause speaks of.
 #![tactic(auto)]
 
 mod answers;
