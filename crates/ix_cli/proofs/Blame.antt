@@ -8,7 +8,7 @@ use Rattle.std.specs.Result.{IsErrAnd}
 use Rattle.clap.specs.Words.{App, Text, fault_of}
 use Rattle.ix_cli.specs.Commands.{trace_command, replay_command, serve_command, work_command}
 use Rattle.ix_cli.specs.Commands.{simplify_command, bound_command, follow_command, lint_command}
-use Rattle.ix_cli.specs.Commands.{why_command, next_command, stuck_command}
+use Rattle.ix_cli.specs.Commands.{why_command, next_command, stuck_command, renew_command}
 use Rattle.ix_cli.specs.Words.{Refuses}
 use Rattle.ix_cli.specs.declared.fault.WordsFault.{WordsFault}
 use Rattle.ix_cli.specs.declared.fault.WordsFault.TheVariants.{Bad, Memory}
@@ -16,10 +16,10 @@ use Rattle.ix_cli.specs.inside.Jobs.{Explains}
 use Rattle.ix_cli.specs.inside.Matches.{Blames}
 use Rattle.ix_cli.proofs.PlainCommands.{trace_name, replay_name, serve_name, work_name}
 use Rattle.ix_cli.proofs.PlainCommands.{simplify_name, bound_name, follow_name, lint_name}
-use Rattle.ix_cli.proofs.PlainCommands.{why_name, next_name, stuck_name}
-use Rattle.ix_cli.proofs.Named.{first_two, initial, trace_initial, replay_initial, serve_initial}
+use Rattle.ix_cli.proofs.PlainCommands.{why_name, next_name, stuck_name, renew_name}
+use Rattle.ix_cli.proofs.Named.{first_and_third, initial, trace_initial, replay_initial, serve_initial}
 use Rattle.ix_cli.proofs.Named.{work_initial, simplify_initial, bound_initial, follow_initial}
-use Rattle.ix_cli.proofs.Named.{lint_initial, why_initial, next_initial, stuck_initial}
+use Rattle.ix_cli.proofs.Named.{lint_initial, why_initial, next_initial, stuck_initial, renew_initial}
 
 -- `?` hands a fault up as it is
 pub handed_up : {T : Type 0} (r : Result T WordsFault) (fault : WordsFault) (P : T → Type 0)
@@ -35,17 +35,18 @@ blamed_as words fault same blamed = subst (λ (app : App). Blames app words faul
 -- the command whose name begins so
 abbrev command_at : ℕ → App
 command_at n =
-    if n == 29810 then trace_command else
-    if n == 29285 then replay_command else
-    if n == 29541 then serve_command else
-    if n == 30575 then work_command else
-    if n == 29545 then simplify_command else
-    if n == 25199 then bound_command else
-    if n == 26223 then follow_command else
-    if n == 27753 then lint_command else
-    if n == 30568 then why_command else
-    if n == 28261 then next_command else
-    stuck_command
+    if n == 29793 then trace_command else
+    if n == 29296 then replay_command else
+    if n == 29554 then serve_command else
+    if n == 30578 then work_command else
+    if n == 29549 then simplify_command else
+    if n == 25205 then bound_command else
+    if n == 26220 then follow_command else
+    if n == 27758 then lint_command else
+    if n == 30585 then why_command else
+    if n == 28280 then next_command else
+    if n == 29557 then stuck_command else
+    renew_command
 
 -- the command is told by how its name begins
 abbrev pub IsKnown : App → Type 0
@@ -84,12 +85,15 @@ next_known = sym (ap command_at next_initial)
 pub stuck_known : IsKnown stuck_command
 stuck_known = sym (ap command_at stuck_initial)
 
+pub renew_known : IsKnown renew_command
+renew_known = sym (ap command_at renew_initial)
+
 module _ (words : List Text) where
   -- a command refuses words that begin with a name that begins otherwise
   other : (command : App) (name : Text) → slice_get words 0 ≡ Some name
-      → (first_two name ≡ initial command → ⊥) → Refuses command words
+      → (first_and_third name ≡ initial command → ⊥) → Refuses command words
   other command name first apart =
-      inl (λ same. apart (ap (λ o. first_two (unwrap_or o [])) (sym first ∙ same)))
+      inl (λ same. apart (ap (λ o. first_and_third (unwrap_or o [])) (sym first ∙ same)))
 
   -- words that begin with a command's name, and that it refuses, each command refuses
   module _ (command : App) (known : IsKnown command)
@@ -120,6 +124,7 @@ module _ (words : List Text) where
     refuses command known first refused why_command why_known,
     refuses command known first refused next_command next_known,
     refuses command known first refused stuck_command stuck_known,
+    refuses command known first refused renew_command renew_known,
   )
 
   not_named : (command : App) (name called : Text) → slice_get words 0 ≡ Some name
@@ -140,11 +145,12 @@ module _ (words : List Text) where
       → name ≢ codes "why"
       → name ≢ codes "next"
       → name ≢ codes "stuck"
+      → name ≢ codes "renew"
       → (fault : WordsFault) → Explains words fault
   unknown_blamed name first no_trace no_replay no_serve no_work no_simplify no_bound no_follow
-      no_lint no_why no_next no_stuck Memory = tt
+      no_lint no_why no_next no_stuck no_renew Memory = tt
   unknown_blamed name first no_trace no_replay no_serve no_work no_simplify no_bound no_follow
-      no_lint no_why no_next no_stuck (Bad text) = (
+      no_lint no_why no_next no_stuck no_renew (Bad text) = (
         not_named trace_command name (codes "trace") first trace_name no_trace,
         not_named replay_command name (codes "replay") first replay_name no_replay,
         not_named serve_command name (codes "serve") first serve_name no_serve,
@@ -156,6 +162,7 @@ module _ (words : List Text) where
         not_named why_command name (codes "why") first why_name no_why,
         not_named next_command name (codes "next") first next_name no_next,
         not_named stuck_command name (codes "stuck") first stuck_name no_stuck,
+        not_named renew_command name (codes "renew") first renew_name no_renew,
       )
 
 -- the text of the first word

@@ -4,7 +4,7 @@ use Rattle.std.specs.List.{Contains}
 use Rattle.clap.specs.Words.{App, Rule}
 use Rattle.ix_cli.specs.Commands.{trace_command, replay_command, serve_command, work_command}
 use Rattle.ix_cli.specs.Commands.{simplify_command, bound_command, follow_command, lint_command}
-use Rattle.ix_cli.specs.Commands.{why_command, next_command, stuck_command}
+use Rattle.ix_cli.specs.Commands.{why_command, next_command, stuck_command, renew_command}
 use Rattle.ix_cli.specs.Commands.{word, number_word, nodes_option, turns_option}
 use Rattle.ix_cli.specs.Commands.{states_option, most_asks, most_seed, most_values}
 use Rattle.ix_cli.specs.inside.Matches.{IsPlainCommand}
@@ -313,3 +313,34 @@ stuck_states = (3, lit< tt, refl)
 pub stuck_name : stuck_command.top.name ≡ codes "stuck"
 unfolding stuck_command
 stuck_name = refl
+
+pub renew_plain : IsPlainCommand renew_command
+unfolding renew_command
+renew_plain = record {
+  no_subcommands = refl;
+  simple = refl;
+  ready = refl;
+  free = refl;
+  requires_all = refl;
+  distinct = refl;
+}
+
+pub renew_expr : HasArgument renew_command (word (codes "EXPR"))
+unfolding renew_command
+renew_expr = (0, lit< tt, refl)
+
+pub renew_journal : HasArgument renew_command (word (codes "JOURNAL"))
+unfolding renew_command
+renew_journal = (1, lit< tt, refl)
+
+pub renew_new : HasArgument renew_command (word (codes "NEW"))
+unfolding renew_command
+renew_new = (2, lit< tt, refl)
+
+pub renew_nodes : HasArgument renew_command nodes_option
+unfolding renew_command
+renew_nodes = (3, lit< tt, refl)
+
+pub renew_name : renew_command.top.name ≡ codes "renew"
+unfolding renew_command
+renew_name = refl

@@ -119,3 +119,8 @@ stuck_command = with_rule (with_rule (with_rule (with_rule (new_app (codes "stuc
 unfoldable pub work_command : App
 work_command = with_rule (with_rule (with_rule (new_app (codes "work"))
     (number_word (codes "N") 0 most_asks)) (number_word (codes "SEED") 0 most_seed)) nodes_option
+
+-- `renew EXPR JOURNAL NEW [--nodes N]`
+unfoldable pub renew_command : App
+renew_command = with_rule (with_rule (with_rule (with_rule (new_app (codes "renew"))
+    (word (codes "EXPR"))) (word (codes "JOURNAL"))) (word (codes "NEW"))) nodes_option

@@ -4,14 +4,16 @@ use Rattle.std.specs.Str.Parse.{digits_value, without_leading_plus}
 use Rattle.clap.specs.Words.{App, Text, all_of, fault_of, first_of, matches_of, one_of}
 use Rattle.ix_cli.specs.Commands.{trace_command, replay_command, serve_command, work_command}
 use Rattle.ix_cli.specs.Commands.{simplify_command, bound_command, follow_command, lint_command}
-use Rattle.ix_cli.specs.Commands.{why_command, next_command, stuck_command, most_states}
+use Rattle.ix_cli.specs.Commands.{why_command, next_command, stuck_command, renew_command}
+use Rattle.ix_cli.specs.Commands.{most_states}
 use Rattle.ix_cli.specs.Commands.{most_nodes, most_turns, most_asks, most_seed, most_values}
 
 -- What the program is to do: trace the actions of a file, replay a script or serve a socket over a
 -- journal, work through so many asks of a generated workload, simplify an expression, tell its
 -- bound over so many values, follow a log by the lines of a file, tell what looks wrong in an
--- expression, why it refuses an action, what may come next, or whether it gets stuck. `nodes` is the
--- limit of Size, `turns` the most events that are taken, and `states` the most that are visited.
+-- expression, why it refuses an action, what may come next, whether it gets stuck, or renew a
+-- journal. `nodes` is the limit of Size, `turns` the most events that are taken, and `states` the
+-- most that are visited.
 pub data Job : Type 0 where
   trace : (expr actions : Text) (nodes : ℕ) → Job
   replay : (expr journal script : Text) (nodes turns : ℕ) → Job
@@ -24,6 +26,7 @@ pub data Job : Type 0 where
   why : (expr actions action : Text) (nodes : ℕ) → Job
   next : (expr actions : Text) (values : List Text) (nodes : ℕ) → Job
   stuck : (expr values : Text) (nodes states : ℕ) → Job
+  renew : (expr journal new : Text) (nodes : ℕ) → Job
 
 -- the first word is the command's name, and clap's definition of it takes the words behind
 pub record IsTaken (command : App) (words : List Text) : Type 0 where
@@ -106,6 +109,11 @@ Names words (stuck expr values nodes states) = IsTaken stuck_command words
     × Says stuck_command words (codes "EXPR") expr
     × Says stuck_command words (codes "VALUES") values
     × SaysNodes stuck_command words nodes × SaysStates stuck_command words states
+Names words (renew expr journal new nodes) = IsTaken renew_command words
+    × Says renew_command words (codes "EXPR") expr
+    × Says renew_command words (codes "JOURNAL") journal
+    × Says renew_command words (codes "NEW") new
+    × SaysNodes renew_command words nodes
 
 -- the words name no job: each command refuses them
 abbrev pub NamesNoJob : List Text → Type 0
@@ -113,3 +121,4 @@ NamesNoJob words = Refuses trace_command words × Refuses replay_command words
     × Refuses serve_command words × Refuses work_command words × Refuses simplify_command words
     × Refuses bound_command words × Refuses follow_command words × Refuses lint_command words
     × Refuses why_command words × Refuses next_command words × Refuses stuck_command words
+    × Refuses renew_command words

@@ -5,7 +5,7 @@ ghost use Rattle.ix_cli.specs.Commands.{word, number_word, nodes_option, turns_o
 ghost use Rattle.ix_cli.specs.Commands.{trace_command, replay_command, serve_command, work_command};
 ghost use Rattle.ix_cli.specs.Commands.{simplify_command, bound_command, follow_command};
 ghost use Rattle.ix_cli.specs.Commands.{lint_command, why_command, next_command, stuck_command};
-ghost use Rattle.ix_cli.specs.Commands.{most_given, states_option, words};
+ghost use Rattle.ix_cli.specs.Commands.{most_given, renew_command, states_option, words};
 
 use clap::builder::ValueParser;
 use clap::{Arg, ArgAction, Command};
@@ -250,4 +250,25 @@ pub(crate) fn stuck<'a>(alloc: Global) -> Result<Command<'a>, AllocError>
         .arg(nodes_option(alloc))?
         .arg(states_option(alloc))?
         .bin_name("ixm stuck")
+}
+
+/// The command `renew`.
+pub(crate) fn renew<'a>(alloc: Global) -> Result<Command<'a>, AllocError>
+    ensures { IfOk result (λ command. app_of command ≡ renew_command) }
+{
+    Command::new(alloc, "renew")
+        .about("Makes a short journal behind which a manager goes on as behind a long one")
+        .arg(word(alloc, "EXPR", EXPRESSION_HELP))?
+        .arg(word(
+            alloc,
+            "JOURNAL",
+            "The file of the journal, which no manager has open",
+        ))?
+        .arg(word(
+            alloc,
+            "NEW",
+            "The file of the new journal, absent or without a byte",
+        ))?
+        .arg(nodes_option(alloc))?
+        .bin_name("ixm renew")
 }

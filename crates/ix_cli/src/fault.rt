@@ -40,6 +40,7 @@ Commands:
   why EXPR ACTIONS ACTION [--nodes N]
   next EXPR ACTIONS [VALUE..] [--nodes N]
   stuck EXPR VALUES [--nodes N] [--states N]
+  renew EXPR JOURNAL NEW [--nodes N]
 
 For more information on a command, put '--help' behind its name.
 ";

@@ -83,6 +83,13 @@ pub enum Job {
         nodes: usize,
         states: u64,
     },
+    /// Make a new journal in place of one, behind which the answers stay the same.
+    Renew {
+        expr: String,
+        journal: String,
+        new: String,
+        nodes: usize,
+    },
 }
 
 /// The job of words that begin with `trace`.
@@ -249,5 +256,21 @@ pub(crate) fn read_stuck(alloc: Global, words: &[String]) -> Result<Job, WordsFa
         values: text(alloc, &matches, "VALUES")?,
         nodes: number(&matches, "nodes") as usize,
         states: number(&matches, "states"),
+    })
+}
+
+/// The job of words that begin with `renew`.
+pub(crate) fn read_renew(alloc: Global, words: &[String]) -> Result<Job, WordsFault>
+    requires { slice_get (map string_bytes words.now) 0 ≡ Some (codes "renew") }
+    ensures { MatchResult result
+        (λ job. Names (map string_bytes words.now) (job_of job))
+        (Explains (map string_bytes words.now)) }
+{
+    let matches = parse(alloc, commands::renew(alloc)?, words)?;
+    Ok(Job::Renew {
+        expr: text(alloc, &matches, "EXPR")?,
+        journal: text(alloc, &matches, "JOURNAL")?,
+        new: text(alloc, &matches, "NEW")?,
+        nodes: number(&matches, "nodes") as usize,
     })
 }

@@ -43,6 +43,7 @@ pub fn read_words(alloc: Global, words: &[String]) -> Result<Job, WordsFault>
         "why" => job::read_why(alloc, words),
         "next" => job::read_next(alloc, words),
         "stuck" => job::read_stuck(alloc, words),
+        "renew" => job::read_renew(alloc, words),
         _ => Err(no_command(alloc)),
     }
 }

@@ -45,7 +45,8 @@ one_reply (machine.cancel_no_such not_so) kind = (_, refl)
 one_reply (machine.outcome_confirmed before behind a parts place) kind = (_, refl)
 one_reply (machine.outcome_open absent is) kind = (_, refl)
 one_reply (machine.outcome_no_such absent not_so un) kind = (_, refl)
-one_reply (machine.outcome_never absent not_so un) kind = (_, refl)
+one_reply (machine.outcome_left_out absent not_so un before) kind = (_, refl)
+one_reply (machine.outcome_never absent not_so un later) kind = (_, refl)
 one_reply _ kind = absurd kind
 
 no_end_of : (asked : PlainRequest) → IsOfTickets asked → ending_of asked ≡ going

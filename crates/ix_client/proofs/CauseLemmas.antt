@@ -76,6 +76,13 @@ unsure_settle g back (Ok None) old new is cause = inr cause
 unsure_settle g back (Ok (Some (reply.Outcome (became.Confirmed place)))) old new is cause = absurd cc
 unsure_settle g back (Ok (Some (reply.Outcome became.Waiting))) old new is cause = absurd cc
 unsure_settle g back (Ok (Some (reply.Outcome became.Never))) old new is cause = absurd cc
+unsure_settle g back (Ok (Some (reply.Refused code number))) old new is cause = elim cause [
+  | inl same ↦ elim (if_cases (code == 32) settle.LeftOut (settle.Unsure g) (settle.Unsure back) is) [
+    | inl holds ↦ let e = holds.1 in absurd cc
+    | inr fails ↦ absurd (let e : (code == 32) ≡ true = grind (arith, nat_tests) in true≢false (sym e ∙ fails.0))
+  ]
+  | inr rose ↦ inr rose
+]
 unsure_settle g back (Ok (Some _)) old new is cause = elim cause [ inl no_reply ↦ absurd no_reply | inr rose ↦ inr rose ]
 
 expired_confirm : (g : Grant) (heard : Heard) (old new : LinkState) → confirm.Expired ≡ confirmed_by g heard

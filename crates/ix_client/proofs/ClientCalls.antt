@@ -2,7 +2,7 @@
 use Rattle.std.proofs.Common.{◌≡◌, ℕ, ◌+◌, ◌*◌, List, Result, Ok, Err, sym, subst, arith}
 use Rattle.ix_values.specs.PlainAction.{PlainAction}
 use Rattle.ix_proto.specs.Requests.{PlainRequest}
-use Rattle.ix_client.specs.Client.{GoesOnBehind, GoesOnFrom, Runs, Serves, TakesTurn, TakesTurns, again, another, bad_words, comes_to, done, ends, never, none_left, serves, unsure, usage}
+use Rattle.ix_client.specs.Client.{GoesOnBehind, GoesOnFrom, Runs, Serves, TakesTurn, TakesTurns, again, another, bad_words, comes_to, done, ends, left_out, never, none_left, serves, unsure, usage}
 use Rattle.ix_client.specs.Grant.{Grant}
 use Rattle.ix_client.specs.Grants.{Heard}
 use Rattle.ix_client.specs.Hearing.{Hears}
@@ -25,6 +25,7 @@ both_calls m n s t u first second = omega (arith, first, second)
 turn_calls : (g : Grant) (how : Turned) (s u : LinkState) → TakesTurn g how s u → CallsAtMost 2 s u
 turn_calls g how s u (done number settles is) = let one = one_call _ settles.heard s u settles.hears in omega (arith, one)
 turn_calls g how s u (never settles is) = let one = one_call _ settles.heard s u settles.hears in omega (arith, one)
+turn_calls g how s u (left_out settles is) = let one = one_call _ settles.heard s u settles.hears in omega (arith, one)
 turn_calls g how s u (again back confirmed t settles confirms is) =
     both_calls 1 1 s t u (one_call _ settles.heard s t settles.hears) (one_call _ confirms.heard t u confirms.hears)
 turn_calls g how s u (unsure back settles is) = let one = one_call _ settles.heard s u settles.hears in omega (arith, one)

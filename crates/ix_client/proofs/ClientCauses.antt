@@ -5,7 +5,7 @@ use Rattle.ix_values.specs.PlainAction.{PlainAction}
 use Rattle.ix_values.specs.declared.tickets.Ticket.{Ticket}
 use Rattle.ix_outside.specs.Counts.{Rose}
 use Rattle.ix_outside.specs.SinkState.{SinkState}
-use Rattle.ix_client.specs.Client.{ClientEnds, GoesOnBehind, GoesOnFrom, NamesAsk, Runs, Serves, TakesTurn, TakesTurns, again, another, bad_words, comes_to, done, ends, ends_with, never, none_left, serves, unsure, usage}
+use Rattle.ix_client.specs.Client.{ClientEnds, GoesOnBehind, GoesOnFrom, NamesAsk, Runs, Serves, TakesTurn, TakesTurns, again, another, bad_words, comes_to, done, ends, ends_with, left_out, never, none_left, serves, unsure, usage}
 use Rattle.ix_client.specs.Rising.{RoseBy}
 use Rattle.ix_client.specs.Endings.{PutsLine, part, status_of, whole}
 use Rattle.ix_client.specs.Grant.{Grant}
@@ -80,12 +80,14 @@ unsure_confirmed g back (confirm.Unsure other) s u is confirms = odd_answers_hav
 turn_counts : (g : Grant) (how : Turned) (s u : LinkState) → TakesTurn g how s u → NoFewer s u
 turn_counts g how s u (done number settles is) = settles.hears.counts
 turn_counts g how s u (never settles is) = settles.hears.counts
+turn_counts g how s u (left_out settles is) = settles.hears.counts
 turn_counts g how s u (again back confirmed t settles confirms is) = no_fewer s t u settles.hears.counts confirms.hears.counts
 turn_counts g how s u (unsure back settles is) = settles.hears.counts
 
 unsure_turn : (g back : Grant) (s u : LinkState) → TakesTurn g (turned.Unsure back) s u → EitherRose s u
 unsure_turn g back s u (done number settles is) = absurd cc
 unsure_turn g back s u (never settles is) = absurd cc
+unsure_turn g back s u (left_out settles is) = absurd cc
 unsure_turn g back s u (again other confirmed t settles confirms is) =
     either_earlier s t u settles.hears.counts (unsure_confirmed other back confirmed t u is confirms)
 unsure_turn g back s u (unsure other settles is) = odd_answers_have_a_cause.unsure s u g other (inr (inr settles))
@@ -99,6 +101,7 @@ no_unsure (confirm.Unsure g) ticket is = cc
 sure_end : (g : Grant) (how : Ended) (ticket : Ticket) (s u : LinkState) → TakesTurn g (turned.Over how) s u → how ≢ ended.Unsure ticket
 sure_end g how ticket s u (done number settles is) same = cc
 sure_end g how ticket s u (never settles is) same = cc
+sure_end g how ticket s u (left_out settles is) same = cc
 sure_end g how ticket s u (again back confirmed t settles confirms is) same =
     no_unsure confirmed ticket (ap (λ (v : Ended). turned.Over v) (sym same) ∙ is)
 sure_end g how ticket s u (unsure back settles is) same = cc
@@ -137,6 +140,13 @@ never_from g confirm.Expired s t u confirms goes =
 never_from g (confirm.Unsure back) s t u confirms turns =
     either_later s t u (odd_answers_have_a_cause.unsure s t g back (inl confirms)) (turns_counts turns)
 
+left_out_from : (g : Grant) (ticket : Ticket) (confirmed : Confirm) (s t u : LinkState) → Confirms g confirmed s t
+    → GoesOnFrom (comes_to confirmed) (ended.LeftOut ticket) t u → EitherRose s u
+left_out_from g ticket (confirm.Done number) s t u confirms goes = absurd (let no_end : ended.LeftOut ticket ≡ ended.Done number = goes.0 in cc)
+left_out_from g ticket confirm.Expired s t u confirms goes = absurd (let no_end : ended.LeftOut ticket ≡ ended.Never = goes.0 in cc)
+left_out_from g ticket (confirm.Unsure back) s t u confirms turns =
+    either_later s t u (odd_answers_have_a_cause.unsure s t g back (inl confirms)) (turns_counts turns)
+
 unsure_from : (g : Grant) (ticket : Ticket) (confirmed : Confirm) (s t u : LinkState) → Confirms g confirmed s t
     → GoesOnFrom (comes_to confirmed) (ended.Unsure ticket) t u → RoseBy 9 s u
 unsure_from g ticket (confirm.Done number) s t u confirms goes = absurd (let no_end : ended.Unsure ticket ≡ ended.Done number = goes.0 in cc)
@@ -168,6 +178,7 @@ ask_cause a lease fault.Link s u asks = odd_answers_have_a_cause.no_link s u a l
 -- what an ending tells of the counts
 abbrev pub EndCause : Ended → LinkState → LinkState → Type 0
 EndCause ended.Never s u = EitherRose s u
+EndCause (ended.LeftOut ticket) s u = EitherRose s u
 EndCause ended.NoLink s u = Rose s.faults u.faults
 EndCause ended.OddReply s u = Rose s.balks u.balks
 EndCause ended.NoMemory s u = Rose s.balks u.balks
@@ -195,6 +206,7 @@ of_confirm (confirm.Unsure g) how is = absurd cc
 of_turn : (g : Grant) (how : Ended) (s u : LinkState) → TakesTurn g (turned.Over how) s u → IsOfAsk how
 of_turn g how s u (done number settles is) = let same : ended.Done number ≡ how = cc in subst IsOfAsk same tt
 of_turn g how s u (never settles is) = let same : ended.Never ≡ how = cc in subst IsOfAsk same tt
+of_turn g how s u (left_out settles is) = let same : ended.LeftOut g.ticket ≡ how = cc in subst IsOfAsk same tt
 of_turn g how s u (again back confirmed t settles confirms is) = of_confirm confirmed how is
 of_turn g how s u (unsure back settles is) = absurd cc
 
@@ -223,6 +235,7 @@ abbrev pub IsOfGrant : Ended → Type 0
 IsOfGrant (ended.Done number) = Unit {0}
 IsOfGrant ended.Never = Unit {0}
 IsOfGrant (ended.Unsure ticket) = Unit {0}
+IsOfGrant (ended.LeftOut ticket) = Unit {0}
 IsOfGrant _ = ⊥
 
 grant_confirm : (confirmed : Confirm) (how : Ended) → turned.Over how ≡ comes_to confirmed → IsOfGrant how
@@ -233,6 +246,7 @@ grant_confirm (confirm.Unsure g) how is = absurd cc
 grant_turn : (g : Grant) (how : Ended) (s u : LinkState) → TakesTurn g (turned.Over how) s u → IsOfGrant how
 grant_turn g how s u (done number settles is) = let same : ended.Done number ≡ how = cc in subst IsOfGrant same tt
 grant_turn g how s u (never settles is) = let same : ended.Never ≡ how = cc in subst IsOfGrant same tt
+grant_turn g how s u (left_out settles is) = let same : ended.LeftOut g.ticket ≡ how = cc in subst IsOfGrant same tt
 grant_turn g how s u (again back confirmed t settles confirms is) = grant_confirm confirmed how is
 grant_turn g how s u (unsure back settles is) = absurd cc
 
@@ -251,6 +265,8 @@ grant_cause : (a : PlainAction) (lease : ℕ) (g : Grant) (confirmed : Confirm) 
 grant_cause a lease g confirmed (ended.Done number) s t v u asks confirms goes of = tt
 grant_cause a lease g confirmed ended.Never s t v u asks confirms goes of =
     either_earlier s t u asks.hears.counts (never_from g confirmed t v u confirms goes)
+grant_cause a lease g confirmed (ended.LeftOut ticket) s t v u asks confirms goes of =
+    either_earlier s t u asks.hears.counts (left_out_from g ticket confirmed t v u confirms goes)
 grant_cause a lease g confirmed (ended.Unsure ticket) s t v u asks confirms goes of =
     rose_before 9 s t u asks.hears.counts (unsure_from g ticket confirmed t v u confirms goes)
 grant_cause a lease g confirmed _ s t v u asks confirms goes of = absurd of
@@ -284,6 +300,10 @@ never_of : (how : Ended) (s u : LinkState) → status_of how ≡ 4 → EndCause 
 never_of ended.Never s u is cause = cause
 never_of _ s u is cause = absurd (omega (arith, is))
 
+left_out_of : (how : Ended) (s u : LinkState) → status_of how ≡ 5 → EndCause how s u → EitherRose s u
+left_out_of (ended.LeftOut ticket) s u is cause = cause
+left_out_of _ s u is cause = absurd (omega (arith, is))
+
 link_of : (how : Ended) (s u : LinkState) → status_of how ≡ 6 → EndCause how s u → Rose s.faults u.faults
 link_of ended.NoLink s u is cause = cause
 link_of _ s u is cause = absurd (omega (arith, is))
@@ -307,8 +327,9 @@ module _ (words : List (List ℕ)) (status : ℕ) (s u : LinkState) (before afte
   at : (n : ℕ) → status ≡ n → n ≢ 10 → status_of run.how ≡ n
   at n is other = status_is run.how status n before after run.puts is other
 
-  pub never_cause : status ≡ 4 → EitherRose s u
-  never_cause is = never_of run.how s u (at 4 is (λ e. omega (arith, e))) cause
+  pub never_cause : (status ≡ 4) ⊎ (status ≡ 5) → EitherRose s u
+  never_cause (inl is) = never_of run.how s u (at 4 is (λ e. omega (arith, e))) cause
+  never_cause (inr is) = left_out_of run.how s u (at 5 is (λ e. omega (arith, e))) cause
 
   pub link_cause : status ≡ 6 → Rose s.faults u.faults
   link_cause is = link_of run.how s u (at 6 is (λ e. omega (arith, e))) cause
@@ -337,6 +358,7 @@ plain_end ended.BadWords s u none well cause = absurd (well refl)
 plain_end (ended.Done number) s u none well cause = inl refl
 plain_end (ended.Refused code) s u none well cause = inr refl
 plain_end ended.Never s u none well cause = absurd (none cause)
+plain_end (ended.LeftOut ticket) s u none well cause = absurd (none cause)
 plain_end ended.NoLink s u none well cause = absurd (none (inl cause))
 plain_end ended.OddReply s u none well cause = absurd (none (inr cause))
 plain_end ended.NoMemory s u none well cause = absurd (none (inr cause))

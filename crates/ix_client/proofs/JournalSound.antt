@@ -1,18 +1,21 @@
 -- A manager that fits its site is in a sound state, as its journal tells.
-use Rattle.std.proofs.Common.{◌≡◌, ◌≢◌, inl, inr, ℕ, ◌+◌, ◌<◌, ◌≤◌, ◌==◌, ◌&&◌, ◌||◌, not, nat_le, nat_lt, Bool, true, false, List, [], ◌∷◌, ◌++◌, length, Option, Some, None, refl, sym, ◌∙◌, ap, subst, append-nil, arith}
+use Rattle.std.proofs.Common.{◌≡◌, ◌≢◌, inl, inr, ℕ, ◌+◌, ◌^◌, ◌<◌, ◌≤◌, ◌==◌, ◌&&◌, ◌||◌, not, nat_le, nat_lt, Bool, true, false, List, [], ◌∷◌, ◌++◌, length, Option, Some, None, refl, sym, ◌∙◌, ap, subst, append-nil, arith}
 use Rattle.std.specs.List.{list_all}
 use Rattle.std.proofs.lemmas.Bool.{and_from, and_parts, cases_eq, eqb-true, le-leb, lt-ltb, ne_eqb}
 use Rattle.ix_words.specs.Each.{Each, no_item, item}
 use Rattle.ix_words.proofs.Each.{Each-head, Each-tail, Each-weaker}
 use Rattle.ix_values.specs.declared.tickets.Ticket.{Ticket}
-use Rattle.ix_journal.specs.Entries.{CanSpend, InOrder, behind, fresh, marks_behind, marks_of}
+use Rattle.ix_journal.specs.Entries.{CanSpend, InOrder, MayFollow, behind, fresh, marks_behind, marks_of, or_none}
+use Rattle.ix_journal.specs.Entries.{renewed_of}
+use Rattle.ix_journal.specs.declared.entries.Renewed.{Renewed}
+use Rattle.ix_values.specs.PlainAction.{PlainAction}
 use Rattle.ix_journal.specs.Entries as journal
 use Rattle.ix_journal.specs.History.{PlainHistory, Spent}
 use Rattle.ix_journal.specs.Recovery.{IsJournalWith}
 use Rattle.ix_journal.specs.declared.entries.Entry.{Entry}
 use Rattle.ix_journal.specs.declared.entries.Entry.TheVariants as entry
 use Rattle.ix_journal.specs.declared.entries.Marks.{Marks}
-use Rattle.ix_journal.proofs.OrderLemmas.{marks_of-more, order-more, pairs-append}
+use Rattle.ix_journal.proofs.OrderLemmas.{marks_of-more, order-more, pairs-append, sound-all, sound-fresh}
 use Rattle.ix_expr.specs.CanonicalText.{canonical_text}
 use Rattle.ix_lease.specs.declared.Slot.{Slot}
 use Rattle.ix_lease.specs.declared.Slot.TheVariants.{Free, Held}
@@ -21,7 +24,7 @@ use Rattle.ix_memory.specs.lemmas.Lawful.{memory_is_lawful}
 use Rattle.ix_outside.specs.Disk.{OfFile}
 use Rattle.ix_manager.specs.Granted.{IsGranted, WasGranted}
 use Rattle.ix_manager.specs.Handled.{ManagerState}
-use Rattle.ix_manager.specs.Machine.{IsAbsent, MachineState}
+use Rattle.ix_manager.specs.Machine.{IsAbsent, MachineState, count}
 use Rattle.ix_manager.specs.inside.OverSite.{FitsSite, TicketsGoOn}
 use Rattle.ix_manager.proofs.SlotLemmas.{some_ticket}
 use Rattle.ix_client.specs.Grants.{same_ticket}
@@ -34,47 +37,65 @@ none_some ticket is = absurd (let no : None ≡ Some ticket = is in cc)
 -- the pair's ticket comes behind these marks
 abbrev IsBehind : Marks → Spent → Type 0
 IsBehind marks spent = (ticket : Ticket) → spent.0 ≡ Some ticket
-    → (marks.boots ≤ ticket.boot) × (ticket.boot ≡ marks.boots → marks.seq < ticket.seq)
+    → ((renewed_of marks).boots < ticket.boot) × (marks.boots ≤ ticket.boot)
+    × (ticket.boot ≡ marks.boots → marks.seq < ticket.seq)
 
-boot_behind : (marks : Marks) (spent : Spent) → IsBehind (record { boots = marks.boots + 1; seq = 0 }) spent → IsBehind marks spent
-boot_behind marks spent is = λ ticket same.
-    let later = (is ticket same).0 in (omega (arith, later), λ here. absurd (omega (arith, later, here)))
+renewal_behind : (marks : Marks) (actions boots : ℕ) (spent : Spent) → MayFollow marks (entry.Renewed actions boots)
+    → IsBehind (behind marks (entry.Renewed actions boots)) spent → IsBehind marks spent
+renewal_behind marks actions boots spent follows is = λ ticket same.
+    let later = (is ticket same).0 in (
+      omega (arith, later, ap (λ r. (or_none r).boots) follows.0),
+      omega (arith, later, follows.1),
+      λ here. absurd (omega (arith, later, here, follows.1)),
+    )
 
-spent_behind : (marks : Marks) (spent : Ticket) (other : Spent) → CanSpend marks spent
-    → IsBehind (record { boots = marks.boots; seq = spent.seq }) other → IsBehind marks other
-spent_behind marks spent other can is = λ ticket same.
+boot_behind : (marks : Marks) (number : ℕ) (spent : Spent) → IsBehind (behind marks (entry.Boot number)) spent → IsBehind marks spent
+boot_behind marks number spent is = λ ticket same.
+    let later = is ticket same in
+    (later.0, omega (arith, later.1), λ here. absurd (omega (arith, later.1, here)))
+
+spent_behind : (marks : Marks) (spent : Ticket) (action : PlainAction) (other : Spent) → CanSpend marks spent
+    → IsBehind (behind marks (entry.Spent spent action)) other → IsBehind marks other
+spent_behind marks spent action other can is = λ ticket same.
     let of = is ticket same in
     let first = can.2 in
-    (of.0, λ here. let next = of.1 here in omega (arith, first, next))
+    (of.0, of.1, λ here. let next = of.2 here in omega (arith, first, next))
 
 all_behind : (marks : Marks) (entries : List Entry) → InOrder marks entries → Each (IsBehind marks) (journal.pairs_of entries)
 all_behind marks [] order = no_item
+all_behind marks (entry.Renewed actions boots ∷ entries) order =
+    Each-weaker (λ other. renewal_behind marks actions boots other order.0)
+    (all_behind (behind marks (entry.Renewed actions boots)) entries order.1)
 all_behind marks (entry.Boot number ∷ entries) order =
-    Each-weaker (boot_behind marks) (all_behind (behind marks (entry.Boot number)) entries order.1)
+    Each-weaker (boot_behind marks number) (all_behind (behind marks (entry.Boot number)) entries order.1)
 all_behind marks (entry.Plain a ∷ entries) order =
-    item (λ ticket same. none_some ticket same) (all_behind marks entries order.1)
+    item (λ ticket same. none_some ticket same) (all_behind (behind marks (entry.Plain a)) entries order.1)
 all_behind marks (entry.Spent spent a ∷ entries) order =
     item
     (λ ticket same.
     let is : spent ≡ ticket = some_ticket same in
     let boot = order.0.0 in
     let seq = order.0.2 in
-    subst (λ (t : Ticket). (marks.boots ≤ t.boot) × (t.boot ≡ marks.boots → marks.seq < t.seq)) is
-    (omega (arith, boot), λ here. seq))
-    (Each-weaker (λ other. spent_behind marks spent other order.0)
+    subst (λ (t : Ticket). ((renewed_of marks).boots < t.boot) × (marks.boots ≤ t.boot)
+    × (t.boot ≡ marks.boots → marks.seq < t.seq)) is
+    (order.0.1, omega (arith, boot), λ here. seq))
+    (Each-weaker (λ other. spent_behind marks spent a other order.0)
     (all_behind (behind marks (entry.Spent spent a)) entries order.1))
 
 -- no ticket of records in order stands in two of them
 pub apart_in : (marks : Marks) (entries : List Entry) → InOrder marks entries → AreApart (journal.pairs_of entries)
 apart_in marks [] order = tt
+apart_in marks (entry.Renewed actions boots ∷ entries) order =
+    apart_in (behind marks (entry.Renewed actions boots)) entries order.1
 apart_in marks (entry.Boot number ∷ entries) order = apart_in (behind marks (entry.Boot number)) entries order.1
-apart_in marks (entry.Plain a ∷ entries) order = (λ ticket same. none_some ticket same, apart_in marks entries order.1)
+apart_in marks (entry.Plain a ∷ entries) order =
+    (λ ticket same. none_some ticket same, apart_in (behind marks (entry.Plain a)) entries order.1)
 apart_in marks (entry.Spent spent a ∷ entries) order =
     let later = behind marks (entry.Spent spent a) in (
       λ ticket same.
           Each-weaker
           (λ other is. λ equal.
-          let next = (is ticket equal).1 in
+          let next = (is ticket equal).2 in
           let first : spent.boot ≡ marks.boots = order.0.0 in
           let mine : spent ≡ ticket = some_ticket same in
           let boot = ap (λ (t : Ticket). t.boot) mine in
@@ -86,16 +107,17 @@ apart_in marks (entry.Spent spent a ∷ entries) order =
     )
 
 -- the marks behind records in order come behind those in front
-marks_go_on : (marks : Marks) (entries : List Entry) → InOrder marks entries
+marks_go_on : (marks : Marks) (entries : List Entry) → InOrder marks entries → 0 < marks.boots
     → (marks.boots ≤ (marks_behind marks entries).boots)
     × (marks.boots ≡ (marks_behind marks entries).boots → marks.seq ≤ (marks_behind marks entries).seq)
-marks_go_on marks [] order = (omega arith, λ same. omega arith)
-marks_go_on marks (entry.Boot number ∷ entries) order =
-    let rest = (marks_go_on (behind marks (entry.Boot number)) entries order.1).0 in
+marks_go_on marks [] order some = (omega arith, λ same. omega arith)
+marks_go_on marks (entry.Renewed actions boots ∷ entries) order some = absurd (omega (arith, some, order.0.1))
+marks_go_on marks (entry.Boot number ∷ entries) order some =
+    let rest = (marks_go_on (behind marks (entry.Boot number)) entries order.1 (omega arith)).0 in
     (omega (arith, rest), λ same. absurd (omega (arith, rest, same)))
-marks_go_on marks (entry.Plain a ∷ entries) order = marks_go_on marks entries order.1
-marks_go_on marks (entry.Spent spent a ∷ entries) order =
-    let rest = marks_go_on (behind marks (entry.Spent spent a)) entries order.1 in
+marks_go_on marks (entry.Plain a ∷ entries) order some = marks_go_on (behind marks (entry.Plain a)) entries order.1 some
+marks_go_on marks (entry.Spent spent a ∷ entries) order some =
+    let rest = marks_go_on (behind marks (entry.Spent spent a)) entries order.1 some in
     let seq = order.0.2 in
     (rest.0, λ same. let next = rest.1 same in omega (arith, next, seq))
 
@@ -104,14 +126,17 @@ pub granted_in : (boot number : ℕ) (marks : Marks) (entries : List Entry) → 
     → (marks_behind marks entries).boots ≡ boot → (marks_behind marks entries).seq < number
     → Each (WasGranted boot number) (journal.pairs_of entries)
 granted_in boot number marks [] order is below = no_item
+granted_in boot number marks (entry.Renewed actions boots ∷ entries) order is below =
+    granted_in boot number (behind marks (entry.Renewed actions boots)) entries order.1 is below
 granted_in boot number marks (entry.Boot n ∷ entries) order is below = granted_in boot number (behind marks (entry.Boot n)) entries order.1 is below
 granted_in boot number marks (entry.Plain a ∷ entries) order is below =
-    item (λ ticket same. none_some ticket same) (granted_in boot number marks entries order.1 is below)
+    item (λ ticket same. none_some ticket same)
+    (granted_in boot number (behind marks (entry.Plain a)) entries order.1 is below)
 granted_in boot number marks (entry.Spent spent a ∷ entries) order is below =
     let later = behind marks (entry.Spent spent a) in
-    let rest = marks_go_on later entries order.1 in
-    let low = rest.0 in
     let first = order.0.0 in
+    let rest = marks_go_on later entries order.1 (omega (arith, first, order.0.1)) in
+    let low = rest.0 in
     item
     (λ ticket same. subst (IsGranted boot number) (some_ticket same) (record {
       earlier = omega (arith, low, first, is);
@@ -139,7 +164,7 @@ by_slot s Free entries marks is order tells marked on =
     let number = on.number in
     sound_with s entries s.history order tells
     (ap (λ slot. s.history ++ reserved slot) is ∙ append-nil s.history)
-    on.begun (omega (arith, number)) (omega (arith, boots, boot)) (omega (arith, seqs, number))
+    (omega (arith, on.begun)) (omega (arith, number)) (omega (arith, boots, boot)) (omega (arith, seqs, number))
 by_slot s (Held ticket a deadline) entries marks is order tells marked on =
     let boots = ap (λ (m : Marks). m.boots) marked in
     let seqs = ap (λ (m : Marks). m.seq) marked in
@@ -156,7 +181,7 @@ by_slot s (Held ticket a deadline) entries marks is order tells marked on =
     (order-more fresh entries e order can)
     (pairs-append entries (e ∷ []) ∙ ap (λ (h : PlainHistory). h ++ (Some ticket, a) ∷ []) tells)
     (ap (λ slot. s.history ++ reserved slot) is)
-    on.begun (omega (arith, number)) (omega (arith, next_boots, boots, boot)) (omega (arith, next_seq, below))
+    (omega (arith, on.begun)) (omega (arith, number)) (omega (arith, next_boots, boots, boot)) (omega (arith, next_seq, below))
 
 -- the file of a site that tells it may be left
 pub file_left : (site : MemorySiteState) → site.told ≡ true → (crashes_of site).now site.image
@@ -179,18 +204,24 @@ fits_sound m site fits told =
     let of = journal_of m site fits told in
     by_slot m.machine m.machine.slot of.entries m.store.marks refl of.journal.closes.records.order of.pairs of.marked fits.tickets
 
--- the history is no longer than a million, nor is the boot above that
+-- the count of the history and the boot fit into 64 bits
 pub fits_few : (m : ManagerState) (site : MemorySiteState) → FitsSite m (state_of site) (crashes_of site) → site.told ≡ true
-    → (length m.machine.history ≤ 1000000) × (m.machine.boot ≤ 1000000)
+    → (count m.machine ≤ 2 ^ 63 + 1000000) × (m.machine.boot ≤ 2 ^ 63 + 1000000)
 fits_few m site fits told =
     let of = journal_of m site fits told in
+    let records = of.journal.closes.records in
     let few = of.journal.closes.few in
     let actions = few.actions in
     let boots = few.boots in
-    let long = ap length of.pairs in
-    let marks = ap (λ (m : Marks). m.boots) of.marked in
-    let boot = fits.tickets.boot in
-    (omega (arith, actions, long), omega (arith, boots, marks, boot))
+    let sound = sound-all fresh of.entries sound-fresh records.valid records.order in
+    let low = sound.boots in
+    let least = sound.actions in
+    let renewed : m.machine.renewed ≡ renewed_of (marks_of of.entries) =
+    fits.tickets.renewed ∙ ap renewed_of (sym of.marked) in
+    let marks = ap (λ (m : Marks). m.boots) of.marked in (
+      omega (arith, actions, ap length of.pairs, least, ap (λ (r : Renewed). r.actions) renewed),
+      omega (arith, boots, low, marks, fits.tickets.boot),
+    )
 
 -- the test of a sound state
 absent_test : (ticket : Ticket) (others : PlainHistory) → IsAbsent ticket others → is_absent (Some ticket) others ≡ true

@@ -21,3 +21,5 @@ pub mod OverLemmas
 pub mod TellLemmas
 pub mod LinkLemmas
 pub mod StartedLemmas
+pub mod ExpectedLemmas
+pub mod CallCounts

@@ -45,9 +45,9 @@ there_manages text limit manager m site is manages = subst (λ o. IsManagerWhere
 -- behind a manager that answered
 answered_again : (asked : PlainRequest) (line : List ℕ) (m n : ManagerState) (after : MemorySiteState) → AnswersOver asked line m n after
     → after.told ≡ true → StartsAgain m.form m.machine after.image
-answered_again asked line m n after is told = λ limit history boot starts.
+answered_again asked line m n after is told = λ limit history renewed boot starts.
     later_join (is.later told)
-    (subst (λ x. StartsAgain x n.machine after.image) is.form (fits_again n after is.over.fits told) limit history boot starts)
+    (subst (λ x. StartsAgain x n.machine after.image) is.form (fits_again n after is.over.fits told) limit history renewed boot starts)
 
 -- what starts from the file of the site comes later than the manager's state, however a request went
 kept_again : (asked : PlainRequest) (passed : Passed) (kept : Option ManagerState) (line : List ℕ) (m : ManagerState) (after : MemorySiteState)

@@ -1,6 +1,8 @@
 -- A manager over a site in memory goes on, or is started again.
 use Rattle.std.proofs.Common.{◌≡◌, inl, inr, ℕ, ◌^◌, ◌<◌, ◌≤◌, Bool, true, false, List, [], ◌∷◌, ◌++◌, length, set, get_or, Option, Some, None, Ok, Err, IsSome, true≢false, refl, sym, ◌∙◌, ap, subst, arith}
 use Rattle.std.proofs.lemmas.List.{append_cancel_right}
+use Rattle.ix_manager.proofs.SavingLemmas.{holds_same}
+use Rattle.ix_journal.specs.Entries.{renewed_of}
 use Rattle.ix_values.specs.PlainAction.{PlainAction}
 use Rattle.ix_values.specs.Laws.{TextsTellTicketsApart}
 use Rattle.ix_values.specs.declared.tickets.Ticket.{Ticket}
@@ -52,32 +54,34 @@ event_for bytes = record { conn = 0; moment = 0; kind = Bytes (length bytes) }
 journal_recovers : (at text : List ℕ) (h : PlainHistory) (marks : Marks) (gate : ℕ) → IsJournalWith at text h marks gate → Recovers at h
 journal_recovers at text h marks gate is = record { entries = is.entries; keeps = ready at text is.entries gate is.journal; pairs = is.pairs }
 
-journal_holds : (at text : List ℕ) (h : PlainHistory) (marks : Marks) (gate : ℕ) → IsJournalWith at text h marks gate → HoldsBoots at marks.boots
+journal_holds : (at text : List ℕ) (h : PlainHistory) (marks : Marks) (gate : ℕ) → IsJournalWith at text h marks gate → HoldsBoots at (renewed_of marks) marks.boots
 journal_holds at text h marks gate is = record {
   entries = is.entries;
   keeps = ready at text is.entries gate is.journal;
+  said = ap renewed_of is.marked;
   number = ap (λ (m : Marks). m.boots) is.marked;
 }
 
 -- what starts from the file of a manager that fits its site comes later than its state
 pub fits_again : (m : ManagerState) (site : MemorySiteState) → FitsSite m (state_of site) (crashes_of site) → site.told ≡ true
     → StartsAgain m.form m.machine site.image
-fits_again m site fits told limit history boot starts =
+fits_again m site fits told limit history renewed boot starts =
     let of = journal_of m site fits told in
     let marks = m.store.marks in
     let text = canonical_text m.form in
     let boots = journal_holds site.image text m.machine.history marks m.store.gate of in
-    starts_come_later (opening_of m.form limit history boot) site.image m.machine m.machine.history starts whole
+    starts_come_later (opening_of m.form limit history renewed boot) site.image m.machine m.machine.history starts whole
     (journal_recovers site.image text m.machine.history marks m.store.gate of)
-    (subst (HoldsBoots site.image) (sym fits.tickets.boot) boots)
+    (holds_same site.image (renewed_of marks) m.machine.renewed marks.boots m.machine.boot fits.tickets.renewed
+    fits.tickets.boot boots)
 
 -- where the disk failed under a confirm
 failed_again : (x : Form) (s : MachineState) (ticket : Ticket) (a : PlainAction) (deadline : ℕ) (image : List ℕ) → s.slot ≡ Held ticket a deadline
-    → s.moment < deadline → EndsAs (failed (Some ticket, a)) s.history image → HoldsBoots image s.boot → StartsAgain x s image
-failed_again x s ticket a deadline image held before (inl kept) holds = λ limit history boot starts.
-    starts_come_later (opening_of x limit history boot) image s s.history starts whole kept holds
-failed_again x s ticket a deadline image held before (inr more) holds = λ limit history boot starts.
-    starts_come_later (opening_of x limit history boot) image s (s.history ++ (Some ticket, a) ∷ []) starts (confirming held before) more holds
+    → s.moment < deadline → EndsAs (failed (Some ticket, a)) s.history image → HoldsBoots image s.renewed s.boot → StartsAgain x s image
+failed_again x s ticket a deadline image held before (inl kept) holds = λ limit history renewed boot starts.
+    starts_come_later (opening_of x limit history renewed boot) image s s.history starts whole kept holds
+failed_again x s ticket a deadline image held before (inr more) holds = λ limit history renewed boot starts.
+    starts_come_later (opening_of x limit history renewed boot) image s (s.history ++ (Some ticket, a) ∷ []) starts (confirming held before) more holds
 
 sends_told : (site : MemorySiteState) → site.told ≡ true → (state_of site).contents.sends ≡ Some site.sends
 sends_told site told = ap (λ t. (told_contents t site.given site.sends).sends) told
@@ -191,7 +195,7 @@ module _ (apart : TextsTellTicketsApart) (asked : PlainRequest) (bytes all : Lis
             (subst (λ (h : PlainHistory). EndsAs (failed (Some ticket, a)) h after.image) (ap (λ (s : MachineState). s.history) same)
             (subst (λ e. EndsAs e new.machine.history after.image) end (handled.ends some after.image (file_left after told))))
             (handled.boots some after.image earlier) in
-            λ limit history boot starts. rises 0 (again limit history boot starts)
+            λ limit history renewed boot starts. rises 0 (again limit history renewed boot starts)
       ]
     where
       never : (spent : Spent) → going ≡ failed spent → ⊥
@@ -211,10 +215,10 @@ module _ (apart : TextsTellTicketsApart) (asked : PlainRequest) (bytes all : Lis
       → FitsSite new (state_of after) (crashes_of after) → after.told ≡ true → StartsAgain m.form m.machine after.image
   lost_again go handled fits told =
       elim (went handled.handles.answers handled.ending handled.handles.takes).2 [
-        | steps.stepped first one step end ↦ λ limit history boot starts.
+        | steps.stepped first one step end ↦ λ limit history renewed boot starts.
             let same = handled.handles.takes.form in
             rises 0 (answered (requested {bytes = bytes} asked of_line.of.valid words step)
-            (subst (λ x. StartsAgain x new.machine after.image) same (fits_again new after fits told) limit history boot starts))
+            (subst (λ x. StartsAgain x new.machine after.image) same (fits_again new after fits told) limit history renewed boot starts))
         | steps.stopped_by_disk ticket a deadline is one held_it in_time same end ↦
             absurd (not_failed go (Some ticket, a) (sym handled.answered ∙ end))
       ]

@@ -18,7 +18,7 @@ use Rattle.ix_proto.specs.Requests.{PlainRequest, IsRequest}
 use Rattle.ix_proto.specs.declared.reply.Reply.{Reply}
 use Rattle.ix_proto.specs.declared.reply.Reply.TheVariants as reply
 use Rattle.ix_manager.specs.Machine as machine
-use Rattle.ix_manager.specs.Machine.{MachineState, Step, next_ticket}
+use Rattle.ix_manager.specs.Machine.{MachineState, Step, next_ticket, count}
 use Rattle.ix_manager.specs.Refusals.{disk}
 use Rattle.ix_manager.specs.Wire.{SendsInOrder, reply_line, silent, sent, lost, done}
 use Rattle.ix_manager.proofs.SlotLemmas.{free_holds}
@@ -81,7 +81,7 @@ pub record HasBounds (limit : ℕ) (s : MachineState) : Type 0 where
   pub limits : limit < 2 ^ 64
   pub boot : s.boot < 2 ^ 64
   pub number : s.number < 2 ^ 64
-  pub history : length s.history + 1 < 2 ^ 64
+  pub history : count s + 1 < 2 ^ 64
   pub time : HasTime s
 
 not_permitted_plain : IsPlain (reply.Refused 21 0)
@@ -95,6 +95,9 @@ no_such_plain = refusal_plain 30 (codes "no such ticket") refl (omega arith) (re
 
 expired_plain : IsPlain (reply.Refused 31 0)
 expired_plain = refusal_plain 31 (codes "expired") refl (omega arith) (record { listed = refl; zero_else = λ e. refl }) refl
+
+left_out_plain : IsPlain (reply.Refused 32 0)
+left_out_plain = refusal_plain 32 (codes "left out") refl (omega arith) (record { listed = refl; zero_else = λ e. refl }) refl
 
 memory_plain : IsPlain (reply.Refused 90 0)
 memory_plain = refusal_plain 90 (codes "memory") refl (omega arith) (record { listed = refl; zero_else = λ e. refl }) refl
@@ -129,7 +132,7 @@ step_plain step kind valid bounds first is = by_step step kind valid bounds firs
         head (record { valid = fits; plain = no_end-append (codes "granted ") (ticket_text (next_ticket s)) refl (ticket_plain (next_ticket s) fits) }) is
     by_step (machine.ask_memory _ _ _) kind valid bounds first is = head memory_plain is
     by_step {s = s} (machine.confirmed _ _ _ _) kind valid bounds first is =
-        head (record { valid = bounds.history; plain = no_end-append (codes "confirmed ") (decimal (length s.history + 1)) refl (number_plain (length s.history + 1) bounds.history) }) is
+        head (record { valid = bounds.history; plain = no_end-append (codes "confirmed ") (decimal (count s + 1)) refl (number_plain (count s + 1) bounds.history) }) is
     by_step (machine.confirm_expired _ _) kind valid bounds first is = head expired_plain is
     by_step (machine.confirm_no_such _) kind valid bounds first is = head no_such_plain is
     by_step (machine.cancelled {ticket = ticket} _ _ _ _) kind valid bounds first is =
@@ -147,7 +150,8 @@ step_plain step kind valid bounds first is = by_step step kind valid bounds firs
         }) is
     by_step (machine.outcome_open _ _) kind valid bounds first is = head (record { valid = tt; plain = refl }) is
     by_step (machine.outcome_no_such _ _ _) kind valid bounds first is = head no_such_plain is
-    by_step (machine.outcome_never _ _ _) kind valid bounds first is = head (record { valid = tt; plain = refl }) is
+    by_step (machine.outcome_left_out _ _ _ _) kind valid bounds first is = head left_out_plain is
+    by_step (machine.outcome_never _ _ _ _) kind valid bounds first is = head (record { valid = tt; plain = refl }) is
     by_step _ kind valid bounds first is = absurd kind
 
 -- one reply that is sent: nothing, itself or a front

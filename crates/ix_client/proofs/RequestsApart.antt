@@ -1,5 +1,5 @@
 -- The words of a line tell its request.
-use Rattle.std.proofs.Common.{◌≡◌, ℕ, List}
+use Rattle.std.proofs.Common.{◌≡◌}
 use Rattle.ix_values.specs.Laws.{TextsTellTicketsApart}
 use Rattle.ix_proto.specs.Requests.{PlainRequest, ask, confirm, cancel, outcome, IsRequest, request_words}
 use Rattle.ix_manager.proofs.RequestsApart.{asks_alone, cancels_alone, confirms_alone, outcomes_alone}

@@ -9,7 +9,7 @@ use Rattle.ix_proto.specs.declared.reply.Reply.TheVariants as reply
 use Rattle.ix_manager.specs.Later.{Later, stays, rises, answered, restarts}
 use Rattle.ix_manager.specs.Machine.{MachineState}
 use Rattle.ix_manager.proofs.Changing.{Changes, item_changes, keeps, empties, grants, stores}
-use Rattle.ix_client.specs.Client.{GoesOnFrom, TakesTurn, TakesTurns, again, another, comes_to, done, ends, ends_with, never, none_left, unsure}
+use Rattle.ix_client.specs.Client.{GoesOnFrom, TakesTurn, TakesTurns, again, another, comes_to, done, ends, ends_with, left_out, never, none_left, unsure}
 use Rattle.ix_client.specs.ClientLaws.{DoneRunsArePermanent, IsFresh}
 use Rattle.ix_client.specs.Grant.{Grant}
 use Rattle.ix_client.specs.Grants.{Heard, asked_by}
@@ -43,6 +43,7 @@ heard_before asked heard s u after hears is = told_before (ComesOf asked heard) 
 turn_before : (g : Grant) (how : Turned) (s u : LinkState) (after : Told) → TakesTurn g how s u → u.told ≡ Some after → (before : Told) × (s.told ≡ Some before)
 turn_before g how s u after (done number settles is) told = heard_before (request.outcome g.ticket) settles.heard s u after settles.hears told
 turn_before g how s u after (never settles is) told = heard_before (request.outcome g.ticket) settles.heard s u after settles.hears told
+turn_before g how s u after (left_out settles is) told = heard_before (request.outcome g.ticket) settles.heard s u after settles.hears told
 turn_before g how s u after (again back confirmed t settles confirms is) told =
     let between = heard_before (request.confirm back.ticket) confirms.heard t u after confirms.hears told in
     heard_before (request.outcome g.ticket) settles.heard s t between.0 settles.hears between.1
@@ -92,6 +93,7 @@ over_unsure g back (confirm.Unsure other) s u is confirms =
 unsure_is : (g back : Grant) (s u : LinkState) → TakesTurn g (turned.Unsure back) s u → back ≡ g
 unsure_is g back s u (done number settles is) = absurd cc
 unsure_is g back s u (never settles is) = absurd cc
+unsure_is g back s u (left_out settles is) = absurd cc
 unsure_is g back s u (again other confirmed t settles confirms is) =
     over_unsure other back confirmed t u is confirms ∙ settle_open g other settles.heard settles.is
 unsure_is g back s u (unsure other settles is) =
@@ -100,6 +102,7 @@ unsure_is g back s u (unsure other settles is) =
 turn_knows : (g : Grant) (how : Turned) (s u : LinkState) (after : Told) → TakesTurn g how s u → u.told ≡ Some after → Knows g s → Knows g u
 turn_knows g how s u after (done number settles is) told knows = knows_on g (request.outcome g.ticket) settles.heard s u after settles.hears told knows
 turn_knows g how s u after (never settles is) told knows = knows_on g (request.outcome g.ticket) settles.heard s u after settles.hears told knows
+turn_knows g how s u after (left_out settles is) told knows = knows_on g (request.outcome g.ticket) settles.heard s u after settles.hears told knows
 turn_knows g how s u after (unsure back settles is) told knows = knows_on g (request.outcome g.ticket) settles.heard s u after settles.hears told knows
 turn_knows g how s u after (again back confirmed t settles confirms is) told knows =
     let between = heard_before (request.confirm back.ticket) confirms.heard t u after confirms.hears told in
@@ -109,21 +112,22 @@ turn_knows g how s u after (again back confirmed t settles confirms is) told kno
 -- a confirm that ends a run with `done`
 confirm_done : (g : Grant) (confirmed : Confirm) (number : ℕ) (s u : LinkState) (after : Told) (later : MachineState) → Confirms g confirmed s u
     → turned.Over (ended.Done number) ≡ comes_to confirmed → u.told ≡ Some after → Knows g s → Later after.form after.machine later
-    → IsPairOf later.history number (Some g.ticket, g.action)
+    → IsPairOf later number (Some g.ticket, g.action)
 confirm_done g (confirm.Done other) number s u after later confirms is told knows rest =
     let same : number ≡ other = cc in
-    subst (λ n. IsPairOf later.history n (Some g.ticket, g.action)) (sym same)
+    subst (λ n. IsPairOf later n (Some g.ticket, g.action)) (sym same)
     (done_is_permanent s u knows.told after g other later (over_from g s u after knows told) knows.stands (inl confirms) rest)
 confirm_done g confirm.Expired number s u after later confirms is told knows rest = absurd cc
 confirm_done g (confirm.Unsure back) number s u after later confirms is told knows rest = absurd cc
 
 turn_done : (g : Grant) (number : ℕ) (s u : LinkState) (after : Told) (later : MachineState) → TakesTurn g (turned.Over (ended.Done number)) s u
-    → u.told ≡ Some after → Knows g s → Later after.form after.machine later → IsPairOf later.history number (Some g.ticket, g.action)
+    → u.told ≡ Some after → Knows g s → Later after.form after.machine later → IsPairOf later number (Some g.ticket, g.action)
 turn_done g number s u after later (done other settles is) told knows rest =
     let same : number ≡ other = cc in
-    subst (λ n. IsPairOf later.history n (Some g.ticket, g.action)) (sym same)
+    subst (λ n. IsPairOf later n (Some g.ticket, g.action)) (sym same)
     (done_is_permanent s u knows.told after g other later (over_from g s u after knows told) knows.stands (inr settles) rest)
 turn_done g number s u after later (never settles is) told knows rest = absurd cc
+turn_done g number s u after later (left_out settles is) told knows rest = absurd cc
 turn_done g number s u after later (unsure back settles is) told knows rest = absurd cc
 turn_done g number s u after later (again back confirmed t settles confirms is) told knows rest =
     let between = heard_before (request.confirm back.ticket) confirms.heard t u after confirms.hears told in
@@ -133,7 +137,7 @@ turn_done g number s u after later (again back confirmed t settles confirms is) 
 
 turns_done : {n : ℕ} {g : Grant} {how : Ended} {s u : LinkState} (number : ℕ) (after : Told) (later : MachineState) → TakesTurns n g how s u
     → how ≡ ended.Done number → u.told ≡ Some after → Knows g s → Later after.form after.machine later
-    → IsPairOf later.history number (Some g.ticket, g.action)
+    → IsPairOf later number (Some g.ticket, g.action)
 turns_done number after later none_left is told knows rest = absurd cc
 turns_done {g = g} {how = how} {s = s} {u = u} number after later (ends turn) is told knows rest =
     turn_done g number s u after later (subst (λ (v : Ended). TakesTurn g (turned.Over v) s u) is turn) told knows rest
@@ -141,7 +145,7 @@ turns_done {g = g} {s = s} number after later (another {back = back} {t = t} tur
     let between = turns_before after turns told in
     let same : back ≡ g = unsure_is g back s t turn in
     let there = turn_knows g (turned.Unsure back) s t between.0 turn between.1 knows in
-    subst (λ (v : Grant). IsPairOf later.history number (Some v.ticket, v.action)) same
+    subst (λ (v : Grant). IsPairOf later number (Some v.ticket, v.action)) same
     (turns_done number after later turns is told (subst (λ (v : Grant). Knows v t) (sym same) there) rest)
 
 -- the ticket of the ask
@@ -201,7 +205,7 @@ from_before (turned.Unsure g) how s u after turns told = turns_before after turn
 
 from_done : (g : Grant) (confirmed : Confirm) (number : ℕ) (s t u : LinkState) (after : Told) (later : MachineState) → Confirms g confirmed s t
     → GoesOnFrom (comes_to confirmed) (ended.Done number) t u → u.told ≡ Some after → Knows g s → Later after.form after.machine later
-    → IsPairOf later.history number (Some g.ticket, g.action)
+    → IsPairOf later number (Some g.ticket, g.action)
 from_done g (confirm.Done other) number s t u after later confirms goes told knows rest =
     confirm_done g (confirm.Done other) number s t after later confirms (ap (λ (v : Ended). turned.Over v) goes.0)
     (subst (λ (v : LinkState). v.told ≡ Some after) goes.1 told) knows rest
@@ -211,7 +215,7 @@ from_done g (confirm.Unsure back) number s t u after later confirms turns told k
     let between = turns_before after turns told in
     let there = knows_on g (request.confirm g.ticket) confirms.heard s t between.0 confirms.hears between.1 knows in
     let same : back ≡ g = confirm_back g back confirms.heard confirms.is in
-    subst (λ (v : Grant). IsPairOf later.history number (Some v.ticket, v.action)) same
+    subst (λ (v : Grant). IsPairOf later number (Some v.ticket, v.action)) same
     (turns_done number after later turns refl told (subst (λ (v : Grant). Knows v t) (sym same) there) rest)
 
 pub done_runs_are_permanent : DoneRunsArePermanent
@@ -230,7 +234,7 @@ done_runs_are_permanent old new before after a lease number over (Ok g, t, asks,
     } in (
       g.ticket,
       fresh.0,
-      subst (λ b. IsPairOf later.history number (Some g.ticket, b)) fresh.1
+      subst (λ b. IsPairOf later number (Some g.ticket, b)) fresh.1
           (from_done g confirmed number t v new after later confirms goes over.after_is knows rest),
     )
 done_runs_are_permanent old new before after a lease number over (Err why, t, asks, (is, same)) later rest = absurd (no_done why is)

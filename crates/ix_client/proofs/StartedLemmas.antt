@@ -40,8 +40,8 @@ tells_started text kept limit m first before after link copied same still stays 
       is = ap (λ o. told_of o link.site) has ∙ ap (told_of (Some m)) over ∙ tells;
       stands = subst (λ t. StandsFor t m.form) copied is.manages.stands;
       limit_is = is.manages.limit_is;
-      startable = subst (λ l. IsStartable (opening_of m.form l m.machine.history m.machine.boot) first.image) is.manages.limit_is
-          (subst (IsStartable (opening_of m.form m.limit m.machine.history m.machine.boot)) same (is.startable was));
+      startable = subst (λ l. IsStartable (opening_of m.form l m.machine.history m.machine.renewed m.machine.boot) first.image) is.manages.limit_is
+          (subst (IsStartable (opening_of m.form m.limit m.machine.history m.machine.renewed m.machine.boot)) same (is.startable was));
       machine = is.machine;
     }
 

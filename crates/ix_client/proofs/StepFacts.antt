@@ -11,7 +11,7 @@ use Rattle.ix_proto.specs.Requests.{PlainRequest}
 use Rattle.ix_proto.specs.declared.reply.Outcome.TheVariants as became
 use Rattle.ix_proto.specs.declared.reply.Reply.{Reply}
 use Rattle.ix_proto.specs.declared.reply.Reply.TheVariants as reply
-use Rattle.ix_manager.specs.Machine.{MachineState, Step, IsUngranted, next_ticket, busy, not_permitted, full, large, granted, ask_memory, confirmed, confirm_expired, confirm_no_such, cancelled, cancel_expired, cancel_no_such, outcome_confirmed, outcome_open, outcome_no_such, outcome_never}
+use Rattle.ix_manager.specs.Machine.{MachineState, Step, IsUngranted, next_ticket, busy, not_permitted, full, large, granted, ask_memory, confirmed, confirm_expired, confirm_no_such, cancelled, cancel_expired, cancel_no_such, outcome_confirmed, outcome_open, outcome_no_such, outcome_left_out, outcome_never, ahead_of, count}
 use Rattle.ix_client.specs.Grants.{is_refusal_of_ask}
 
 -- the next ticket is reserved for the action
@@ -34,7 +34,8 @@ pub record StoresPair (s u : MachineState) (ticket : Ticket) (number : ℕ) : Ty
   pub deadline : ℕ
   pub held : s.slot ≡ Held ticket action deadline
   pub history : u.history ≡ s.history ++ (Some ticket, action) ∷ []
-  pub place : number ≡ length s.history + 1
+  pub renewed : u.renewed ≡ s.renewed
+  pub place : number ≡ count s + 1
 
 abbrev pub OfConfirm : MachineState → MachineState → Ticket → Reply → Type 0
 OfConfirm s u ticket (reply.Confirmed number) = StoresPair s u ticket number
@@ -52,14 +53,15 @@ pub record KeepsPair (s u : MachineState) (ticket : Ticket) (number : ℕ) : Typ
   pub before : PlainHistory
   pub behind : PlainHistory
   pub split : s.history ≡ before ++ (Some ticket, action) ∷ behind
-  pub place : number ≡ length before + 1
+  pub place : number ≡ ahead_of s.renewed + length before + 1
   pub history : u.history ≡ s.history
+  pub renewed : u.renewed ≡ s.renewed
 
 abbrev pub OfOutcome : MachineState → MachineState → Ticket → Reply → Type 0
 OfOutcome s u ticket (reply.Outcome (became.Confirmed number)) = KeepsPair s u ticket number
 OfOutcome s u ticket (reply.Outcome became.Waiting) = ⊤
 OfOutcome s u ticket (reply.Outcome became.Never) = ⊤
-OfOutcome s u ticket (reply.Refused code number) = IsUngranted s.boot s.number ticket
+OfOutcome s u ticket (reply.Refused code number) = (code ≡ 32) ⊎ IsUngranted s.boot s.number ticket
 OfOutcome s u ticket _ = ⊥
 
 -- there is one reply
@@ -86,15 +88,16 @@ step_facts (ask_memory shut may room) = one (inr refl)
 step_facts (granted shut may) =
     one (record { ticket_is = refl; deadline = _; slot = refl; history = refl; boot = refl; number = refl })
 step_facts (confirmed a deadline held before) =
-    one (record { action = a; deadline = deadline; held = held; history = refl; place = refl })
+    one (record { action = a; deadline = deadline; held = held; history = refl; renewed = refl; place = refl })
 step_facts (confirm_expired has shut) = one (inl refl)
 step_facts (confirm_no_such none) = one (inr refl)
 step_facts (cancelled a deadline held before) = one refl
 step_facts (cancel_expired has shut) = one (inl refl)
 step_facts (cancel_no_such none) = one (inr refl)
 step_facts (outcome_confirmed before behind a split place) =
-    one (record { action = a; before = before; behind = behind; split = split; place = place; history = refl })
+    one (record { action = a; before = before; behind = behind; split = split; place = place; history = refl; renewed = refl })
 step_facts (outcome_open absent is) = one tt
-step_facts (outcome_no_such absent shut ungranted) = one ungranted
-step_facts (outcome_never absent shut known) = one tt
+step_facts (outcome_no_such absent shut ungranted) = one (inr ungranted)
+step_facts (outcome_left_out absent shut known before) = one (inl refl)
+step_facts (outcome_never absent shut known later) = one tt
 step_facts _ = tt

@@ -65,4 +65,5 @@ again_tells C text limit m before mid after (Some n) one manages still same star
     let was : mid.told ≡ true = sym same ∙ told in
     comes n.machine was
     (subst (Later m.form m.machine) (sym is.machine)
-    (again was n.limit n.machine.history n.machine.boot (subst (λ x. IsStartable (opening_of x n.limit n.machine.history n.machine.boot) mid.image) form (is.startable was)))))
+    (again was n.limit n.machine.history n.machine.renewed n.machine.boot
+    (subst (λ x. IsStartable (opening_of x n.limit n.machine.history n.machine.renewed n.machine.boot) mid.image) form (is.startable was)))))

@@ -17,9 +17,9 @@ use Rattle.ix_proto.specs.declared.reply.Reply.{Reply}
 use Rattle.ix_proto.specs.declared.reply.Reply.TheVariants as reply
 use Rattle.ix_manager.specs.Later.{Later}
 use Rattle.ix_manager.specs.LaterLaws.{TellsOver}
-use Rattle.ix_manager.specs.Machine.{IsAbsent, IsUngranted, MachineState, Step}
+use Rattle.ix_manager.specs.Machine.{IsAbsent, IsUngranted, MachineState, Step, ahead_of}
 use Rattle.ix_manager.specs.Refusals.{disk}
-use Rattle.ix_manager.proofs.LaterLemmas.{later_grows}
+use Rattle.ix_manager.proofs.LaterLemmas.{later_grows, later_renewed}
 use Rattle.ix_manager.proofs.TicketLemmas.{later_over, next_absent, over_begins}
 use Rattle.ix_client.specs.Grant.{Grant}
 use Rattle.ix_client.specs.Grants.{Heard, asked_by, cancelled_by, confirmed_by, is_refusal_of_ask, refused_by, same_ticket, settled_by}
@@ -134,10 +134,20 @@ pub settle_back : (g back : Grant) (heard : Heard) → settle.Unsure back ≡ se
 settle_back g back (Ok (Some (reply.Outcome (became.Confirmed place)))) is = absurd cc
 settle_back g back (Ok (Some (reply.Outcome became.Waiting))) is = absurd cc
 settle_back g back (Ok (Some (reply.Outcome became.Never))) is = absurd cc
+settle_back g back (Ok (Some (reply.Refused code number))) is =
+    elim (if_cases (code == 32) settle.LeftOut (settle.Unsure g) (settle.Unsure back) is) [
+      | inl holds ↦ let e = holds.1 in absurd cc
+      | inr fails ↦ let e = fails.1 in cc
+    ]
 settle_back g back _ is = cc
 
 pub settle_open : (g back : Grant) (heard : Heard) → settle.Open back ≡ settled_by g heard → back ≡ g
 settle_open g back (Ok (Some (reply.Outcome became.Waiting))) is = cc
+settle_open g back (Ok (Some (reply.Refused code number))) is =
+    elim (if_cases (code == 32) settle.LeftOut (settle.Unsure g) (settle.Open back) is) [
+      | inl holds ↦ let e = holds.1 in absurd cc
+      | inr fails ↦ let e = fails.1 in absurd cc
+    ]
 settle_open g back _ is = absurd cc
 
 pub grants_stand : GrantsStand
@@ -166,7 +176,7 @@ grants_stand old new before after over = (
 
 -- done
 
-pair_stays : {x : Form} {u later : MachineState} {number : ℕ} {spent : Spent} → Later x u later → IsPairOf u.history number spent → IsPairOf later.history number spent
+pair_stays : {x : Form} {u later : MachineState} {number : ℕ} {spent : Spent} → Later x u later → IsPairOf u number spent → IsPairOf later number spent
 pair_stays {u = u} {later = later} {spent = spent} rest is =
     let grows = later_grows rest in record {
       before = is.before;
@@ -174,7 +184,7 @@ pair_stays {u = u} {later = later} {spent = spent} rest is =
       split =
           sym grows.1 ∙ ap (λ (h : PlainHistory). h ++ grows.0) is.split
           ∙ append_assoc is.before (spent ∷ is.behind) grows.0;
-      place = is.place;
+      place = let at = is.place in omega (arith, at, ap ahead_of (later_renewed rest));
     }
 
 -- a pair of a standing ticket has its action
@@ -189,30 +199,30 @@ kept_action g s a before behind stands split =
     let kept = Each-left s.history (reserved s.slot) stands.agrees in
     Each-head (Each-right before ((Some g.ticket, a) ∷ behind) (subst (Each (AgreesWith g)) split kept)) refl
 
-stored_pair : (g : Grant) (s u : MachineState) (number : ℕ) → Stands g s → StoresPair s u g.ticket number → IsPairOf u.history number (Some g.ticket, g.action)
+stored_pair : (g : Grant) (s u : MachineState) (number : ℕ) → Stands g s → StoresPair s u g.ticket number → IsPairOf u number (Some g.ticket, g.action)
 stored_pair g s u number stands stores = record {
   before = s.history;
   behind = [];
   split = stores.history ∙ ap (λ a. s.history ++ (Some g.ticket, a) ∷ []) (stored_action g s stores.action stores.deadline stands stores.held);
-  place = stores.place;
+  place = let at = stores.place in omega (arith, at, ap ahead_of stores.renewed);
 }
 
-kept_pair : (g : Grant) (s u : MachineState) (number : ℕ) → Stands g s → KeepsPair s u g.ticket number → IsPairOf u.history number (Some g.ticket, g.action)
+kept_pair : (g : Grant) (s u : MachineState) (number : ℕ) → Stands g s → KeepsPair s u g.ticket number → IsPairOf u number (Some g.ticket, g.action)
 kept_pair g s u number stands keeps = record {
   before = keeps.before;
   behind = keeps.behind;
   split =
       keeps.history ∙ keeps.split
       ∙ ap (λ a. keeps.before ++ (Some g.ticket, a) ∷ keeps.behind) (kept_action g s keeps.action keeps.before keeps.behind stands keeps.split);
-  place = keeps.place;
+  place = let at = keeps.place in omega (arith, at, ap ahead_of keeps.renewed);
 }
 
 done_confirm : (g : Grant) (number : ℕ) (heard : Heard) (x : Form) (limit : ℕ) (s u : MachineState) → Stands g s
-    → confirm.Done number ≡ confirmed_by g heard → ComesOf (request.confirm g.ticket) heard x limit s u → IsPairOf u.history number (Some g.ticket, g.action)
+    → confirm.Done number ≡ confirmed_by g heard → ComesOf (request.confirm g.ticket) heard x limit s u → IsPairOf u number (Some g.ticket, g.action)
 done_confirm g number (Ok (Some (reply.Confirmed told))) x limit s u stands is (stepped {between = between} later step) =
     let facts = step_facts step in
     let same : told ≡ number = same_number (sym is) in
-    subst (λ n. IsPairOf u.history n (Some g.ticket, g.action)) same (stored_pair g between u told (later_stands g later stands) facts.told)
+    subst (λ n. IsPairOf u n (Some g.ticket, g.action)) same (stored_pair g between u told (later_stands g later stands) facts.told)
   where
     same_number : {m n : ℕ} → confirm.Done m ≡ confirm.Done n → m ≡ n
     same_number e = cc
@@ -225,16 +235,21 @@ done_confirm g number (Ok (Some (reply.Refused code other))) x limit s u stands 
 done_confirm g number _ x limit s u stands is comes = absurd cc
 
 done_settle : (g : Grant) (number : ℕ) (heard : Heard) (x : Form) (limit : ℕ) (s u : MachineState) → Stands g s
-    → settle.Done number ≡ settled_by g heard → ComesOf (request.outcome g.ticket) heard x limit s u → IsPairOf u.history number (Some g.ticket, g.action)
+    → settle.Done number ≡ settled_by g heard → ComesOf (request.outcome g.ticket) heard x limit s u → IsPairOf u number (Some g.ticket, g.action)
 done_settle g number (Ok (Some (reply.Outcome (became.Confirmed told)))) x limit s u stands is (stepped {between = between} later step) =
     let facts = step_facts step in
     let same : told ≡ number = same_number (sym is) in
-    subst (λ n. IsPairOf u.history n (Some g.ticket, g.action)) same (kept_pair g between u told (later_stands g later stands) facts.told)
+    subst (λ n. IsPairOf u n (Some g.ticket, g.action)) same (kept_pair g between u told (later_stands g later stands) facts.told)
   where
     same_number : {m n : ℕ} → settle.Done m ≡ settle.Done n → m ≡ n
     same_number e = cc
 done_settle g number (Ok (Some (reply.Outcome (became.Confirmed told)))) x limit s u stands is (failed {ticket = other} is_confirm is_disk later) =
     outcome_no_confirm g.ticket other is_confirm
+done_settle g number (Ok (Some (reply.Refused code other))) x limit s u stands is comes =
+    elim (if_cases (code == 32) settle.LeftOut (settle.Unsure g) (settle.Done number) is) [
+      | inl holds ↦ let e = holds.1 in absurd cc
+      | inr fails ↦ let e = fails.1 in absurd cc
+    ]
 done_settle g number _ x limit s u stands is comes = absurd cc
 
 pub done_is_permanent : DoneIsPermanent
@@ -289,6 +304,11 @@ never_settle g (Ok (Some (reply.Outcome became.Never))) x y limit s u later soun
     over_behind g.ticket (request.outcome g.ticket) (reply.Outcome became.Never) x y limit s u later sound refl
     (λ replies between step. one_outcome x limit between u g.ticket (reply.Outcome became.Never) replies step)
     (λ other e f. outcome_no_confirm g.ticket other e) comes rest
+never_settle g (Ok (Some (reply.Refused code number))) x y limit s u later sound is comes rest =
+    elim (if_cases (code == 32) settle.LeftOut (settle.Unsure g) settle.Never is) [
+      | inl holds ↦ let e = holds.1 in absurd cc
+      | inr fails ↦ let e = fails.1 in absurd cc
+    ]
 never_settle g _ x y limit s u later sound is comes rest = absurd cc
 
 expired_confirm : (g : Grant) (heard : Heard) (x y : Form) (limit : ℕ) (s u later : MachineState) → IsSound s
@@ -367,7 +387,14 @@ settled_unsure g back (Ok (Some (reply.Outcome (became.Confirmed place)))) x lim
 settled_unsure g back (Ok (Some (reply.Outcome became.Waiting))) x limit s u old new stands is cause comes = absurd cc
 settled_unsure g back (Ok (Some (reply.Outcome became.Never))) x limit s u old new stands is cause comes = absurd cc
 settled_unsure g back (Ok (Some (reply.Refused code number))) x limit s u old new stands is cause (stepped {between = between} later step) =
-    let facts = step_facts step in absurd (ungranted_no_standing g between (later_stands g later stands) facts.told)
+    let facts = step_facts step in
+    elim (if_cases (code == 32) settle.LeftOut (settle.Unsure g) (settle.Unsure back) is) [
+      | inl holds ↦ let e = holds.1 in absurd cc
+      | inr fails ↦ elim facts.told [
+        | inl same ↦ absurd (let e : (code == 32) ≡ true = grind (arith, nat_tests) in true≢false (sym e ∙ fails.0))
+        | inr ungranted ↦ absurd (ungranted_no_standing g between (later_stands g later stands) ungranted)
+      ]
+    ]
 settled_unsure g back (Ok (Some first)) x limit s u old new stands is cause (stepped later step) = let facts = step_facts step in absurd facts.told
 settled_unsure g back (Ok (Some first)) x limit s u old new stands is cause (failed {ticket = other} is_confirm is_disk later) =
     outcome_no_confirm g.ticket other is_confirm

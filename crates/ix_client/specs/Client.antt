@@ -37,6 +37,8 @@ pub data TakesTurn (g : Grant) (how : Turned) (s u : LinkState) : Type 0 where
   done : (number : ℕ) → Settles g (settle.Done number) s u → how ≡ turned.Over (ended.Done number)
       → TakesTurn g how s u
   never : Settles g settle.Never s u → how ≡ turned.Over ended.Never → TakesTurn g how s u
+  left_out : Settles g settle.LeftOut s u → how ≡ turned.Over (ended.LeftOut g.ticket)
+      → TakesTurn g how s u
   again : (back : Grant) (confirmed : Confirm) (t : LinkState)
       → Settles g (settle.Open back) s t → Confirms back confirmed t u → how ≡ comes_to confirmed
       → TakesTurn g how s u

@@ -27,7 +27,7 @@ abbrev pub IsDoneIn : Told → Told → PlainAction → ℕ → Type 0
 IsDoneIn before after a number =
     (later : MachineState) → Later after.form after.machine later
     → (ticket : Ticket) × IsFresh before.machine ticket
-    × IsPairOf later.history number (Some ticket, a)
+    × IsPairOf later number (Some ticket, a)
 
 -- an ask of the action is refused so, unless memory runs out
 abbrev pub IsRefusedIn : Told → PlainAction → ℕ → Type 0

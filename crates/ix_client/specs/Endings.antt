@@ -18,6 +18,7 @@ status_of ended.NoLink = 6
 status_of ended.OddReply = 7
 status_of ended.NoMemory = 9
 status_of (ended.Unsure ticket) = 8
+status_of (ended.LeftOut ticket) = 5
 
 -- the line without the byte 10 that ends it
 abbrev pub text_of_end : Ended → List ℕ
@@ -30,6 +31,7 @@ text_of_end ended.NoLink = codes "refused link"
 text_of_end ended.OddReply = codes "refused reply"
 text_of_end ended.NoMemory = codes "refused memory"
 text_of_end (ended.Unsure ticket) = codes "unsure " ++ ticket_text ticket
+text_of_end (ended.LeftOut ticket) = codes "left out " ++ ticket_text ticket
 
 abbrev pub line_of : Ended → List ℕ
 line_of how = text_of_end how ++ 10 ∷ []

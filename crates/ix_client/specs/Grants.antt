@@ -61,4 +61,6 @@ abbrev pub settled_by : Grant → Heard → Settle
 settled_by g (Ok (Some (reply.Outcome (became.Confirmed place)))) = settle.Done place
 settled_by g (Ok (Some (reply.Outcome became.Waiting))) = settle.Open g
 settled_by g (Ok (Some (reply.Outcome became.Never))) = settle.Never
+settled_by g (Ok (Some (reply.Refused code number))) =
+    if code == 32 then settle.LeftOut else settle.Unsure g
 settled_by g _ = settle.Unsure g

@@ -12,7 +12,7 @@ use Rattle.ix_proto.specs.declared.reply.Reply.{Reply}
 use Rattle.ix_proto.specs.declared.reply.Reply.TheVariants as reply
 use Rattle.ix_manager.specs.Granted.{IsGranted}
 use Rattle.ix_manager.specs.Later.{Later}
-use Rattle.ix_manager.specs.Machine.{IsAbsent, MachineState, Step}
+use Rattle.ix_manager.specs.Machine.{IsAbsent, MachineState, Step, ahead_of}
 use Rattle.ix_client.specs.Grant.{Grant}
 use Rattle.ix_client.specs.Grants.{Heard, asked_by}
 use Rattle.ix_client.specs.Hearing.{Asks, Cancels, Confirms, Settles}
@@ -70,12 +70,12 @@ GrantsStand =
     ⊎ Settles g (settle.Unsure back) old new ⊎ Settles g (settle.Open back) old new
     → (back ≡ g) × Stands back after.machine)
 
--- the history's pair of this number, counted from 1
-pub record IsPairOf (history : PlainHistory) (number : ℕ) (spent : Spent) : Type 0 where
+-- the state's confirmed pair of this number, counted from 1
+pub record IsPairOf (s : MachineState) (number : ℕ) (spent : Spent) : Type 0 where
   pub before : PlainHistory
   pub behind : PlainHistory
-  pub split : history ≡ before ++ spent ∷ behind
-  pub place : number ≡ length before + 1
+  pub split : s.history ≡ before ++ spent ∷ behind
+  pub place : number ≡ ahead_of s.renewed + length before + 1
 
 -- what was told to be done is in every later history, at its number
 abbrev pub DoneIsPermanent : Type 0
@@ -84,7 +84,7 @@ DoneIsPermanent =
     → IsToldOver old new before after → Stands g before.machine
     → Confirms g (confirm.Done number) old new ⊎ Settles g (settle.Done number) old new
     → Later after.form after.machine later
-    → IsPairOf later.history number (Some g.ticket, g.action)
+    → IsPairOf later number (Some g.ticket, g.action)
 
 -- the answer tells that the grant's ticket is over
 abbrev pub TellsNever : Grant → LinkState → LinkState → Type 0

@@ -78,13 +78,15 @@ abbrev pub IsCall : List ℕ → Type 0
 IsCall line = (asked : PlainRequest) × IsLineOf asked line
 
 -- the replies that are expected: to an ask a ticket or a refusal from 20 to 23, to a confirm the
--- number of its action, to a cancel its own ticket, to an outcome what became of the ticket
+-- number of its action, to a cancel its own ticket, to an outcome what became of the ticket, or
+-- that this is left out
 abbrev pub IsExpected : PlainRequest → Reply → Type 0
 IsExpected (request.ask a lease) (reply.Granted ticket) = ⊤
 IsExpected (request.ask a lease) (reply.Refused code number) = (20 ≤ code) × (code ≤ 23)
 IsExpected (request.confirm ticket) (reply.Confirmed count) = ⊤
 IsExpected (request.cancel ticket) (reply.Cancelled told) = told ≡ ticket
 IsExpected (request.outcome ticket) (reply.Outcome became) = ⊤
+IsExpected (request.outcome ticket) (reply.Refused code number) = code ≡ 32
 IsExpected _ _ = ⊥
 
 -- The first reply to a request, and the state behind it: it comes of the request's step, in front

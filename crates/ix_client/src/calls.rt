@@ -18,6 +18,9 @@ const NO_MEMORY: u8 = 90;
 /// The code of a refusal of a reservation that is over.
 const EXPIRED: u8 = 31;
 
+/// The code of a refusal to tell what became of a ticket, since it is left out of the journal.
+pub(crate) const LEFT_OUT: u8 = 32;
+
 /// Asks for an action, to be reserved for `lease` milliseconds, 1 to 86400000. What is granted must
 /// be confirmed or cancelled.
 ///
@@ -51,9 +54,9 @@ pub fn cancel<L: Link>(link: &mut L, granted: Granted) -> Cancel
     cancelled(granted, exchange(link, line.as_slice()))
 }
 
-/// Asks what became of an action: it is in the history, it never will be, or its reservation is
-/// still open and the grant is handed back as granted. After any other line, and after a failed
-/// call, it is handed back as it was.
+/// Asks what became of an action: it is in the history, it never will be, that is left out since
+/// the journal was renewed, or its reservation is still open and the grant is handed back as
+/// granted. After any other line, and after a failed call, it is handed back as it was.
 pub fn settle<L: Link>(link: &mut L, pending: Pending) -> Settle
     ensures { Settles pending result (L.state link.old) (L.state link.new) }
 {
@@ -120,6 +123,7 @@ fn settled(pending: Pending, heard: Result<Option<Reply>, LinkFailed>) -> Settle
             Reply::Outcome(Outcome::Confirmed(number)) => Settle::Done(number),
             Reply::Outcome(Outcome::Waiting) => Settle::Open(Granted { ticket, action }),
             Reply::Outcome(Outcome::Never) => Settle::Never,
+            Reply::Refused { code: LEFT_OUT, .. } => Settle::LeftOut,
             _ => Settle::Unsure(Pending { ticket, action }),
         },
         _ => Settle::Unsure(Pending { ticket, action }),

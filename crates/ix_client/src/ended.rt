@@ -29,6 +29,8 @@ pub(crate) enum Ended {
     NoMemory,
     /// It isn't known what became of this ticket.
     Unsure(Ticket),
+    /// What became of this ticket is left out of the journal.
+    LeftOut(Ticket),
 }
 
 impl Ended {
@@ -41,6 +43,7 @@ impl Ended {
             Ended::BadWords => 2,
             Ended::Refused(_) => 3,
             Ended::Never => 4,
+            Ended::LeftOut(_) => 5,
             Ended::NoLink => 6,
             Ended::OddReply => 7,
             Ended::Unsure(_) => 8,
@@ -62,7 +65,8 @@ impl Ended {
             Ended::NoLink => append(out, b"refused link"),
             Ended::OddReply => append(out, b"refused reply"),
             Ended::NoMemory => append(out, b"refused memory"),
-            Ended::Unsure(ticket) => write_ticket(out, ticket),
+            Ended::Unsure(ticket) => write_ticket(out, b"unsure ", ticket),
+            Ended::LeftOut(ticket) => write_ticket(out, b"left out ", ticket),
         }
         out.push(b'\n');
     }
@@ -79,14 +83,15 @@ fn write_number(out: &mut ArrayVec<u8, 64>, word: &[u8], number: u64)
     append(out, buffer.format(number).as_bytes());
 }
 
-fn write_ticket(out: &mut ArrayVec<u8, 64>, ticket: Ticket)
-    requires { out.old.items ≡ [] }
-    ensures text { out.new.items ≡ codes "unsure " ++ ticket_text ticket }
-    ensures short { array_vec_len out.new ≤ 48 }
+fn write_ticket(out: &mut ArrayVec<u8, 64>, word: &[u8], ticket: Ticket)
+    requires empty { out.old.items ≡ [] }
+    requires room { length word.now ≤ 16 }
+    ensures text { out.new.items ≡ word.now ++ ticket_text ticket }
+    ensures short { array_vec_len out.new ≤ 57 }
 {
     let mut text = ArrayVec::<u8, 48>::new();
     ticket.write(&mut text);
-    append(out, b"unsure ");
+    append(out, word);
     append(out, text.as_slice());
 }
 

@@ -4,17 +4,23 @@ ghost use Rattle.ix_proto.specs.Requests.{PlainRequest};
 ghost use Rattle.ix_proto.specs.inside.Lends.{Lends};
 ghost use Rattle.ix_client.specs.Links.{IsExpected, IsLineOf, IsLineWith};
 
+use crate::calls::LEFT_OUT;
+use ix_proto::laws::{faults_tell_no_request, texts_tell_replies_apart};
 use ix_proto::{Reply, Request};
 use ix_values::texts_tell_tickets_apart;
 
 /// Whether a line is an expected reply to the request of another, which is given with its byte 10:
 /// to an ask a ticket or a refusal from 20 to 23, to a confirm the number of its action, to a
-/// cancel its own ticket, and to an outcome what became of its ticket.
+/// cancel its own ticket, and to an outcome what became of its ticket, or that this is left out.
 pub fn is_expected(line: &[u8], reply: &[u8]) -> bool
-    ensures { result ≡ true → (asked : PlainRequest) → IsLineOf asked line.now
+    ensures only { result ≡ true → (asked : PlainRequest) → IsLineOf asked line.now
         → IsLineWith (IsExpected asked) reply.now }
+    ensures all { (asked : PlainRequest) → IsLineOf asked line.now
+        → IsLineWith (IsExpected asked) reply.now → result ≡ true }
 {
     texts_tell_tickets_apart();
+    texts_tell_replies_apart();
+    faults_tell_no_request();
     let Some((_, words)) = line.split_last() else {
         return false;
     };
@@ -29,8 +35,10 @@ pub fn is_expected(line: &[u8], reply: &[u8]) -> bool
 
 /// Whether the reply is an expected one to the request.
 fn answers(request: Request<'_>, told: &Reply) -> bool
-    ensures { result ≡ true → (asked : PlainRequest) → Lends request.entry asked
+    ensures only { result ≡ true → (asked : PlainRequest) → Lends request.entry asked
         → IsExpected asked told.now }
+    ensures all { (asked : PlainRequest) → Lends request.entry asked
+        → IsExpected asked told.now → result ≡ true }
 {
     match (request, told) {
         (Request::Ask { .. }, Reply::Granted(_)) => true,
@@ -38,6 +46,7 @@ fn answers(request: Request<'_>, told: &Reply) -> bool
         (Request::Confirm(_), Reply::Confirmed(_)) => true,
         (Request::Cancel(ticket), Reply::Cancelled(told)) => ticket == *told,
         (Request::Outcome(_), Reply::Outcome(_)) => true,
+        (Request::Outcome(_), Reply::Refused { code, .. }) => *code == LEFT_OUT,
         _ => false,
     }
 }

@@ -119,6 +119,9 @@ pub enum Settle {
     Done(u64),
     /// The action isn't in the history, and never will be by this ticket.
     Never,
+    /// Whether the action is in the history is left out since the journal was renewed, and no later
+    /// run tells it.
+    LeftOut,
     /// The reservation is still open, and may be confirmed or cancelled.
     Open(Granted),
     /// It still isn't known.

@@ -1,7 +1,7 @@
 //! A link to a manager over a site in memory.
 ghost use Rattle.std.specs.Prelude.{◌≡◌, ◌≤◌, ◌<◌, ◌+◌, ◌-◌, ◌^◌, ◌++◌, [], ◌∷◌, true, false};
-ghost use Rattle.std.specs.Prelude.{◌⊎◌, List, ℕ, length, is_some, IfOk, IfSome, OnOk, Ok, Some};
-ghost use Rattle.std.specs.Prelude.{None};
+ghost use Rattle.std.specs.Prelude.{◌⊎◌, List, ℕ, length, is_some, IfErr, IfOk, IfSome, IsErr};
+ghost use Rattle.std.specs.Prelude.{OnOk, None, Ok, Some};
 ghost use Rattle.ix_outside.specs.Counts.{Rose};
 ghost use Rattle.ix_memory.specs.Calls.{one_more};
 ghost use Rattle.ix_memory.specs.inside.MemorySiteState.{crashes_of, state_of};
@@ -13,8 +13,11 @@ ghost use Rattle.ix_manager.specs.inside.OverSite.{FitsSite};
 ghost use Rattle.ix_client.specs.Links.{Calls, IsCall, IsExpected, IsLineOf, IsLineWith};
 ghost use Rattle.ix_client.specs.Links.{NoFewer};
 ghost use Rattle.ix_manager.specs.Handled.{ManagerState};
+ghost use Rattle.ix_client.specs.Links.{MakesCall};
+ghost use Rattle.ix_client.specs.inside.ManagerCalls.{CallsManager, CountsCall, CountsNone};
+ghost use Rattle.ix_client.specs.inside.ManagerCalls.{FailsToStart, MakesNone};
 ghost use Rattle.ix_client.specs.inside.ManagerLinks.{IsManagerWhere, IsOver, NotesStay};
-ghost use Rattle.ix_client.specs.inside.ManagerLinks.{link_state, call_noted};
+ghost use Rattle.ix_client.specs.inside.ManagerLinks.{link_state, call_noted, told_at, told_by};
 ghost use Rattle.ix_client.specs.inside.Passing.{EndsInLine, ExchangesOver, IsShortLine, Keeps};
 ghost use Rattle.ix_client.specs.inside.Passing.{StartedFrom};
 ghost use Rattle.ix_client.specs.inside.Starting.{TellsStarted};
@@ -84,6 +87,7 @@ impl Model for ManagerLink {
       limit = l.limit;
       manager = l.manager;
       site = l.site;
+      fail = l.fail.items;
       calls = l.calls;
       line = l.line.items;
       faults = l.faults;
@@ -96,7 +100,10 @@ impl Model for ManagerLink {
 impl ManagerLink {
     /// Attaches the file of the site and starts the manager of the text's expression from it. Each
     /// pair of `fail` names a call, counted from 0, that fails: behind its step where the pair says
-    /// true, and else in front of it.
+    /// true, and else in front of it. The first pair of a call counts.
+    ///
+    /// `Disk` may come over any file, and so may `Memory`. Each other fault is that of the start of
+    /// a manager from the file, where the site tells it.
     pub fn new(
         alloc: Global,
         text: &[u8],
@@ -115,8 +122,10 @@ impl ManagerLink {
         ensures text { IfOk result (λ l. l.text ≡ text.now) }
         ensures limit { IfOk result (λ l. l.limit ≡ limit) }
         ensures told { IfOk result (λ l. l.site.told ≡ site.told) }
+        ensures fail { IfOk result (λ l. l.fail ≡ fail.items) }
         ensures tells { site.told ≡ true → IfOk result
             (λ l. TellsStarted text.now limit site.image (link_state l)) }
+        ensures none { site.told ≡ true → IfErr result (MakesNone text.now limit site.image) }
     {
         let Ok(kept) = text.to_vec(alloc) else {
             return Err(StartFault::Memory);
@@ -141,10 +150,54 @@ impl ManagerLink {
         }
     }
 
+    /// Makes a call, as each link does. Where there is a manager, the call fails where it is told
+    /// to. After a failure, and after `refused 91 disk`, the manager is started again, and where
+    /// that fails, one more fault is counted and none is left.
+    pub fn make_call(&mut self, line: &[u8], out: &mut ArrayVec<u8, 256>) -> Result<(), LinkFailed>
+        requires empty { out.old.items ≡ [] }
+        requires line { IsCall line.now }
+        ensures once { MakesCall line.now (link_state self.old) (link_state self.new) }
+        ensures counts { NoFewer (link_state self.old) (link_state self.new) }
+        ensures calls { (asked : PlainRequest) → IsLineOf asked line.now
+            → Calls asked result out.new.items (link_state self.old) (link_state self.new) }
+        ensures fail { self.new.fail ≡ self.old.fail }
+        ensures went { (m : ManagerState) → self.old.manager ≡ Some m → (asked : PlainRequest)
+            → IsLineOf asked line.now
+            → CallsManager asked result out.new.items self.old self.new }
+        ensures none { self.old.manager ≡ None → IsErr result }
+    {
+        let failing = self.note(line);
+        if !self.has_manager() {
+            self.count_fault();
+            return Err(LinkFailed);
+        }
+        match failing {
+            None => self.pass_on(line, out),
+            Some(false) => self.fail(),
+            Some(true) => self.fail_behind(line, out),
+        }
+    }
+
+    /// A link that has a manager tells it, as long as its site tells its contents.
+    pub fn tells(&self)
+        ensures { self.now.site.told ≡ true → (m : ManagerState) → self.now.manager ≡ Some m
+            → (link_state self.now).told ≡ Some (told_by m) }
+    {
+        self.manages();
+    }
+
+    /// What the link's manager is to its text, its limit and its site.
+    fn manages(&self)
+        ensures { IsManagerWhere self.now.text self.now.limit self.now.manager self.now.site }
+    {
+        let _ = &self.alloc;
+    }
+
     /// Notes a call with this line. Whether it is told to fail, and then whether behind its step.
     fn note(&mut self, line: &[u8]) -> Option<bool>
         requires { IsCall line.now }
-        ensures { self.new ≡ call_noted line.now self.old }
+        ensures noted { self.new ≡ call_noted line.now self.old }
+        ensures failing { result ≡ told_at self.old.calls self.old.fail }
     {
         let failing = failure_at(&self.fail, self.calls);
         self.calls = self.calls.saturating_add(1);
@@ -183,6 +236,7 @@ impl ManagerLink {
     fn start_again(&mut self)
         ensures notes { NotesStay self.old self.new }
         ensures faults { self.old.faults ≤ self.new.faults }
+        ensures counted { CountsNone self.new.manager self.old.faults self.new.faults }
         ensures balks { self.new.balks ≡ self.old.balks }
         ensures told { self.new.site.told ≡ self.old.site.told }
         ensures manages { IsManagerWhere self.old.text self.old.limit self.old.manager
@@ -203,6 +257,11 @@ impl ManagerLink {
         ensures counts { NoFewer (link_state self.old) (link_state self.new) }
         ensures calls { (m : ManagerState) → self.old.manager ≡ Some m → (asked : PlainRequest)
             → Calls asked result [] (link_state self.old) (link_state self.new) }
+        ensures failed { IsErr result }
+        ensures counted { Rose self.old.faults self.new.faults }
+        ensures balks { self.new.balks ≡ self.old.balks }
+        ensures started { (n : ManagerState) → self.new.manager ≡ Some n
+            → StartedFrom self.old.text self.old.limit n self.old.site self.new.site }
     {
         texts_stand_for_one_expression();
         self.start_again();
@@ -219,6 +278,9 @@ impl ManagerLink {
         ensures calls { (m : ManagerState) → self.old.manager ≡ Some m → (asked : PlainRequest)
             → IsLineOf asked line.now
             → Calls asked result out.new.items (link_state self.old) (link_state self.new) }
+        ensures failed { IsErr result }
+        ensures counted { Rose self.old.faults self.new.faults }
+        ensures balks { self.new.balks ≡ self.old.balks }
     {
         texts_stand_for_one_expression();
         let _ = self.exchange(line, out);
@@ -237,6 +299,9 @@ impl ManagerLink {
         ensures calls { (m : ManagerState) → self.old.manager ≡ Some m → (asked : PlainRequest)
             → IsLineOf asked line.now
             → Calls asked result out.new.items (link_state self.old) (link_state self.new) }
+        ensures went { (m : ManagerState) → self.old.manager ≡ Some m → (asked : PlainRequest)
+            → IsLineOf asked line.now
+            → CountsCall asked result out.new.items self.old self.new }
     {
         texts_stand_for_one_expression();
         match self.exchange(line, out) {
@@ -264,6 +329,8 @@ impl ManagerLink {
         ensures site { self.new.site ≡ self.old.site }
         ensures expected { (asked : PlainRequest) → IsLineOf asked line.now
             → IsLineWith (IsExpected asked) reply.now ⊎ Rose self.old.balks self.new.balks }
+        ensures stay { (asked : PlainRequest) → IsLineOf asked line.now
+            → IsLineWith (IsExpected asked) reply.now → self.new.balks ≡ self.old.balks }
     {
         if !is_expected(line, reply) {
             self.count_balk();
@@ -290,23 +357,16 @@ impl Link for ManagerLink {
     ghost state = { link_state };
 
     fn call(&mut self, line: &[u8], out: &mut ArrayVec<u8, 256>) -> Result<(), LinkFailed> {
-        let failing = self.note(line);
-        if !self.has_manager() {
-            self.count_fault();
-            return Err(LinkFailed);
-        }
-        match failing {
-            None => self.pass_on(line, out),
-            Some(false) => self.fail(),
-            Some(true) => self.fail_behind(line, out),
-        }
+        self.make_call(line, out)
     }
 
     ghost sound = { told_is_sound };
 }
 
 /// What is told of the call of this number.
-fn failure_at(fail: &[(u64, bool)], number: u64) -> Option<bool> {
+fn failure_at(fail: &[(u64, bool)], number: u64) -> Option<bool>
+    ensures { result ≡ told_at number fail.now }
+{
     for (listed, is_behind) in fail {
         if *listed == number {
             return Some(*is_behind);
@@ -328,7 +388,10 @@ fn start(
     ensures attached { site.new.attached ≡ true }
     ensures told { site.new.told ≡ site.old.told }
     ensures started { IfOk result (λ m. StartedFrom text.now limit m site.old site.new) }
+    ensures none { site.old.told ≡ true → (x : Form) → StandsFor text.now x
+        → IfErr result (FailsToStart x limit site.old.image) }
 {
+    texts_stand_for_one_expression();
     match ix_parse::read(alloc, text) {
         Ok(expression) => Manager::start(alloc, site, expression, limit),
         Err(_) => Err(StartFault::Memory),

@@ -35,6 +35,8 @@ const LONGEST_LEASE: u64 = 86_400_000;
 /// - `refused words`, status 2: there are other words than these three. The link isn't called.
 /// - `refused C`, status 3: the manager refused the ask with this code, 20 to 23.
 /// - `never`, status 4: the action isn't in the history, and never will be by its ticket.
+/// - `left out T`, status 5: whether the action happened by the ticket T is left out since the
+///   journal was renewed, and no later run tells it.
 /// - `refused link`, status 6: the call of the ask failed; it was taken or not.
 /// - `refused reply`, status 7: the reply to the ask was none that an ask has.
 /// - `unsure T`, status 8: what became of the ticket T isn't known after the last turn.
@@ -48,7 +50,8 @@ pub fn client<L: Link, K: Sink>(words: &[String], link: &mut L, out: &mut K) -> 
     ensures calls { CallsAtMost 18 (L.state link.old) (L.state link.new) }
 
     // What a status tells of the counts of the link.
-    ensures never { result ≡ 4 → EitherRose (L.state link.old) (L.state link.new) }
+    ensures never { (result ≡ 4) ⊎ (result ≡ 5)
+        → EitherRose (L.state link.old) (L.state link.new) }
     ensures failed { result ≡ 6 → Rose (L.state link.old).faults (L.state link.new).faults }
     ensures balked { (result ≡ 7) ⊎ (result ≡ 9)
         → Rose (L.state link.old).balks (L.state link.new).balks }

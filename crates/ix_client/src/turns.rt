@@ -57,9 +57,11 @@ fn take_turns<L: Link>(link: &mut L, first: Pending) -> Ended
 fn take_turn<L: Link>(link: &mut L, pending: Pending) -> Turned
     ensures { TakesTurn pending result (L.state link.old) (L.state link.new) }
 {
+    let ticket = pending.ticket;
     match settle(link, pending) {
         Settle::Done(number) => Turned::Over(Ended::Done(number)),
         Settle::Never => Turned::Over(Ended::Never),
+        Settle::LeftOut => Turned::Over(Ended::LeftOut(ticket)),
         Settle::Open(granted) => after_confirm(confirm(link, granted)),
         Settle::Unsure(back) => Turned::Unsure(back),
     }

@@ -7,12 +7,12 @@ use Rattle.ix_words.specs.Each.{Each, no_item, item}
 use Rattle.ix_values.specs.PlainAction.{PlainAction, Word}
 use Rattle.ix_expr.specs.Form.{Form}
 use Rattle.ix_follow.specs.declared.answers.Fed.{Fed}
-use Rattle.ix_follow.specs.declared.answers.Fed.TheVariants.{Other, Early, Old, Taken}
+use Rattle.ix_follow.specs.declared.answers.Fed.TheVariants.{Other, LeftOut, Early, Old, Taken}
 use Rattle.ix_follow.specs.declared.answers.FollowFault.{FollowFault}
 use Rattle.ix_follow.specs.declared.answers.FollowFault.TheVariants.{Differs, NotPartial, Full, Over, Memory}
-use Rattle.ix_follow.specs.Following.{IsEntry, HasAt, IsNext, Meets, Leaves, Feeds, no_entry, entry}
+use Rattle.ix_follow.specs.Following.{IsEntry, HasAt, IsNext, Meets, Leaves, Feeds, no_entry, left_out, entry}
 use Rattle.ix_follow.specs.Laws.{FeedsAll, none, more, IsManaged, TellsOf, IsPrefix, HasInOrder, all, here, later}
-use Rattle.ix_follow.proofs.Entries.{same_entry}
+use Rattle.ix_follow.proofs.Entries.{same_entry, left_out_is_none}
 use Rattle.ix_follow.proofs.Prefixes.{get_prefix, behind_begins}
 
 -- a history became another at an answer: a prefix of the whole still, not shorter, and no fault but want of memory
@@ -43,6 +43,7 @@ module _ (x : Form) (limit most : ℕ) (whole : Word) (room : most ≤ limit) (m
   meets : (history next : Word) (n : ℕ) (a : PlainAction) (answer : Result Fed FollowFault) → IsPrefix history whole → HasAt whole n a
       → Meets x limit history n a answer → Leaves history a answer next → Goes history whole answer next
   meets history next n a (Ok Other) prefix has met leaves = absurd met
+  meets history next n a (Ok LeftOut) prefix has met leaves = absurd met
   meets history next n a (Ok (Early m)) prefix has met leaves = stays history whole _ next prefix tt leaves
   meets history next n a (Ok (Old m)) prefix has met leaves = stays history whole _ next prefix tt leaves
   meets history next n a (Ok (Taken m)) prefix has met leaves =
@@ -72,7 +73,9 @@ module _ (x : Form) (limit most : ℕ) (whole : Word) (room : most ≤ limit) (m
   -- a line that tells of the whole
   goes : (history : Word) (line : List ℕ) (answer : Result Fed FollowFault) (next : Word) → IsPrefix history whole → TellsOf whole line
       → Feeds x limit history line answer next → Goes history whole answer next
-  goes history line answer next prefix tells (no_entry none_told answer_is same) =
+  goes history line answer next prefix tells (no_entry none_told here_told answer_is same) =
+      stays history whole answer next prefix (subst (λ (r : Result Fed FollowFault). IfErr r (λ fault. fault ≡ Memory)) (sym answer_is) tt) same
+  goes history line answer next prefix tells (left_out told answer_is same) =
       stays history whole answer next prefix (subst (λ (r : Result Fed FollowFault). IfErr r (λ fault. fault ≡ Memory)) (sym answer_is) tt) same
   goes history line answer next prefix tells (entry {number = n} {a = a} is met leaves) = meets history next n a answer prefix (tells n a is) met leaves
 
@@ -91,6 +94,7 @@ module _ (x : Form) (limit most : ℕ) (whole : Word) (room : most ≤ limit) (m
       → IfErr answer (λ fault. fault ≡ Memory) → answer ≢ Err Memory → Meets x limit history m b answer → 1 ≤ m → Leaves history b answer next
       → n ≤ length next
   has_then history next n m a b (Ok Other) same wanted fine enough met one leaves = absurd met
+  has_then history next n m a b (Ok LeftOut) same wanted fine enough met one leaves = absurd met
   has_then history next n m a b (Ok (Early k)) same wanted fine enough met one leaves = absurd (omega (arith, same, wanted, met.1))
   has_then history next n m a b (Ok (Old k)) same wanted fine enough met one leaves =
       let within = slice_get_within history (m - 1) b met.1 in
@@ -105,7 +109,8 @@ module _ (x : Form) (limit most : ℕ) (whole : Word) (room : most ≤ limit) (m
   catches_one : (history : Word) (line : List ℕ) (answer : Result Fed FollowFault) (next : Word) (n : ℕ) (a : PlainAction)
       → IsEntry line n a → n ≤ length history + 1 → IfErr answer (λ fault. fault ≡ Memory) → answer ≢ Err Memory
       → Feeds x limit history line answer next → n ≤ length next
-  catches_one history line answer next n a is wanted fine enough (no_entry none_told answer_is same) = absurd (none_told n a is)
+  catches_one history line answer next n a is wanted fine enough (no_entry none_told here_told answer_is same) = absurd (none_told n a is)
+  catches_one history line answer next n a is wanted fine enough (left_out told answer_is same) = absurd (left_out_is_none line n a told is)
   catches_one history line answer next n a is wanted fine enough (entry {number = m} {a = b} told met leaves) =
       has_then history next n m a b answer (same_entry line n m a b is told) wanted fine enough met told.from_one leaves
 

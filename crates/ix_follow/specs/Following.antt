@@ -6,9 +6,9 @@ use Rattle.ix_expr.specs.Form.{Form}
 use Rattle.ix_can.specs.TreeOf.{tree_size}
 use Rattle.ix_engine.specs.Allowed.{IsPermitted, IsAllowed}
 use Rattle.ix_proto.specs.Replies.{IsReply, reply_text}
-use Rattle.ix_proto.specs.declared.reply.Reply.TheVariants.{Entry}
+use Rattle.ix_proto.specs.declared.reply.Reply.TheVariants.{Entry, Refused}
 use Rattle.ix_follow.specs.declared.answers.Fed.{Fed}
-use Rattle.ix_follow.specs.declared.answers.Fed.TheVariants.{Other, Early, Old, Taken}
+use Rattle.ix_follow.specs.declared.answers.Fed.TheVariants.{Other, LeftOut, Early, Old, Taken}
 use Rattle.ix_follow.specs.declared.answers.FollowFault.{FollowFault}
 use Rattle.ix_follow.specs.declared.answers.FollowFault.TheVariants.{Differs, NotPartial, Full}
 use Rattle.ix_follow.specs.declared.answers.FollowFault.TheVariants.{Over, Memory}
@@ -18,6 +18,10 @@ pub record IsEntry (line : List ℕ) (number : ℕ) (a : PlainAction) : Type 0 w
   pub entry : IsReply (Entry number a)
   pub from_one : 1 ≤ number
   pub text : reply_text (Entry number a) ≡ line
+
+-- the line refuses an entry that is left out of the journal
+abbrev pub IsLeftOut : List ℕ → Type 0
+IsLeftOut line = line ≡ reply_text (Refused 33 0)
 
 -- the history has this action at this number, counted from 1
 abbrev pub HasAt : Word → ℕ → PlainAction → Type 0
@@ -32,6 +36,7 @@ IsNext history number = number ≡ length history + 1
 -- its action is permitted and there is room for it.
 abbrev pub Meets : Form → ℕ → Word → ℕ → PlainAction → Result Fed FollowFault → Type 0
 Meets x limit history n a (Ok Other) = ⊥
+Meets x limit history n a (Ok LeftOut) = ⊥
 Meets x limit history n a (Ok (Early m)) = (m ≡ n) × (length history + 1 < n)
 Meets x limit history n a (Ok (Old m)) = (m ≡ n) × HasAt history n a
 Meets x limit history n a (Ok (Taken m)) = (m ≡ n) × IsNext history n × IsAllowed x limit history a
@@ -55,8 +60,10 @@ Leaves history a _ after = after ≡ history
 -- a line fed to a follower with this history: its answer, and the history after it
 pub data Feeds (x : Form) (limit : ℕ) (history : Word) (line : List ℕ)
     (answer : Result Fed FollowFault) (after : Word) : Type 0 where
-  no_entry : ((number : ℕ) (a : PlainAction) → ¬ IsEntry line number a)
+  no_entry : ((number : ℕ) (a : PlainAction) → ¬ IsEntry line number a) → ¬ IsLeftOut line
       → answer ≡ Ok Other → after ≡ history → Feeds x limit history line answer after
+  left_out : IsLeftOut line
+      → answer ≡ Ok LeftOut → after ≡ history → Feeds x limit history line answer after
   entry : {number : ℕ} {a : PlainAction}
       → IsEntry line number a → Meets x limit history number a answer
       → Leaves history a answer after

@@ -3,8 +3,12 @@
 /// What a line was to a follower. Only a `Taken` entry changes its history.
 #[derive(Clone, Copy, Debug, PartialEq, Eq)]
 pub enum Fed {
-    /// The line isn't the text of an entry with a number from 1.
+    /// The line isn't the text of an entry with a number from 1, nor the refusal of one that is
+    /// left out.
     Other,
+    /// The line refuses an entry that is left out of the journal: the log from before its renewal
+    /// has it.
+    LeftOut,
     /// The entry of this number comes too early: one before it is missing. It isn't kept.
     Early(u64),
     /// The history has the action of this number already, and it is the same.

@@ -24,6 +24,9 @@ use std::marker::Model;
 /// The most actions that a history has.
 const MOST_ACTIONS: usize = 1_000_000;
 
+/// The code of the refusal of an entry that is left out of the journal.
+const ENTRY_LEFT_OUT: u8 = 33;
+
 /// The prefix of a manager's history that its entries told so far, in an engine of the same
 /// expression.
 #[derive(Drop)]
@@ -98,12 +101,13 @@ impl Follower {
         out.push(b'\n');
     }
 
-    /// Feeds a line, which is given without its byte 10. `Other` comes exactly where it isn't the
-    /// text of an entry with a number from 1. An entry whose number is above the next one is
-    /// `Early`, and is dropped. One whose number the history has is `Old` where its action is the
-    /// kept one, and else refused as `Differs`. The next one is `Taken`, and its action appended,
-    /// unless the engine refuses it, which is told as the engine tells it. At a fault nothing
-    /// changes, and want of memory comes only where the next entry could be taken.
+    /// Feeds a line, which is given without its byte 10. `LeftOut` comes exactly where it is
+    /// `refused 33 left out`, and `Other` where it is neither that nor the text of an entry with a
+    /// number from 1. An entry whose number is above the next one is `Early`, and is dropped. One
+    /// whose number the history has is `Old` where its action is the kept one, and else refused as
+    /// `Differs`. The next one is `Taken`, and its action appended, unless the engine refuses it,
+    /// which is told as the engine tells it. At a fault nothing changes, and want of memory comes
+    /// only where the next entry could be taken.
     pub fn feed(&mut self, alloc: Global, line: &[u8]) -> Result<Fed, FollowFault>
         ensures feeds { Feeds self.old.form self.old.limit self.old.history line.now result
             self.new.history }
@@ -129,6 +133,12 @@ impl Follower {
                     return Ok(Fed::Other);
                 }
                 self.meet(alloc, *number, action)
+            }
+            Reply::Refused { code, .. } => {
+                if *code == ENTRY_LEFT_OUT {
+                    return Ok(Fed::LeftOut);
+                }
+                Ok(Fed::Other)
             }
             _ => Ok(Fed::Other),
         }

@@ -145,7 +145,8 @@ module _ (bytes : List ℕ) (first : ℕ) where
       (record { behind = more.behind; spells = behind; gate = more.gate; valid = more.valid })
       (order-at fresh x more.entry more.later
       (subst (λ (z : List Entry). InOrder fresh z) more.word w.records.order))
-      (few_front (x ++ more.entry ∷ []) more.later (subst AreFew whole w.few))
+      (few_front (x ++ more.entry ∷ []) more.later (subst (All IsEntry) whole w.records.valid)
+      (subst (λ (z : List Entry). InOrder fresh z) whole w.records.order) (subst AreFew whole w.few))
     where
       gate_of : (b : List ℕ) (g byte : ℕ) (rest : List ℕ) → drop g b ≡ byte ∷ rest → slice_get b g ≡ Some byte
       gate_of [] zero byte rest e = absurd cc

@@ -14,7 +14,7 @@ use Rattle.ix_journal.specs.Records.{BeginsWithRecord, Holds}
 use Rattle.ix_journal.specs.Recovery.{IsJournal, IsDamaged, IsMany}
 use Rattle.ix_journal.specs.Laws.{EnoughBytes}
 use Rattle.ix_journal.proofs.KindFronts.{slice_get-take, front_len, front_read, same, kinds_of_front}
-use Rattle.ix_journal.proofs.OrderLemmas.{entry_short}
+use Rattle.ix_journal.proofs.OrderLemmas.{entry_short, number_of, renewal_most}
 use Rattle.ix_journal.proofs.SameFronts.{kept_ready, kept_records, near}
 use Rattle.ix_journal.proofs.WritingLaws.{ignores_the_rest}
 
@@ -54,7 +54,7 @@ begins_within at bytes entry w =
     let some = w.gate in
     omega (arith, ap length w.spells, length-append (record_of entry) w.behind, length-drop at bytes)
 
-module _ (bytes : List ℕ) (read : ℕ) (enough : 225065543 ≤ read) where
+module _ (bytes : List ℕ) (read : ℕ) (enough : 237065593 ≤ read) where
   at_gate : (gate : ℕ) → gate < length (take read bytes)
       → slice_get (take read bytes) gate ≡ slice_get bytes gate
   at_gate gate within = slice_get-take read gate bytes (omega (arith, front_read bytes read))
@@ -82,7 +82,8 @@ module _ (bytes : List ℕ) (read : ℕ) (enough : 225065543 ≤ read) where
         let is_near = near (take read bytes) text first entries gate is_ready holds few in
         let actions = few.actions in
         let boots = few.boots in
-        let room : 210 ≤ read - (gate + 1) = omega arith in
+        let room : 210 ≤ read - (gate + 1) =
+        omega (arith, number_of entries, renewal_most (marks_of entries).renewal) in
         let sum : (gate + 1) + (read - (gate + 1)) ≡ read = omega arith in
         let cut : drop (gate + 1) (take read bytes) ≡ take (read - (gate + 1)) (drop (gate + 1) bytes) =
         ap (λ (n : ℕ). drop (gate + 1) (take n bytes)) (sym sum)

@@ -7,7 +7,7 @@ use Rattle.std.proofs.lemmas.Fmt.{decimal_injective}
 use Rattle.std.proofs.lemmas.List.{append-nil}
 use Rattle.std.proofs.lemmas.List.Elements.{All-head, All-tail}
 use Rattle.std.proofs.lemmas.List.Folds.{list_any-append}
-use Rattle.ix_lines.proofs.NumberCuts.{cut_same, decimal-avoids, decimal-plain, or_false, some_same}
+use Rattle.ix_lines.proofs.NumberCuts.{cut_same, decimal-avoids, decimal-plain, number_same, or_false, some_same}
 use Rattle.ix_lines.proofs.WordLemmas.{is_byte, is_space}
 use Rattle.ix_lines.specs.inside.WordsBehind.{behind_word, HasNoSpace}
 use Rattle.ix_values.proofs.Machine.{and-left, and-right}
@@ -23,16 +23,19 @@ use Rattle.ix_journal.specs.declared.entries.Entry.TheVariants as entry
 
 -- the word in front of the first space of a record's text, and what stands behind that space
 abbrev pub first_word : Entry → List ℕ
+first_word (entry.Renewed actions boots) = codes "renewed"
 first_word (entry.Boot number) = codes "boot"
 first_word (entry.Spent ticket action) = ticket_text ticket
 first_word (entry.Plain action) = text_of action
 
 abbrev pub later_text : Entry → Option (List ℕ)
+later_text (entry.Renewed actions boots) = Some (decimal actions ++ 32 ∷ decimal boots)
 later_text (entry.Boot number) = Some (decimal number)
 later_text (entry.Spent ticket action) = Some (text_of action)
 later_text (entry.Plain action) = None
 
 pub cut-of : (e : Entry) → entry_text e ≡ first_word e ++ behind_word (later_text e)
+cut-of (entry.Renewed actions boots) = refl
 cut-of (entry.Boot number) = refl
 cut-of (entry.Spent ticket action) = refl
 cut-of (entry.Plain action) = sym (append-nil (text_of action))
@@ -82,6 +85,7 @@ ticket-plain ticket valid =
     (decimal-plain ticket.seq valid.seq)
 
 pub first-plain : (e : Entry) → IsEntry e → HasNoSpace (first_word e)
+first-plain (entry.Renewed actions boots) valid = refl
 first-plain (entry.Boot number) valid = refl
 first-plain (entry.Spent ticket action) valid = ticket-plain ticket valid.0
 first-plain (entry.Plain action) valid = action-plain action valid
@@ -93,11 +97,12 @@ dash_first : (d : ℕ) (later : Bool) → (is_dash d || later) ≡ false → 45 
 dash_first d later none same =
     true≢false (ap is_dash same ∙ (or_false (is_dash d) later none).0)
 
--- `boot` is no ticket's text, since it has no dash
-pub boot_apart : (ticket : Ticket) → codes "boot" ≡ ticket_text ticket → ⊥
-boot_apart ticket e =
+-- a word without a dash is no ticket's text
+without_dash : (word : List ℕ) → list_any (is_byte 45) word ≡ false → (ticket : Ticket)
+    → word ≡ ticket_text ticket → ⊥
+without_dash word none ticket e =
     true≢false
-    (sym (has_dash (decimal ticket.boot)) ∙ ap (list_any (is_byte 45)) (sym e))
+    (sym (has_dash (decimal ticket.boot)) ∙ ap (list_any (is_byte 45)) (sym e) ∙ none)
   where
     has_dash : (front : List ℕ) → list_any (is_byte 45) (front ++ 45 ∷ decimal ticket.seq) ≡ true
     has_dash [] = refl
@@ -106,6 +111,13 @@ boot_apart ticket e =
         or_right : (p q : Bool) → q ≡ true → (p || q) ≡ true
         or_right true q h = refl
         or_right false q h = h
+
+-- so are `boot` and `renewed`
+pub boot_apart : (ticket : Ticket) → codes "boot" ≡ ticket_text ticket → ⊥
+boot_apart ticket e = without_dash (codes "boot") refl ticket e
+
+pub renewed_apart : (ticket : Ticket) → codes "renewed" ≡ ticket_text ticket → ⊥
+renewed_apart ticket e = without_dash (codes "renewed") refl ticket e
 
 -- the words of one text are those of one record
 words-same : (x y : Entry) → IsEntry x → IsEntry y → entry_text x ≡ entry_text y
@@ -138,6 +150,17 @@ tickets-same s t valid also e =
 
 kinds-same : (x y : Entry) → IsEntry x → IsEntry y
     → (first_word x ≡ first_word y) → (later_text x ≡ later_text y) → x ≡ y
+kinds-same (entry.Renewed a b) (entry.Renewed c d) valid also first later =
+    let actions = number_same a c (decimal b) (decimal d) (omega (arith, valid.0)) (omega (arith, also.0))
+    (some_same later) in
+    let boots : b ≡ d = decimal_injective b d (omega (arith, valid.1)) (omega (arith, also.1)) actions.1 in
+    λ i. entry.Renewed (actions.0 i) (boots i)
+kinds-same (entry.Renewed a b) (entry.Boot n) valid also first later = absurd cc
+kinds-same (entry.Renewed a b) (entry.Spent t c) valid also first later = absurd (renewed_apart t first)
+kinds-same (entry.Renewed a b) (entry.Plain c) valid also first later = absurd cc
+kinds-same (entry.Boot m) (entry.Renewed a b) valid also first later = absurd cc
+kinds-same (entry.Spent s c) (entry.Renewed a b) valid also first later = absurd (renewed_apart s (sym first))
+kinds-same (entry.Plain c) (entry.Renewed a b) valid also first later = absurd cc
 kinds-same (entry.Boot m) (entry.Boot n) valid also first later =
     ap entry.Boot (decimal_injective m n valid also (some_same later))
 kinds-same (entry.Boot m) (entry.Spent t b) valid also first later = absurd (boot_apart t first)

@@ -48,26 +48,39 @@ first_magic bytes r starts passed = record {
   spells = (starts_is Decides-eqb bytes (codes "IXJ1") r starts).0 passed;
 }
 
--- without the magic of version 1 there is that of version 2, or none
-pub second_magic : (bytes : List ℕ) (r s : Bool) → r ≡ starts_with nat_eq bytes (codes "IXJ1")
-    → s ≡ starts_with nat_eq bytes (codes "IXJ2") → r ≡ false
+-- the magic of version 2
+pub second_magic : (bytes : List ℕ) (r : Bool) → r ≡ starts_with nat_eq bytes (codes "IXJ2") → r ≡ true
+    → BeginsWithMagic bytes
+second_magic bytes r starts passed = record {
+  version = 50;
+  known = inr (inl refl);
+  spells = (starts_is Decides-eqb bytes (codes "IXJ2") r starts).0 passed;
+}
+
+-- without the magic of versions 1 and 2 there is that of version 3, or none
+pub third_magic : (bytes : List ℕ) (q r s : Bool) → q ≡ starts_with nat_eq bytes (codes "IXJ1")
+    → r ≡ starts_with nat_eq bytes (codes "IXJ2") → s ≡ starts_with nat_eq bytes (codes "IXJ3")
+    → q ≡ false → r ≡ false
     → (s ≡ true → BeginsWithMagic bytes) × (BeginsWithMagic bytes → s ≡ true)
-second_magic bytes r s first second failed = (
+third_magic bytes q r s first second third failed also = (
   λ passed. record {
-    version = 50;
-    known = inr refl;
-    spells = (starts_is Decides-eqb bytes (codes "IXJ2") s second).0 passed;
+    version = 51;
+    known = inr (inr refl);
+    spells = (starts_is Decides-eqb bytes (codes "IXJ3") s third).0 passed;
   },
   λ w. known-of w.version w.known w.spells,
 )
   where
     known-of : (version : ℕ) → IsVersion version → bytes ≡ codes "IXJ" ++ version ∷ drop 4 bytes → s ≡ true
     known-of version (inl one) spells =
-        absurd (true≢false (sym ((starts_is Decides-eqb bytes (codes "IXJ1") r first).1 (drop 4 bytes)
+        absurd (true≢false (sym ((starts_is Decides-eqb bytes (codes "IXJ1") q first).1 (drop 4 bytes)
         (spells ∙ ap (λ (v : ℕ). codes "IXJ" ++ v ∷ drop 4 bytes) one)) ∙ failed))
-    known-of version (inr two) spells =
-        (starts_is Decides-eqb bytes (codes "IXJ2") s second).1 (drop 4 bytes)
-        (spells ∙ ap (λ (v : ℕ). codes "IXJ" ++ v ∷ drop 4 bytes) two)
+    known-of version (inr (inl two)) spells =
+        absurd (true≢false (sym ((starts_is Decides-eqb bytes (codes "IXJ2") r second).1 (drop 4 bytes)
+        (spells ∙ ap (λ (v : ℕ). codes "IXJ" ++ v ∷ drop 4 bytes) two)) ∙ also))
+    known-of version (inr (inr three)) spells =
+        (starts_is Decides-eqb bytes (codes "IXJ3") s third).1 (drop 4 bytes)
+        (spells ∙ ap (λ (v : ℕ). codes "IXJ" ++ v ∷ drop 4 bytes) three)
 
 -- what is found behind the magic is found of the header
 pub header_found : (bytes : List ℕ) (found : Option (Bor (List ℕ))) → BeginsWithMagic bytes

@@ -20,3 +20,4 @@ pub mod SlideLemmas
 pub mod SlideLaws
 pub mod PassedTexts
 pub mod SlideSteps
+pub mod RenewedLaws

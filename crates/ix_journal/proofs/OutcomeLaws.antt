@@ -5,7 +5,7 @@ use Rattle.ix_journal.specs.Format.{IsClosed}
 use Rattle.ix_journal.specs.Kinds.{IsUnfinished, IsUnopened, IsReady, unfinished, unopened, ready}
 use Rattle.ix_journal.specs.Records.{BeginsWithRecord, ClosesAt, IsDamagedFrom}
 use Rattle.ix_journal.specs.Recovery.{IsJournal, IsDamaged, IsMany, Keeps, Recovers}
-use Rattle.ix_journal.specs.Entries.{MayFollow, marks_of, pairs_of}
+use Rattle.ix_journal.specs.Entries.{MayFollow, marks_of, pairs_of, renewed_of}
 use Rattle.ix_journal.specs.History.{PlainHistory}
 use Rattle.ix_journal.specs.Laws.{OneHistory, OneJournal, OneList, OneNumber, OneOutcome}
 use Rattle.ix_journal.proofs.KindLaws.{one_kind, ready_same}
@@ -106,8 +106,8 @@ one_history bytes x y v w =
     sym v.pairs ∙ ap pairs_of (keeps_same bytes v.entries w.entries v.keeps w.keeps) ∙ w.pairs
 
 pub one_number : OneNumber
-one_number bytes m n v w =
-    sym v.number
-    ∙ ap (λ (entries : List Entry). (marks_of entries).boots)
-    (keeps_same bytes v.entries w.entries v.keeps w.keeps)
-    ∙ w.number
+one_number bytes x y m n v w =
+    let same = keeps_same bytes v.entries w.entries v.keeps w.keeps in (
+      sym v.said ∙ ap (λ (entries : List Entry). renewed_of (marks_of entries)) same ∙ w.said,
+      sym v.number ∙ ap (λ (entries : List Entry). (marks_of entries).boots) same ∙ w.number,
+    )

@@ -7,12 +7,14 @@ use Rattle.std.proofs.lemmas.List.Elements.{All-head, All-tail}
 use Rattle.std.specs.Prelude.{All}
 use Rattle.ix_journal.specs.declared.entries.Entry.{Entry}
 use Rattle.ix_journal.specs.Entries.{AreFew, InOrder, IsEntry, behind, fresh, marks_behind, marks_of}
-use Rattle.ix_journal.specs.Entries.{pair_of, pairs_of}
+use Rattle.ix_journal.specs.Entries.{pairs_of}
 use Rattle.ix_journal.specs.declared.entries.Marks.{Marks}
 use Rattle.ix_journal.specs.Format.{farthest_gate, header, record_of, open_records}
 use Rattle.ix_journal.specs.Kinds.{IsReady}
 use Rattle.ix_journal.specs.Records.{Holds}
-use Rattle.ix_journal.proofs.OrderLemmas.{boots-grow, entry_near}
+use Rattle.ix_journal.specs.inside.Counting.{AreSound}
+use Rattle.ix_journal.proofs.OrderLemmas.{boots-grow, boots_since, entry_near, room_of}
+use Rattle.ix_journal.proofs.OrderLemmas.{sound-behind, sound-fresh}
 
 -- files that are the same in front of a place are the same in front of an earlier one
 take_less : (m n : ℕ) (xs ys : List ℕ) → m ≤ n → take n xs ≡ take n ys → take m xs ≡ take m ys
@@ -80,29 +82,28 @@ module _ (bytes text : List ℕ) (first : ℕ) (entries : List Entry) (gate : �
       }
 
 -- how many bytes records have with their gates, where the boots aren't too many
-records_short : (marks : Marks) (entries : List Entry) → All IsEntry entries → InOrder marks entries
-    → (marks_behind marks entries).boots ≤ 1000000
-    → length (open_records entries) + 15 * marks.boots
-    ≤ 197 * length (pairs_of entries) + 15 * (marks_behind marks entries).boots
-records_short marks [] valid order few = omega arith
-records_short marks (entry ∷ entries) valid order few =
+records_short : (marks : Marks) (entries : List Entry) → AreSound marks → All IsEntry entries
+    → InOrder marks entries → boots_since (marks_behind marks entries) ≤ 1000000
+    → length (open_records entries) + room_of marks ≤ room_of (marks_behind marks entries)
+records_short marks [] sound valid order few = omega arith
+records_short marks (entry ∷ entries) sound valid order few =
     let first : IsEntry entry = All-head IsEntry entry entries valid in
-    let within = boots-grow (behind marks entry) entries in
-    let short = entry_near marks entry first order.0 (omega arith) in
-    let rest = records_short (behind marks entry) entries (All-tail IsEntry entry entries valid) order.1 few in
-    omega (
-      arith,
-      length-append (record_of entry) (open_records entries),
-      length-append (pair_of entry) (pairs_of entries),
-    )
+    let later : All IsEntry entries = All-tail IsEntry entry entries valid in
+    let sound_behind = sound-behind marks entry sound first order.0 in
+    let within = boots-grow (behind marks entry) entries sound_behind later order.1 in
+    let short = entry_near marks entry sound first order.0 (omega arith) in
+    let rest = records_short (behind marks entry) entries sound_behind later order.1 few in
+    omega (arith, length-append (record_of entry) (open_records entries))
 
 -- the gate behind records isn't far, where the boots aren't too many
 pub near : (bytes text : List ℕ) (first : ℕ) (entries : List Entry) (gate : ℕ) → IsReady bytes text first
     → Holds bytes first entries gate → AreFew entries
-    → gate ≤ farthest_gate (length (pairs_of entries)) (marks_of entries).boots
+    → gate ≤ farthest_gate (marks_of entries)
 near bytes text first entries gate ready holds few =
     let short = ready.header.short in
     let place = ready.place in
     let end = holds.place in
-    let records = records_short fresh entries holds.valid holds.order few.boots in
+    let boots = few.boots in
+    let records =
+    records_short fresh entries sound-fresh holds.valid holds.order (omega arith) in
     omega arith

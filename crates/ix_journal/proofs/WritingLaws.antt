@@ -5,7 +5,10 @@ use Rattle.std.proofs.lemmas.List.{append_assoc, drop_at, length-append, length-
 use Rattle.std.proofs.lemmas.Bool.{cases_eq}
 use Rattle.std.proofs.lemmas.Option.{slice_get_within}
 use Rattle.std.specs.Prelude.{slice_get}
-use Rattle.ix_journal.specs.Format.{header, record_of}
+use Rattle.ix_journal.specs.Format.{IsVersion, header, record_of}
+use Rattle.ix_journal.specs.inside.Writing.{digit_of}
+use Rattle.ix_journal.specs.declared.writing.Version.{Version}
+use Rattle.ix_journal.specs.declared.writing.Version.TheVariants as version
 use Rattle.ix_journal.specs.Recovery.{IsJournal}
 use Rattle.ix_journal.specs.Laws.{Opened, Begun, GateIsNear, IgnoresTheRest, Appended}
 use Rattle.ix_journal.proofs.KindLemmas.{cons_tail}
@@ -15,12 +18,17 @@ use Rattle.ix_journal.proofs.SameFronts.{kept_ready, kept_records, near}
 use Rattle.ix_journal.proofs.HoldsLemmas.{holds_none, holds_more}
 
 -- the byte behind a front
-byte_behind : (front : List ℕ) (byte : ℕ) (rest : List ℕ) (at : ℕ) → length front ≡ at
+pub byte_behind : (front : List ℕ) (byte : ℕ) (rest : List ℕ) (at : ℕ) → length front ≡ at
     → slice_get (front ++ byte ∷ rest) at ≡ Some byte
 byte_behind [] byte rest zero e = refl
 byte_behind [] byte rest (suc at) e = absurd (omega arith)
 byte_behind (x ∷ front) byte rest zero e = absurd (omega arith)
 byte_behind (x ∷ front) byte rest (suc at) e = byte_behind front byte rest at (omega arith)
+
+-- a version that is written is read
+pub is_version : (v : Version) → IsVersion (digit_of v)
+is_version version.Started = inr (inl refl)
+is_version version.Renewed = inr (inr refl)
 
 -- a header and a closed gate
 pub opened : Opened

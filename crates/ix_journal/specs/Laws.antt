@@ -1,13 +1,17 @@
 -- What holds of journals.
 use Rattle.std.specs.Prelude.{◌≡◌, ◌≢◌, ◌⊎◌, ℕ, ◌+◌, ◌<◌, ◌≤◌, List, [], ◌∷◌, ◌++◌, length}
-use Rattle.std.specs.Prelude.{take, drop, map, true}
+use Rattle.std.specs.Prelude.{◌^◌, All, None, Some, take, drop, map, true}
+use Rattle.ix_values.specs.PlainAction.{Word}
+use Rattle.ix_values.specs.Texts.{IsAction}
 use Rattle.ix_journal.specs.Entries.{AreFew, IsEntry, MayFollow, entry_text, fresh, marks_of}
 use Rattle.ix_journal.specs.Entries.{pairs_of}
 use Rattle.ix_journal.specs.History.{PlainHistory}
-use Rattle.ix_journal.specs.declared.TheConstants.{FRONT_LENGTH, OPEN}
+use Rattle.ix_journal.specs.declared.TheConstants.{FRONT_LENGTH, MOST_RECORDS, OPEN}
 use Rattle.ix_journal.specs.declared.entries.Entry.{Entry}
 use Rattle.ix_journal.specs.declared.entries.Marks.{Marks}
+use Rattle.ix_journal.specs.declared.entries.Renewed.{Renewed}
 use Rattle.ix_journal.specs.Format.{IsOpen, IsClosed, IsVersion, farthest_gate, header, record_of}
+use Rattle.ix_journal.specs.Format.{renewed_journal}
 use Rattle.ix_journal.specs.Kinds.{IsUnfinished, IsUnopened, IsReady, Kind, HasKind}
 use Rattle.ix_journal.specs.Records.{BeginsWithRecord, Holds}
 use Rattle.ix_journal.specs.declared.slide.Slid.{Slid}
@@ -15,6 +19,7 @@ use Rattle.ix_journal.specs.Answers.{Standing, at_gate, Lends, Passes}
 use Rattle.ix_journal.specs.Kept.{Kept}
 use Rattle.ix_journal.specs.Slide.{ComesTo, Tells, RecordsGive}
 use Rattle.ix_journal.specs.Recovery.{IsJournal, IsDamaged, IsMany, Keeps, Recovers, HoldsBoots}
+use Rattle.ix_journal.specs.Recovery.{IsJournalWith}
 
 -- a file has one kind at most
 abbrev pub OneKind : Type 0
@@ -28,9 +33,10 @@ OneList = (bytes : List ℕ) (x y : List Entry) → Keeps bytes x → Keeps byte
 abbrev pub OneHistory : Type 0
 OneHistory = (bytes : List ℕ) (x y : PlainHistory) → Recovers bytes x → Recovers bytes y → x ≡ y
 
--- a file holds one number of boots at most
+-- a file holds one number of boots at most, and stands for one thing
 abbrev pub OneNumber : Type 0
-OneNumber = (bytes : List ℕ) (m n : ℕ) → HoldsBoots bytes m → HoldsBoots bytes n → m ≡ n
+OneNumber = (bytes : List ℕ) (x y : Renewed) (m n : ℕ)
+    → HoldsBoots bytes x m → HoldsBoots bytes y n → (x ≡ y) × (m ≡ n)
 
 -- a journal has one text, one list of records and one first closed gate
 abbrev pub OneJournal : Type 0
@@ -91,7 +97,7 @@ Begun = (head version : ℕ) (text : List ℕ) (gate : ℕ) → IsVersion versio
 abbrev pub GateIsNear : Type 0
 GateIsNear = (bytes text : List ℕ) (entries : List Entry) (gate : ℕ)
     → IsJournal bytes text entries gate
-    → gate ≤ farthest_gate (length (pairs_of entries)) (marks_of entries).boots
+    → gate ≤ farthest_gate (marks_of entries)
 
 -- what stands behind the first closed gate means nothing
 abbrev pub IgnoresTheRest : Type 0
@@ -108,9 +114,24 @@ Appended = (bytes text : List ℕ) (entries : List Entry) (gate : ℕ)
     → IsJournal (take gate bytes ++ OPEN ∷ record_of entry ++ closed ∷ rest) text
     (entries ++ entry ∷ []) (gate + 1 + length (record_of entry))
 
--- what a file is by its first 225,065,543 bytes, or by more of them, it is
+-- a renewed journal is one: its history is the carried actions without tickets, and it stands for
+-- what its last record says
+abbrev pub RenewedIsAJournal : Type 0
+RenewedIsAJournal = (text : List ℕ) (carried : Word) (actions boots : ℕ)
+    → length text < 65536 → All IsAction carried → length carried ≤ MOST_RECORDS
+    → length carried ≤ actions → actions ≤ 2 ^ 63 → boots ≤ 2 ^ 63
+    → (gate : ℕ) × IsJournalWith (renewed_journal text carried actions boots) text
+    (map (λ a. (None, a)) carried)
+    (record {
+      actions = length carried;
+      boots = boots;
+      seq = 0;
+      renewal = Some (record { carried = length carried; actions = actions; boots = boots });
+    }) gate
+
+-- what a file is by its first 237,065,593 bytes, or by more of them, it is
 abbrev pub EnoughBytes : Type 0
-EnoughBytes = (bytes : List ℕ) (read : ℕ) → 225065543 ≤ read
+EnoughBytes = (bytes : List ℕ) (read : ℕ) → 237065593 ≤ read
     → ((text : List ℕ) (entries : List Entry) (gate : ℕ)
     → IsJournal (take read bytes) text entries gate → IsJournal bytes text entries gate)
     × ((at : ℕ) → IsDamaged (take read bytes) at → IsDamaged bytes at)

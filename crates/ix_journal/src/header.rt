@@ -6,7 +6,7 @@ ghost use Rattle.ix_journal.specs.inside.Fronts.{BeginsWithText};
 ghost use Rattle.ix_journal.specs.Kinds.{HasHeader, HasKind};
 ghost use Rattle.ix_journal.specs.inside.KindOf.{kind_of};
 
-use crate::{FIRST_MAGIC, FRONT_LENGTH, MAGIC, OPEN};
+use crate::{FIRST_MAGIC, FRONT_LENGTH, MAGIC, OPEN, RENEWED_MAGIC};
 use byteorder::{BigEndian, ByteOrder};
 
 /// The kind of a file, and what its header tells.
@@ -75,7 +75,13 @@ fn header_text<'a>(bytes: &'a [u8]) -> Option<&'a [u8]>
 fn has_magic(bytes: &[u8]) -> bool
     ensures { IsTrue result ↔ BeginsWithMagic bytes.now }
 {
-    bytes.starts_with(&FIRST_MAGIC) || bytes.starts_with(&MAGIC)
+    if bytes.starts_with(&FIRST_MAGIC) {
+        return true;
+    }
+    if bytes.starts_with(&MAGIC) {
+        return true;
+    }
+    bytes.starts_with(&RENEWED_MAGIC)
 }
 
 /// The text that the bytes begin with behind its length, where all of it is there and a byte

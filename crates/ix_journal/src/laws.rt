@@ -5,6 +5,7 @@ ghost use Rattle.ix_journal.specs.Laws.{OneOutcome};
 ghost use Rattle.ix_journal.specs.Laws.{HoldsNone, HoldsMore, LendsTheHistory};
 ghost use Rattle.ix_journal.specs.Laws.{Opened, Begun, GateIsNear, IgnoresTheRest, Appended};
 ghost use Rattle.ix_journal.specs.Laws.{EnoughBytes, PassesTheHistory, PiecesDoNotMatter};
+ghost use Rattle.ix_journal.specs.Laws.{RenewedIsAJournal};
 
 /// A file has one kind at most, with one text and one first gate.
 pub fn one_kind()
@@ -26,7 +27,7 @@ pub fn one_history()
     ensures { OneHistory }
 {}
 
-/// A file holds one number of boots at most.
+/// A file holds one number of boots at most, and stands for one thing besides its own records.
 pub fn one_number()
     ensures { OneNumber }
 {}
@@ -64,8 +65,8 @@ pub fn begun()
     ensures { Begun }
 {}
 
-/// The first closed gate stands at most 65,542 bytes from the begin, and 197 for each action and 15
-/// for each boot.
+/// The first closed gate stands at most 65,592 bytes from the begin, and 209 for each record of an
+/// action and 27 for each of a boot.
 pub fn gate_is_near()
     ensures { GateIsNear }
 {}
@@ -81,7 +82,12 @@ pub fn appended()
     ensures { Appended }
 {}
 
-/// The first 225,065,543 bytes of a file tell what it is.
+/// A renewed journal has the carried actions as its history, and stands for what it says.
+pub fn renewed_is_a_journal()
+    ensures { RenewedIsAJournal }
+{}
+
+/// The first 237,065,593 bytes of a file tell what it is.
 pub fn enough_bytes()
     ensures { EnoughBytes }
 {}

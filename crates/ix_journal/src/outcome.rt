@@ -9,7 +9,8 @@ pub struct Scan<'a> {
     pub count: usize,
     /// The place of the first closed gate: 0 for an unfinished or unopened journal.
     pub gate: usize,
-    /// How many open records are boots: 0 for an unfinished or unopened journal.
+    /// The number of the last boot: how many open records are boots, behind a renewal with those of
+    /// the journals before, and 0 for an unfinished or unopened journal.
     pub boots: u64,
 }
 

@@ -1,6 +1,6 @@
 //! The open records of a journal, one after another.
 
-ghost use Rattle.std.specs.Prelude.{◌≡◌, ◌<◌, length, MatchOption};
+ghost use Rattle.std.specs.Prelude.{◌≡◌, ◌+◌, ◌<◌, ◌^◌, length, MatchOption};
 ghost use Rattle.ix_journal.specs.Entries.{MayFollow, behind, entry_text};
 ghost use Rattle.ix_journal.specs.Records.{BeginsWithRecord};
 ghost use Rattle.ix_journal.specs.declared.entries.Entry.{Entry};
@@ -28,6 +28,7 @@ pub struct Records<'a> {
     marks: Marks,
     damaged: bool,
     ghost within: { gate < length bytes.now },
+    ghost counted: { marks.actions + length bytes.now < gate + 2 ^ 64 },
 }
 
 impl<'a> Records<'a> {
@@ -45,7 +46,8 @@ impl<'a> Records<'a> {
 
     /// The records from the gate at this place on, behind records that leave these marks.
     pub(crate) fn behind(bytes: &'a [u8], gate: usize, marks: Marks) -> Records<'a>
-        requires { gate < length bytes.now }
+        requires within { gate < length bytes.now }
+        requires counted { marks.actions + length bytes.now < gate + 2 ^ 64 }
         ensures { standing result ≡ at_gate bytes.now gate marks }
     {
         Records {
@@ -105,6 +107,7 @@ impl<'a> Iterator for Records<'a> {
 /// The text of the record that the bytes begin with, and what the records leave with it, where it
 /// is whole and may stand there, and a byte follows it.
 fn next_record<'a>(bytes: &'a [u8], marks: &Marks) -> Option<(&'a [u8], Marks)>
+    requires { marks.now.actions + 1 < 2 ^ 64 }
     ensures { MatchOption result
         ((entry : Entry) → MayFollow marks.now entry → ¬ BeginsWithRecord bytes.now entry)
         (λ found. (entry : Entry) × (found.0.now ≡ entry_text entry)

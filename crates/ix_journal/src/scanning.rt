@@ -1,14 +1,13 @@
 //! A journal from its first byte to its first closed gate.
 
-ghost use Rattle.std.specs.Prelude.{◌≡◌, ◌<◌, ◌≤◌, true, false, length, MatchResult};
+ghost use Rattle.std.specs.Prelude.{◌<◌, length, MatchResult};
 ghost use Rattle.std.specs.Option.{option_copied};
 ghost use Rattle.ix_journal.specs.inside.Answers.{HasFault, IsScanned};
-ghost use Rattle.ix_journal.specs.inside.Counting.{AreMany, AreNotMany, CountsTo, HasFaultFrom};
+ghost use Rattle.ix_journal.specs.inside.Counting.{CountsTo, HasFaultFrom};
 
 use crate::header::{Head, header_of};
 use crate::outcome::{JournalFault, Scan};
 use crate::records::Records;
-use crate::{MOST_BOOTS, MOST_RECORDS};
 
 /// Reads a file up to its first closed gate. Of the faults of its records the first in the file's
 /// order is told. The text is lent from the bytes.
@@ -44,7 +43,7 @@ pub fn scan<'a>(bytes: &'a [u8]) -> Result<Scan<'a>, JournalFault>
 }
 
 /// How many open records from this gate on are of actions, the place of the first closed gate, and
-/// how many of them are boots.
+/// the number of the last boot.
 fn follow(bytes: &[u8], first: usize) -> Result<(usize, usize, u64), JournalFault>
     requires { first < length bytes.now }
     ensures { MatchResult result
@@ -52,25 +51,14 @@ fn follow(bytes: &[u8], first: usize) -> Result<(usize, usize, u64), JournalFaul
         (λ fault. HasFaultFrom bytes.now first fault) }
 {
     let mut records = Records::new(bytes, first);
-    let mut count = 0;
     while let Some(item) = records.next() {
-        match item {
-            Ok(_) => count += 1,
-            Err(damaged) => return Err(JournalFault::Damaged { at: damaged.at }),
+        if let Err(damaged) = item {
+            return Err(JournalFault::Damaged { at: damaged.at });
         }
-        if are_many(count, records.marks().boots) {
+        if records.marks().are_many() {
             return Err(JournalFault::Many);
         }
     }
-    let boots = records.marks().boots;
-    Ok(((count - boots) as usize, records.gate(), boots))
-}
-
-/// Whether of so many records, boots among them, there are too many of actions or too many boots.
-fn are_many(count: u64, boots: u64) -> bool
-    requires { boots ≤ count }
-    ensures many { result ≡ true → AreMany count boots }
-    ensures few { result ≡ false → AreNotMany count boots }
-{
-    count - boots > MOST_RECORDS as u64 || boots > MOST_BOOTS
+    let marks = records.marks();
+    Ok((marks.actions as usize, records.gate(), marks.boots))
 }

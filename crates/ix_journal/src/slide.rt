@@ -41,7 +41,8 @@ impl Model for Slide {
     ghost view = { λ slide.
         kept_at slide.gate slide.marks (drop slide.start slide.buffer.items) slide.ended };
 
-    ghost invariant = { λ slide. IsSlideBuffer slide.start slide.buffer.items slide.ended };
+    ghost invariant = { λ slide.
+        IsSlideBuffer slide.start slide.buffer.items slide.ended slide.gate slide.marks.actions };
 }
 
 /// What a Slide tells of the gate that is next.

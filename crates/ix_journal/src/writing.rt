@@ -1,26 +1,39 @@
 //! The bytes that are written to a journal.
 
 ghost use Rattle.std.specs.Prelude.{◌≡◌, ◌+◌, ◌<◌, ◌≤◌, ◌^◌, ◌++◌, [], ◌∷◌, length, IfOk};
-ghost use Rattle.std.specs.Prelude.{codes, decimal};
+ghost use Rattle.std.specs.Prelude.{All, OnOk, codes, decimal, map};
 ghost use Rattle.arrayvec.specs.ArrayVec.{array_vec_len};
 ghost use Rattle.byteorder.specs.Endian.{big_bytes};
 ghost use Rattle.ix_values.specs.PlainAction.{text_of};
 ghost use Rattle.ix_values.specs.Texts.{IsAction};
 ghost use Rattle.ix_values.specs.Tickets.{IsTicket, ticket_text};
 ghost use Rattle.ix_journal.specs.Entries.{IsEntry, entry_text};
-ghost use Rattle.ix_journal.specs.Format.{record_of};
-ghost use Rattle.ix_journal.specs.inside.Writing.{entry_of, new_header};
+ghost use Rattle.ix_journal.specs.Format.{header, open_records, record_of, renewed_records};
+ghost use Rattle.ix_journal.specs.declared.entries.Entry.TheVariants as entry;
+ghost use Rattle.ix_journal.specs.inside.Writing.{CanBeWritten, digit_of, entry_of};
 
-use crate::{CLOSED, MAGIC};
+use crate::{CLOSED, MAGIC, OPEN, RENEWED_MAGIC};
 use arrayvec::ArrayVec;
 use byteorder::{BigEndian, ByteOrder};
 use itoa::Buffer;
 use ix_values::{Action, Ticket};
 use std::alloc::{AllocError, Global};
 
+/// The version of a header that is written.
+#[derive(Clone, Copy, Debug, PartialEq, Eq)]
+pub enum Version {
+    /// `IXJ2`, which begins a journal that a start makes.
+    Started,
+    /// `IXJ3`, which begins one that a renewal makes.
+    Renewed,
+}
+
 /// What a record says that is written.
 #[derive(Clone, Copy, Debug)]
 pub enum Record<'a> {
+    /// The actions in front of this record stand for so many actions and boots of the journals
+    /// before. Each is at most 2^63.
+    Renewed { actions: u64, boots: u64 },
     /// The journal was opened: the number of this boot.
     Boot(u64),
     /// The action was confirmed, and the ticket was spent on it.
@@ -33,19 +46,45 @@ pub enum Record<'a> {
 /// record, which is the length and the bytes of its text, and one closed gate. These are at most
 /// 210 bytes.
 pub fn record_bytes(entry: &Record<'_>, out: &mut ArrayVec<u8, 256>)
-    requires { out.old.items ≡ [] }
+    requires empty { out.old.items ≡ [] }
+    requires fits { CanBeWritten entry.now }
     ensures bytes { out.new.items ≡ record_of (entry_of entry.now) ++ CLOSED ∷ [] }
+    ensures valid { IsEntry (entry_of entry.now) }
+{
+    write_record(entry, out);
+    out.push(CLOSED);
+}
+
+/// Writes a record into `out`, which is empty.
+fn write_record(entry: &Record<'_>, out: &mut ArrayVec<u8, 256>)
+    requires empty { out.old.items ≡ [] }
+    requires fits { CanBeWritten entry.now }
+    ensures bytes { out.new.items ≡ record_of (entry_of entry.now) }
+    ensures short { array_vec_len out.new ≤ 209 }
     ensures valid { IsEntry (entry_of entry.now) }
 {
     let mut text = ArrayVec::new();
     match entry {
+        Record::Renewed { actions, boots } => write_renewed(*actions, *boots, &mut text),
         Record::Boot(number) => write_boot(*number, &mut text),
         Record::Spent { ticket, action } => write_spent(ticket, action, &mut text),
         Record::Plain(action) => write_action(action, &mut text),
     }
     let _ = out.try_extend_from_slice(&length_bytes(text.len() as u16));
     let _ = out.try_extend_from_slice(text.as_slice());
-    out.push(CLOSED);
+}
+
+fn write_renewed(actions: u64, boots: u64, out: &mut ArrayVec<u8, 256>)
+    requires { out.old.items ≡ [] }
+    ensures text { out.new.items ≡ codes "renewed " ++ decimal actions ++ 32 ∷ decimal boots }
+    ensures short { array_vec_len out.new ≤ 207 }
+{
+    let mut buffer = Buffer::new();
+    let _ = out.try_extend_from_slice(b"renewed ");
+    let _ = out.try_extend_from_slice(buffer.format(actions).as_bytes());
+    out.push(b' ');
+    let mut buffer = Buffer::new();
+    let _ = out.try_extend_from_slice(buffer.format(boots).as_bytes());
 }
 
 fn write_boot(number: u64, out: &mut ArrayVec<u8, 256>)
@@ -87,16 +126,74 @@ fn write_action(action: &Action, out: &mut ArrayVec<u8, 256>)
 
 /// What stands behind the head gate of a journal without records: the header, which is the magic,
 /// the length and the bytes of the text, and one closed gate.
-pub fn header_bytes(alloc: Global, text: &[u8]) -> Result<Vec<u8>, AllocError>
+pub fn header_bytes(alloc: Global, version: Version, text: &[u8]) -> Result<Vec<u8>, AllocError>
     requires { length text.now < 65536 }
-    ensures { IfOk result (λ bytes. bytes.items ≡ new_header text.now ++ CLOSED ∷ []) }
+    ensures { IfOk result
+        (λ bytes. bytes.items ≡ header (digit_of version) text.now ++ CLOSED ∷ []) }
 {
     let mut bytes = Vec::with_capacity(alloc, 7 + text.len())?;
-    bytes.extend_from_slice(&MAGIC)?;
+    bytes.extend_from_slice(&magic_of(version))?;
     bytes.extend_from_slice(&length_bytes(text.len() as u16))?;
     bytes.extend_from_slice(text)?;
     bytes.push(CLOSED)?;
     Ok(bytes)
+}
+
+/// What a header of this version begins with.
+fn magic_of(version: Version) -> [u8; 4]
+    ensures { result ≡ codes "IXJ" ++ digit_of version ∷ [] }
+{
+    match version {
+        Version::Started => MAGIC,
+        Version::Renewed => RENEWED_MAGIC,
+    }
+}
+
+/// What stands behind the header of a renewed journal: an open gate and a record for each of the
+/// carried actions, and for how many actions and boots of the journals before they stand for; and
+/// one closed gate.
+pub fn renewed_bytes(
+    alloc: Global,
+    carried: &[Action],
+    actions: u64,
+    boots: u64,
+) -> Result<Vec<u8>, AllocError>
+    requires actions { actions ≤ 2 ^ 63 }
+    requires boots { boots ≤ 2 ^ 63 }
+    ensures bytes { IfOk result (λ bytes. bytes.items
+        ≡ open_records (renewed_records carried.now actions boots) ++ CLOSED ∷ []) }
+    ensures valid { OnOk result (All IsAction carried.now) }
+{
+    let mut bytes = Vec::new(alloc);
+    append_carried(&mut bytes, carried)?;
+    append_open(&mut bytes, &Record::Renewed { actions, boots })?;
+    bytes.push(CLOSED)?;
+    Ok(bytes)
+}
+
+/// Appends an open gate and a record for each of the carried actions.
+fn append_carried(bytes: &mut Vec<u8>, carried: &[Action]) -> Result<(), AllocError>
+    ensures bytes { OnOk result
+        (bytes.new.items ≡ bytes.old.items ++ open_records (map entry.Plain carried.now)) }
+    ensures valid { OnOk result (All IsAction carried.now) }
+{
+    for action in carried.iter() {
+        append_open(bytes, &Record::Plain(action))?;
+    }
+    Ok(())
+}
+
+/// Appends an open gate and a record.
+fn append_open(bytes: &mut Vec<u8>, entry: &Record<'_>) -> Result<(), AllocError>
+    requires { CanBeWritten entry.now }
+    ensures bytes { OnOk result
+        (bytes.new.items ≡ bytes.old.items ++ OPEN ∷ record_of (entry_of entry.now)) }
+    ensures valid { OnOk result (IsEntry (entry_of entry.now)) }
+{
+    let mut record = ArrayVec::new();
+    write_record(entry, &mut record);
+    bytes.push(OPEN)?;
+    bytes.extend_from_slice(record.as_slice())
 }
 
 /// The two bytes of a length, the higher first.

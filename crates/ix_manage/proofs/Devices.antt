@@ -9,6 +9,7 @@ use Rattle.ix_outside.specs.SiteState.{SiteState, OnlyDisk, OnlyWire}
 use Rattle.ix_outside.specs.inside.DiskCalls.{KeepsOpened}
 use Rattle.ix_outside.proofs.Passing.{KeepsOpened-none, KeepsOpened-join}
 use Rattle.ix_manager.specs.inside.OverSite.{OnlyServes}
+use Rattle.ix_renew.proofs.Making.{disk_calls_then}
 use Rattle.ix_manage.specs.Site.{OnlyCalls}
 use Rattle.ix_manage.specs.inside.ServeProgress.{OnlyServed}
 use Rattle.ix_manage.specs.inside.ReplayProgress.{OnlyPlays, OnlyUsesDisk, Player}
@@ -110,16 +111,6 @@ disk_still site = record {
   rest = disk_calls_still site;
   attached = refl;
   opened = inl (KeepsOpened-none site.disk);
-}
-
--- calls of the disk were made, an attach among them, and then more
-pub disk_calls_then : (old mid new : SiteState) → OnlyDisk old mid → OnlyDisk mid new → OnlyDisk old new
-disk_calls_then old mid new first second = record {
-  disk = let one = first.disk in let two = second.disk in omega arith;
-  wire = second.wire ∙ first.wire;
-  send = second.send ∙ first.send;
-  contents = second.contents ∙ first.contents;
-  held = second.held ∙ first.held;
 }
 
 -- calls of the disk were made, and then more

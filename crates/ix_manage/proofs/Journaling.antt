@@ -21,6 +21,7 @@ use Rattle.ix_manager.specs.declared.faults.Stop.TheVariants.{Disk as DiskFault}
 use Rattle.ix_manager.specs.inside.OverSite.{EndsBy, FitsSite, FitsWith}
 use Rattle.ix_manager.specs.inside.Acknowledging.{SendsMore}
 use Rattle.ix_manager.specs.inside.Saving.{SavesRun, UnlessFailed, WhereFailed}
+use Rattle.ix_manager.proofs.Changing.{steps_renewed}
 use Rattle.ix_manager.proofs.GrowingLemmas.{steps_grow}
 use Rattle.ix_manager.proofs.LaterLemmas.{steps_boot}
 use Rattle.ix_manager.proofs.SavingLemmas.{kept_told}
@@ -53,7 +54,7 @@ pub event_saves : (old new : ManagerState) (event : Event) (bytes : List ℕ) (r
     → EndsBy result ending → TakesEvent old event bytes answers new ending
     → (IsSome after.disk → (image : List ℕ) → q.left before.tick image
     → Keeps old.form (length old.machine.history) (with_failed ending new.machine.history) image)
-    → (IsSome after.disk → (image : List ℕ) → q.left before.tick image → HoldsBoots image old.machine.boot)
+    → (IsSome after.disk → (image : List ℕ) → q.left before.tick image → HoldsBoots image old.machine.renewed old.machine.boot)
     → (IsSome after.disk → (image : List ℕ) → q.now image → EndsAs ending new.machine.history image)
     → OnErr result (Rose before.counts.disk after.counts.disk) → OnOk result (FitsSite new after q)
     → Passes (span before after p q) → before.counts.disk ≤ after.counts.disk
@@ -67,6 +68,7 @@ event_saves old new event bytes result ending answers before after p q is takes 
       told = told_before before.disk after.disk opened;
       rest = grows.0;
       grows = grows.1;
+      renewed = steps_renewed takes.steps;
       boot = steps_boot takes.steps;
       keeps = keeps;
       boots = boots;

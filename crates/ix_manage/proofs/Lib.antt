@@ -13,7 +13,6 @@ pub mod Playing
 pub mod ServeLemmas
 pub mod ServeEnding
 pub mod Fronts
-mod HistoryLines
 pub mod Examinations
 pub mod Working
 pub mod ShortLines
@@ -26,4 +25,5 @@ pub mod FeedLemmas
 pub mod GivenValues
 pub mod Pasts
 pub mod Desking
+mod Renewing
 mod SentLines

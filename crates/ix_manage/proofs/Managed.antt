@@ -24,15 +24,15 @@ use Rattle.ix_manager.proofs.WithinLemmas.{runs_stay_within}
 use Rattle.ix_manage.specs.Managed.{HistoriesAreManaged}
 
 -- the history has room for the reserved action
-record HasRoom (s : MachineState) : Type 0 where
+record HasBootRoom (s : MachineState) : Type 0 where
   pub few : length s.history ≤ 1000000
   pub held : (ticket : Ticket) (a : PlainAction) (deadline : ℕ) → s.slot ≡ Held ticket a deadline → length s.history < 1000000
 
-free_room : (s : MachineState) → length s.history ≤ 1000000 → s.slot ≡ Free → HasRoom s
+free_room : (s : MachineState) → length s.history ≤ 1000000 → s.slot ≡ Free → HasBootRoom s
 free_room s few free = record { few = few; held = λ ticket a deadline is. free_holds ticket a deadline (sym free ∙ is) }
 
 step_room : {x : Form} {limit : ℕ} {s after : MachineState} {asked : PlainRequest} {replies : List Reply}
-    → Step x limit s asked replies after → HasRoom s → HasRoom after
+    → Step x limit s asked replies after → HasBootRoom s → HasBootRoom after
 step_room {s = s} (machine.not_permitted shut isnt) room = free_room (record s { slot = Free }) room.few refl
 step_room {s = s} (machine.full shut is count) room = free_room (record s { slot = Free }) room.few refl
 step_room {s = s} (machine.large shut is free above) room = free_room (record s { slot = Free }) room.few refl
@@ -50,18 +50,18 @@ step_room {s = s} (machine.confirmed {ticket = ticket} a deadline held before) r
 step_room _ room = record { few = room.few; held = room.held }
 
 item_room : {x : Form} {limit : ℕ} {s after : MachineState} {it : Item} {replies : List Reply} {ending : Ending}
-    → ItemStep x limit s it replies after ending → HasRoom s → HasRoom after
+    → ItemStep x limit s it replies after ending → HasBootRoom s → HasBootRoom after
 item_room (runs.requested asked valid words step) room = step_room step room
 item_room _ room = room
 
 steps_room : {x : Form} {limit : ℕ} {s after : MachineState} {its : List Item} {answers : List (List Reply)} {ending : Ending}
-    → Steps x limit s its answers after ending → HasRoom s → HasRoom after
+    → Steps x limit s its answers after ending → HasBootRoom s → HasBootRoom after
 steps_room runs.none room = room
 steps_room (runs.last step ends) room = item_room step room
 steps_room (runs.more step steps) room = steps_room steps (item_room step room)
 
 run_room : {opening : Opening} {events : List GivenEvent} {answers : List (List (List Reply))} {final : MachineState} {ending : Ending}
-    → Run opening events answers final ending → length opening.history ≤ 1000000 → HasRoom final
+    → Run opening events answers final ending → length opening.history ≤ 1000000 → HasBootRoom final
 run_room runs.begin few = free_room _ few refl
 run_room (runs.takes given completed told run completes steps) few =
     let room = run_room run few in steps_room steps (record { few = room.few; held = room.held })

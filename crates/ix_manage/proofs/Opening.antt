@@ -2,6 +2,8 @@
 use Rattle.std.proofs.Common.{◌≡◌, ◌⊎◌, inl, inr, ℕ, ◌+◌, ◌≤◌, List, [], ◌++◌, length, append-nil}
 use Rattle.std.proofs.Common.{false, Option, None, Some, Result, true≢false, refl, sym, ◌∙◌, ap, subst, arith}
 use Rattle.std.proofs.lemmas.Option.{none-some}
+use Rattle.ix_journal.specs.Entries.{marks_of, renewed_of}
+use Rattle.ix_journal.specs.declared.entries.Renewed.{Renewed}
 use Rattle.ix_journal.specs.History.{PlainHistory, actions_of}
 use Rattle.ix_expr.specs.CanonicalText.{canonical_text}
 use Rattle.ix_expr.specs.Form.{Form}
@@ -29,33 +31,10 @@ use Rattle.ix_manage.specs.Journal.{GoesOnFrom, OfJournal, OfOpened, OnJournal, 
 use Rattle.ix_outside.specs.Files.{Listing}
 use Rattle.ix_manage.specs.Session.{Session}
 use Rattle.ix_manage.specs.Trace.{ReadsForm}
-
--- where the file was attached, how it read then
-pub opened_at : (name : List ℕ) (tick : ℕ) (before at : Option Disk) → IsOpened name tick before at
-    → (d : Disk) → at ≡ Some d → d.opened ≡ Some (record { name = name; tick = tick; file = d.file })
-opened_at name tick None at is d told = absurd (none-some d (sym is ∙ told))
-opened_at name tick (Some old) None is d told = absurd is
-opened_at name tick (Some old) (Some new) is d told =
-    let same : new ≡ d = cc in
-    subst (λ (e : Disk). e.opened ≡ Some (record { name = name; tick = tick; file = e.file })) same is
+use Rattle.ix_renew.proofs.Making.{kept_opened, opened_at}
 
 pub some_is : {A : Type 0} {a b : A} → Some a ≡ Some b → a ≡ b
 some_is e = cc
-
--- the file may be left, and nothing else
-pub left_at : (at : Option Disk) (now : List ℕ → Type 0) → LeavesTheFile at now → (d : Disk) → at ≡ Some d
-    → (image : List ℕ) → now image → image ≡ d.file
-left_at None now leaves d told image left = absurd (none-some d told)
-left_at (Some e) now leaves d told image left =
-    let same : e ≡ d = cc in (leaves image).0 left ∙ ap (λ (f : Disk). f.file) same
-
--- what the file was attached as stays
-pub kept_opened : (one two : Option Disk) → KeepsOpened one two → (e : Disk) → two ≡ Some e
-    → (d : Disk) × (one ≡ Some d) × (e.opened ≡ d.opened)
-kept_opened None two keeps e told = absurd (none-some e (sym keeps ∙ told))
-kept_opened (Some d) None keeps e told = absurd keeps
-kept_opened (Some d) (Some f) keeps e told =
-    let same : f ≡ e = cc in (d, refl, subst (λ (x : Disk). x.opened ≡ d.opened) same keeps.1)
 
 -- the image that an expression may open is unfinished, or has its text
 own_text : (x : Form) (file : List ℕ) → IsOwn x file → IsUnfinished file ⊎ HasText file (canonical_text x)
@@ -75,42 +54,51 @@ IsNear boot boots = (boot ≡ boots + 1) ⊎ (boot ≡ boots)
 
 -- an image that holds so many boots, and keeps the first actions of a history within the limit
 can_reopen : (opening : Opening) (least : ℕ) (history : PlainHistory) (image : List ℕ) (boots : ℕ)
-    → EachPrefixIsWithin opening.form opening.limit (actions_of history) → opening.boot ≤ 1000000
-    → Keeps opening.form least history image → HoldsBoots image boots → IsNear opening.boot boots → Reopens opening image
+    → EachPrefixIsWithin opening.form opening.limit (actions_of history) → opening.boot ≤ opening.renewed.boots + 1000000
+    → Keeps opening.form least history image → HoldsBoots image opening.renewed boots → IsNear opening.boot boots
+    → Reopens opening image
 can_reopen opening least history image boots within most keeps holds near =
     elim (kept_images_are_startable opening.form opening.limit least history image within keeps) [
       | inl starts ↦
-          let same : starts.1.boots ≡ boots = one_number image starts.1.boots boots starts.1.holds holds in
-          let following : starts.0 ≡ starts.1.boots + 1 = starts.1.next in
+          let same = one_number image starts.0 opening.renewed starts.2.boots boots starts.2.holds holds in
+          let following : starts.1 ≡ starts.2.boots + 1 = starts.2.next in
           elim near [
             | inl less ↦
-                let boot : starts.0 ≡ opening.boot = omega (arith, same, following, less) in
-                reopens.again keeps.kept
-                (subst (λ n. IsStartable (opening_of opening.form opening.limit keeps.kept n) image) boot starts.1)
+                let boot : starts.1 ≡ opening.boot = omega (arith, same.1, following, less) in
+                reopens.again keeps.kept (subst (StartsFor keeps.kept) (λ i. (same.0 i, boot i)) starts.2)
             | inr all ↦
-                let boot : starts.0 ≡ opening.boot + 1 = omega (arith, same, following, all) in
-                reopens.next keeps.kept
-                (subst (λ n. IsStartable (opening_of opening.form opening.limit keeps.kept n) image) boot starts.1)
+                let boot : starts.1 ≡ opening.boot + 1 = omega (arith, same.1, following, all) in
+                reopens.next keeps.kept (subst (StartsFor keeps.kept) (λ i. (same.0 i, boot i)) starts.2)
           ]
       | inr many ↦
-          let same : boots ≡ 1000000 = one_number image boots 1000000 holds many in
+          let marks = marks_of many.entries in
+          let all_held : HoldsBoots image (renewed_of marks) marks.boots =
+          record { entries = many.entries; keeps = many.keeps; said = refl; number = refl } in
+          let same = one_number image (renewed_of marks) opening.renewed marks.boots boots all_held holds in
+          let full : boots ≡ opening.renewed.boots + 1000000 =
+          omega (arith, same.1, many.full, ap (λ (r : Renewed). r.boots) same.0) in
           elim near [
-            | inl less ↦ absurd (omega (arith, same, less, most))
-            | inr all ↦ reopens.never (all ∙ same) many
+            | inl less ↦ absurd (omega (arith, full, less, most))
+            | inr all ↦ reopens.never (all ∙ full) (subst (λ n. HoldsBoots image opening.renewed n) (sym all) holds)
           ]
     ]
+  where
+    -- a run of the opening's expression can start from the image, as this and in this boot
+    StartsFor : PlainHistory → Renewed × ℕ → Type 0
+    StartsFor kept both =
+        IsStartable (opening_of opening.form opening.limit kept both.0 both.1) image
 
 -- over a stretch of calls each image keeps the history and the boots that a run started from, and no
 -- other actions than those of its last one; and ends as the run does
-pub record KeepsAlong (x : Form) (h : PlainHistory) (boot : ℕ) (played : Session) (before after : ℕ) (q r : Crashes)
+pub record KeepsAlong (x : Form) (h : PlainHistory) (renewed : Renewed) (boot : ℕ) (played : Session) (before after : ℕ) (q r : Crashes)
     : Type 0 where
   pub passes : Elapses before after q.left r.left
   pub rest : PlainHistory
   pub grows : h ++ rest ≡ with_failed played.ending played.last.history
   pub keeps : (image : List ℕ) → r.left before image
       → Keeps x (length h) (with_failed played.ending played.last.history) image
-  pub boots : (image : List ℕ) → r.left before image → HoldsBoots image boot
-  pub boots_now : (image : List ℕ) → r.now image → HoldsBoots image boot
+  pub boots : (image : List ℕ) → r.left before image → HoldsBoots image renewed boot
+  pub boots_now : (image : List ℕ) → r.now image → HoldsBoots image renewed boot
   pub ends : (image : List ℕ) → r.now image → EndsAs played.ending played.last.history image
 
 -- a start, from the attached file on
@@ -123,43 +111,43 @@ module _ (x : Form) (limit : ℕ) (at mid : SiteState) (p q : Crashes) (d : Disk
     opened = record { name = name; tick = at.tick; file = d.file }
 
     -- where the file is startable, all that may be left recovers its history
-    start_recovers : (h : PlainHistory) (boot : ℕ) → IsStartable (opening_of x limit h boot) d.file
+    start_recovers : (h : PlainHistory) (renewed : Renewed) (boot : ℕ) → IsStartable (opening_of x limit h renewed boot) d.file
         → (image : List ℕ) → q.left at.tick image → Recovers image h
-    start_recovers h boot s image left = elim (leaves.recovers h s.recovers image left) [
+    start_recovers h renewed boot s image left = elim (leaves.recovers h s.recovers image left) [
       | inl first ↦ subst (λ (file : List ℕ). Recovers file h) (sym (now image first)) s.recovers
       | inr recovers ↦ recovers
     ]
 
     -- and is the expression's
-    pub start_keeps : (h : PlainHistory) (boot : ℕ) → IsStartable (opening_of x limit h boot) d.file
+    pub start_keeps : (h : PlainHistory) (renewed : Renewed) (boot : ℕ) → IsStartable (opening_of x limit h renewed boot) d.file
         → (image : List ℕ) → q.left at.tick image → Keeps x (length h) h image
-    start_keeps h boot s image left = record {
+    start_keeps h renewed boot s image left = record {
       own = elim (leaves.own (own_text x d.file s.own) image left) [
         | inl first ↦ subst (λ (file : List ℕ). IsOwn x file) (sym (now image first)) s.own
         | inr own ↦ own
       ];
       kept = h;
-      recovers = start_recovers h boot s image left;
+      recovers = start_recovers h renewed boot s image left;
       rest = [];
       prefix = append-nil h;
       long = omega arith;
     }
 
     -- and a run can start from it again
-    pub start_reopens : (h : PlainHistory) (boot : ℕ) → IsStartable (opening_of x limit h boot) d.file
-        → (image : List ℕ) → q.left at.tick image → Reopens (opening_of x limit h boot) image
-    start_reopens h boot s image left = elim (leaves.boots s.boots s.holds image left) [
-      | inl first ↦ reopens.again h (subst (λ (file : List ℕ). IsStartable (opening_of x limit h boot) file) (sym (now image first)) s)
+    pub start_reopens : (h : PlainHistory) (renewed : Renewed) (boot : ℕ) → IsStartable (opening_of x limit h renewed boot) d.file
+        → (image : List ℕ) → q.left at.tick image → Reopens (opening_of x limit h renewed boot) image
+    start_reopens h renewed boot s image left = elim (leaves.boots renewed s.boots s.holds image left) [
+      | inl first ↦ reopens.again h (subst (λ (file : List ℕ). IsStartable (opening_of x limit h renewed boot) file) (sym (now image first)) s)
       | inr holds ↦ elim holds [
         | inl same ↦ holding s.boots (inl s.next) same
         | inr more ↦ holding (s.boots + 1) (inr s.next) more.1
       ]
     ]
       where
-        holding : (boots : ℕ) → IsNear boot boots → HoldsBoots image boots → Reopens (opening_of x limit h boot) image
+        holding : (boots : ℕ) → IsNear boot boots → HoldsBoots image renewed boots → Reopens (opening_of x limit h renewed boot) image
         holding boots near holds =
-            can_reopen (opening_of x limit h boot) (length h) h image boots s.within
-            (let few = s.few in let following = s.next in omega (arith, few, following)) (start_keeps h boot s image left) holds near
+            can_reopen (opening_of x limit h renewed boot) (length h) h image boots s.within
+            (let few = s.few in let following = s.next in omega (arith, few, following)) (start_keeps h renewed boot s image left) holds near
 
     file_stays : (one two : Option Disk) → MakesFile Stays one two → (e : Disk) → one ≡ Some d → two ≡ Some e → e.file ≡ d.file
     file_stays None two makes e first second = absurd (none-some d first)
@@ -173,13 +161,13 @@ module _ (x : Form) (limit : ℕ) (at mid : SiteState) (p q : Crashes) (d : Disk
     pub start_uses : AreLawful mid q → at.tick ≤ mid.tick → (e : Disk) → mid.disk ≡ Some e
         → UsesJournal x limit None e.file opened q
     start_uses lawful le e after = record {
-      startable = λ h boot s. record {
+      startable = λ h renewed boot s. record {
         from = refl;
         boots = λ none. absurd (true≢false (sym none));
         holds = record {
-          ends = λ image left. start_recovers h boot s image (left_by_now at mid q lawful le image left);
-          keeps = λ image left. start_keeps h boot s image left;
-          reopens = λ image left. start_reopens h boot s image left;
+          ends = λ image left. start_recovers h renewed boot s image (left_by_now at mid q lawful le image left);
+          keeps = λ image left. start_keeps h renewed boot s image left;
+          reopens = λ image left. start_reopens h renewed boot s image left;
         };
       };
       other = λ no. record {
@@ -191,33 +179,33 @@ module _ (x : Form) (limit : ℕ) (at mid : SiteState) (p q : Crashes) (d : Disk
     }
 
 -- a file is startable from one opening
-one_opening : {x : Form} {limit : ℕ} (file : List ℕ) (g h : PlainHistory) (boot next : ℕ)
-    → IsStartable (opening_of x limit g boot) file → IsStartable (opening_of x limit h next) file
-    → opening_of x limit g boot ≡ opening_of x limit h next
-one_opening {x = x} {limit = limit} file g h boot next s t =
+one_opening : {x : Form} {limit : ℕ} (file : List ℕ) (g h : PlainHistory) (q r : Renewed) (boot next : ℕ)
+    → IsStartable (opening_of x limit g q boot) file → IsStartable (opening_of x limit h r next) file
+    → opening_of x limit g q boot ≡ opening_of x limit h r next
+one_opening {x = x} {limit = limit} file g h q r boot next s t =
     let histories = one_history file g h s.recovers t.recovers in
-    let boots : s.boots ≡ t.boots = one_number file s.boots t.boots s.holds t.holds in
-    let same : boot ≡ next = s.next ∙ ap (λ n. n + 1) boots ∙ sym t.next in
-    λ i. opening_of x limit (histories i) (same i)
+    let both = one_number file q r s.boots t.boots s.holds t.holds in
+    let same : boot ≡ next = s.next ∙ ap (λ n. n + 1) both.1 ∙ sym t.next in
+    λ i. opening_of x limit (histories i) (both.0 i) (same i)
 
 -- a run started from a file from which it may, and took events, or none
 module _ (x : Form) (limit : ℕ) (tick : ℕ) (d : Disk) (name : List ℕ) (mid : ℕ) (q : Crashes)
-    (h : PlainHistory) (boot : ℕ) (starts : IsStartable (opening_of x limit h boot) d.file)
+    (h : PlainHistory) (renewed : Renewed) (boot : ℕ) (starts : IsStartable (opening_of x limit h renewed boot) d.file)
     (kept : (image : List ℕ) → q.left tick image → Keeps x (length h) h image)
-    (opens_again : (image : List ℕ) → q.left tick image → Reopens (opening_of x limit h boot) image)
+    (opens_again : (image : List ℕ) → q.left tick image → Reopens (opening_of x limit h renewed boot) image)
   where
     abbrev attached : Opened
     attached = record { name = name; tick = tick; file = d.file }
 
     module _ (session : Option Session) (end : ℕ) (r : Crashes) (le : tick ≤ mid) where
       abbrev played : Session
-      played = session_of (opening_of x limit h boot) session
+      played = session_of (opening_of x limit h renewed boot) session
 
-      module _ (opening_is : played.opening ≡ opening_of x limit h boot) (along : KeepsAlong x h boot played mid end q r)
+      module _ (opening_is : played.opening ≡ opening_of x limit h renewed boot) (along : KeepsAlong x h renewed boot played mid end q r)
           (run : Run played.opening played.taken played.answers played.last played.ending)
         where
           within : EachPrefixIsWithin x limit (actions_of (with_failed played.ending played.last.history))
-          within = runs_stay_within (opening_of x limit h boot) played.taken played.answers played.last played.ending starts.within
+          within = runs_stay_within (opening_of x limit h renewed boot) played.taken played.answers played.last played.ending starts.within
               (subst (λ (o : Opening). Run o played.taken played.answers played.last played.ending) opening_is run)
 
           keeps : (image : List ℕ) → r.left tick image
@@ -228,16 +216,16 @@ module _ (x : Form) (limit : ℕ) (tick : ℕ) (d : Disk) (name : List ℕ) (mid
             | inr since ↦ along.keeps image since
           ]
 
-          reopens_along : (image : List ℕ) → r.left tick image → Reopens (opening_of x limit h boot) image
+          reopens_along : (image : List ℕ) → r.left tick image → Reopens (opening_of x limit h renewed boot) image
           reopens_along image left = elim (along.passes.nothing_else tick image le left) [
             | inl earlier ↦ opens_again image earlier
             | inr since ↦
-                can_reopen (opening_of x limit h boot) (length h) (with_failed played.ending played.last.history) image boot within
+                can_reopen (opening_of x limit h renewed boot) (length h) (with_failed played.ending played.last.history) image boot within
                 (let few = starts.few in let following = starts.next in omega (arith, few, following))
                 (along.keeps image since) (along.boots image since) (inr refl)
           ]
 
-          goes_on : GoesOnFrom (opening_of x limit h boot) session attached r
+          goes_on : GoesOnFrom (opening_of x limit h renewed boot) session attached r
           goes_on = record {
             from = opening_is;
             boots = λ some. along.boots_now;
@@ -253,10 +241,10 @@ module _ (x : Form) (limit : ℕ) (tick : ℕ) (d : Disk) (name : List ℕ) (mid
 
           pub session_uses : (file : List ℕ) → UsesJournal x limit session file attached r
           session_uses file = record {
-            startable = λ other next others.
+            startable = λ other says next others.
                 subst (λ (o : Opening). GoesOnFrom o session attached r)
-                (one_opening d.file h other boot next starts others) goes_on;
-            other = λ no. absurd (no h boot starts);
+                (one_opening d.file h other renewed says boot next starts others) goes_on;
+            other = λ no. absurd (no h renewed boot starts);
           }
 
 -- what a job makes of the file that it attached

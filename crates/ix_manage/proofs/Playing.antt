@@ -4,6 +4,7 @@ use Rattle.std.proofs.Common.{Result, Ok, Err, refl, sym, ◌∙◌, ap, subst}
 use Rattle.std.specs.Prelude.{codes, decimal}
 use Rattle.std.proofs.lemmas.Bool.{cases_lt}
 use Rattle.std.proofs.lemmas.Option.{none-some}
+use Rattle.ix_journal.specs.declared.entries.Renewed.{Renewed}
 use Rattle.ix_journal.specs.History.{PlainHistory}
 use Rattle.ix_expr.specs.Form.{Form}
 use Rattle.ix_can.specs.TreeOf.{tree_size}
@@ -51,7 +52,7 @@ use Rattle.ix_manage.specs.inside.Refusal.{journal_words, other_line}
 use Rattle.ix_manage.specs.inside.ReplayProgress.{OnlyUsesDisk, ReplaysOn, disk_alone}
 use Rattle.ix_manage.specs.inside.Progress as progress
 use Rattle.ix_manage.proofs.Causes.{replay_ends_earlier}
-use Rattle.ix_manage.proofs.Devices.{disk_calls_then}
+use Rattle.ix_renew.proofs.Making.{disk_calls_then}
 use Rattle.ix_manage.proofs.Opening.{KeepsAlong, left_by_now, on_journal, session_uses}
 use Rattle.ix_manage.proofs.Stops.{nothing_put, nothing_put_of}
 
@@ -220,28 +221,28 @@ module _ (x : Form) (limit : ℕ) (name : List ℕ) (before mid end : SiteState)
     opened_along (inr untold) = inr untold
 
     abbrev opening : Opening
-    opening = opening_of x limit m.machine.history m.machine.boot
+    opening = opening_of x limit m.machine.history m.machine.renewed m.machine.boot
 
     pub session_on_journal : (session_of opening session).opening ≡ opening
         → Run (session_of opening session).opening (session_of opening session).taken (session_of opening session).answers
         (session_of opening session).last (session_of opening session).ending
-        → (IsSome end.disk → KeepsAlong x m.machine.history m.machine.boot (session_of opening session) mid.tick end.tick q r)
+        → (IsSome end.disk → KeepsAlong x m.machine.history m.machine.renewed m.machine.boot (session_of opening session) mid.tick end.tick q r)
         → OnJournal files job before end r session
     session_on_journal opening_is run along =
         on_journal files job it.expression name x it.of_expression it.has_journal it.reads session before start.at end r
         start.opened (opened_along later)
         (λ d is e after. subst (λ n. UsesJournal x n session e.file (record { name = name; tick = start.at.tick; file = d.file }) r)
         (sym it.limit_is)
-        (session_uses x limit start.at.tick d name mid.tick q m.machine.history m.machine.boot (start.starts d is)
+        (session_uses x limit start.at.tick d name mid.tick q m.machine.history m.machine.renewed m.machine.boot (start.starts d is)
         (start.keeps (subst (λ (o : Option SiteDisk). IsSome o) (sym is) refl))
         (start.reopens (subst (λ (o : Option SiteDisk). IsSome o) (sym is) refl))
         session end.tick r start.later opening_is
         (along (subst (λ (o : Option SiteDisk). IsSome o) (sym after) refl)) run e.file))
 
 -- the opening that a session played from is the expression's, under the limit
-module _ (x : Form) (limit : ℕ) (m : ManagerState) (fresh : m ≡ started (opening_of x limit m.machine.history m.machine.boot) m.store)
+module _ (x : Form) (limit : ℕ) (m : ManagerState) (fresh : m ≡ started (opening_of x limit m.machine.history m.machine.renewed m.machine.boot) m.store)
   where
-    pub opening_fresh : progress.opening_at m ≡ opening_of x limit m.machine.history m.machine.boot
+    pub opening_fresh : progress.opening_at m ≡ opening_of x limit m.machine.history m.machine.renewed m.machine.boot
     opening_fresh = ap (λ (s : ManagerState). progress.opening_at s) fresh
 
     pub opening_from : (session : Session) → session.opening ≡ progress.opening_at m → IsFrom x limit session.opening
@@ -249,10 +250,10 @@ module _ (x : Form) (limit : ℕ) (m : ManagerState) (fresh : m ≡ started (ope
         let same = is ∙ opening_fresh in (ap (λ (o : Opening). o.form) same, ap (λ (o : Opening). o.limit) same)
 
 -- a journal is kept along a stretch over which its history is saved
-pub along_saves : (x : Form) (h : PlainHistory) (boot : ℕ) (played : Session) (store : Keeping) (a b : SiteState) (p q : Crashes)
-    → AreLawful b q → IsSome b.disk → Saves played.ending x (start_of h boot) played.last store (span a b p q)
-    → KeepsAlong x h boot played a.tick b.tick p q
-along_saves x h boot played store a b p q lawful some saves = record {
+pub along_saves : (x : Form) (h : PlainHistory) (renewed : Renewed) (boot : ℕ) (played : Session) (store : Keeping) (a b : SiteState) (p q : Crashes)
+    → AreLawful b q → IsSome b.disk → Saves played.ending x (start_of h renewed boot) played.last store (span a b p q)
+    → KeepsAlong x h renewed boot played a.tick b.tick p q
+along_saves x h renewed boot played store a b p q lawful some saves = record {
   passes = saves.passes.left;
   rest = saves.rest;
   grows = saves.grows;
@@ -263,11 +264,11 @@ along_saves x h boot played store a b p q lawful some saves = record {
 }
 
 -- also where its disk is told alone
-pub along_alone : (x : Form) (h : PlainHistory) (boot : ℕ) (played : Session) (store : Keeping) (a b : SiteState) (p q : Crashes)
+pub along_alone : (x : Form) (h : PlainHistory) (renewed : Renewed) (boot : ℕ) (played : Session) (store : Keeping) (a b : SiteState) (p q : Crashes)
     → AreLawful b q → IsSome b.disk
-    → Saves played.ending x (start_of h boot) played.last store (span (disk_alone a) (disk_alone b) (without_sends p) (without_sends q))
-    → KeepsAlong x h boot played a.tick b.tick p q
-along_alone x h boot played store a b p q lawful some saves = record {
+    → Saves played.ending x (start_of h renewed boot) played.last store (span (disk_alone a) (disk_alone b) (without_sends p) (without_sends q))
+    → KeepsAlong x h renewed boot played a.tick b.tick p q
+along_alone x h renewed boot played store a b p q lawful some saves = record {
   passes = saves.passes.left;
   rest = saves.rest;
   grows = saves.grows;
@@ -303,6 +304,7 @@ module _ (x : Form) (names : ReplayWords) (script : List ℕ) (before : SiteStat
           ends = it.ends files later (replay_of names) job;
           touches = it.only;
           journal = it.on_journal files.contents (replay_of names) job;
+          made = tt;
           wire = λ socket none. absurd (none-some socket none);
         })
 
@@ -320,7 +322,7 @@ module _ (x : Form) (names : ReplayWords) (script : List ℕ) (before : SiteStat
         let job = job_played files.contents reads has in
         let opening_is = it.opening_is ∙ opening_fresh x names.limit m start.fresh in
         let form : m.form ≡ x = ap (λ (s : ManagerState). s.form) start.fresh in
-        let begun : MachineState = start_of m.machine.history m.machine.boot in
+        let begun : MachineState = start_of m.machine.history m.machine.renewed m.machine.boot in
         let saves : Saves it.played.ending x begun it.played.last it.store
         (span (disk_alone mid) (disk_alone end) (without_sends q) (without_sends r)) =
         subst (λ (s : MachineState). Saves it.played.ending x begun s it.store
@@ -336,6 +338,7 @@ module _ (x : Form) (names : ReplayWords) (script : List ℕ) (before : SiteStat
           touches = disk_calls_then before mid end start.only uses.rest;
           journal = session_on_journal x names.limit names.journal.now before mid end q r m start files.contents (replay_of names) job uses.opened
               (Some it.played) opening_is (it.plays events.0 events.1).takes.run
-              (λ some. along_alone x m.machine.history m.machine.boot it.played it.store mid end q r lawful some saves);
+              (λ some. along_alone x m.machine.history m.machine.renewed m.machine.boot it.played it.store mid end q r lawful some saves);
+          made = tt;
           wire = λ socket none. absurd (none-some socket none);
         })

@@ -234,14 +234,14 @@ event_taken room old new was between now buf passed event ending outcome stretch
 -- what is kept from a manager on that was just started is kept from its opening on
 pub saves_begun : (m : ManagerState) → IsStarted m → {ending : Ending} {last : MachineState} {store : Keeping}
     {a b : SiteState} {p q : Crashes} → Saves ending m.form m.machine last store (span a b p q)
-    → Saves ending m.form (start_of m.machine.history m.machine.boot) last store (span a b p q)
+    → Saves ending m.form (start_of m.machine.history m.machine.renewed m.machine.boot) last store (span a b p q)
 saves_begun m fresh {ending = ending} {last = last} {store = store} {a = a} {b = b} {p = p} {q = q} saves =
     subst (λ s. Saves ending m.form s last store (span a b p q)) (ap (λ (s : ManagerState). s.machine) fresh) saves
 
 -- the same where nothing was made of it
 pub saves_resting : (m : ManagerState) → IsStarted m → {store : Keeping} {a b : SiteState} {p q : Crashes}
     → Saves going m.form m.machine m.machine store (span a b p q)
-    → Saves going m.form (start_of m.machine.history m.machine.boot) (start_of m.machine.history m.machine.boot) store (span a b p q)
+    → Saves going m.form (start_of m.machine.history m.machine.renewed m.machine.boot) (start_of m.machine.history m.machine.renewed m.machine.boot) store (span a b p q)
 saves_resting m fresh {store = store} {a = a} {b = b} {p = p} {q = q} saves =
     subst (λ s. Saves going m.form s s store (span a b p q)) (ap (λ (s : ManagerState). s.machine) fresh) saves
 
@@ -280,15 +280,15 @@ module _ {opening : Opening} {known : Option (List ℕ)} {m : ManagerState} {now
   }
 
   -- what was put since the line of the history was
-  text_behind_line : (start : SinkState) → known ≡ append_known start.written (history_line opening.history)
-      → now.sink.written ≡ append_known start.written (replay_text opening.history now.given stands.answers)
+  text_behind_line : (start : SinkState) → known ≡ append_known start.written (history_line opening)
+      → now.sink.written ≡ append_known start.written (replay_text opening now.given stands.answers)
   text_behind_line start line_put =
       stands.text ∙ ap (λ k. append_known k (run_text now.given stands.answers)) line_put
-      ∙ append_twice start.written (history_line opening.history) (run_text now.given stands.answers)
+      ∙ append_twice start.written (history_line opening) (run_text now.given stands.answers)
 
   -- as many events as turns were taken
   pub out_of_turns_put : (turns : ℕ) → length now.given ≡ turns
-      → (start : SinkState) → known ≡ append_known start.written (history_line opening.history)
+      → (start : SinkState) → known ≡ append_known start.written (history_line opening)
       → AwaitsLine (ReplaysScript opening turns now.script now.given m.machine stretch) 7 (refusal_line Turns) start now.sink
   out_of_turns_put turns all start line_put =
       let played : Session = record { opening = opening; taken = now.given; answers = stands.answers; last = m.machine; ending = going } in record {
@@ -326,7 +326,7 @@ module _ {old new : ManagerState} {was now : Player} {outcome : EventOutcome} {a
     stretch = record { before = a; after = c; was = p; is = r }
 
     saved : SavesFrom opening took.ending new.machine new.store stretch
-    saved = saves_join took.ending opening.form (start_of opening.history opening.boot) old.machine new.machine old.store new.store a b c p q r lawful
+    saved = saves_join took.ending opening.form (start_of opening.history opening.renewed opening.boot) old.machine new.machine old.store new.store a b c p q r lawful
         stands.saves
         (subst (λ x. Saves took.ending x old.machine new.machine new.store (span b c q r)) stands.follows.form_is took.saves)
 
@@ -380,7 +380,7 @@ module _ {old new : ManagerState} {was now : Player} {outcome : EventOutcome} {a
         }
 
     module _ (turns : ℕ) (few : length now.given ≤ turns) (start : SinkState)
-        (line_put : known ≡ append_known start.written (history_line opening.history))
+        (line_put : known ≡ append_known start.written (history_line opening))
       where
         replays : {status : ℕ} {whole part : List ℕ} → ReplayEnds turns a.counts c.counts played status whole part
             → ReplaysScript opening turns was.script now.given new.machine stretch status whole part (Some played)
@@ -410,7 +410,7 @@ module _ {old new : ManagerState} {was now : Player} {outcome : EventOutcome} {a
             let is = subst (IsEventOutcome now.failed took.ending took.event.kind) same took.outcome_is in
             ended_whole start now.sink (session_text played) (Some played) (replays (ends (over (is_over is.1))))
             (told_whole is.0 ∙ ap (λ k. append_known k (run_text now.given answers)) line_put
-            ∙ append_twice start.written (history_line opening.history) (run_text now.given answers))
+            ∙ append_twice start.written (history_line opening) (run_text now.given answers))
           where
             is_over : (took.event.kind ≡ End) ⊎ (took.ending ≡ stopped) → IsOver played
             is_over (inl end) = inl (was.given, given, took.given, end)
@@ -428,7 +428,7 @@ module _ {old new : ManagerState} {was now : Player} {outcome : EventOutcome} {a
                   let rose = subst P is.1.1 saved.faults in
                   λ status whole part last. replays (ends (disk_failed is.1.1 rose last));
               put = told_whole is.0 ∙ ap (λ k. append_known k (run_text now.given answers)) line_put
-                  ∙ append_twice start.written (history_line opening.history) (run_text now.given answers);
+                  ∙ append_twice start.written (history_line opening) (run_text now.given answers);
             }
 
         -- a put failed
@@ -437,10 +437,10 @@ module _ {old new : ManagerState} {was now : Player} {outcome : EventOutcome} {a
         outcome_cut same le =
             let is : now.failed ≡ true = subst (IsEventOutcome now.failed took.ending took.event.kind) same took.outcome_is in
             let one = loses_one (sends old new was now took.event took.piece took.ending took.handled took.fits stands.marks stands.open_sink) (marked_now ∙ is) in
-            let text : List ℕ = replay_text opening.history was.given stands.answers in
+            let text : List ℕ = replay_text opening was.given stands.answers in
             let sent_text : List ℕ = replies_text took.event.conn one.sent_ones in
             ended_cut start now.sink (text ++ sent_text) (send_text took.event.conn (reply_line one.lost_one)) (Some played)
-            (replays (lost_reply (subst (λ taken. LosesReply opening.history taken answers (text ++ sent_text) (send_text took.event.conn (reply_line one.lost_one)))
+            (replays (lost_reply (subst (λ taken. LosesReply opening taken answers (text ++ sent_text) (send_text took.event.conn (reply_line one.lost_one)))
             (sym took.given)
             (loses was.given given stands.answers took.handled.answers one.sent_ones one.lost_one one.silent_ones one.replies_are))))
             (subst (λ k. AppendsPart k (send_text took.event.conn (reply_line one.lost_one)) now.sink.written)
@@ -455,13 +455,13 @@ taken_count {was = was} took = ap length took.given ∙ length_push was.given (g
 -- the put of the history's line fails, before any event is taken
 pub history_lost : (m : ManagerState) → IsStarted m → (turns : ℕ) (script line : List ℕ) (old new : SinkState)
     (site : SiteState) (crashes : Crashes) → AreLawful site crashes → FitsSite m site crashes
-    → line ≡ history_line m.machine.history → AppendsPart old.written line new.written
+    → line ≡ history_line (opening_at m) → AppendsPart old.written line new.written
     → Rose old.faults new.faults
     → Ended (ReplaysOn (opening_at m) turns script m.machine (record { before = site; after = site; was = crashes; is = crashes })) 10 old new
 history_lost m fresh turns script line old new site crashes lawful fits same part rose =
     let opening : Opening = opening_at m in
     let played : Session = record { opening = opening; taken = []; answers = []; last = m.machine; ending = going } in
-    ended_cut old new [] (history_line m.machine.history) (Some played) (
+    ended_cut old new [] (history_line (opening_at m)) (Some played) (
       [],
       record {
         played = played;
@@ -482,16 +482,16 @@ history_lost m fresh turns script line old new site crashes lawful fits same par
         saves = saves_begun m fresh (saves_none m.form m.machine m.store site crashes lawful fits);
       },
     )
-    (subst (λ known. AppendsPart known (history_line m.machine.history) new.written) (append_nothing old.written)
+    (subst (λ known. AppendsPart known (history_line (opening_at m)) new.written) (append_nothing old.written)
     (subst (λ t. AppendsPart old.written t new.written) same part))
     rose
 
 -- it is put
-pub history_put : (history : PlainHistory) (line : List ℕ) (start between first : SinkState) → line ≡ history_line history
+pub history_put : (opening : Opening) (line : List ℕ) (start between first : SinkState) → line ≡ history_line opening
     → between.written ≡ append_known start.written line → OnlyPuts start between → first ≡ between
-    → PutsHistory history start first
-history_put history line start between first same put rest first_is =
-    subst (λ s. PutsHistory history start s) (sym first_is)
+    → PutsHistory opening start first
+history_put opening line start between first same put rest first_is =
+    subst (λ s. PutsHistory opening start s) (sym first_is)
     (record { put = put ∙ ap (append_known start.written) same; rest = rest })
 
 -- whatever events were taken

@@ -5,6 +5,7 @@ use Rattle.std.specs.Io.KnownBytes.{append_known}
 use Rattle.std.specs.Option.{option_map}
 use Rattle.std.proofs.lemmas.List.{length_push}
 use Rattle.std.proofs.lemmas.Option.{none-some}
+use Rattle.ix_journal.specs.declared.entries.Renewed.{Renewed}
 use Rattle.ix_journal.specs.History.{PlainHistory}
 use Rattle.ix_journal.specs.Recovery.{HoldsBoots}
 use Rattle.ix_expr.specs.Form.{Form}
@@ -51,7 +52,8 @@ use Rattle.ix_manage.specs.inside.Progress.{IsStarted, SavesFrom}
 use Rattle.ix_manage.specs.inside.Progress as stood
 use Rattle.ix_manage.proofs.Causes.{serve_ends_earlier}
 use Rattle.ix_manage.proofs.Devices.{calls_of_disk, calls_then}
-use Rattle.ix_manage.proofs.Opening.{kept_opened, opened_at, some_is}
+use Rattle.ix_manage.proofs.Opening.{some_is}
+use Rattle.ix_renew.proofs.Making.{kept_opened, opened_at}
 use Rattle.ix_manage.proofs.Playing.{along_saves, opening_fresh, opening_from, session_on_journal}
 use Rattle.ix_manage.proofs.ServeLemmas.{wire_only}
 use Rattle.ix_manage.proofs.Stops.{ended_cut, ended_whole}
@@ -105,8 +107,8 @@ module _ (socket : List ℕ) (a b : SiteState) (p q : Crashes) (heard : b.conten
 
       -- what was kept since a tick before it still is
       pub listen_since : (t : ℕ) (start : Sends) → a.contents.sends ≡ Some start
-          → ServesSince t x (length h) h start [] [] unmarked a p
-          → ServesSince t x (length h) h (with_heard socket start) [] [] unmarked b q
+          → ServesSince t x (length h) h last.renewed start [] [] unmarked a p
+          → ServesSince t x (length h) h last.renewed (with_heard socket start) [] [] unmarked b q
       listen_since t start told serves = record {
         began = let le = serves.began in let later = call.passes.left.later in omega arith;
         long = serves.long;
@@ -118,7 +120,7 @@ module _ (socket : List ℕ) (a b : SiteState) (p q : Crashes) (heard : b.conten
               subst (λ s. Wire (with_heard socket start) [] [] unmarked (record { sends = s; replies = [] })) (sym sends_are) begin,
               λ disk left since. elim (call.passes.left_since.nothing_else t left serves.began since) [
                 | inl earlier ↦
-                    subst (λ replies. KeepsAcknowledged x (length h) h replies start.sent left) none
+                    subst (λ replies. KeepsAcknowledged x (length h) h last.renewed replies start.sent left) none
                     (was.2 (subst (λ d. IsSome d) only.file disk) left earlier)
                 | inr since_call ↦ record {
                   keeps = saves.keeps disk left.image (lawful'.since_left a.tick left since_call);
@@ -139,8 +141,8 @@ module _ (socket : List ℕ) (a b : SiteState) (p q : Crashes) (heard : b.conten
 module _ (socket : List ℕ) (a b c : SiteState) (p q r : Crashes) (heard : b.contents ≡ with_name socket a.contents)
     (sends : b.counts.send ≡ a.counts.send) (opening : Opening)
     (listened : (t : ℕ) (start : Sends) → a.contents.sends ≡ Some start
-    → ServesSince t opening.form (length opening.history) opening.history start [] [] unmarked a p
-    → ServesSince t opening.form (length opening.history) opening.history (with_heard socket start) [] [] unmarked b q)
+    → ServesSince t opening.form (length opening.history) opening.history opening.renewed start [] [] unmarked a p
+    → ServesSince t opening.form (length opening.history) opening.history opening.renewed (with_heard socket start) [] [] unmarked b q)
     (session : Session) (opening_is : session.opening ≡ opening) (last : MachineState) (last_is : session.last ≡ last)
     (marks : List Bool)
     (sent : SentFor opening (with_failed session.ending last.history) session.taken session.answers marks
@@ -151,7 +153,7 @@ module _ (socket : List ℕ) (a b c : SiteState) (p q r : Crashes) (heard : b.co
 
     abbrev Since : ℕ → Sends → Opening → MachineState → Type 0
     Since t start from state =
-        ServesSince t from.form (length from.history) (with_failed session.ending state.history) (with_heard socket start)
+        ServesSince t from.form (length from.history) (with_failed session.ending state.history) from.renewed (with_heard socket start)
         session.taken session.answers marks c r
 
     pub serves_from : ServesFrom socket session (record { before = a; after = c; was = p; is = r })
@@ -166,7 +168,7 @@ module _ (socket : List ℕ) (a b c : SiteState) (p q r : Crashes) (heard : b.co
           (subst (λ (s : MachineState). Since t start opening s) (sym last_is)
           (sent.since t (with_heard socket start)
           (listened t start told
-          (subst (λ (o : Opening). ServesSince t o.form (length o.history) o.history start [] [] unmarked a p) opening_is serves))));
+          (subst (λ (o : Opening). ServesSince t o.form (length o.history) o.history o.renewed start [] [] unmarked a p) opening_is serves))));
       whole = λ none old new told told'.
           let it = sent.whole (λ rose. none (subst (λ n. Rose n c.counts.send) sends rose)) in
           it.1 (with_heard socket old) new
@@ -179,10 +181,10 @@ module _ (turns : ℕ) (socket : List ℕ) (old new : ManagerState) (a b c : Sit
     (fresh : IsStarted old) (listened : Saves going old.form old.machine old.machine old.store (span a b p q))
     (heard : b.contents ≡ with_name socket a.contents) (sends : b.counts.send ≡ a.counts.send)
     (since : (t : ℕ) (start : Sends) → a.contents.sends ≡ Some start
-    → ServesSince t old.form (length old.machine.history) old.machine.history start [] [] unmarked a p
-    → ServesSince t old.form (length old.machine.history) old.machine.history (with_heard socket start) [] [] unmarked b q)
+    → ServesSince t old.form (length old.machine.history) old.machine.history old.machine.renewed start [] [] unmarked a p
+    → ServesSince t old.form (length old.machine.history) old.machine.history old.machine.renewed (with_heard socket start) [] [] unmarked b q)
     (start between : SinkState)
-    (put : between.written ≡ append_known start.written (history_line old.machine.history))
+    (put : between.written ≡ append_known start.written (history_line (stood.opening_at old)))
     (disk : a.counts.disk ≤ b.counts.disk) (wire : a.counts.wire ≤ b.counts.wire)
   where
     abbrev over_all : Stretch
@@ -199,7 +201,7 @@ module _ (turns : ℕ) (socket : List ℕ) (old new : ManagerState) (a b c : Sit
       last_is = it.last_is;
       takes = it.takes;
       store = it.store;
-      saves = saves_join session.ending old.form (start_of old.machine.history old.machine.boot) old.machine new.machine old.store it.store
+      saves = saves_join session.ending old.form (start_of old.machine.history old.machine.renewed old.machine.boot) old.machine new.machine old.store it.store
           a b c p q r lawful (saves_begun old fresh listened)
           (subst (λ s. Saves session.ending old.form s new.machine it.store (span b c q r)) (sym (ap (λ (s : ManagerState). s.machine) fresh)) it.saves);
     }
@@ -213,18 +215,18 @@ module _ (turns : ℕ) (socket : List ℕ) (old new : ManagerState) (a b c : Sit
         new.machine it.served.last_is it.marks it.sent
 
     line_of : (session : Session) → session.opening ≡ stood.opening_at old
-        → between.written ≡ append_known start.written (history_line session.opening.history)
-    line_of session is = put ∙ ap (λ (o : Opening). append_known start.written (history_line o.history)) (sym is)
+        → between.written ≡ append_known start.written (history_line session.opening)
+    line_of session is = put ∙ ap (λ (o : Opening). append_known start.written (history_line o)) (sym is)
 
     pub leaves_serving : {T : Type 0} (r' : Result T EarlyEnd)
         → ServesTo turns old new (record { before = b; after = c; was = q; is = r }) r'
         → LeavesOutput May start between r'
     leaves_serving (Ok value) it =
-        ended_whole start between (history_line it.session.opening.history) (Some it.session)
+        ended_whole start between (history_line it.session.opening) (Some it.session)
         (served (from_listening it.session it.served) (wire_of (Ok value) it) (ends (over it.ends)))
         (line_of it.session it.served.opening_is)
     leaves_serving (Err (Refused refusal)) it = record {
-      before = history_line it.session.opening.history;
+      before = history_line it.session.opening;
       session = Some it.session;
       may = λ status whole part last.
           served (from_listening it.session it.served) (wire_of (Err (Refused refusal)) it)
@@ -240,14 +242,14 @@ pub history_lost : (m : ManagerState) → IsStarted m → (turns : ℕ) (socket 
     → Saves going m.form m.machine m.machine m.store (span a b p q)
     → b.contents ≡ with_name socket a.contents → b.counts.send ≡ a.counts.send
     → ((t : ℕ) (start : Sends) → a.contents.sends ≡ Some start
-    → ServesSince t m.form (length m.machine.history) m.machine.history start [] [] unmarked a p
-    → ServesSince t m.form (length m.machine.history) m.machine.history (with_heard socket start) [] [] unmarked b q)
-    → (old new : SinkState) → line ≡ history_line m.machine.history → AppendsPart old.written line new.written
+    → ServesSince t m.form (length m.machine.history) m.machine.history m.machine.renewed start [] [] unmarked a p
+    → ServesSince t m.form (length m.machine.history) m.machine.history m.machine.renewed (with_heard socket start) [] [] unmarked b q)
+    → (old new : SinkState) → line ≡ history_line (stood.opening_at m) → AppendsPart old.written line new.written
     → Rose old.faults new.faults
     → Ended (ServesOn (stood.opening_at m) turns socket m.machine (record { before = a; after = b; was = p; is = q })) 10 old new
 history_lost m fresh turns socket line a b p q saves heard sends since old new same part rose =
     let played : Session = record { opening = stood.opening_at m; taken = []; answers = []; last = m.machine; ending = going } in
-    ended_cut old new [] (history_line m.machine.history) (Some played)
+    ended_cut old new [] (history_line (stood.opening_at m)) (Some played)
     (served (record {
       opening_is = refl;
       last_is = refl;
@@ -266,7 +268,7 @@ history_lost m fresh turns socket line a b p q saves heard sends since old new s
       whole = λ none. (refl, λ one two told told'. ap (λ (s : Sends). s.gone) (sym (some_is (sym told ∙ told'))));
     }))
     (ends (lost_history refl)))
-    (subst (λ known. AppendsPart known (history_line m.machine.history) new.written) (append_nothing old.written)
+    (subst (λ known. AppendsPart known (history_line (stood.opening_at m)) new.written) (append_nothing old.written)
     (subst (λ t. AppendsPart old.written t new.written) same part))
     rose
 
@@ -294,6 +296,7 @@ module _ (x : Form) (names : ServeWords) (before : SiteState) where
         ends = it.ends files later (serve_of names) job;
         touches = calls_of_disk before after it.only;
         journal = it.on_journal files.contents (serve_of names) job;
+        made = tt;
         wire = λ socket same. it.only.contents;
       })
 
@@ -319,10 +322,10 @@ module _ (x : Form) (names : ServeWords) (before : SiteState) where
       along (inr untold) now opened told is = absurd (none-some now (sym untold ∙ told))
 
       -- the boot is kept before anything is sent
-      boots_from : (session : Session) (store : Keeping) → session.opening ≡ opening_of x names.limit m.machine.history m.machine.boot
-          → Saves session.ending x (start_of m.machine.history m.machine.boot) session.last store (span mid end q r)
+      boots_from : (session : Session) (store : Keeping) → session.opening ≡ opening_of x names.limit m.machine.history m.machine.renewed m.machine.boot
+          → Saves session.ending x (start_of m.machine.history m.machine.renewed m.machine.boot) session.last store (span mid end q r)
           → (old : Sends) → before.contents.sends ≡ Some old → IsSome end.disk → (left : Left) → r.left_since start.at.tick left
-          → (left.sent ≡ old.sent) ⊎ HoldsBoots left.image session.opening.boot
+          → (left.sent ≡ old.sent) ⊎ HoldsBoots left.image session.opening.renewed session.opening.boot
       boots_from session store opening_is saves old told some left left_since =
           elim (saves.passes.left_since.nothing_else start.at.tick left start.later left_since) [
             | inl earlier ↦
@@ -332,13 +335,13 @@ module _ (x : Form) (names : ServeWords) (before : SiteState) where
                 ∙ ap (λ (sent : List SentBytes). old.sent ++ sent) (carries_none was.sent wired.0 was.carried (no_replies wired.1 refl))
                 ∙ append-nil old.sent)
             | inr later ↦
-                inr (subst (λ (o : Opening). HoldsBoots left.image o.boot) (sym opening_is)
+                inr (subst (λ (o : Opening). HoldsBoots left.image o.renewed o.boot) (sym opening_is)
                 (saves.boots some left.image (lawful.since_left mid.tick left later)))
           ]
 
       wire_from : (socket : List ℕ) (session : Session) (store : Keeping)
-          → session.opening ≡ opening_of x names.limit m.machine.history m.machine.boot
-          → Saves session.ending x (start_of m.machine.history m.machine.boot) session.last store (span mid end q r)
+          → session.opening ≡ opening_of x names.limit m.machine.history m.machine.renewed m.machine.boot
+          → Saves session.ending x (start_of m.machine.history m.machine.renewed m.machine.boot) session.last store (span mid end q r)
           → ServesFrom socket session (record { before = mid; after = end; was = q; is = r })
           → ServesWire socket session before end r
       wire_from socket session store opening_is saves wire = record {
@@ -346,7 +349,7 @@ module _ (x : Form) (names : ServeWords) (before : SiteState) where
         sends = λ old new told told'.
             let mid_told = ap (λ (k : Contents). k.sends) start.only.contents ∙ told in
             let since = wire.since start.at.tick old mid_told
-            (subst (λ (o : Opening). ServesSince start.at.tick o.form (length o.history) o.history old [] [] unmarked mid q)
+            (subst (λ (o : Opening). ServesSince start.at.tick o.form (length o.history) o.history o.renewed old [] [] unmarked mid q)
             (sym opening_is) (start.since old told)) in
             let wired = since.wired new told' in record {
               marks = wire.marks;
@@ -375,13 +378,14 @@ module _ (x : Form) (names : ServeWords) (before : SiteState) where
         touches = touches;
         journal = session_on_journal x names.limit names.journal.now before mid end q r m start files.contents (serve_of names)
             (job_served_by files.contents reads) serves.opened None refl run_begins
-            (λ some. along_saves x m.machine.history m.machine.boot (session_of (opening_of x names.limit m.machine.history m.machine.boot) None) store mid end q r lawful some
-            (subst (λ y. Saves going y (start_of m.machine.history m.machine.boot) (start_of m.machine.history m.machine.boot) store (span mid end q r)) form saves));
+            (λ some. along_saves x m.machine.history m.machine.renewed m.machine.boot (session_of (opening_of x names.limit m.machine.history m.machine.renewed m.machine.boot) None) store mid end q r lawful some
+            (subst (λ y. Saves going y (start_of m.machine.history m.machine.renewed m.machine.boot) (start_of m.machine.history m.machine.renewed m.machine.boot) store (span mid end q r)) form saves));
+        made = tt;
         wire = λ socket same. contents ∙ start.only.contents;
       }
       session_serves status whole part session (served {session = played} it wire how) = λ files now reads.
           let opening_is = it.opening_is ∙ opening_fresh x names.limit m start.fresh in
-          let begun : MachineState = start_of m.machine.history m.machine.boot in
+          let begun : MachineState = start_of m.machine.history m.machine.renewed m.machine.boot in
           let saves : Saves played.ending x begun played.last it.store (span mid end q r) =
           subst (λ (s : MachineState). Saves played.ending x begun s it.store (span mid end q r)) (sym it.last_is)
           (subst (λ y. Saves played.ending y begun final it.store (span mid end q r)) form it.saves) in record {
@@ -391,7 +395,8 @@ module _ (x : Form) (names : ServeWords) (before : SiteState) where
             touches = touches;
             journal = session_on_journal x names.limit names.journal.now before mid end q r m start files.contents (serve_of names)
                 (job_served_by files.contents reads) serves.opened (Some played) opening_is it.takes.run
-                (λ some. along_saves x m.machine.history m.machine.boot played it.store mid end q r lawful some saves);
+                (λ some. along_saves x m.machine.history m.machine.renewed m.machine.boot played it.store mid end q r lawful some saves);
+            made = tt;
             wire = λ socket same.
                 subst (λ name. ServesWire name played before end r) (some_is same)
                 (wire_from names.socket.now played it.store opening_is saves wire);

@@ -129,7 +129,7 @@ serves_first m site crashes fresh lawful fits =
       sent = record {
         given = λ new told. (new, told, sym (append-nil new));
         told = λ some. some;
-        since = λ t start serves. subst (λ marks. ServesSince t m.form (length m.machine.history) m.machine.history start [] [] marks site crashes)
+        since = λ t start serves. subst (λ marks. ServesSince t m.form (length m.machine.history) m.machine.history m.machine.renewed start [] [] marks site crashes)
             (sym marks) serves;
         whole = λ none. (marks, λ old new told told'. gone_is old new (sym told ∙ told'));
       };
@@ -195,7 +195,7 @@ module _ {old new : ManagerState} {outcome : EventOutcome} {a b c : SiteState} {
     played = record { opening = opening; taken = longer; answers = answers; last = new.machine; ending = it.ending }
 
     saved : SavesFrom opening it.ending new.machine new.store stretch
-    saved = saves_join it.ending opening.form (start_of opening.history opening.boot) old.machine new.machine old.store new.store a b c p q r lawful
+    saved = saves_join it.ending opening.form (start_of opening.history opening.renewed opening.boot) old.machine new.machine old.store new.store a b c p q r lawful
         serves.saves
         (subst (λ x. Saves it.ending x old.machine new.machine new.store (span b c q r)) serves.follows.form_is it.saves)
 
@@ -240,10 +240,12 @@ module _ {old new : ManagerState} {outcome : EventOutcome} {a b c : SiteState} {
       told = λ some. serves.sent.told (told_from b.contents.sends c.contents.sends stays_untold some);
       since = λ t start begins.
           let least = length opening.history in
-          subst (λ x. ServesSince t x least (with_failed it.ending new.machine.history) start longer answers new.marks c r) serves.follows.form_is
+          subst (λ z. ServesSince t opening.form least (with_failed it.ending new.machine.history) z start longer answers new.marks c r) serves.saves.renewed
+          (subst (λ x. ServesSince t x least (with_failed it.ending new.machine.history) old.machine.renewed start longer answers new.marks c r) serves.follows.form_is
           (it.since t least start taken serves.answers
-          (subst (λ x. ServesSince t x least old.machine.history start taken serves.answers old.marks b q) (sym serves.follows.form_is)
-          (serves.sent.since t start begins)));
+          (subst (λ x. ServesSince t x least old.machine.history old.machine.renewed start taken serves.answers old.marks b q) (sym serves.follows.form_is)
+          (subst (λ z. ServesSince t opening.form least old.machine.history z start taken serves.answers old.marks b q) (sym serves.saves.renewed)
+          (serves.sent.since t start begins)))));
       whole = λ none.
           let earlier = serves.sent.whole (λ rose. none (Rose-later a.counts.send b.counts.send c.counts.send rose second)) in
           let marked = none_marked earlier.0 (λ rose. none (Rose-earlier a.counts.send b.counts.send c.counts.send first rose)) in (
@@ -320,8 +322,8 @@ abbrev IsCut : ManagerState → ManagerState → SiteState → SiteState → Cra
 IsCut old new b c q r = (new ≡ old) × (c.contents ≡ b.contents) × Rose b.counts.wire c.counts.wire
     × Saves going old.form old.machine new.machine new.store (span b c q r)
     × ((t : ℕ) (least : ℕ) (start : Sends) (taken : List GivenEvent) (answers : List (List (List Reply)))
-    → ServesSince t old.form least old.machine.history start taken answers old.marks b q
-    → ServesSince t old.form least old.machine.history start taken answers old.marks c r)
+    → ServesSince t old.form least old.machine.history old.machine.renewed start taken answers old.marks b q
+    → ServesSince t old.form least old.machine.history old.machine.renewed start taken answers old.marks c r)
 
 -- where none came, no event was taken
 module _ {old new : ManagerState} {b c : SiteState} {q r : Crashes} where
@@ -350,10 +352,12 @@ module _ {old new : ManagerState} {a b c : SiteState} {p q r : Crashes}
       told = λ some. serves.sent.told (subst (λ (k : Contents). IsSome k.sends) contents_are some);
       since = λ t start begins.
           let least = length opening.history in
-          subst (λ x. ServesSince t x least old.machine.history start taken serves.answers old.marks c r) serves.follows.form_is
+          subst (λ z. ServesSince t opening.form least old.machine.history z start taken serves.answers old.marks c r) serves.saves.renewed
+          (subst (λ x. ServesSince t x least old.machine.history old.machine.renewed start taken serves.answers old.marks c r) serves.follows.form_is
           (cut.4 t least start taken serves.answers
-          (subst (λ x. ServesSince t x least old.machine.history start taken serves.answers old.marks b q) (sym serves.follows.form_is)
-          (serves.sent.since t start begins)));
+          (subst (λ x. ServesSince t x least old.machine.history old.machine.renewed start taken serves.answers old.marks b q) (sym serves.follows.form_is)
+          (subst (λ z. ServesSince t opening.form least old.machine.history z start taken serves.answers old.marks b q) (sym serves.saves.renewed)
+          (serves.sent.since t start begins)))));
       whole = λ none.
           let earlier = serves.sent.whole (λ rose. none (Rose-later a.counts.send b.counts.send c.counts.send rose sends)) in
           (earlier.0, λ start last told told'. earlier.1 start last told (sym (ap (λ (k : Contents). k.sends) contents_are) ∙ told'));
@@ -368,7 +372,7 @@ module _ {old new : ManagerState} {a b c : SiteState} {p q r : Crashes}
         last_is = sym (ap (λ (s : ManagerState). s.machine) cut.0);
         takes = (served_so_far serves turns (omega (arith, few))).takes;
         store = new.store;
-        saves = saves_join going opening.form (start_of opening.history opening.boot) old.machine new.machine old.store new.store a b c p q r lawful
+        saves = saves_join going opening.form (start_of opening.history opening.renewed opening.boot) old.machine new.machine old.store new.store a b c p q r lawful
             serves.saves
             (subst (λ x. Saves going x old.machine new.machine new.store (span b c q r)) serves.follows.form_is cut.3);
       });

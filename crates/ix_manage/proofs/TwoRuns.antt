@@ -1,6 +1,7 @@
 -- Two runs on one journal: the second is in a later boot, and what was told in the first stays.
 use Rattle.std.proofs.Common.{◌≡◌, ℕ, ◌+◌, List, [], ◌∷◌, ◌++◌, append-nil, Option, Some, inl, inr, refl, sym, ◌∙◌, ap, subst, arith}
 use Rattle.std.proofs.lemmas.Option.{none-some}
+use Rattle.ix_journal.specs.declared.entries.Renewed.{Renewed}
 use Rattle.ix_words.specs.Each.{Each, no_item, item}
 use Rattle.ix_words.proofs.Each.{Each-head, Each-left, Each-tail}
 use Rattle.ix_values.specs.Laws.{TextsTellTicketsApart}
@@ -95,8 +96,8 @@ record Went (session : Session) (opened : Opened) (is : Crashes) : Type 0 where
 went : {session : Session} {opened : Opened} {is : Crashes} → HadSession session opened is → (Went session opened is → ⊥) → ⊥
 went {session = session} {opened = opened} {is = is} had isnt_so =
     let it = began had in
-    none-some session (sym (it.uses.other (λ history boot starts.
-    let goes_on = it.uses.startable history boot starts in
+    none-some session (sym (it.uses.other (λ history renewed boot starts.
+    let goes_on = it.uses.startable history renewed boot starts in
     let from = goes_on.from in
     isnt_so (record {
       run = it.run;
@@ -106,7 +107,7 @@ went {session = session} {opened = opened} {is = is} had isnt_so =
 
 -- a crash behind the session leaves its boots
 left_boots : {session : Session} {opened : Opened} {is : Crashes} {image : List ℕ} → Went session opened is
-    → IsLeftOf session opened is image → HoldsBoots image session.opening.boot
+    → IsLeftOf session opened is image → HoldsBoots image session.opening.renewed session.opening.boot
 left_boots {image = image} it (two.behind now) = it.goes_on.boots refl image now
 left_boots it (two.meanwhile left holds) = holds
 
@@ -132,12 +133,14 @@ left_front {image = image} it (two.meanwhile left holds) =
     let keeps = it.goes_on.holds.keeps image left in
     record { kept = keeps.kept; recovers = keeps.recovers; rest = keeps.rest; prefix = keeps.prefix }
 
--- so the next session is in the next boot
+-- so the next session is in the next boot, and its carried actions stand for the same
 next_boot : {first second : Session} {opened again : Opened} {is then : Crashes} → Went first opened is → Went second again then
-    → IsLeftOf first opened is again.file → second.opening.boot ≡ first.opening.boot + 1
-next_boot {first = first} {again = again} one other left =
-    let boots = one_number again.file other.starts.boots first.opening.boot other.starts.holds (left_boots one left) in
-    other.starts.next ∙ ap (λ n. n + 1) boots
+    → IsLeftOf first opened is again.file
+    → (second.opening.renewed ≡ first.opening.renewed) × (second.opening.boot ≡ first.opening.boot + 1)
+next_boot {first = first} {second = second} {again = again} one other left =
+    let both = one_number again.file second.opening.renewed first.opening.renewed other.starts.boots first.opening.boot
+    other.starts.holds (left_boots one left) in
+    (both.0, other.starts.next ∙ ap (λ n. n + 1) both.1)
 
 pub tickets_are_granted_once : {S : Type 0} (crashes : S → Crashes) → TicketsAreGrantedOnce crashes
 tickets_are_granted_once crashes first second ticket on granted again =
@@ -145,7 +148,7 @@ tickets_are_granted_once crashes first second ticket on granted again =
     let in_first = tickets_are_of_their_boot first.opening first.taken first.answers first.last first.ending ticket one.run granted in
     let in_second = tickets_are_of_their_boot second.opening second.taken second.answers second.last second.ending ticket other.run again in
     let next = next_boot one other on.left in
-    omega (arith, in_first, in_second, next)))
+    omega (arith, in_first, in_second, next.1)))
 
 -- what each item of a list can't be, is shown where it can't fail
 each_isnt : {A : Type 0} {G : A → Type 0} (all : List A) → ((Each (λ a. G a → ⊥) all → ⊥) → ⊥) → Each (λ a. G a → ⊥) all
@@ -166,12 +169,13 @@ over_tickets_stay_out apart crashes first second ticket on told =
         let next = next_boot one other on.left in
         let same : front.kept ≡ second.opening.history =
         one_history on.again.file front.kept second.opening.history front.recovers other.starts.recovers in
-        let begun : IsOver (start_of front.kept (first.opening.boot + 1)) ticket = record {
+        let begun : IsOver (start_of front.kept first.opening.renewed (first.opening.boot + 1)) ticket = record {
           granted = over.granted;
           absent = Each-left front.kept front.rest
               (subst (λ (h : PlainHistory). IsAbsent ticket h) (sym front.prefix) over.absent);
           shut = λ a deadline is. free_holds _ a deadline is;
         } in
         over_in_run ticket other.run
-        (subst (λ (h : PlainHistory). IsOver (start_of h second.opening.boot) ticket) same
-        (subst (λ boot. IsOver (start_of front.kept boot) ticket) (sym next) begun))
+        (subst (λ (h : PlainHistory). IsOver (start_of h second.opening.renewed second.opening.boot) ticket) same
+        (subst (λ (both : Renewed × ℕ). IsOver (start_of front.kept both.0 both.1) ticket)
+        (λ i. (sym next.0 i, sym next.1 i)) begun))

@@ -4,6 +4,8 @@ use Rattle.std.proofs.Common.{arith, refl, sym, ◌∙◌, ap, subst, Option, No
 use Rattle.std.specs.Prelude.{map}
 use Rattle.std.specs.Io.KnownBytes.{append_known}
 use Rattle.std.proofs.lemmas.Option.{none-some}
+use Rattle.ix_journal.specs.declared.entries.Renewed.{Renewed}
+use Rattle.ix_journal.specs.Entries.{marks_of, or_none, renewed_of}
 use Rattle.ix_words.specs.Each.{Each, item}
 use Rattle.ix_words.proofs.Each.{Each-head, Each-right}
 use Rattle.ix_values.specs.Faults.{IsActionText}
@@ -21,6 +23,8 @@ use Rattle.ix_journal.specs.History.{PlainHistory, actions_of}
 use Rattle.ix_journal.specs.Kinds as kind
 use Rattle.ix_journal.specs.Kinds.{IsForeign}
 use Rattle.ix_journal.specs.Recovery as recovery
+use Rattle.ix_journal.specs.Recovery.{HoldsBoots, IsJournalWith, Recovers}
+use Rattle.ix_journal.specs.declared.entries.Marks.{Marks}
 use Rattle.ix_journal.proofs.KindLaws.{one_kind}
 use Rattle.ix_journal.proofs.OutcomeLaws.{one_history, one_number, one_outcome}
 use Rattle.ix_outside.specs.Contents.{GivenEvent}
@@ -29,6 +33,7 @@ use Rattle.ix_outside.specs.Disk.{Disk, Opened}
 use Rattle.ix_outside.specs.Files.{HasFile, HasLonger, Listing, Lists}
 use Rattle.ix_outside.specs.Sink.{AppendsPart}
 use Rattle.ix_outside.specs.SinkState.{SinkState}
+use Rattle.ix_outside.specs.SiteState.{SiteState}
 use Rattle.ix_script.specs.Events.{AreEvents}
 use Rattle.ix_script.specs.Grammar.{InGrammar}
 use Rattle.ix_script.specs.Pieces.{pieces_of}
@@ -36,6 +41,8 @@ use Rattle.ix_script.proofs.LineParts.{events_computed, no_fault}
 use Rattle.ix_generate.specs.Workload.{examinations}
 use Rattle.ix_manager.specs.Images as image
 use Rattle.ix_manager.specs.Images.{IsOwn, IsStartable}
+use Rattle.ix_manager.specs.Machine.{count_of}
+use Rattle.ix_renew.specs.Renewal.{IsAboveMost, IsJournalOf, OfOpenedAs}
 use Rattle.ix_manager.specs.Runs.{going, opening_of, stopped}
 use Rattle.ix_manager.specs.Starts.{HasText}
 use Rattle.ix_cli.specs.Words.{Job, Names, trace, replay, serve, work, simplify, bound, follow, lint}
@@ -55,8 +62,11 @@ use Rattle.ix_manage.specs.FollowLines.{FollowEnds, ReadsLines}
 use Rattle.ix_manage.specs.Journal as journal
 use Rattle.ix_manage.specs.Journal.{OfJournal, OfOpened, RefusesFile}
 use Rattle.ix_manage.specs.Laws as well
-use Rattle.ix_manage.specs.Laws.{CanStart, ComesToEnd, EndsWhole, HasAll, NothingFails, OpensStartable, UnhinderedRunsEndWhole, of_script, of_session}
+use Rattle.ix_manage.specs.Laws.{CanStart, ComesToEnd, EndsWhole, HasAll, NothingFails, OpensEmpty, OpensStartable, UnhinderedRunsEndWhole}
+use Rattle.ix_manage.specs.Laws.{of_script, of_session}
 use Rattle.ix_manage.specs.Puts.{LastLine, lost, put}
+use Rattle.ix_manage.specs.Renewals as renewal
+use Rattle.ix_manage.specs.Renewals.{CanBeRenewed, HasByte, RefusesRenewal}
 use Rattle.ix_manage.specs.Replay as played
 use Rattle.ix_manage.specs.Replay.{AreFirst, HasBadScript, ReadsEvents, ReplayEnds}
 use Rattle.ix_manage.specs.Serve as wired
@@ -169,13 +179,13 @@ module _ (files : Option Listing) (told : IsSome files) where
       (subst (λ bytes. AreEvents 0 (lines_of bytes) other) same second.has))
 
 -- a file that has no bytes is startable
-empty_startable : (x : Form) (limit : ℕ) → tree_size x [] ≤ limit → IsStartable (opening_of x limit [] 1) []
+empty_startable : (x : Form) (limit : ℕ) → tree_size x [] ≤ limit → IsStartable (opening_of x limit [] (or_none None) 1) []
 empty_startable x limit small = record {
   own = image.new (inl (inl (omega arith)));
   recovers = record { entries = []; keeps = recovery.unfinished [] (inl (omega arith)); pairs = refl };
   within = λ count. within count;
   boots = 0;
-  holds = record { entries = []; keeps = recovery.unfinished [] (inl (omega arith)); number = refl };
+  holds = record { entries = []; keeps = recovery.unfinished [] (inl (omega arith)); said = refl; number = refl };
   few = omega arith;
   next = refl;
 }
@@ -183,9 +193,8 @@ empty_startable x limit small = record {
     within : (count : ℕ) → image.IsWithin x limit (take count [])
     within count = subst (image.IsWithin x limit) (sym (none_taken count)) (record { partial = empty-partial x []; size = small })
 
--- no startable file is refused
-module _ (x : Form) (limit : ℕ) (file : List ℕ) (history : PlainHistory) (boot : ℕ)
-    (starts : IsStartable (opening_of x limit history boot) file) where
+-- a file that an expression may open is a journal of its text
+module _ (x : Form) (file : List ℕ) where
   no_foreign : IsOwn x file → IsForeign file → ⊥
   no_foreign (image.new (inl is)) foreign = let same = one_kind file kind.unfinished kind.foreign is foreign in cc
   no_foreign (image.new (inr is)) foreign =
@@ -206,14 +215,22 @@ module _ (x : Form) (limit : ℕ) (file : List ℕ) (history : PlainHistory) (bo
   same_text text (image.ready h marks gate is) (inr other) =
       let same = one_kind file (kind.ready (canonical_text x) is.journal.first) (kind.ready text other.0) is.journal.ready other.1 in cc
 
+-- no startable file is refused
+module _ (x : Form) (limit : ℕ) (file : List ℕ) (history : PlainHistory) (renewed : Renewed) (boot : ℕ)
+    (starts : IsStartable (opening_of x limit history renewed boot) file) where
   not_refused : {why : List ℕ} → RefusesFile x limit file why → ⊥
-  not_refused (journal.foreign is) = no_foreign starts.own is
-  not_refused (journal.other has apart) = apart (same_text _ starts.own has)
+  not_refused (journal.foreign is) = no_foreign x file starts.own is
+  not_refused (journal.other has apart) = apart (same_text x file _ starts.own has)
   not_refused (journal.damaged ready is) = (one_outcome file).0 history _ starts.recovers is
   not_refused (journal.many ready (inl is)) = (one_outcome file).1 history starts.recovers is
   not_refused (journal.many ready (inr holds)) =
-      let same : starts.boots ≡ 1000000 = one_number file starts.boots 1000000 starts.holds holds in
-      let few = starts.few in omega (arith, same, few)
+      let marks = marks_of holds.entries in
+      let all : HoldsBoots file (renewed_of marks) marks.boots =
+      record { entries = holds.entries; keeps = holds.keeps; said = refl; number = refl } in
+      let same = one_number file renewed (renewed_of marks) starts.boots marks.boots starts.holds all in
+      let few = starts.few in
+      let full = holds.full in
+      omega (arith, same.1, ap (λ (r : Renewed). r.boots) same.0, few, full)
   not_refused (journal.word {history = word} {number = number} opens is) =
       let same = one_history file word history opens.recovers starts.recovers in
       is.not_partial (subst (λ w. IsPartial x [] (take number (actions_of w))) (sym same) (starts.within number).partial)
@@ -223,11 +240,86 @@ module _ (x : Form) (limit : ℕ) (file : List ℕ) (history : PlainHistory) (bo
       let within = subst (λ w. tree_size x (take number (actions_of w)) ≤ limit) (sym same) (starts.within number).size in
       absurd (omega (arith, above, within))
 
+-- no journal that can be renewed is refused
+module _ (x : Form) (limit : ℕ) (file : List ℕ) (can : CanBeRenewed x limit file) where
+  abbrev kept_journal : IsJournalWith file (canonical_text x) can.history can.marks can.journal.gate
+  kept_journal = can.journal.journal
+
+  own_journal : IsOwn x file
+  own_journal = image.ready can.history can.marks can.journal.gate kept_journal
+
+  keeps_of : {history : PlainHistory} {marks : Marks} (of : IsJournalOf x file history marks)
+      → recovery.Keeps file of.journal.entries
+  keeps_of of = recovery.ready file (canonical_text x) of.journal.entries of.gate of.journal.journal
+
+  recovers_of : {history : PlainHistory} {marks : Marks} → IsJournalOf x file history marks → Recovers file history
+  recovers_of of = record { entries = of.journal.entries; keeps = keeps_of of; pairs = of.journal.pairs }
+
+  holds_of : {history : PlainHistory} {marks : Marks} → IsJournalOf x file history marks
+      → HoldsBoots file (renewed_of marks) marks.boots
+  holds_of of = record {
+    entries = of.journal.entries;
+    keeps = keeps_of of;
+    said = ap renewed_of of.journal.marked;
+    number = ap (λ (m : Marks). m.boots) of.journal.marked;
+  }
+
+  not_above : IsAboveMost x file → ⊥
+  not_above is =
+      let histories = one_history file is.history can.history (recovers_of is.journal) (recovers_of can.journal) in
+      let same = one_number file (renewed_of is.marks) (renewed_of can.marks) is.marks.boots can.marks.boots
+      (holds_of is.journal) (holds_of can.journal) in
+      let counts : count_of (renewed_of is.marks) is.history ≡ count_of (renewed_of can.marks) can.history =
+      λ i. count_of (same.0 i) (histories i) in
+      let actions = can.few_actions in
+      let boots = can.few_boots in
+      elim is.above [
+        | inl many ↦ absurd (omega (arith, counts, actions, many))
+        | inr many ↦ let one = same.1 in absurd (omega (arith, one, boots, many))
+      ]
+
+  not_unrenewed : {why : List ℕ} → RefusesRenewal x limit file why → ⊥
+  not_unrenewed (renewal.foreign is) = no_foreign x file own_journal is
+  not_unrenewed (renewal.other has apart) = apart (same_text x file _ own_journal has)
+  not_unrenewed (renewal.unopened (inl is)) =
+      let same = one_kind file (kind.ready (canonical_text x) kept_journal.journal.first) kind.unfinished kept_journal.journal.ready is in cc
+  not_unrenewed (renewal.unopened (inr is)) =
+      let same = one_kind file (kind.ready (canonical_text x) kept_journal.journal.first) (kind.unopened (canonical_text x))
+      kept_journal.journal.ready is in cc
+  not_unrenewed (renewal.damaged ready is) = (one_outcome file).0 can.history _ (recovers_of can.journal) is
+  not_unrenewed (renewal.many ready is) = (one_outcome file).1 can.history (recovers_of can.journal) is
+  not_unrenewed (renewal.above is) = not_above is
+  not_unrenewed (renewal.word {history = word} {number = number} of is) =
+      let same = one_history file word can.history (recovers_of of) (recovers_of can.journal) in
+      is.not_partial (subst (λ w. IsPartial x [] (take number (actions_of w))) (sym same) (can.within number).partial)
+  not_unrenewed (renewal.large {history = word} {number = number} of is) =
+      let same = one_history file word can.history (recovers_of of) (recovers_of can.journal) in
+      let above = is.above in
+      let within = subst (λ w. tree_size x (take number (actions_of w)) ≤ limit) (sym same) (can.within number).size in
+      absurd (omega (arith, above, within))
+
+no_renewal_refused : (x y : Form) (limit : ℕ) (one other why : List ℕ) → x ≡ y → one ≡ other → CanBeRenewed y limit other
+    → RefusesRenewal x limit one why → ⊥
+no_renewal_refused x y limit one other why form file can refuses =
+    not_unrenewed y limit other can
+    (subst (λ z. RefusesRenewal z limit other why) form (subst (λ f. RefusesRenewal x limit f why) file refuses))
+
+-- a file that is opened and has no byte has none
+none_there : (new : List ℕ) (disk : Disk) (opened : Option Opened) → disk.opened ≡ opened
+    → ((o : Opened) → disk.opened ≡ Some o → o.file ≡ [])
+    → OfOpenedAs new (λ opened now. opened.file ≢ []) opened disk.file → ⊥
+none_there new disk None is empty has = has
+none_there new disk (Some o) is empty has = has.1 (empty o is)
+
+no_byte_there : (new : List ℕ) (site : SiteState) → OpensEmpty site → HasByte new site.disk → ⊥
+no_byte_there new site opens has =
+    none_there new opens.disk opens.disk.opened refl opens.empty (subst (HasByte new) opens.told has)
+
 -- nor is a file that a run can start from
 can_start : (x : Form) (limit : ℕ) (file why : List ℕ) → tree_size x [] ≤ limit → CanStart x limit file → RefusesFile x limit file why → ⊥
 can_start x limit file why small (inl none) refuses =
-    not_refused x limit [] [] 1 (empty_startable x limit small) (subst (λ f. RefusesFile x limit f why) none refuses)
-can_start x limit file why small (inr starts) refuses = not_refused x limit file starts.0 starts.1 starts.2 refuses
+    not_refused x limit [] [] (or_none None) 1 (empty_startable x limit small) (subst (λ f. RefusesFile x limit f why) none refuses)
+can_start x limit file why small (inr starts) refuses = not_refused x limit file starts.0 starts.1 starts.2 starts.3 refuses
 
 none_refused : (x : Form) (limit : ℕ) (why : List ℕ) (disk : Disk) (opened : Option Opened) → disk.opened ≡ opened
     → tree_size x [] ≤ limit → ((o : Opened) → disk.opened ≡ Some o → CanStart x limit o.file)
@@ -283,6 +375,8 @@ module _ (around : Around) (old new : SinkState) (told : IsSome around.files) (n
       (all.0, subst (λ name. ReadsForm around.files name all.0) (some_is is) all.3.reads)
   reads_of (job.stuck named values limit states) expression is all =
       (all.0, subst (λ name. ReadsForm around.files name all.0) (some_is is) all.2)
+  reads_of (job.renew named resting new limit) expression is all =
+      (all.0, subst (λ name. ReadsForm around.files name all.0) (some_is is) all.2.reads)
 
   -- a job that makes a tree starts
   starts_of : (job : Job) (expression : List ℕ) → expression_of job ≡ Some expression → ReadsRest around.files job
@@ -304,6 +398,8 @@ module _ (around : Around) (old new : SinkState) (told : IsSome around.files) (n
   starts_of (job.next named actions values limit) expression is rest all =
       (all.0, subst (λ name. Starts around.files name limit all.0) (some_is is) all.3)
   starts_of (job.stuck named values limit states) expression is rest all = absurd rest
+  starts_of (job.renew named resting new limit) expression is rest all =
+      (all.0, subst (λ name. Starts around.files name limit all.0) (some_is is) all.2)
 
   -- the actions that a job takes as a history are read
   past_of : (job : Job) (actions : List ℕ) → history_file_of job ≡ Some actions → HasAll around job
@@ -321,6 +417,7 @@ module _ (around : Around) (old new : SinkState) (told : IsSome around.files) (n
   past_of (job.next named acts values limit) actions is all =
       (all.1, subst (λ name. ReadsActions around.files name all.1) (some_is is) all.4)
   past_of (job.stuck named values limit states) actions is all = absurd (none-some actions is)
+  past_of (job.renew named resting new limit) actions is all = absurd (none-some actions is)
 
   -- and so are its given values
   given_of : (job : Job) (values : List ℕ) → values_file_of job ≡ Some values → HasAll around job
@@ -337,6 +434,7 @@ module _ (around : Around) (old new : SinkState) (told : IsSome around.files) (n
   given_of (job.next named acts texts limit) values is all = absurd (none-some values is)
   given_of (job.stuck named told_values limit states) values is all =
       (all.1, subst (λ name. ReadsValues around.files name all.1) (some_is is) all.3)
+  given_of (job.renew named resting new limit) values is all = absurd (none-some values is)
 
   -- its words are what they must be
   fit_of : (job : Job) → HasAll around job → HasFitWords job
@@ -351,6 +449,7 @@ module _ (around : Around) (old new : SinkState) (told : IsSome around.files) (n
   fit_of (job.why named actions action limit) all = all.4
   fit_of (job.next named actions values limit) all = each_given values all.2 all.5
   fit_of (job.stuck named values limit states) all = tt
+  fit_of (job.renew named resting new limit) all = tt
 
   no_large : (job : Job) (expression : List ℕ) → expression_of job ≡ Some expression → ReadsRest around.files job
       → HasAll around job → StartsAbove around.files expression (limit_of job) → ⊥
@@ -384,6 +483,8 @@ module _ (around : Around) (old new : SinkState) (told : IsSome around.files) (n
   no_refusal (job.next named actions values limit) expression why x keeps starts refuses all =
       absurd (none-some keeps.journal keeps.has_journal)
   no_refusal (job.stuck named values limit states) expression why x keeps starts refuses all =
+      absurd (none-some keeps.journal keeps.has_journal)
+  no_refusal (job.renew named resting new limit) expression why x keeps starts refuses all =
       absurd (none-some keeps.journal keeps.has_journal)
   no_refusal (replay named kept script limit turns) expression why x keeps starts refuses all =
       refuses_none expression limit why x all.0 starts
@@ -445,7 +546,7 @@ module _ (around : Around) (old new : SinkState) (told : IsSome around.files) (n
   of_replayed ends never below (played.lost_reply losing) = absurd (below refl)
 
   of_served : {expression kept socket : List ℕ} {limit turns status : ℕ} {session : Session} {whole part : List ℕ}
-      → EndsWhole around (serve expression kept socket limit turns) 0 (history_line session.opening.history) (Some session)
+      → EndsWhole around (serve expression kept socket limit turns) 0 (history_line session.opening) (Some session)
       → IsOver session → status ≢ 10
       → ServeEnds turns around.before.counts around.after.counts session status whole part
       → Whole (serve expression kept socket limit turns) status whole part (Some session)
@@ -497,6 +598,17 @@ module _ (around : Around) (old new : SinkState) (told : IsSome around.files) (n
   of_job is all ended below wire (how.lost_lines starts rose rests _) = absurd (none.files rose)
   of_job is all ended below wire (how.followed starts reads follows) = of_followed starts reads below follows
   of_job is all ended below wire (how.linted reads end) = of_line end below (well.linted reads)
+  of_job is all ended below wire (how.lost_journal reads (inl rose) rests _) = absurd (none.files rose)
+  of_job is all ended below wire (how.lost_journal {journal = journal} reads (inr longer) rests _) =
+      absurd (longer_than around.files told journal all.1 237065593 all.3.file all.3.short longer)
+  of_job is all ended below wire (how.unrenewed {journal = journal} {bytes = bytes} {limit = limit} {x = x} why starts reads refuses rests _) =
+      absurd (no_renewal_refused x all.0 limit bytes all.1 why (one_form around.files told _ x all.0 starts.reads all.2.reads)
+      (one_file around.files told journal bytes all.1 reads.file all.3.file) all.4 refuses)
+  of_job is all ended below wire (how.there {new = new} starts reads has _) =
+      absurd (no_byte_there new around.after all.5 has)
+  of_job is all ended below wire (how.lost_new starts reads rose _) = absurd (none.disk rose)
+  of_job is all ended below wire (how.renewed carried starts reads is_renewal made end) =
+      of_line end below (well.renewed carried starts reads is_renewal made)
   of_job {job = job} is all ended below wire (how.unread named reads within unread _) = absurd (no_unread job all unread)
   of_job is all ended below wire (how.told named reads within answer end) = of_line end below (well.told named reads within answer)
 

@@ -1,7 +1,7 @@
 -- What a job names.
 use Rattle.std.specs.Prelude.{◌≡◌, ℕ, List, Option, None, Some}
 use Rattle.ix_cli.specs.Words.{Job, Names, trace, replay, serve, work, simplify, bound}
-use Rattle.ix_cli.specs.Words.{follow, lint, why, next, stuck}
+use Rattle.ix_cli.specs.Words.{follow, lint, why, next, stuck, renew}
 
 -- the file of its expression, where it has one
 abbrev pub expression_of : Job → Option (List ℕ)
@@ -16,6 +16,7 @@ expression_of (lint expression) = Some expression
 expression_of (why expression actions action limit) = Some expression
 expression_of (next expression actions values limit) = Some expression
 expression_of (stuck expression values limit states) = Some expression
+expression_of (renew expression journal new limit) = Some expression
 
 -- the file of the actions that it takes as a history, where it has one
 abbrev pub history_file_of : Job → Option (List ℕ)
@@ -30,6 +31,7 @@ history_file_of (lint expression) = None
 history_file_of (why expression actions action limit) = Some actions
 history_file_of (next expression actions values limit) = Some actions
 history_file_of (stuck expression values limit states) = None
+history_file_of (renew expression journal new limit) = None
 
 -- the file of its given values, where it has one
 abbrev pub values_file_of : Job → Option (List ℕ)
@@ -44,8 +46,9 @@ values_file_of (lint expression) = None
 values_file_of (why expression actions action limit) = None
 values_file_of (next expression actions values limit) = None
 values_file_of (stuck expression values limit states) = Some values
+values_file_of (renew expression journal new limit) = None
 
--- its journal
+-- the journal that its run keeps
 abbrev pub journal_of : Job → Option (List ℕ)
 journal_of (trace expression actions limit) = None
 journal_of (replay expression journal script limit turns) = Some journal
@@ -58,6 +61,22 @@ journal_of (lint expression) = None
 journal_of (why expression actions action limit) = None
 journal_of (next expression actions values limit) = None
 journal_of (stuck expression values limit states) = None
+journal_of (renew expression journal new limit) = None
+
+-- the file that it makes a renewed journal of
+abbrev pub new_file_of : Job → Option (List ℕ)
+new_file_of (trace expression actions limit) = None
+new_file_of (replay expression journal script limit turns) = None
+new_file_of (serve expression journal socket limit turns) = None
+new_file_of (work count seed limit) = None
+new_file_of (simplify expression) = None
+new_file_of (bound expression count) = None
+new_file_of (follow expression lines limit) = None
+new_file_of (lint expression) = None
+new_file_of (why expression actions action limit) = None
+new_file_of (next expression actions values limit) = None
+new_file_of (stuck expression values limit states) = None
+new_file_of (renew expression journal new limit) = Some new
 
 -- the socket on which it takes connections
 abbrev pub socket_of : Job → Option (List ℕ)
@@ -72,6 +91,7 @@ socket_of (lint expression) = None
 socket_of (why expression actions action limit) = None
 socket_of (next expression actions values limit) = None
 socket_of (stuck expression values limit states) = None
+socket_of (renew expression journal new limit) = None
 
 -- the limit of Size; 0 where it has none, as it makes no tree
 abbrev pub limit_of : Job → ℕ
@@ -86,10 +106,12 @@ limit_of (lint expression) = 0
 limit_of (why expression actions action limit) = limit
 limit_of (next expression actions values limit) = limit
 limit_of (stuck expression values limit states) = limit
+limit_of (renew expression journal new limit) = limit
 
--- the words name no job that has a journal
+-- the words name no job that has a journal, or makes one
 abbrev pub NamesNoJournal : List (List ℕ) → Type 0
-NamesNoJournal words = (job : Job) → Names words job → journal_of job ≡ None
+NamesNoJournal words = (job : Job) → Names words job
+    → (journal_of job ≡ None) × (new_file_of job ≡ None)
 
 -- the words name no job that takes connections
 abbrev pub NamesNoSocket : List (List ℕ) → Type 0

@@ -25,7 +25,7 @@ use Rattle.ix_desk.specs.WhyLines.{why_lines}
 use Rattle.ix_desk.specs.MenuLines.{menu_lines}
 use Rattle.ix_desk.specs.StuckLines.{stuck_lines}
 use Rattle.ix_cli.specs.Words.{Job, trace, replay, serve, work, simplify, bound, follow, lint}
-use Rattle.ix_cli.specs.Words.{why, next, stuck}
+use Rattle.ix_cli.specs.Words.{why, next, stuck, renew}
 use Rattle.ix_manage.specs.ActionLines.{line}
 use Rattle.ix_manage.specs.Around.{Around, FilesFailed}
 use Rattle.ix_manage.specs.Command.{history_file_of, limit_of, values_file_of}
@@ -45,6 +45,7 @@ HasFitWords (lint expression) = ⊤
 HasFitWords (why expression actions action limit) = IsActionText action
 HasFitWords (next expression actions values limit) = Each IsGiven values
 HasFitWords (stuck expression values limit states) = ⊤
+HasFitWords (renew expression journal new limit) = ⊤
 
 -- the initial tree of the expression is within the limit, where the job has a history
 abbrev pub StartsWithin : Job → Form → Type 0

@@ -1,5 +1,5 @@
 -- How a run ends, by the words and the files.
-use Rattle.std.specs.Prelude.{◌≡◌, ℕ, List, [], Option, None, Some, codes, ⊤}
+use Rattle.std.specs.Prelude.{◌≡◌, ◌⊎◌, ℕ, List, [], Option, None, Some, codes, length, ⊤}
 use Rattle.ix_values.specs.PlainAction.{Word}
 use Rattle.ix_expr.specs.CanonicalText.{canonical_text}
 use Rattle.ix_expr.specs.Form.{Form}
@@ -18,8 +18,9 @@ use Rattle.ix_outside.specs.SinkState.{SinkState}
 use Rattle.ix_outside.specs.Counts.{Rose}
 use Rattle.ix_outside.specs.Crashes.{Crashes}
 use Rattle.ix_manager.specs.Runs.{Opening}
+use Rattle.ix_renew.specs.Renewal.{IsRenewal}
 use Rattle.ix_cli.specs.Words.{Job, Names, NamesNoJob, trace, replay, serve, work, simplify}
-use Rattle.ix_cli.specs.Words.{bound, follow, lint, why, next, stuck}
+use Rattle.ix_cli.specs.Words.{bound, follow, lint, why, next, stuck, renew}
 use Rattle.ix_manage.specs.ActionLines.{line}
 use Rattle.ix_manage.specs.Around.{Around, DiskFailed, FilesFailed, SiteRests, WireFailed}
 use Rattle.ix_manage.specs.Command.{expression_of, journal_of, limit_of}
@@ -27,6 +28,8 @@ use Rattle.ix_manage.specs.Desk.{HasFitWords, StartsWithin, IsAnswered, Unread}
 use Rattle.ix_manage.specs.FollowLines.{FollowEnds, ReadsLines}
 use Rattle.ix_manage.specs.Puts.{LastLine, Puts}
 use Rattle.ix_manage.specs.Journal.{OfJournal, OnJournal, RefusesFile, journal_line}
+use Rattle.ix_manage.specs.Renewals.{HasByte, HasLongJournal, IsMade, OnNewFile, ReadsJournal}
+use Rattle.ix_manage.specs.Renewals.{RefusesRenewal, renewed_line}
 use Rattle.ix_manage.specs.Site.{Touches}
 use Rattle.ix_manage.specs.Session.{Session, Takes}
 use Rattle.ix_manage.specs.Replay.{HasBadScript, Plays, ReadsEvents, ReplayEnds}
@@ -40,7 +43,8 @@ abbrev pub IsFrom : Form → ℕ → Opening → Type 0
 IsFrom x limit opening = (opening.form ≡ x) × (opening.limit ≡ limit)
 
 -- What a job reads beside its expression before it makes a tree is in its grammar: the script of a
--- replay. A simplify, a bound, a lint and a stuck aren't refused for it.
+-- replay; and the journal of a renew was read. A simplify, a bound, a lint and a stuck aren't
+-- refused for it.
 abbrev pub ReadsRest : Option Listing → Job → Type 0
 ReadsRest files (trace expression actions limit) = ⊤
 ReadsRest files (replay expression journal script limit turns) =
@@ -54,6 +58,8 @@ ReadsRest files (lint expression) = ⊥
 ReadsRest files (why expression actions action limit) = ⊤
 ReadsRest files (next expression actions values limit) = ⊤
 ReadsRest files (stuck expression values limit states) = ⊥
+ReadsRest files (renew expression journal new limit) =
+    (bytes : List ℕ) × ReadsJournal files journal bytes
 
 -- a job of an expression keeps a journal, and its files are read
 pub record KeepsJournal (files : Option Listing) (job : Job) (expression : List ℕ) : Type 0 where
@@ -173,6 +179,37 @@ pub data JobEnds (around : Around)
       → ReadsPlaced around.files expression x
       → LastLine 0 [] (lint_lines x.places (findings x.form)) status whole part
       → JobEnds around (lint expression) status whole part None
+  lost_journal : {expression journal new : List ℕ} {limit : ℕ} {x : Form} {status : ℕ}
+      {whole part : List ℕ}
+      → ReadsForm around.files expression x
+      → FilesFailed around ⊎ HasLongJournal around.files journal → SiteRests around
+      → LastLine 4 [] (line (codes "refused file journal")) status whole part
+      → JobEnds around (renew expression journal new limit) status whole part None
+  unrenewed : {expression journal new bytes : List ℕ} {limit : ℕ} {x : Form} (why : List ℕ)
+      {status : ℕ} {whole part : List ℕ}
+      → Starts around.files expression limit x → ReadsJournal around.files journal bytes
+      → RefusesRenewal x limit bytes why → SiteRests around
+      → LastLine 8 [] (journal_line why) status whole part
+      → JobEnds around (renew expression journal new limit) status whole part None
+  there : {expression journal new bytes : List ℕ} {limit : ℕ} {x : Form} {status : ℕ}
+      {whole part : List ℕ}
+      → Starts around.files expression limit x → ReadsJournal around.files journal bytes
+      → HasByte new around.after.disk
+      → LastLine 8 [] (journal_line (codes "there")) status whole part
+      → JobEnds around (renew expression journal new limit) status whole part None
+  lost_new : {expression journal new bytes : List ℕ} {limit : ℕ} {x : Form} {status : ℕ}
+      {whole part : List ℕ}
+      → Starts around.files expression limit x → ReadsJournal around.files journal bytes
+      → DiskFailed around
+      → LastLine 5 [] (line (codes "refused disk")) status whole part
+      → JobEnds around (renew expression journal new limit) status whole part None
+  renewed : {expression journal new bytes : List ℕ} {limit actions boots : ℕ} {x : Form}
+      (carried : Word) {status : ℕ} {whole part : List ℕ}
+      → Starts around.files expression limit x → ReadsJournal around.files journal bytes
+      → IsRenewal x limit bytes carried actions boots
+      → IsMade new x carried actions boots around.after.disk
+      → LastLine 0 [] (renewed_line actions boots (length carried)) status whole part
+      → JobEnds around (renew expression journal new limit) status whole part None
   unread : {job : Job} {expression : List ℕ} {x : Form} {end status : ℕ}
       {text whole part : List ℕ}
       → expression_of job ≡ Some expression
@@ -194,6 +231,7 @@ pub record JobOver (around : Around) (job : Job) (is : Crashes) (status : ℕ) (
   pub touches : Touches job around.before around.after
   pub journal : OnJournal around.files job around.before around.after is session
   pub wire : OnWire job around.before around.after is session
+  pub made : OnNewFile around.files job around.after.disk is
 
 -- How a run over a site may end: words that name no job are refused with a text, and those that
 -- name one, but for it aren't what they must be, with a line; memory may run out for them; and

@@ -5,7 +5,7 @@ use Rattle.ix_values.specs.PlainAction.{Word}
 use Rattle.ix_expr.specs.Form.{Form}
 use Rattle.ix_outside.specs.Files.{Listing, HasFile}
 use Rattle.ix_follow.specs.declared.answers.Fed.{Fed}
-use Rattle.ix_follow.specs.declared.answers.Fed.TheVariants.{Other, Early, Old, Taken}
+use Rattle.ix_follow.specs.declared.answers.Fed.TheVariants.{Other, LeftOut, Early, Old, Taken}
 use Rattle.ix_follow.specs.declared.answers.FollowFault.{FollowFault}
 use Rattle.ix_follow.specs.declared.answers.FollowFault.TheVariants.{Differs, NotPartial, Full}
 use Rattle.ix_follow.specs.declared.answers.FollowFault.TheVariants.{Over, Memory}
@@ -17,6 +17,7 @@ use Rattle.ix_manage.specs.Trace.{Verdict, fault_line}
 -- the line of an answer
 abbrev pub fed_line : Fed → List ℕ
 fed_line Other = line (codes "other")
+fed_line LeftOut = line (codes "left out")
 fed_line (Early number) = line (codes "early " ++ decimal number)
 fed_line (Old number) = line (codes "old " ++ decimal number)
 fed_line (Taken number) = line (codes "taken " ++ decimal number)

@@ -1,11 +1,12 @@
 -- What a replay and a serve make of their journal.
 use Rattle.std.specs.Prelude.{◌≡◌, ◌≢◌, ◌⊎◌, ℕ, ◌+◌, List, [], ◌++◌, length, codes, decimal, ⊤}
 use Rattle.std.specs.Prelude.{Option, None, Some, IsSome}
+use Rattle.ix_journal.specs.declared.entries.Renewed.{Renewed}
 use Rattle.ix_journal.specs.History.{PlainHistory, actions_of}
 use Rattle.ix_expr.specs.CanonicalText.{canonical_text}
 use Rattle.ix_expr.specs.Form.{Form}
 use Rattle.ix_journal.specs.Kinds.{IsForeign}
-use Rattle.ix_journal.specs.Recovery.{HoldsBoots, IsDamaged, IsMany}
+use Rattle.ix_journal.specs.Recovery.{HoldsBoots, IsDamaged, IsFullOfBoots, IsMany}
 use Rattle.ix_journal.specs.declared.TheConstants.{MOST_BOOTS}
 use Rattle.ix_outside.specs.Crashes.{Crashes}
 use Rattle.ix_outside.specs.Disk.{Disk, Opened}
@@ -30,7 +31,7 @@ pub data RefusesFile (x : Form) (limit : ℕ) (file : List ℕ) : List ℕ → T
       → RefusesFile x limit file (codes "other " ++ text)
   damaged : {at : ℕ} → IsReadyWith file (canonical_text x) → IsDamaged file at
       → RefusesFile x limit file (codes "damaged " ++ decimal at)
-  many : IsReadyWith file (canonical_text x) → IsMany file ⊎ HoldsBoots file 1000000
+  many : IsReadyWith file (canonical_text x) → IsMany file ⊎ IsFullOfBoots file
       → RefusesFile x limit file (codes "many")
   word : {history : PlainHistory} {number : ℕ} → OpensAs x file history
       → IsNoWord x limit (actions_of history) number
@@ -60,7 +61,7 @@ session_of opening None = record {
   opening = opening;
   taken = [];
   answers = [];
-  last = start_of opening.history opening.boot;
+  last = start_of opening.history opening.renewed opening.boot;
   ending = going;
 }
 session_of opening (Some session) = session
@@ -69,12 +70,14 @@ session_of opening (Some session) = session
 -- is no record, or in the next one; or there is that record, and no boot may follow.
 pub data Reopens (opening : Opening) (image : List ℕ) : Type 0 where
   again : (kept : PlainHistory)
-      → IsStartable (opening_of opening.form opening.limit kept opening.boot) image
+      → IsStartable (opening_of opening.form opening.limit kept opening.renewed opening.boot) image
       → Reopens opening image
   next : (kept : PlainHistory)
-      → IsStartable (opening_of opening.form opening.limit kept (opening.boot + 1)) image
+      → IsStartable (opening_of opening.form opening.limit kept opening.renewed
+      (opening.boot + 1)) image
       → Reopens opening image
-  never : opening.boot ≡ MOST_BOOTS → HoldsBoots image MOST_BOOTS → Reopens opening image
+  never : opening.boot ≡ opening.renewed.boots + MOST_BOOTS
+      → HoldsBoots image opening.renewed opening.boot → Reopens opening image
 
 -- The journal holds a session's history: its file does, and so does each image that a crash now may
 -- leave; and each image that a crash since it was attached may have left keeps all that it held
@@ -92,7 +95,8 @@ pub record HoldsHistory (least : ℕ) (session : Session) (opened : Opened) (is 
 pub record GoesOnFrom (opening : Opening) (session : Option Session) (opened : Opened)
     (is : Crashes) : Type 0 where
   pub from : (session_of opening session).opening ≡ opening
-  pub boots : IsSome session → (image : List ℕ) → is.now image → HoldsBoots image opening.boot
+  pub boots : IsSome session → (image : List ℕ) → is.now image
+      → HoldsBoots image opening.renewed opening.boot
   pub holds : HoldsHistory (length opening.history) (session_of opening session) opened is
 
 -- a file that isn't startable is left alone: no event is taken, and it and nothing else is left
@@ -106,11 +110,11 @@ pub record LeavesAlone (session : Option Session) (file : List ℕ) (opened : Op
 -- what a run of the expression under the limit makes of the file that it opened
 pub record UsesJournal (x : Form) (limit : ℕ) (session : Option Session) (file : List ℕ)
     (opened : Opened) (is : Crashes) : Type 0 where
-  pub startable : (history : PlainHistory) (boot : ℕ)
-      → IsStartable (opening_of x limit history boot) opened.file
-      → GoesOnFrom (opening_of x limit history boot) session opened is
-  pub other : ((history : PlainHistory) (boot : ℕ)
-      → ¬ IsStartable (opening_of x limit history boot) opened.file)
+  pub startable : (history : PlainHistory) (renewed : Renewed) (boot : ℕ)
+      → IsStartable (opening_of x limit history renewed boot) opened.file
+      → GoesOnFrom (opening_of x limit history renewed boot) session opened is
+  pub other : ((history : PlainHistory) (renewed : Renewed) (boot : ℕ)
+      → ¬ IsStartable (opening_of x limit history renewed boot) opened.file)
       → LeavesAlone session file opened is
 
 -- A run opened nothing and took no event; or it opened the file of its journal's name, and uses

@@ -2,6 +2,7 @@
 use Rattle.std.specs.Prelude.{◌≡◌, ◌⊎◌, ℕ, ◌≤◌, List, [], ◌++◌, length, codes, Option, None, Some}
 use Rattle.std.specs.Prelude.{IsSome}
 use Rattle.std.specs.Io.KnownBytes.{append_known}
+use Rattle.ix_journal.specs.declared.entries.Renewed.{Renewed}
 use Rattle.ix_values.specs.Faults.{IsActionText}
 use Rattle.ix_values.specs.PlainAction.{Word}
 use Rattle.ix_next.specs.Given.{PlainGiven}
@@ -21,8 +22,9 @@ use Rattle.ix_outside.specs.SiteState.{SiteState}
 use Rattle.ix_generate.specs.Workload.{Ask, examinations}
 use Rattle.ix_manager.specs.Images.{IsStartable}
 use Rattle.ix_manager.specs.Runs.{opening_of}
+use Rattle.ix_renew.specs.Renewal.{IsRenewal}
 use Rattle.ix_cli.specs.Words.{Job, Names, trace, replay, serve, work, simplify, bound}
-use Rattle.ix_cli.specs.Words.{follow, lint, why, next, stuck}
+use Rattle.ix_cli.specs.Words.{follow, lint, why, next, stuck, renew}
 use Rattle.ix_lines.specs.TextLines.{lines_of}
 use Rattle.ix_manage.specs.ActionLines.{line}
 use Rattle.ix_bound.specs.declared.answer.Bound.{Bound}
@@ -39,6 +41,7 @@ use Rattle.ix_manage.specs.Desk.{ReadsValues, StartsWithin, IsAnswered}
 use Rattle.ix_manage.specs.Ends.{Ended, EndsOver, IsFrom}
 use Rattle.ix_manage.specs.FollowLines.{FollowsTo, ReadsLines}
 use Rattle.ix_manage.specs.Replay.{EndsWithin, Plays, ReadsEvents, session_text}
+use Rattle.ix_manage.specs.Renewals.{CanBeRenewed, IsMade, ReadsJournal, renewed_line}
 use Rattle.ix_manage.specs.Session.{IsOver, Session, Takes, history_line}
 use Rattle.ix_manage.specs.Trace.{Answers, ReadsActions, ReadsForm, ReadsPlaced, Starts, Verdict}
 use Rattle.ix_manage.specs.Work.{Asked, history_of, work_line}
@@ -47,13 +50,20 @@ use Rattle.ix_manage.specs.Work.{Asked, history_of, work_line}
 abbrev pub CanStart : Form → ℕ → List ℕ → Type 0
 CanStart x limit file =
     (file ≡ [])
-    ⊎ ((history : PlainHistory) × (boot : ℕ) × IsStartable (opening_of x limit history boot) file)
+    ⊎ ((history : PlainHistory) × (renewed : Renewed) × (boot : ℕ)
+    × IsStartable (opening_of x limit history renewed boot) file)
 
 -- a site tells its disk, and a run can start from the file that was opened, where one was
 pub record OpensStartable (x : Form) (limit : ℕ) (site : SiteState) : Type 0 where
   pub disk : Disk
   pub told : site.disk ≡ Some disk
   pub can_start : (opened : Opened) → disk.opened ≡ Some opened → CanStart x limit opened.file
+
+-- a site tells its disk, and the file that was opened has no byte, where one was
+pub record OpensEmpty (site : SiteState) : Type 0 where
+  pub disk : Disk
+  pub told : site.disk ≡ Some disk
+  pub empty : (opened : Opened) → disk.opened ≡ Some opened → opened.file ≡ []
 
 -- what a job reads is there and valid: its expression, whose initial tree is within the limit where
 -- it has one, its actions, its given values, its script or its lines, and its journal
@@ -78,6 +88,9 @@ HasAll around (next expression actions values limit) = (x : Form) × (word : Wor
     × ReadsActions around.files actions word × AreGiven values given
 HasAll around (stuck expression values limit states) = (x : Form) × (given : List PlainGiven)
     × ReadsForm around.files expression x × ReadsValues around.files values given
+HasAll around (renew expression journal new limit) = (x : Form) × (bytes : List ℕ)
+    × Starts around.files expression limit x × ReadsJournal around.files journal bytes
+    × CanBeRenewed x limit bytes × OpensEmpty around.after
 HasAll around (follow expression lines limit) = (x : Form) × (bytes : List ℕ)
     × Starts around.files expression limit x × ReadsLines around.files lines bytes
 
@@ -132,7 +145,7 @@ pub data EndsWhole (around : Around) : Job → ℕ → List ℕ → Option Sessi
       → Starts around.files expression limit x
       → IsFrom x limit session.opening → Takes turns session → NoneGone around.before around.after
       → EndsWhole around (serve expression journal socket limit turns) 0
-      (history_line session.opening.history) (Some session)
+      (history_line session.opening) (Some session)
   worked : {count seed limit refused : ℕ} {x : Form} {granted : List Ask}
       → StandsFor examinations x → Asked x limit seed count granted refused
       → EndsWhole around (work count seed limit) 0
@@ -151,6 +164,13 @@ pub data EndsWhole (around : Around) : Job → ℕ → List ℕ → Option Sessi
   linted : {expression : List ℕ} {x : Meaning}
       → ReadsPlaced around.files expression x
       → EndsWhole around (lint expression) 0 (lint_lines x.places (findings x.form)) None
+  renewed : {expression journal new bytes : List ℕ} {limit actions boots : ℕ} {x : Form}
+      (carried : Word)
+      → Starts around.files expression limit x → ReadsJournal around.files journal bytes
+      → IsRenewal x limit bytes carried actions boots
+      → IsMade new x carried actions boots around.after.disk
+      → EndsWhole around (renew expression journal new limit) 0
+      (renewed_line actions boots (length carried)) None
   told : {job : Job} {expression text : List ℕ} {x : Meaning} {status : ℕ}
       → expression_of job ≡ Some expression
       → ReadsPlaced around.files expression x → StartsWithin job x.form

@@ -3,6 +3,7 @@ pub mod Around
 pub mod ActionLines
 pub mod FollowLines
 pub mod Trace
+pub mod Renewals
 pub mod Replay
 pub mod Serve
 pub mod Site

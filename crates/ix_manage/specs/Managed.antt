@@ -1,6 +1,7 @@
 -- Laws of what followers are promised for: a manager's history, and the lines that it sent.
-use Rattle.std.specs.Prelude.{ℕ, List}
+use Rattle.std.specs.Prelude.{◌≡◌, ◌++◌, ℕ, List, length, drop}
 use Rattle.ix_words.specs.Each.{Each}
+use Rattle.ix_values.specs.PlainAction.{Word}
 use Rattle.ix_journal.specs.History.{actions_of}
 use Rattle.ix_outside.specs.Contents.{GivenEvent}
 use Rattle.ix_proto.specs.Replies.{reply_text}
@@ -20,11 +21,14 @@ HistoriesAreManaged =
     → IsManaged opening.form opening.limit (actions_of last.history)
 
 -- the line of each reply that such a run sent tells of its history, and of each later one, as
--- followers take it
+-- followers take it: the actions that were confirmed before the journal's renewal, in place of the
+-- carried ones, and those behind them
 abbrev pub SentLinesTell : Type 0
 SentLinesTell =
     (opening : Opening) (image : List ℕ) (events : List GivenEvent)
     (answers : List (List (List Reply))) (last later : MachineState) (ending : Ending)
     → IsStartable opening image → Run opening events answers last ending
     → Later opening.form last later
-    → Each (Each (Each (λ told. TellsOf (word_of later) (reply_text told)))) answers
+    → (before : Word) → length before ≡ opening.renewed.actions
+    → let whole = before ++ drop opening.renewed.carried (word_of later) in
+    Each (Each (Each (λ told. TellsOf whole (reply_text told)))) answers

@@ -1,7 +1,7 @@
 -- What `replay` puts.
 use Rattle.std.specs.Prelude.{◌≡◌, ℕ, ◌≤◌, List, [], ◌∷◌, ◌++◌, length, Option}
 use Rattle.ix_words.specs.Each.{Each}
-use Rattle.ix_journal.specs.History.{PlainHistory}
+use Rattle.ix_manager.specs.Runs.{Opening}
 use Rattle.ix_outside.specs.Contents.{GivenEvent, send_text}
 use Rattle.ix_outside.specs.Counts.{Counts}
 use Rattle.ix_outside.specs.Files.{Listing, HasFile, HasLonger}
@@ -43,19 +43,19 @@ pub record Plays (turns : ℕ) (events : List GivenEvent) (session : Session) : 
 
 -- The put of a reply to the last event failed: what was put before it, and what it was to put. The
 -- replies behind it are silent.
-pub data LosesReply (history : PlainHistory)
+pub data LosesReply (opening : Opening)
     : List GivenEvent → List (List (List Reply)) → List ℕ → List ℕ → Type 0 where
   loses : (before : List GivenEvent) (given : GivenEvent)
       (answers : List (List (List Reply))) (last : List (List Reply))
       (sent : List Reply) (lost : Reply) (silent : List Reply)
       → all_replies last ≡ sent ++ lost ∷ silent
-      → LosesReply history (before ++ given ∷ []) (answers ++ last ∷ [])
-      (replay_text history before answers ++ replies_text given.event.conn sent)
+      → LosesReply opening (before ++ given ∷ []) (answers ++ last ∷ [])
+      (replay_text opening before answers ++ replies_text given.event.conn sent)
       (send_text given.event.conn (reply_line lost))
 
 -- the text of a session: the line of the history, and the replies
 abbrev pub session_text : Session → List ℕ
-session_text session = replay_text session.opening.history session.taken session.answers
+session_text session = replay_text session.opening session.taken session.answers
 
 -- how a replay's session ends: behind its text, or at a put of a reply that failed
 pub data ReplayEnds (turns : ℕ) (before after : Counts) (session : Session)
@@ -64,5 +64,5 @@ pub data ReplayEnds (turns : ℕ) (before after : Counts) (session : Session)
       → SessionEnds turns before after (session_text session) session status whole part
       → ReplayEnds turns before after session status whole part
   lost_reply : {whole part : List ℕ}
-      → LosesReply session.opening.history session.taken session.answers whole part
+      → LosesReply session.opening session.taken session.answers whole part
       → ReplayEnds turns before after session 10 whole part

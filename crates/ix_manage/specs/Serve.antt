@@ -22,12 +22,12 @@ use Rattle.ix_manage.specs.Session.{MayGoOn, Session, SessionEnds, history_line}
 pub data ServeEnds (turns : ℕ) (before after : Counts) (session : Session)
     : ℕ → List ℕ → List ℕ → Type 0 where
   ends : {status : ℕ} {whole part : List ℕ}
-      → SessionEnds turns before after (history_line session.opening.history) session
+      → SessionEnds turns before after (history_line session.opening) session
       status whole part
       → ServeEnds turns before after session status whole part
   wire_failed : {status : ℕ} {whole part : List ℕ}
       → length session.taken < turns → MayGoOn session → Rose before.wire after.wire
-      → LastLine 6 (history_line session.opening.history)
+      → LastLine 6 (history_line session.opening)
       (line (codes "refused wire")) status whole part
       → ServeEnds turns before after session status whole part
 
@@ -49,10 +49,11 @@ pub record SendsReplies (socket : List ℕ) (session : Session) (old new : Sends
   pub keeps : (now : Disk) (opened : Opened) → disk ≡ Some now → now.opened ≡ Some opened
       → (left : Left) → is.left_since opened.tick left
       → KeepsAcknowledged session.opening.form (length session.opening.history)
-      (with_failed session.ending session.last.history) replies old.sent left
+      (with_failed session.ending session.last.history) session.opening.renewed replies old.sent
+      left
   pub boots : (now : Disk) (opened : Opened) → disk ≡ Some now → now.opened ≡ Some opened
       → (left : Left) → is.left_since opened.tick left
-      → (left.sent ≡ old.sent) ⊎ HoldsBoots left.image session.opening.boot
+      → (left.sent ≡ old.sent) ⊎ HoldsBoots left.image session.opening.renewed session.opening.boot
 
 -- A session's events are those that the site gave since, and its replies are what it sent since,
 -- each where the site tells it. Where the count of sends didn't rise, no send answered Gone.

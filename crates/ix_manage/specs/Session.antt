@@ -1,12 +1,12 @@
 -- What a run made of the protocol machine, its text, and how it ends.
 use Rattle.std.specs.Prelude.{◌≡◌, ◌≢◌, ◌⊎◌, ℕ, ◌≤◌, List, [], ◌∷◌, ◌++◌, length, codes, decimal}
 use Rattle.ix_words.specs.Each.{Each}
-use Rattle.ix_journal.specs.History.{PlainHistory, Spent}
+use Rattle.ix_journal.specs.History.{Spent}
 use Rattle.ix_outside.specs.Contents.{GivenEvent}
 use Rattle.ix_outside.specs.Counts.{Counts, Rose}
 use Rattle.ix_outside.specs.declared.event.EventKind.TheVariants.{End}
 use Rattle.ix_proto.specs.declared.reply.Reply.{Reply}
-use Rattle.ix_manager.specs.Machine.{MachineState}
+use Rattle.ix_manager.specs.Machine.{MachineState, count_of}
 use Rattle.ix_manager.specs.Runs.{Ending, Opening, Run, going, stopped, failed}
 use Rattle.ix_manager.specs.Wire.{run_text}
 use Rattle.ix_manage.specs.ActionLines.{line}
@@ -21,17 +21,17 @@ pub record Session : Type 0 where
   pub last : MachineState
   pub ending : Ending
 
--- the line that tells of how many actions a history is
+-- the line that tells how many actions were confirmed
 abbrev pub length_line : ℕ → List ℕ
 length_line length = line (codes "history " ++ decimal length)
 
 -- the line that is put before any event is taken
-abbrev pub history_line : PlainHistory → List ℕ
-history_line history = length_line (length history)
+abbrev pub history_line : Opening → List ℕ
+history_line opening = length_line (count_of opening.renewed opening.history)
 
 -- that line of the history, and behind it the replies to events
-abbrev pub replay_text : PlainHistory → List GivenEvent → List (List (List Reply)) → List ℕ
-replay_text history taken answers = history_line history ++ run_text taken answers
+abbrev pub replay_text : Opening → List GivenEvent → List (List (List Reply)) → List ℕ
+replay_text opening taken answers = history_line opening ++ run_text taken answers
 
 -- not the end
 abbrev pub IsNoEnd : GivenEvent → Type 0
@@ -74,4 +74,4 @@ pub data SessionEnds (turns : ℕ) (before after : Counts) (text : List ℕ) (se
       → LastLine 5 text (line (codes "refused disk")) status whole part
       → SessionEnds turns before after text session status whole part
   lost_history : session.taken ≡ []
-      → SessionEnds turns before after text session 10 [] (history_line session.opening.history)
+      → SessionEnds turns before after text session 10 [] (history_line session.opening)

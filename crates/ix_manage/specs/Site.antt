@@ -2,7 +2,7 @@
 use Rattle.std.specs.Prelude.{◌≡◌, ◌≤◌}
 use Rattle.ix_outside.specs.SiteState.{SiteState, OnlyDisk}
 use Rattle.ix_cli.specs.Words.{Job, trace, replay, serve, work, simplify, bound, follow, lint}
-use Rattle.ix_cli.specs.Words.{why, next, stuck}
+use Rattle.ix_cli.specs.Words.{why, next, stuck, renew}
 
 -- nothing changed but the counts, none of which fell, the tick, whether a file is attached, and
 -- what the site tells of its connections and its disk
@@ -12,7 +12,8 @@ pub record OnlyCalls (old new : SiteState) : Type 0 where
   pub send : old.counts.send ≤ new.counts.send
   pub held : new.held ≡ old.held
 
--- what a job may touch: a replay the disk, a serve also the wire, and the others nothing
+-- what a job may touch: a replay and a renew the disk, a serve also the wire, and the others
+-- nothing
 abbrev pub Touches : Job → SiteState → SiteState → Type 0
 Touches (trace expression actions limit) before after = after ≡ before
 Touches (replay expression journal script limit turns) before after = OnlyDisk before after
@@ -25,3 +26,4 @@ Touches (lint expression) before after = after ≡ before
 Touches (why expression actions action limit) before after = after ≡ before
 Touches (next expression actions values limit) before after = after ≡ before
 Touches (stuck expression values limit states) before after = after ≡ before
+Touches (renew expression journal new limit) before after = OnlyDisk before after

@@ -32,7 +32,8 @@ pub record HadSession (session : Session) (opened : Opened) (is : Crashes) : Typ
 pub data IsLeftOf (session : Session) (opened : Opened) (is : Crashes) (image : List ℕ)
     : Type 0 where
   behind : is.now image → IsLeftOf session opened is image
-  meanwhile : is.left opened.tick image → HoldsBoots image session.opening.boot
+  meanwhile : is.left opened.tick image
+      → HoldsBoots image session.opening.renewed session.opening.boot
       → IsLeftOf session opened is image
 
 -- the second of two sessions began with what a crash left of the first

@@ -11,6 +11,7 @@ pub mod Pasts
 pub mod Playing
 pub mod Progress
 pub mod Refusal
+pub mod Renewing
 pub mod ReplayProgress
 pub mod ServeProgress
 pub mod Simplifying

@@ -88,6 +88,7 @@ fn fed_line(answer: Fed) -> ArrayVec<u8, 64>
     let mut line = ArrayVec::new();
     match answer {
         Fed::Other => append(&mut line, b"other"),
+        Fed::LeftOut => append(&mut line, b"left out"),
         Fed::Early(number) => {
             append(&mut line, b"early ");
             append(&mut line, Buffer::new().format(number).as_bytes());

@@ -62,6 +62,18 @@ pub(crate) struct ServeWords<'a> {
     pub turns: u64,
 }
 
+/// The words of a renew.
+#[derive(Clone, Copy)]
+pub(crate) struct RenewWords<'a> {
+    pub expression: &'a str,
+    /// The journal that rests.
+    pub journal: &'a str,
+    /// The file in which the renewed one is made.
+    pub new: &'a str,
+    /// The limit of Size.
+    pub limit: usize,
+}
+
 /// The words of a work.
 #[derive(Clone, Copy)]
 pub(crate) struct WorkWords {

@@ -1,7 +1,7 @@
 //! The top call of the program: from the words of the command line to the bytes put.
 #![tactic(auto)]
 
-ghost use Rattle.std.specs.Prelude.{◌≡◌, false, map, string_bytes};
+ghost use Rattle.std.specs.Prelude.{◌≡◌, ◌⊎◌, false, map, string_bytes};
 ghost use Rattle.ix_outside.specs.Counts.{Rose};
 ghost use Rattle.ix_outside.specs.FilesState.{OnlyFaults};
 ghost use Rattle.ix_outside.specs.SinkState.{OnlyPuts};
@@ -9,6 +9,7 @@ ghost use Rattle.ix_outside.specs.SiteState.{OnlyDisk};
 ghost use Rattle.ix_manage.specs.Around.{around_of};
 ghost use Rattle.ix_manage.specs.Command.{NamesNoJournal, NamesNoSocket};
 ghost use Rattle.ix_manage.specs.Ends.{Ended, EndsOver};
+ghost use Rattle.ix_manage.specs.Renewals.{NamesLongJournal};
 ghost use Rattle.ix_manage.specs.Site.{OnlyCalls};
 
 mod actions;
@@ -27,6 +28,7 @@ mod open;
 mod outcome;
 mod past;
 mod refusal;
+mod renew;
 mod replay;
 mod run;
 mod serve;
@@ -87,6 +89,10 @@ use std::alloc::Global;
 ///   line for each action that may come behind it, as `menu_lines` of `ix_desk` writes it, and then
 ///   `complete` or `partial`, with status 0. The values are those of VALUE, at most 16, each `V` or
 ///   `P=V`, those that are fixed in the expression, and new ones.
+/// - `renew EXPR JOURNAL NEW` loads the file JOURNAL, in which a journal of the expression rests,
+///   and makes of the file NEW, which has no byte, one that goes on from it with a short word in
+///   place of its history. It puts `renewed N B carried C`, with status 0: the N actions and B
+///   boots of the journals before, and how many actions are carried in their place.
 /// - `stuck EXPR VALUES` searches what the actions over the given values of the file VALUES can
 ///   lead to, and puts what `stuck_lines` of `ix_desk` writes of it, with status 0.
 ///
@@ -125,7 +131,9 @@ pub fn manage<F: Files, S: Site, K: Sink>(
         result (K.state out.old) (K.state out.new) }
 
     // A file is lost, the disk and the wire fail, and a put fails, only where the count rose.
-    ensures file_fault { result ≡ 4 → Rose (F.state files.old).faults (F.state files.new).faults }
+    // The file of a renew's journal may be too long, too.
+    ensures file_fault { result ≡ 4 → Rose (F.state files.old).faults (F.state files.new).faults
+        ⊎ NamesLongJournal (map string_bytes words.now) (F.state files.old).contents }
     ensures disk_fault { result ≡ 5
         → Rose (S.state site.old).counts.disk (S.state site.new).counts.disk }
     ensures wire_fault { result ≡ 6

@@ -10,6 +10,8 @@ ghost use Rattle.ix_outside.specs.Contents.{GivenEvent};
 ghost use Rattle.ix_script.specs.Events.{HasEvents};
 ghost use Rattle.ix_manage.specs.inside.Refusal.{IsBadScript, RefusesActions, RefusesExpression};
 ghost use Rattle.ix_manage.specs.inside.Refusal.{RefusesLines, RefusesScript, RefusesText};
+ghost use Rattle.ix_manage.specs.inside.Renewing.{RefusesLoad};
+ghost use Rattle.ix_manage.specs.Renewals.{ReadsJournal};
 ghost use Rattle.ix_manage.specs.Trace.{ReadsForm, ReadsPlaced};
 ghost use Rattle.ix_manage.specs.inside.Linting.{placed_meaning};
 
@@ -30,6 +32,9 @@ const MOST_SCRIPT_BYTES: usize = 67_108_864;
 
 /// The most bytes of a file of lines.
 const MOST_LINES_BYTES: usize = 67_108_864;
+
+/// The most bytes of a journal: as many as its records can have up to the first closed gate.
+const MOST_JOURNAL_BYTES: usize = 237_065_593;
 
 #[tactic(auto, using(crate::proofs::Ending::reads_placed))]
 pub(crate) fn load_expression<F: Files>(
@@ -182,6 +187,27 @@ pub(crate) fn load_lines<F: Files>(
             code: 7,
             at: MOST_LINES_BYTES,
         }),
+        Err(LoadFault::Memory) => Err(Refusal::Memory),
+    }
+}
+
+/// The bytes of a journal. A file that is too long isn't loaded.
+pub(crate) fn load_journal<F: Files>(
+    alloc: Global,
+    files: &mut F,
+    name: &str,
+) -> Result<Vec<u8>, Refusal>
+    ensures file { IfOk result
+        (λ bytes. ReadsJournal (F.state files.old).contents name.now bytes.items) }
+    ensures err { IfErr result
+        (RefusesLoad (F.state files.old) (F.state files.new) name.now) }
+
+    ensures files { OnlyFaults (F.state files.old) (F.state files.new) }
+{
+    match files.load(alloc, name, MOST_JOURNAL_BYTES) {
+        Ok(bytes) => Ok(bytes),
+        Err(LoadFault::Failed) => Err(Refusal::Lost(Input::Journal)),
+        Err(LoadFault::TooLong) => Err(Refusal::Lost(Input::Journal)),
         Err(LoadFault::Memory) => Err(Refusal::Memory),
     }
 }

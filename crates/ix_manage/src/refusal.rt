@@ -18,6 +18,7 @@ pub(crate) enum Input {
     Script,
     Lines,
     Values,
+    Journal,
 }
 
 impl Input {
@@ -34,6 +35,7 @@ impl Input {
             Input::Script => b"script",
             Input::Lines => b"lines",
             Input::Values => b"values",
+            Input::Journal => b"journal",
         }
     }
 }
@@ -59,7 +61,7 @@ pub(crate) enum Refusal {
     Disk,
     /// The socket couldn't be listened to, or no event came since the wire failed.
     Wire,
-    /// No run starts from the journal.
+    /// No run starts from the journal, or it isn't renewed.
     Journal(JournalRefusal),
     /// As many events were taken as the words allow, and the run hadn't ended.
     Turns,
@@ -67,7 +69,7 @@ pub(crate) enum Refusal {
     Memory,
 }
 
-/// Why no run starts from a journal. Records are counted from 1.
+/// Why no run starts from a journal, or why it isn't renewed. Records are counted from 1.
 #[derive(Clone, Copy)]
 pub(crate) enum JournalRefusal {
     /// The file is no journal.
@@ -80,6 +82,10 @@ pub(crate) enum JournalRefusal {
     Word { number: u64 },
     /// With the record of this number the Size of the history's tree is above this limit.
     Heavy { number: u64, limit: usize },
+    /// It was never opened, so that there is nothing to renew.
+    Unopened,
+    /// The file in which the renewed one was to be made has a byte.
+    There,
 }
 
 impl Refusal {
@@ -188,6 +194,8 @@ fn append_journal(line: &mut ArrayVec<u8, 64>, why: JournalRefusal)
             append(line, Buffer::new().format(at).as_bytes());
         }
         JournalRefusal::Many => append(line, b"many"),
+        JournalRefusal::Unopened => append(line, b"unopened"),
+        JournalRefusal::There => append(line, b"there"),
         JournalRefusal::Word { number } => {
             append(line, b"word ");
             append(line, Buffer::new().format(number).as_bytes());
@@ -202,8 +210,8 @@ fn append_journal(line: &mut ArrayVec<u8, 64>, why: JournalRefusal)
     append(line, b"\n");
 }
 
-pub(crate) fn append(line: &mut ArrayVec<u8, 64>, bytes: &[u8])
-    requires { array_vec_len line.old + length bytes.now ≤ 64 }
+pub(crate) fn append<const N: usize>(line: &mut ArrayVec<u8, N>, bytes: &[u8])
+    requires { array_vec_len line.old + length bytes.now ≤ N }
     ensures { line.new.items ≡ line.old.items ++ bytes.now }
 {
     for byte in bytes {

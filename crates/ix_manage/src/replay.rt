@@ -101,7 +101,7 @@ fn run_script<S: Site, K: Sink>(
     ensures site { OnlyUsesDisk (S.state site.old) (S.state site.new) }
     ensures puts { OnlyPuts (K.state out.old) (K.state out.new) }
 {
-    out.put(&history_line(manager.history()))?;
+    out.put(&history_line(manager.count()))?;
     let mut all = ScriptSite::new(script, site, out);
     take_events(alloc, manager, turns, &mut all)
 }

@@ -15,11 +15,13 @@ use crate::early_end::EarlyEnd;
 use crate::fit::has_fit_words;
 use crate::follow::follow;
 use crate::job::{
-    FollowWords, HistoryWords, ReplayWords, ServeWords, StuckWords, TraceWords, WorkWords,
+    FollowWords, HistoryWords, RenewWords, ReplayWords, ServeWords, StuckWords, TraceWords,
+    WorkWords,
 };
 use crate::lint::lint;
 use crate::next::next;
 use crate::refusal::Refusal;
+use crate::renew::renew;
 use crate::replay::replay;
 use crate::serve::serve;
 use crate::simplify::simplify;
@@ -190,6 +192,20 @@ fn run_job<F: Files, S: Site, K: Sink>(
                 states: *states as usize,
             };
             stuck(alloc, names, files, out)
+        }
+        Job::Renew {
+            expr,
+            journal,
+            new,
+            nodes,
+        } => {
+            let names = RenewWords {
+                expression: expr.as_str(),
+                journal: journal.as_str(),
+                new: new.as_str(),
+                limit: *nodes,
+            };
+            renew(alloc, names, files, site, out)
         }
     }
 }

@@ -95,6 +95,6 @@ fn take_connections<S: Site, K: Sink>(
     ensures puts { OnlyPuts (K.state out.old) (K.state out.new) }
 {
     site.listen(names.socket)?;
-    out.put(&history_line(manager.history()))?;
+    out.put(&history_line(manager.count()))?;
     serve_events(alloc, manager, names.turns, site)
 }

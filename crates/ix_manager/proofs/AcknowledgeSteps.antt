@@ -6,6 +6,7 @@ use Rattle.std.proofs.lemmas.List.{length-append}
 use Rattle.ix_words.specs.Each.{Each}
 use Rattle.ix_values.specs.declared.tickets.Ticket.{Ticket}
 use Rattle.ix_journal.specs.History.{PlainHistory}
+use Rattle.ix_journal.specs.declared.entries.Renewed.{Renewed}
 use Rattle.ix_expr.specs.Form.{Form}
 use Rattle.ix_outside.specs.Contents.{Contents, SentBytes, Sends, SendsWhole, SendsPart}
 use Rattle.ix_outside.specs.Crashes.{Crashes, Left, AreLawful, Elapses}
@@ -17,7 +18,7 @@ use Rattle.ix_store.specs.Keeping.{Keeping}
 use Rattle.ix_store.specs.inside.KeptBy.{kept}
 use Rattle.ix_manager.specs.Acknowledged.{IsAcknowledged}
 use Rattle.ix_manager.specs.Images.{with_failed}
-use Rattle.ix_manager.specs.Machine.{MachineState}
+use Rattle.ix_manager.specs.Machine.{MachineState, ahead_of, count, count_of}
 use Rattle.ix_manager.specs.Runs.{Ending, going}
 use Rattle.ix_manager.specs.Wire.{SendsInOrder, reply_line}
 use Rattle.ix_manager.specs.declared.journaled.Journaled.{Journaled}
@@ -36,8 +37,9 @@ pub saves_acknowledges : (e : Ending) (x : Form) (h new : MachineState) (store :
     (replies : List Reply)
     (before after : WireState) (p q : Crashes) → AreLawful after.site q
     → Saves e x h new store (span before.site after.site p q)
-    → SendsAll conn replies before after → Each (TellsWithin (length h.history)) replies
-    → Acknowledges x (length h.history) (with_failed e new.history) replies (span before.site after.site p q)
+    → SendsAll conn replies before after → Each (TellsWithin (count h)) replies
+    → Acknowledges x (length h.history) (with_failed e new.history) h.renewed replies
+    (span before.site after.site p q)
 saves_acknowledges e x h new store conn replies before after p q lawful saves sends within told s s'
     is is' left since =
     let by_then = saves.sends.by_then s s' is is' left since in
@@ -71,7 +73,7 @@ module _ (conn : ℕ) (ticket : Ticket) (one : Reply) (old new : Journaled) (was
 
   -- the reply to a confirm was sent behind its append
   pub confirm_acknowledges : Acknowledges old.machine.form (length old.machine.state.history)
-      new.machine.state.history (one ∷ []) (span a c p r)
+      new.machine.state.history old.machine.state.renewed (one ∷ []) (span a c p r)
   confirm_acknowledges told s s' is is' left since =
       elim (only.passes.left_since.nothing_else a.tick left over.calls.passes.left_since.later
       since) [
@@ -109,7 +111,9 @@ module _ (conn : ℕ) (ticket : Ticket) (one : Reply) (old new : Journaled) (was
               sent = by_then.more;
               behind = by_then.behind;
               carried = omega (arith, total, parts, behind, both, most, count);
-              acknowledged = λ n is. confirmed_number over.confirms.0.step (one_acknowledged is);
+              acknowledged = λ n is.
+                  let within = confirmed_number over.confirms.0.step (one_acknowledged is) in
+                  omega (arith, within, ap ahead_of saves.renewed);
             }
       ]
 
@@ -117,21 +121,21 @@ none_left : {A : Type 0} (xs : List A) → length xs ≤ 0 → xs ≡ []
 none_left [] le = refl
 none_left (x ∷ xs) le = absurd (omega arith)
 
-module _ (x : Form) (h mid new rest : PlainHistory) (conn : ℕ) (one two : List Reply)
+module _ (x : Form) (h mid new rest : PlainHistory) (renewed : Renewed) (conn : ℕ) (one two : List Reply)
     (before here after : WireState) (p q r : Crashes)
     (lawful : AreLawful here.site q) (le : before.site.tick ≤ here.site.tick)
     (passes : Elapses here.site.tick after.site.tick q.left_since r.left_since)
     (sends : SendsAll conn one before here) (more : SendsAll conn two here after)
     (grows_first : SendsMore (span before.site here.site p q)) (grows : SendsMore (span here.site after.site q r))
     (told_before : IsSome after.site.disk → IsSome here.site.disk)
-    (first : Acknowledges x (length h) mid one (span before.site here.site p q))
-    (second : Acknowledges x (length mid) new two (span here.site after.site q r))
+    (first : Acknowledges x (length h) mid renewed one (span before.site here.site p q))
+    (second : Acknowledges x (length mid) new renewed two (span here.site after.site q r))
     (longer : mid ++ rest ≡ new) (no_shorter : length h ≤ length mid) where
   -- by the end of the first calls all that they acknowledged is within the history that they left
   at_the_join : IsSome here.site.disk → (s s' : Sends) → before.site.contents.sends ≡ Some s
       → here.site.contents.sends ≡ Some s'
       → (pairs : List SentBytes) × (s'.sent ≡ s.sent ++ pairs) × (length pairs ≤ length one)
-      × ((n : ℕ) → IsAcknowledged n one pairs → n ≤ length mid)
+      × ((n : ℕ) → IsAcknowledged n one pairs → n ≤ count_of renewed mid)
   at_the_join told s s' is is' =
       let disk = the_value here.site.disk told in
       let P : Option Disk → Type 0 = λ d. OfFile q.now d in
@@ -149,7 +153,7 @@ module _ (x : Form) (h mid new rest : PlainHistory) (conn : ℕ) (one two : List
       )
 
   -- two stretches, of which the second began where the first ended
-  pub acknowledges_join : Acknowledges x (length h) new (one ++ two) (span before.site after.site p r)
+  pub acknowledges_join : Acknowledges x (length h) new renewed (one ++ two) (span before.site after.site p r)
   acknowledges_join told s s' is is' left since =
       let middle = the_value here.site.contents.sends
       (grows.told (is_there after.site.contents.sends s' is')) in

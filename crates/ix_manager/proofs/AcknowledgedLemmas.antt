@@ -20,7 +20,7 @@ use Rattle.ix_proto.specs.declared.reply.Outcome.TheVariants as became
 use Rattle.ix_proto.specs.declared.reply.Reply.{Reply}
 use Rattle.ix_proto.specs.declared.reply.Reply.TheVariants.{Confirmed, Entry, Outcome}
 use Rattle.ix_manager.specs.Machine as machine
-use Rattle.ix_manager.specs.Machine.{MachineState, MachineWatch, Step, Polls}
+use Rattle.ix_manager.specs.Machine.{MachineState, MachineWatch, Step, Polls, count}
 use Rattle.ix_manager.specs.Acknowledged as acked
 use Rattle.ix_manager.specs.Acknowledged.{IsAcknowledged, TellsNumber}
 use Rattle.ix_manager.specs.inside.Acknowledging.{IsSentBetween, SendsMore}
@@ -129,14 +129,14 @@ polls_within (machine.changed is tells polls) = item tt (polls_within polls)
 pub answered_within : {x : Form} {limit : ℕ} {s after : MachineState} {asked : PlainRequest}
     {replies : List Reply}
     → Step x limit s asked replies after → length after.history ≡ length s.history
-    → Each (TellsWithin (length s.history)) replies
+    → Each (TellsWithin (count s)) replies
 answered_within {s = s} (machine.confirmed {ticket = ticket} a deadline held open_still) same =
     let longer = length-append s.history ((Some ticket, a) ∷ []) in absurd (omega arith)
 answered_within (machine.outcome_confirmed {ticket = ticket} before behind a split place) same =
     let all = ap length split in
     let parts = length-append before ((Some ticket, a) ∷ behind) in
     item (omega (arith, all, parts, place)) no_item
-answered_within {s = s} (machine.entry {a = a} before behind split place) same =
+answered_within {s = s} (machine.entry {a = a} before behind split place above) same =
     let all = ap length split in
     let parts = length-append before (a ∷ behind) in
     let actions = length-map s.history (λ (spent : Spent). spent.1) in
@@ -150,10 +150,10 @@ pub changes_within : (most : ℕ) (changes : List (PlainAction × Bool))
 changes_within most [] = no_item
 changes_within most (change ∷ changes) = item tt (changes_within most changes)
 
--- a confirm that was confirmed tells the length of the history then
+-- a confirm that was confirmed tells the count then
 pub confirmed_number : {x : Form} {limit n : ℕ} {ticket : Ticket} {s after : MachineState} {one : Reply}
     → Step x limit s (request.confirm ticket) (one ∷ []) after → TellsNumber n one
-    → n ≤ length after.history
+    → n ≤ count after
 confirmed_number {ticket = ticket} {s = s} (machine.confirmed a deadline held open_still) number =
     let longer = length-append s.history ((Some ticket, a) ∷ []) in omega (arith, number, longer)
 confirmed_number (machine.confirm_expired has isnt) tells = absurd tells

@@ -18,7 +18,7 @@ use Rattle.ix_manager.specs.Later as later
 use Rattle.ix_manager.specs.Machine.{MachineState, Step, start_of}
 use Rattle.ix_manager.specs.Refusals.{disk}
 use Rattle.ix_manager.specs.Runs.{Completes, Ending, ItemStep, Opening, Run, Steps, begin, disk_failed, last, more, none, over_long, refused, requested, takes, text_behind}
-use Rattle.ix_manager.proofs.Changing.{item_changes}
+use Rattle.ix_manager.proofs.Changing.{item_changes, item_renewed, steps_renewed}
 use Rattle.ix_manager.proofs.GrowingLemmas.{none_failed, steps_grow}
 use Rattle.ix_manager.proofs.LaterLemmas.{changes_boot, crashes_come_later, later_join, runs_go_on, steps_boot, steps_later}
 use Rattle.ix_manager.proofs.RequestsApart.{IsAlone}
@@ -81,7 +81,8 @@ none_answered (answered.earlier {events = events} given told before) is =
 
 -- what a crash in a later state may leave
 abbrev pub MayBeKept : Form → MachineState → PlainHistory → Type 0
-MayBeKept x s kept = (at : MachineState) × Later x s at × MayKeep at kept × (at.boot ≡ s.boot)
+MayBeKept x s kept = (at : MachineState) × Later x s at × MayKeep at kept × (at.renewed ≡ s.renewed)
+    × (at.boot ≡ s.boot)
 
 steps_kept : {x : Form} {limit : ℕ} {s after : MachineState} {its : List Item} {answers : List (List Reply)} {ending : Ending}
     → Steps x limit s its answers after ending → MayBeKept x s (with_failed ending after.history)
@@ -96,17 +97,23 @@ pub run_boot : {opening : Opening} {events : List GivenEvent} {answers : List (L
 run_boot begin = refl
 run_boot (takes given completed told run completes steps) = steps_boot steps ∙ run_boot run
 
+pub run_renewed : {opening : Opening} {events : List GivenEvent} {answers : List (List (List Reply))} {final : MachineState} {ending : Ending}
+    → Run opening events answers final ending → final.renewed ≡ opening.renewed
+run_renewed begin = refl
+run_renewed (takes given completed told run completes steps) = steps_renewed steps ∙ run_renewed run
+
 -- what is kept of a run
 pub run_kept : {opening : Opening} {events : List GivenEvent} {answers : List (List (List Reply))} {final : MachineState} {ending : Ending}
     → Run opening events answers final ending
-    → MayBeKept opening.form (start_of opening.history opening.boot) (with_failed ending final.history)
-run_kept begin = (_, stays, whole, refl)
+    → MayBeKept opening.form (start_of opening.history opening.renewed opening.boot) (with_failed ending final.history)
+run_kept begin = (_, stays, whole, refl, refl)
 run_kept {opening = opening} (takes {events = events} {answers = answers} {s = s} given completed told run completes steps) =
     let kept = steps_kept steps in (
       kept.0,
       later_join (runs_go_on opening events answers s _ run) (rises given.event.moment kept.1),
       kept.2,
-      kept.3 ∙ run_boot run,
+      kept.3 ∙ run_renewed run,
+      kept.4 ∙ run_boot run,
     )
 
 -- the step of a request that was answered: the states in front of it and behind it, what comes later,
@@ -121,6 +128,7 @@ pub record Stands (x : Form) (limit : ℕ) (asked : PlainRequest) (replies : Lis
   pub at : MachineState
   pub comes : Later x behind at
   pub keeps : MayKeep at kept
+  pub renewed : at.renewed ≡ start.renewed
   pub boot : at.boot ≡ start.boot
 
 module _ {asked : PlainRequest} {replies : List Reply} (alone : IsAlone asked) (apart : replies ≢ disk ∷ []) where
@@ -156,6 +164,7 @@ module _ {asked : PlainRequest} {replies : List Reply} (alone : IsAlone asked) (
           at = after;
           comes = stays;
           keeps = subst (MayKeep after) (sym made.1) whole;
+          renewed = item_renewed step;
           boot = changes_boot (item_changes step);
         }
     | inr rest ↦ absurd (none_among rest)
@@ -172,7 +181,8 @@ module _ {asked : PlainRequest} {replies : List Reply} (alone : IsAlone asked) (
           at = kept.0;
           comes = kept.1;
           keeps = kept.2;
-          boot = kept.3 ∙ changes_boot (item_changes step);
+          renewed = kept.3 ∙ item_renewed step;
+          boot = kept.4 ∙ changes_boot (item_changes step);
         }
     | inr rest ↦
         let it = steps_stand steps rest in record {
@@ -184,13 +194,14 @@ module _ {asked : PlainRequest} {replies : List Reply} (alone : IsAlone asked) (
           at = it.at;
           comes = it.comes;
           keeps = it.keeps;
+          renewed = it.renewed ∙ item_renewed step;
           boot = it.boot ∙ changes_boot (item_changes step);
         }
   ]
 
   pub runs_stand : {opening : Opening} {events : List GivenEvent} {answers : List (List (List Reply))} {final : MachineState} {ending : Ending}
       → Run opening events answers final ending → HasAnswered asked replies events answers
-      → Stands opening.form opening.limit asked replies (start_of opening.history opening.boot) final (with_failed ending final.history)
+      → Stands opening.form opening.limit asked replies (start_of opening.history opening.renewed opening.boot) final (with_failed ending final.history)
   runs_stand begin has = absurd (none_answered has refl)
   runs_stand {opening = opening} (takes {events = events} {answers = answers} {s = s} given completed told run completes steps) has =
       elim (last_or_earlier events answers given told has refl refl) [
@@ -206,6 +217,7 @@ module _ {asked : PlainRequest} {replies : List Reply} (alone : IsAlone asked) (
               at = here.at;
               comes = here.comes;
               keeps = here.keeps;
+              renewed = here.renewed ∙ run_renewed run;
               boot = here.boot ∙ run_boot run;
             }
         | inr before ↦
@@ -219,6 +231,7 @@ module _ {asked : PlainRequest} {replies : List Reply} (alone : IsAlone asked) (
               at = kept.0;
               comes = later_join it.rest (rises given.event.moment kept.1);
               keeps = kept.2;
-              boot = kept.3 ∙ run_boot run;
+              renewed = kept.3 ∙ run_renewed run;
+              boot = kept.4 ∙ run_boot run;
             }
       ]

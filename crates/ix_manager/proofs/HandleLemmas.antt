@@ -152,7 +152,8 @@ module _ (old between new : ManagerState) (event : Event) (n : ℕ) (bytes : Lis
     boots = over.saves.boots;
     ends = over.saves.ends;
     acknowledges = subst (λ rs. Acknowledges old.form (length old.machine.history)
-        (with_failed over.ending new.machine.history) rs (span before.site after.site p q)) over.made.all
+        (with_failed over.ending new.machine.history) old.machine.renewed rs (span before.site after.site p q))
+        over.made.all
         over.acknowledges;
     sends = over.saves.sends;
   }
@@ -171,7 +172,7 @@ module _ (old between new : ManagerState) (event : Event) (n : ℕ) (bytes : Lis
 
 -- raising the moment reserves nothing
 pub raised_reserves : (moment : ℕ) (s : MachineState) → MayReserve s (raised moment s)
-raised_reserves moment s = record { boot = refl; slot = inl (refl, refl) }
+raised_reserves moment s = record { renewed = refl; boot = refl; slot = inl (refl, refl) }
 
 -- a manager's store goes on to fit at a later moment
 pub moment_fits : (old between : ManagerState) (moment : ℕ) (site : SiteState) (crashes : Crashes)
@@ -199,7 +200,8 @@ rest_over old new event bytes site crashes lawful fits handles nothing same =
       boots = none.boots;
       ends = none.ends;
       acknowledges = subst (λ answers. Acknowledges old.form (length old.machine.history)
-          new.machine.history (all_replies answers) (span site site crashes crashes)) (sym nothing)
+          new.machine.history old.machine.renewed (all_replies answers) (span site site crashes crashes))
+          (sym nothing)
           (saves_acknowledges going old.form old.machine new.machine old.store 0 []
           (wired false site) (wired false site) crashes crashes
           lawful none (nothing_sent 0 (wired false site)) no_item);

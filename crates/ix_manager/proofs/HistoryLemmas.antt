@@ -9,7 +9,7 @@ use Rattle.ix_manager.specs.Machine.{MachineState, Step, confirmed}
 use Rattle.ix_manager.specs.inside.Core.{Core, TellsPoll}
 use Rattle.ix_manager.specs.inside.Does.{Does, PollAnswers, MayReserve}
 use Rattle.ix_proto.specs.Requests as request
-use Rattle.ix_manager.proofs.Changing.{Changes, step_changes, keeps, empties, grants, stores}
+use Rattle.ix_manager.proofs.Changing.{Changes, step_changes, step_renewed, keeps, empties, grants, stores}
 
 -- no confirm
 abbrev pub IsNoConfirm : PlainRequest → Type 0
@@ -24,15 +24,17 @@ step_history _ none = refl
 -- a step may reserve the next ticket
 pub step_reserves : {x : Form} {limit : ℕ} {s after : MachineState} {asked : PlainRequest} {replies : List Reply}
     → Step x limit s asked replies after → MayReserve s after
-step_reserves step = reserved (step_changes step)
+step_reserves step = reserved (step_changes step) (step_renewed step)
   where
-    reserved : {s after : MachineState} → Changes s after → MayReserve s after
-    reserved (keeps history slot boot number moment) = record { boot = boot; slot = inl (slot, number) }
-    reserved (empties history slot boot number moment) = record { boot = boot; slot = inr (inl (slot, number)) }
-    reserved (grants a deadline history slot boot number moment) =
-        record { boot = boot; slot = inr (inr (a, deadline, slot, number)) }
-    reserved (stores ticket a deadline held within history slot boot number moment) =
-        record { boot = boot; slot = inr (inl (slot, number)) }
+    reserved : {s after : MachineState} → Changes s after → after.renewed ≡ s.renewed → MayReserve s after
+    reserved (keeps history slot boot number moment) renewed =
+        record { renewed = renewed; boot = boot; slot = inl (slot, number) }
+    reserved (empties history slot boot number moment) renewed =
+        record { renewed = renewed; boot = boot; slot = inr (inl (slot, number)) }
+    reserved (grants a deadline history slot boot number moment) renewed =
+        record { renewed = renewed; boot = boot; slot = inr (inr (a, deadline, slot, number)) }
+    reserved (stores ticket a deadline held within history slot boot number moment) renewed =
+        record { renewed = renewed; boot = boot; slot = inr (inl (slot, number)) }
 
 -- the next number rises by one at most
 pub number_rises : {s after : MachineState} → MayReserve s after → after.number ≤ s.number + 1
@@ -45,6 +47,7 @@ number_rises {s = s} {after = after} reserves = elim reserves.slot [
 -- where the state stays, nothing is reserved
 stays_reserves : {s after : MachineState} → after ≡ s → MayReserve s after
 stays_reserves {s = s} same = record {
+  renewed = ap (λ (t : MachineState). t.renewed) same;
   boot = ap (λ (t : MachineState). t.boot) same;
   slot = inl (ap (λ (t : MachineState). t.slot) same, ap (λ (t : MachineState). t.number) same);
 }
@@ -59,6 +62,7 @@ poll_reserves old new name Stop answers = absurd answers
 pub told_reserves : (old between new : Core) (name : List ℕ) → TellsPoll between name new → between.state ≡ old.state
     → MayReserve old.state new.state
 told_reserves old between new name tells state = record {
+  renewed = ap (λ (t : MachineState). t.renewed) tells.rest ∙ ap (λ (t : MachineState). t.renewed) state;
   boot = ap (λ (t : MachineState). t.boot) tells.rest ∙ ap (λ (t : MachineState). t.boot) state;
   slot = inl (
     ap (λ (t : MachineState). t.slot) tells.rest ∙ ap (λ (t : MachineState). t.slot) state,

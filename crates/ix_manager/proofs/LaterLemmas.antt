@@ -1,4 +1,5 @@
 -- The states that come later: their histories go on, and what a crash leaves is of one of them.
+use Rattle.ix_journal.specs.declared.entries.Renewed.{Renewed}
 use Rattle.std.proofs.Common.{◌≡◌, ◌⊎◌, inl, inr, ℕ, ◌+◌, ◌≤◌, List, [], ◌∷◌, ◌++◌, length, take, Some, append_assoc, append-nil, refl, sym, ◌∙◌, ap, subst, arith}
 use Rattle.std.specs.Bool.{⊤}
 use Rattle.std.proofs.Math.Seq.{take-append_seam}
@@ -20,7 +21,7 @@ use Rattle.ix_manager.specs.LaterLaws.{CrashesComeLater, IsEntryOf, LaterStatesA
 use Rattle.ix_manager.specs.Machine.{MachineState, Step, entry, start_of, word_of}
 use Rattle.ix_manager.specs.Runs.{Ending, ItemStep, Run, Steps, begin, disk_failed, last, more, none, over_long, refused, requested, takes}
 use Rattle.ix_manager.proofs.GrowingLemmas.{Grows, grows_not, grows_twice, none_failed, steps_grow}
-use Rattle.ix_manager.proofs.Changing.{Changes, empties, grants, item_changes, keeps, stores}
+use Rattle.ix_manager.proofs.Changing.{Changes, empties, grants, item_changes, keeps, stores, item_renewed}
 
 -- what comes later than what comes later
 pub later_join : {x : Form} {s t u : MachineState} → Later x s t → Later x t u → Later x s u
@@ -39,7 +40,7 @@ pub runs_go_on : RunsGoOn
 runs_go_on opening events replies final ending run = along run
   where
     along : {events : List GivenEvent} {replies : List (List (List Reply))} {final : MachineState} {ending : Ending}
-        → Run opening events replies final ending → Later opening.form (start_of opening.history opening.boot) final
+        → Run opening events replies final ending → Later opening.form (start_of opening.history opening.renewed opening.boot) final
     along begin = stays
     along (takes given completed replies run completes steps) = later_join (along run) (rises given.event.moment (steps_later steps))
 
@@ -62,18 +63,26 @@ later_grows {s = s} {later = later} (answered {between = between} step rest) =
 later_grows {s = s} {later = later} (restarts {kept = kept} may rest) =
     grows_twice s.history kept later.history (kept_grows may) (later_grows rest)
 
+-- what the carried actions stand for stays
+pub later_renewed : {x : Form} {s later : MachineState} → Later x s later → later.renewed ≡ s.renewed
+later_renewed stays = refl
+later_renewed (rises moment rest) = later_renewed rest
+later_renewed (answered step rest) = later_renewed rest ∙ item_renewed step
+later_renewed (restarts may rest) = later_renewed rest
+
 -- the reply to a `log` tells an entry of the history
-abbrev pub TellsEntry : PlainRequest → List Reply → Word → Type 0
-TellsEntry (request.log number) (reply.Entry told a ∷ []) word = IsEntryOf word number a
-TellsEntry _ _ word = ⊤
+abbrev pub TellsEntry : PlainRequest → List Reply → Renewed → Word → Type 0
+TellsEntry (request.log number) (reply.Entry told a ∷ []) renewed word = IsEntryOf renewed word number a
+TellsEntry _ _ renewed word = ⊤
 
 pub entry_told : {x : Form} {limit : ℕ} {s after : MachineState} {asked : PlainRequest} {replies : List Reply}
-    → Step x limit s asked replies after → TellsEntry asked replies (word_of after)
-entry_told (entry before behind split place) = record { before = before; behind = behind; split = split; place = place }
+    → Step x limit s asked replies after → TellsEntry asked replies after.renewed (word_of after)
+entry_told (entry before behind split place above) = record { before = before; behind = behind; split = split; place = place }
 entry_told _ = tt
 
-pub entry_stays : (one two : PlainHistory) (number : ℕ) (a : PlainAction) → Grows one two → IsEntryOf (actions_of one) number a → IsEntryOf (actions_of two) number a
-entry_stays one two number a grows is = record {
+pub entry_stays : (renewed : Renewed) (one two : PlainHistory) (number : ℕ) (a : PlainAction) → Grows one two
+    → IsEntryOf renewed (actions_of one) number a → IsEntryOf renewed (actions_of two) number a
+entry_stays renewed one two number a grows is = record {
   before = is.before;
   behind = is.behind ++ actions_of grows.0;
   split =
@@ -85,7 +94,8 @@ entry_stays one two number a grows is = record {
 
 pub told_entries_stay : ToldEntriesStay
 told_entries_stay x limit s after later number a step rest =
-    entry_stays after.history later.history number a (later_grows rest) (entry_told step)
+    subst (λ (r : Renewed). IsEntryOf r (word_of later) number a) (sym (later_renewed rest))
+    (entry_stays after.renewed after.history later.history number a (later_grows rest) (entry_told step))
 
 -- of two prefixes of one list that are as long as each other each is the other
 one_prefix : (xs ys us vs : PlainHistory) → xs ++ us ≡ ys ++ vs → length xs ≡ length ys → xs ≡ ys
@@ -113,14 +123,16 @@ steps_boot (more step steps) = steps_boot steps ∙ changes_boot (item_changes s
 
 -- what is kept of a state
 abbrev IsKeptOf : Form → MachineState → PlainHistory → Type 0
-IsKeptOf x s kept = (at : MachineState) × Later x s at × MayKeep at kept × (at.boot ≡ s.boot)
+IsKeptOf x s kept = (at : MachineState) × Later x s at × MayKeep at kept × (at.renewed ≡ s.renewed)
+    × (at.boot ≡ s.boot)
 
 kept_whole : (x : Form) (s : MachineState) (kept : PlainHistory) → kept ≡ s.history → IsKeptOf x s kept
-kept_whole x s kept is = (s, stays, subst (MayKeep s) (sym is) whole, refl)
+kept_whole x s kept is = (s, stays, subst (MayKeep s) (sym is) whole, refl, refl)
 
 kept_after : {x : Form} {limit : ℕ} {s between : MachineState} {it : Item} {replies : List Reply} {ending : Ending} {kept : PlainHistory}
     → ItemStep x limit s it replies between ending → IsKeptOf x between kept → IsKeptOf x s kept
-kept_after step is = (is.0, answered step is.1, is.2, is.3 ∙ changes_boot (item_changes step))
+kept_after step is =
+    (is.0, answered step is.1, is.2, is.3 ∙ item_renewed step, is.4 ∙ changes_boot (item_changes step))
 
 -- a step adds at most one action
 changes_add : {s u : MachineState} → Changes s u → length u.history ≤ length s.history + 1
@@ -158,7 +170,7 @@ item_kept {x = x} {s = s} kept rest (disk_failed {ticket = ticket} {a = a} valid
           let counts = length-append s.history ((Some ticket, a) ∷ []) in
           kept_whole x s kept (one_prefix kept s.history rest ((Some ticket, a) ∷ []) is (omega (arith, counts, shorter, long)))
       | inr behind ↦
-          (s, stays, subst (MayKeep s) (sym (whole_prefix kept rest (s.history ++ (Some ticket, a) ∷ []) is behind)) (confirming held before), refl)
+          (s, stays, subst (MayKeep s) (sym (whole_prefix kept rest (s.history ++ (Some ticket, a) ∷ []) is behind)) (confirming held before), refl, refl)
     ]
 
 steps_kept : {x : Form} {limit : ℕ} {s after : MachineState} {items : List Item} {replies : List (List Reply)} {ending : Ending}
@@ -182,10 +194,11 @@ crashes_come_later x limit s after items replies ending kept rest steps is long 
 pub starts_come_later : StartsComeLater
 starts_come_later opening image s kept starts may recovers holds =
     let history : kept ≡ opening.history = one_history image kept opening.history recovers starts.recovers in
-    let boots : starts.boots ≡ s.boot = one_number image starts.boots s.boot starts.holds holds in
-    let boot : s.boot + 1 ≡ opening.boot = ap (λ n. n + 1) (sym boots) ∙ sym starts.next in
-    subst (λ (h : PlainHistory). Later opening.form s (start_of h opening.boot)) history
-    (subst (λ n. Later opening.form s (start_of kept n)) boot (restarts may stays))
+    let same = one_number image opening.renewed s.renewed starts.boots s.boot starts.holds holds in
+    let boot : s.boot + 1 ≡ opening.boot = ap (λ n. n + 1) (sym same.1) ∙ sym starts.next in
+    subst (λ (h : PlainHistory). Later opening.form s (start_of h opening.renewed opening.boot)) history
+    (subst (λ (r : Renewed). Later opening.form s (start_of kept r opening.boot)) (sym same.0)
+    (subst (λ n. Later opening.form s (start_of kept s.renewed n)) boot (restarts may stays)))
 
 pub later_states_are_these : LaterStatesAreThese
 later_states_are_these = (runs_go_on, crashes_come_later, starts_come_later)

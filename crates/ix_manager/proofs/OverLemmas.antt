@@ -1,4 +1,5 @@
 -- What is answered over a site.
+use Rattle.ix_journal.specs.Entries.{behind}
 use Rattle.std.proofs.Common.{length, ◌≡◌, ℕ, Bool, false, List, [], ◌∷◌, ◌++◌, Some, Result, Ok, Err, refl, sym, ap, subst}
 use Rattle.std.specs.Option.{ForSome}
 use Rattle.ix_values.specs.PlainAction.{PlainAction}
@@ -26,7 +27,7 @@ use Rattle.ix_proto.specs.declared.request.Request.TheVariants.{Confirm}
 use Rattle.ix_store.specs.inside.Keeping.{Fits, IsWithOrWithout}
 use Rattle.ix_store.specs.inside.KeptBy.{kept}
 use Rattle.ix_manager.specs.Machine as machine
-use Rattle.ix_manager.specs.Machine.{MachineState}
+use Rattle.ix_manager.specs.Machine.{MachineState, count}
 use Rattle.ix_manager.specs.Refusals.{disk}
 use Rattle.ix_manager.specs.Runs.{going, failed}
 use Rattle.ix_manager.specs.declared.faults.Go.{Go}
@@ -84,7 +85,7 @@ module _ (ticket : Ticket) (action : PlainAction) (old new : Journaled) (before 
   pub confirmed_over : (one : Reply) → Commits old.machine ticket one new.machine
       → ((text : List ℕ) (history : PlainHistory) → Fits before was (kept old.store) text history
       → Fits after is (kept new.store) text (history ++ (Some ticket, action) ∷ []))
-      → (kept new.store).marks ≡ record { boots = (kept old.store).marks.boots; seq = ticket.seq }
+      → (kept new.store).marks ≡ behind (kept old.store).marks (entry.Spent ticket action)
       → (kept new.store).failed ≡ false
       → ConfirmsOver ticket (Ok one) old new (span before after was is)
   confirmed_over one commits appended spent works =
@@ -100,7 +101,7 @@ module _ (ticket : Ticket) (action : PlainAction) (old new : Journaled) (before 
         confirms = (does, refl);
         saves = saves_same going x s (record s { history = s.history ++ (Some ticket, action) ∷ []; slot = Free })
             new.machine.state (kept new.store) before after was is state
-            (appended_saves x s marks fits.fits.tickets.boot ticket action (kept new.store) before after was is lawful calls
+            (appended_saves x s marks fits.fits.tickets.renewed fits.fits.tickets.boot ticket action (kept new.store) before after was is lawful calls
             (images (canonical_text x) s.history fits.fits.fits) (record {
               works = works;
               fits = appended (canonical_text x) s.history fits.fits.fits;
@@ -122,7 +123,7 @@ module _ (ticket : Ticket) (action : PlainAction) (old new : Journaled) (before 
         confirms = (action, facts.0, facts.1, facts.2, same, refl);
         saves = saves_same (failed (Some ticket, action)) x s s new.machine.state (kept new.store) before after was is
             (ap (λ (core : Core). core.state) same)
-            (failed_saves x s (kept old.store).marks fits.fits.tickets.boot ticket action (kept new.store) before after was is
+            (failed_saves x s (kept old.store).marks fits.fits.tickets.renewed fits.fits.tickets.boot ticket action (kept new.store) before after was is
             lawful calls (images (canonical_text x) s.history fits.fits.fits) rose);
         calls = calls;
       }
@@ -181,7 +182,7 @@ pub request_over : (conn : ℕ) (request : Request) (go : Go) (old new : Journal
     → (replies : List Reply)
     → AnswersRequest conn request (ending_after go) replies old.machine new.machine before after
     → OnlySends (span before.site after.site p q)
-    → Each (TellsWithin (length old.machine.state.history)) replies
+    → Each (TellsWithin (count old.machine.state)) replies
     → OverJournal (AnswersRequest conn request) (Ok go) old new (wire_span before after p q)
 request_over conn request go old new before after p q lawful lawful' fits same reserves store replies answers
     only within =

@@ -5,7 +5,7 @@ use Rattle.std.proofs.Common.{refl, sym, ◌∙◌, ap, subst, arith}
 use Rattle.std.proofs.lemmas.List.{length-append}
 use Rattle.ix_values.specs.PlainAction.{PlainAction}
 use Rattle.ix_values.specs.declared.tickets.Ticket.{Ticket}
-use Rattle.ix_journal.specs.Entries.{CanSpend}
+use Rattle.ix_journal.specs.Entries.{CanSpend, behind, renewed_of}
 use Rattle.ix_journal.specs.History.{PlainHistory}
 use Rattle.ix_expr.specs.CanonicalText.{canonical_text}
 use Rattle.ix_expr.specs.Form.{Form}
@@ -13,6 +13,7 @@ use Rattle.ix_journal.specs.Recovery as journal
 use Rattle.ix_journal.specs.Recovery.{HoldsBoots, IsJournalWith, Recovers}
 use Rattle.ix_journal.specs.declared.entries.Entry.TheVariants as entry
 use Rattle.ix_journal.specs.declared.entries.Marks.{Marks}
+use Rattle.ix_journal.specs.declared.entries.Renewed.{Renewed}
 use Rattle.ix_lease.specs.declared.Slot.TheVariants.{Free, Held}
 use Rattle.ix_outside.specs.Contents.{SendsBytes}
 use Rattle.ix_outside.specs.Counts.{Rose}
@@ -60,12 +61,19 @@ journal_recovers at text h marks gate is = record {
 
 -- and holds its boots
 abbrev pub journal_holds : (at text : List ℕ) (h : PlainHistory) (marks : Marks) (gate : ℕ)
-    → IsJournalWith at text h marks gate → HoldsBoots at marks.boots
+    → IsJournalWith at text h marks gate → HoldsBoots at (renewed_of marks) marks.boots
 journal_holds at text h marks gate is = record {
   entries = is.entries;
   keeps = journal.ready at text is.entries gate is.journal;
+  said = ap renewed_of is.marked;
   number = ap (λ (m : Marks). m.boots) is.marked;
 }
+
+-- the same with another spelling
+pub holds_same : (at : List ℕ) (renewed renewed' : Renewed) (boots boots' : ℕ) → renewed' ≡ renewed → boots' ≡ boots
+    → HoldsBoots at renewed boots → HoldsBoots at renewed' boots'
+holds_same at renewed renewed' boots boots' r b =
+    subst (λ (both : Renewed × ℕ). HoldsBoots at both.0 both.1) (λ i. (sym r i, sym b i))
 
 -- a journal of the expression keeps its history, whatever follows that
 abbrev pub journal_keeps : (x : Form) (least : ℕ) (h rest history : PlainHistory) (marks : Marks) (gate : ℕ) (at : List ℕ)
@@ -112,16 +120,18 @@ fits_images x s store site crashes fits told = let disk = the_value site.disk to
 
 -- and holds the boots up to the machine's
 fits_boots : (x : Form) (s : MachineState) (store : Keeping) (site : SiteState) (crashes : Crashes) → FitsWith x s store site crashes
-    → IsSome site.disk → (at : List ℕ) → crashes.now at → HoldsBoots at s.boot
+    → IsSome site.disk → (at : List ℕ) → crashes.now at → HoldsBoots at s.renewed s.boot
 fits_boots x s store site crashes fits told at now =
-    subst (λ n. HoldsBoots at n) (sym fits.tickets.boot)
+    holds_same at (renewed_of store.marks) s.renewed store.marks.boots s.boot fits.tickets.renewed fits.tickets.boot
     (journal_holds at (canonical_text x) s.history store.marks store.gate (fits_images x s store site crashes fits told at now))
 
 -- the tickets of a machine that may have reserved the next one go on
 reserved_on : (marks : Marks) (s after : MachineState) → MayReserve s after → TicketsGoOn marks s → TicketsGoOn marks after
 reserved_on marks s after reserves on = record {
+  renewed = reserves.renewed ∙ on.renewed;
   boot = reserves.boot ∙ on.boot;
-  begun = subst (λ n. 0 < n) (sym reserves.boot) on.begun;
+  begun = subst (λ (both : Renewed × ℕ). both.0.boots < both.1) (λ i. (sym reserves.renewed i, sym reserves.boot i))
+      on.begun;
   number = number;
   reserved = reserved;
 }
@@ -146,14 +156,15 @@ reserved_on marks s after reserves on = record {
           let above : s.number < after.number = omega (arith, more) in
           subst (λ (t : Ticket). CanSpend marks t × (t.seq < after.number))
           (same_ticket (sym next.2 ∙ is))
-          ((on.boot, on.begun, below), above)
+          ((on.boot, subst (λ (r : Renewed). r.boots < s.boot) on.renewed on.begun, below), above)
     ]
 
 -- and so do those of one that spent the reserved one
 pub spent_on : (old new : Marks) (s : MachineState) (h : PlainHistory) (ticket : Ticket) (a : PlainAction) (deadline : ℕ)
-    → s.slot ≡ Held ticket a deadline → new ≡ record { boots = old.boots; seq = ticket.seq } → TicketsGoOn old s
+    → s.slot ≡ Held ticket a deadline → new ≡ behind old (entry.Spent ticket a) → TicketsGoOn old s
     → TicketsGoOn new (record s { history = h; slot = Free })
 spent_on old new s h ticket a deadline held is on = record {
+  renewed = on.renewed ∙ sym (ap renewed_of is);
   boot = on.boot ∙ sym (ap (λ (m : Marks). m.boots) is);
   begun = on.begun;
   number = subst (λ n. n < s.number) (sym (ap (λ (m : Marks). m.seq) is)) (on.reserved ticket a deadline held).1;
@@ -162,7 +173,7 @@ spent_on old new s h ticket a deadline held is on = record {
 
 -- nothing is reserved
 pub reserves_none : (s : MachineState) → MayReserve s s
-reserves_none s = record { boot = refl; slot = inl (refl, refl) }
+reserves_none s = record { renewed = refl; boot = refl; slot = inl (refl, refl) }
 
 -- a store that fits goes on to fit where the history stays
 pub fits_reserved : (x : Form) (s after : MachineState) (store : Keeping) (site : SiteState) (crashes : Crashes)
@@ -193,11 +204,12 @@ saves_none x s store site crashes lawful fits = record {
   told = λ told. told;
   rest = [];
   grows = append-nil s.history;
+  renewed = refl;
   boot = refl;
   keeps = λ told. LeavesOnly-none (Keeps x (length s.history) s.history) site crashes lawful
       (λ at now. journal_keeps x (length s.history) s.history [] s.history store.marks store.gate at
       (fits_images x s store site crashes fits told at now) (append-nil s.history) (omega arith));
-  boots = λ told. LeavesOnly-none (λ at. HoldsBoots at s.boot) site crashes lawful (fits_boots x s store site crashes fits told);
+  boots = λ told. LeavesOnly-none (λ at. HoldsBoots at s.renewed s.boot) site crashes lawful (fits_boots x s store site crashes fits told);
   ends = λ told at now. journal_recovers at (canonical_text x) s.history store.marks store.gate
       (fits_images x s store site crashes fits told at now);
   fits = fits;
@@ -215,6 +227,7 @@ saves_join e x h mid new one two a b c p q r lawful first second = record {
   told = λ told. first.told (second.told told);
   rest = first.rest ++ second.rest;
   grows = sym (append_assoc h.history first.rest second.rest) ∙ ap (λ (w : PlainHistory). w ++ second.rest) first.grows ∙ second.grows;
+  renewed = second.renewed ∙ first.renewed;
   boot = second.boot ∙ first.boot;
   keeps = λ told. LeavesOnly-join (Keeps x (length h.history) (with_failed e new.history)) a b c p q r
       (λ at left. keeps_longer x (length h.history) mid.history second.rest (with_failed e new.history) at second.grows
@@ -222,9 +235,10 @@ saves_join e x h mid new one two a b c p q r lawful first second = record {
       second.passes.left first.passes.left.later
       (λ at left. keeps_fewer x (length mid.history) (length h.history) (with_failed e new.history) at
       (shorter h.history first.rest mid.history first.grows) (second.keeps told at left));
-  boots = λ told. LeavesOnly-join (λ at. HoldsBoots at h.boot) a b c p q r (first.boots (second.told told))
+  boots = λ told. LeavesOnly-join (λ at. HoldsBoots at h.renewed h.boot) a b c p q r (first.boots (second.told told))
       second.passes.left first.passes.left.later
-      (λ at left. subst (λ n. HoldsBoots at n) first.boot (second.boots told at left));
+      (λ at left. holds_same at mid.renewed h.renewed mid.boot h.boot (sym first.renewed) (sym first.boot)
+      (second.boots told at left));
   ends = second.ends;
   fits = second.fits;
   faults = where_failed e (Rose-earlier a.counts.disk b.counts.disk c.counts.disk first.count) second.faults;
@@ -248,6 +262,7 @@ saves_reserved x h mid new store a b p q same reserves saves = record {
   told = saves.told;
   rest = saves.rest;
   grows = saves.grows ∙ sym same;
+  renewed = reserves.renewed ∙ saves.renewed;
   boot = reserves.boot ∙ saves.boot;
   keeps = λ told at left. subst (λ (w : PlainHistory). Keeps x (length h.history) w at) (sym same) (saves.keeps told at left);
   boots = saves.boots;
@@ -267,6 +282,7 @@ saves_after Stopped x h new store a b p q saves = record {
   told = saves.told;
   rest = saves.rest;
   grows = saves.grows;
+  renewed = saves.renewed;
   boot = saves.boot;
   keeps = saves.keeps;
   boots = saves.boots;
@@ -345,6 +361,7 @@ saves_sends e x h new store a b c p q r before lawful first only = record {
   told = λ told. first.told (still_told b.disk c.disk only.disk told);
   rest = first.rest;
   grows = first.grows;
+  renewed = first.renewed;
   boot = first.boot;
   keeps = λ told.
       let keeps = first.keeps (still_told b.disk c.disk only.disk told) in
@@ -352,7 +369,7 @@ saves_sends e x h new store a b c p q r before lawful first only = record {
       (λ at left. keeps at (before.left_earlier a.tick b.tick at first.passes.left.later ((before.left_now at).1 (only.images at left))));
   boots = λ told.
       let boots = first.boots (still_told b.disk c.disk only.disk told) in
-      LeavesOnly-join (λ at. HoldsBoots at h.boot) a b c p q r boots only.passes.left first.passes.left.later
+      LeavesOnly-join (λ at. HoldsBoots at h.renewed h.boot) a b c p q r boots only.passes.left first.passes.left.later
       (λ at left. boots at (before.left_earlier a.tick b.tick at first.passes.left.later ((before.left_now at).1 (only.images at left))));
   ends = λ told at now. first.ends (still_told b.disk c.disk only.disk told) at ((only.now at).0 now);
   fits = unless_failed e (fits_sends x new store b c q r only) first.fits;
@@ -367,7 +384,8 @@ answered_saves go x h new store a b p q before lawful fits same reserves only =
     saves_after go x h new store a b p q (saves_reserved x h h new store a b p q same reserves
     (saves_sends going x h h store a a b p p q before lawful (saves_none x h store a p before fits) only))
 
-module _ (x : Form) (s : MachineState) (marks : Marks) (boot : s.boot ≡ marks.boots) (ticket : Ticket) (action : PlainAction)
+module _ (x : Form) (s : MachineState) (marks : Marks) (renewed : s.renewed ≡ renewed_of marks)
+    (boot : s.boot ≡ marks.boots) (ticket : Ticket) (action : PlainAction)
     (new : Keeping) (a b : SiteState) (p q : Crashes)
     (lawful : AreLawful b q) (calls : DiskCalls (span a b p q))
     (images : (disk : Disk) → a.disk ≡ Some disk
@@ -380,7 +398,7 @@ module _ (x : Form) (s : MachineState) (marks : Marks) (boot : s.boot ≡ marks.
   confirmed_state = record s { history = longer_history; slot = Free }
 
   abbrev spent : Marks
-  spent = record { boots = marks.boots; seq = ticket.seq }
+  spent = behind marks (entry.Spent ticket action)
 
   was_told : IsSome b.disk → IsSome a.disk
   was_told told = kept_told a.disk b.disk calls.opened told
@@ -401,10 +419,10 @@ module _ (x : Form) (s : MachineState) (marks : Marks) (boot : s.boot ≡ marks.
         | inr with_it ↦ journal_keeps x least longer_history [] longer_history spent is.0 at with_it (append-nil longer_history) longer
       ]
 
-  appended_boots : IsSome b.disk → LeavesOnly (λ at. HoldsBoots at s.boot) (span a b p q)
+  appended_boots : IsSome b.disk → LeavesOnly (λ at. HoldsBoots at s.renewed s.boot) (span a b p q)
   appended_boots told at left =
       let is = with_or_without told at left in
-      subst (λ n. HoldsBoots at n) (sym boot) (elim is.1 [
+      holds_same at (renewed_of marks) s.renewed marks.boots s.boot renewed boot (elim is.1 [
         | inl without ↦ journal_holds at (canonical_text x) s.history marks is.0 without
         | inr with_it ↦ journal_holds at (canonical_text x) longer_history spent is.0 with_it
       ])
@@ -418,6 +436,7 @@ module _ (x : Form) (s : MachineState) (marks : Marks) (boot : s.boot ≡ marks.
     told = was_told;
     rest = (Some ticket, action) ∷ [];
     grows = refl;
+    renewed = refl;
     boot = refl;
     keeps = appended_keeps;
     boots = appended_boots;
@@ -436,6 +455,7 @@ module _ (x : Form) (s : MachineState) (marks : Marks) (boot : s.boot ≡ marks.
     told = was_told;
     rest = (Some ticket, action) ∷ [];
     grows = refl;
+    renewed = refl;
     boot = refl;
     keeps = appended_keeps;
     boots = appended_boots;

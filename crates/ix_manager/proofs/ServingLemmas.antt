@@ -4,6 +4,8 @@ use Rattle.std.proofs.Common.{append-nil, Option, Some, IsSome, Result, inl, inr
 use Rattle.std.proofs.Common.{ap, subst, arith}
 use Rattle.std.proofs.lemmas.List.{length-append, append_cancel_left}
 use Rattle.ix_journal.specs.History.{PlainHistory}
+use Rattle.ix_journal.specs.declared.entries.Renewed.{Renewed}
+use Rattle.ix_manager.specs.Machine.{count}
 use Rattle.ix_expr.specs.Form.{Form}
 use Rattle.ix_outside.specs.Contents.{GivenEvent, SentBytes, Sends}
 use Rattle.ix_outside.specs.Crashes.{Crashes, Left, AreLawful, Passes, OneCall, IsSentByThen}
@@ -50,14 +52,14 @@ nothing_call t before a b p q call began told same nothing sends is =
     )
 
 -- before the first event: nothing was sent since the tick, and each image keeps the history
-pub serves_begin : (t : ℕ) (x : Form) (least : ℕ) (history : PlainHistory) (before : Sends)
+pub serves_begin : (t : ℕ) (x : Form) (least : ℕ) (history : PlainHistory) (renewed : Renewed) (before : Sends)
     (site : SiteState) (is : Crashes)
     → AreLawful site is → t ≤ site.tick → least ≤ length history
     → ((sends : Sends) → site.contents.sends ≡ Some sends → sends ≡ before)
     → (IsSome site.disk → (image : List ℕ) → is.left t image → Keeps x least history image)
     → SentNothingSince t before.sent site is
-    → ServesSince t x least history before [] [] unmarked site is
-serves_begin t x least history before site is lawful began long sends_are keeps sent = record {
+    → ServesSince t x least history renewed before [] [] unmarked site is
+serves_begin t x least history renewed before site is lawful began long sends_are keeps sent = record {
   began = began;
   long = long;
   wired = λ sends told. (
@@ -75,14 +77,14 @@ serves_begin t x least history before site is lawful began long sends_are keeps 
 }
 
 -- over a call that sends nothing, as `next`, what a crash may leave stays
-pub serves_call : (t : ℕ) (x : Form) (least : ℕ) (history : PlainHistory) (before : Sends)
+pub serves_call : (t : ℕ) (x : Form) (least : ℕ) (history : PlainHistory) (renewed : Renewed) (before : Sends)
     (events : List GivenEvent) (answers : List (List (List Reply))) (marks : List Bool)
     (a b : SiteState) (p q : Crashes)
     → AreLawful a p → AreLawful b q → OneCall (span a b p q) → LeavesTheSame p.now q.now
     → b.contents.sends ≡ a.contents.sends → b.disk ≡ a.disk
-    → ServesSince t x least history before events answers marks a p
-    → ServesSince t x least history before events answers marks b q
-serves_call t x least history before events answers marks a b p q lawful lawful' call same
+    → ServesSince t x least history renewed before events answers marks a p
+    → ServesSince t x least history renewed before events answers marks b q
+serves_call t x least history renewed before events answers marks a b p q lawful lawful' call same
     sends_stay disk_stays serves = record {
       began = let le = serves.began in let later = call.passes.left.later in omega arith;
       long = serves.long;
@@ -115,15 +117,15 @@ module _ (t : ℕ) (x : Form) (least : ℕ) (before : Sends) (events : List Give
     (form : old.form ≡ x)
     (told_before : IsSome b.disk → IsSome a.disk)
     (over : HandlesOver old event bytes result new (span a b p q))
-    (serves : ServesSince t x least old.machine.history before events answers old.marks a p) where
+    (serves : ServesSince t x least old.machine.history old.machine.renewed before events answers old.marks a p) where
   abbrev longer_history : PlainHistory
   longer_history = with_failed over.ending new.machine.history
 
   -- what was acknowledged before the event is within the history before it
   within_before : IsSome a.disk → (s : Sends) → a.contents.sends ≡ Some s → (replies : List Reply)
-      → KeepsSince t x least old.machine.history replies before a p → (pairs : List SentBytes)
+      → KeepsSince t x least old.machine.history old.machine.renewed replies before a p → (pairs : List SentBytes)
       → s.sent ≡ before.sent ++ pairs
-      → (n : ℕ) → IsAcknowledged n replies pairs → n ≤ length old.machine.history
+      → (n : ℕ) → IsAcknowledged n replies pairs → n ≤ count old.machine
   within_before told s is replies keeps pairs behind n acked =
       let disk = the_value a.disk told in
       let P : Option Disk → Type 0 = λ d. OfFile p.now d in
@@ -140,7 +142,7 @@ module _ (t : ℕ) (x : Form) (least : ℕ) (before : Sends) (events : List Give
       let parts = length-append at.keeps.kept at.keeps.rest in omega arith
 
   -- an event was handled
-  pub serves_handled : ServesSince t x least longer_history before
+  pub serves_handled : ServesSince t x least longer_history old.machine.renewed before
       (events ++ given_event event bytes ∷ []) (answers ++ over.handles.answers ∷ []) new.marks b q
   serves_handled =
       let grown = steps_grow over.handles.takes.steps in
@@ -181,9 +183,9 @@ module _ (t : ℕ) (x : Form) (least : ℕ) (before : Sends) (events : List Give
                           (acknowledged_front so_far.0 carried was.sent was.carried acked);
                     }
                 | inr since_event ↦
-                    let here : KeepsAcknowledged x (length h) longer_history
+                    let here : KeepsAcknowledged x (length h) longer_history old.machine.renewed
                     (all_replies over.handles.answers) s.sent left =
-                    subst (λ y. KeepsAcknowledged y (length h) longer_history
+                    subst (λ y. KeepsAcknowledged y (length h) longer_history old.machine.renewed
                     (all_replies over.handles.answers) s.sent left) form
                     (over.acknowledges disk s s' told told' left since_event) in
                     let by_then = over.sends.by_then s s' told told' left since_event in

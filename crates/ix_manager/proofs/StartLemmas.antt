@@ -2,10 +2,12 @@
 use Rattle.std.proofs.Common.{◌≡◌, ◌⊎◌, ℕ, ◌+◌, ◌<◌, ◌≤◌, List, [], length, Option, None, Some, Result, Err, false, inl, inr, refl, sym, ◌∙◌, ap, subst, arith}
 use Rattle.std.proofs.lemmas.List.{length-map}
 use Rattle.std.specs.Option.{ForSome}
-use Rattle.ix_journal.specs.Entries.{marks_of, pairs_of}
+use Rattle.ix_journal.specs.Entries.{marks_of, pairs_of, renewed_of}
+use Rattle.ix_journal.specs.inside.Counting.{HasBootRoom}
 use Rattle.ix_journal.specs.History.{PlainHistory, Spent, actions_of}
 use Rattle.ix_journal.specs.declared.entries.Entry.{Entry}
 use Rattle.ix_journal.specs.declared.entries.Marks.{Marks}
+use Rattle.ix_journal.specs.declared.entries.Renewed.{Renewed}
 use Rattle.ix_expr.specs.CanonicalText.{canonical_text}
 use Rattle.ix_expr.specs.Form.{Form}
 use Rattle.ix_expr.proofs.LawsOfMeaning.{empty-partial}
@@ -46,7 +48,7 @@ use Rattle.ix_manager.specs.inside.StartFaults.{open_fault_of, record_fault_of}
 use Rattle.ix_manager.specs.Machine.{start_of}
 use Rattle.ix_manager.specs.inside.OverSite.{FitsWith}
 use Rattle.ix_manager.proofs.SlotLemmas.{free_holds}
-use Rattle.ix_manager.proofs.SavingLemmas.{journal_holds, journal_recovers}
+use Rattle.ix_manager.proofs.SavingLemmas.{holds_same, journal_holds, journal_recovers}
 use Rattle.ix_manager.proofs.RecoverLemmas.{few_kept, none_within, each_within, no_word, heavy, longer}
 
 -- no call
@@ -54,7 +56,7 @@ pub leaves_none : {result : Result ManagerState StartFault} (x : Form) (limit : 
     → AreLawful site crashes → StartLeaves x limit file result (span site site crashes crashes)
 leaves_none x limit file site crashes lawful = record {
   recovers = λ history is at left. inl ((lawful.left_now at).0 left);
-  boots = λ boots holds at left. inl ((lawful.left_now at).0 left);
+  boots = λ renewed boots holds at left. inl ((lawful.left_now at).0 left);
   own = λ is at left. inl ((lawful.left_now at).0 left);
   refused = λ no. (stays site.disk, λ at left. (lawful.left_now at).0 left);
 }
@@ -109,10 +111,11 @@ module _ (x : Form) (limit : ℕ) (file : List ℕ) (old new : SiteState) (was i
     | inr keeps ↦ inr (record { entries = of_file.entries; keeps = keeps; pairs = of_file.pairs })
   ]
 
-  holds_store : (boots : ℕ) → HoldsBoots file boots → (at : List ℕ) → is.left old.tick at → was.now at ⊎ HoldsBoots at boots
-  holds_store boots of_file at left = elim (leaves.keeps of_file.entries of_file.keeps at left) [
+  holds_store : (renewed : Renewed) (boots : ℕ) → HoldsBoots file renewed boots → (at : List ℕ) → is.left old.tick at
+      → was.now at ⊎ HoldsBoots at renewed boots
+  holds_store renewed boots of_file at left = elim (leaves.keeps of_file.entries of_file.keeps at left) [
     | inl now ↦ inl now
-    | inr keeps ↦ inr (record { entries = of_file.entries; keeps = keeps; number = of_file.number })
+    | inr keeps ↦ inr (record { entries = of_file.entries; keeps = keeps; said = of_file.said; number = of_file.number })
   ]
 
   anew : IsNew file (canonical_text x) → (at : List ℕ) → is.left old.tick at → was.now at ⊎ IsOwn x at
@@ -135,19 +138,22 @@ module _ (x : Form) (limit : ℕ) (file : List ℕ) (old new : SiteState) (was i
       → StartLeaves x limit file result (span old new was is)
   leaves_store within = record {
     recovers = recovers_store;
-    boots = λ boots holds at left. elim (holds_store boots holds at left) [ inl now ↦ inl now | inr same ↦ inr (inl same) ];
+    boots = λ renewed boots holds at left. elim (holds_store renewed boots holds at left) [ inl now ↦ inl now | inr same ↦ inr (inl same) ];
     own = own_store;
-    refused = λ no. leaves.stays (λ fresh. no [] 1 (new_startable fresh));
+    refused = λ no. leaves.stays (λ fresh. no [] none_renewed 1 (new_startable fresh));
   }
     where
-      new_startable : IsNew file (canonical_text x) → IsStartable (opening_of x limit [] 1) file
+      none_renewed : Renewed
+      none_renewed = record { carried = 0; actions = 0; boots = 0 }
+
+      new_startable : IsNew file (canonical_text x) → IsStartable (opening_of x limit [] none_renewed 1) file
       new_startable fresh =
           let keeps = new_keeps file (canonical_text x) fresh in record {
             own = image.new fresh;
             recovers = record { entries = []; keeps = keeps; pairs = refl };
             within = none_within x limit (initial_within x limit within);
             boots = 0;
-            holds = record { entries = []; keeps = keeps; number = refl };
+            holds = record { entries = []; keeps = keeps; said = refl; number = refl };
             few = omega arith;
             next = refl;
           }
@@ -159,14 +165,14 @@ stays_told (Some was) None disk keeps is = absurd keeps
 stays_told (Some was) (Some now) disk keeps is = (now, refl)
 
 -- it took the history, and the file can be started from
-pub resumed : (x : Form) (limit : ℕ) (file : List ℕ) (h : PlainHistory) (boots : ℕ) → tree_size x [] ≤ limit
-    → AreAllowed x limit (actions_of h) → boots < 1000000
-    → Opens file (canonical_text x) h boots → IsStartable (opening_of x limit h (boots + 1)) file
-resumed x limit file h boots within allowed few opens = record {
+pub resumed : (x : Form) (limit : ℕ) (file : List ℕ) (h : PlainHistory) (marks : Marks) → tree_size x [] ≤ limit
+    → AreAllowed x limit (actions_of h) → HasBootRoom marks
+    → Opens file (canonical_text x) h marks → IsStartable (opening_of x limit h (renewed_of marks) (marks.boots + 1)) file
+resumed x limit file h marks within allowed few opens = record {
   own = own_of x file opens.recovers.entries opens.own opens.recovers.keeps;
   recovers = opens.recovers;
   within = each_within x limit (actions_of h) (initial_within x limit within) allowed;
-  boots = boots;
+  boots = marks.boots;
   holds = opens.holds;
   few = few;
   next = refl;
@@ -175,13 +181,15 @@ resumed x limit file h boots within allowed few opens = record {
 -- the store fits the machine of the boot that it wrote
 pub begun_fits : (x : Form) (h : PlainHistory) (old new : Keeping) (boot : ℕ) (site : SiteState) (crashes : Crashes)
     → new.failed ≡ false → Fits site crashes new (canonical_text x) h
-    → boot ≡ old.marks.boots + 1 → new.marks ≡ booted old.marks → FitsWith x (start_of h boot) new site crashes
-begun_fits x h old new boot site crashes works fits number is = record {
+    → (renewed_of old.marks).boots ≤ old.marks.boots → boot ≡ old.marks.boots + 1 → new.marks ≡ booted old.marks
+    → FitsWith x (start_of h (renewed_of old.marks) boot) new site crashes
+begun_fits x h old new boot site crashes works fits within number is = record {
   works = works;
   fits = fits;
   tickets = record {
+    renewed = sym (ap renewed_of is);
     boot = number ∙ sym (ap (λ (m : Marks). m.boots) is);
-    begun = omega (arith, number);
+    begun = omega (arith, number, within);
     number = let none = ap (λ (m : Marks). m.seq) is in omega (arith, none);
     reserved = λ ticket a deadline free. free_holds ticket a deadline free;
   };
@@ -191,7 +199,7 @@ begun_fits x h old new boot site crashes works fits number is = record {
 module _ (x : Form) (limit : ℕ) (file : List ℕ) (old mid new : SiteState) (was then is : Crashes)
     (leaves : LeavesOnStart (canonical_text x) file (span old mid was then))
     (before : DiskCalls (span old mid was then)) (calls : DiskCalls (span mid new then is))
-    (h : PlainHistory) (marks : Marks) (opens : Opens file (canonical_text x) h marks.boots)
+    (h : PlainHistory) (marks : Marks) (opens : Opens file (canonical_text x) h marks)
     (images : LeavesOnly (IsBootedOrNot (canonical_text x) h marks) (span mid new then is)) where
   -- an image that a crash may have left is from before the boot was written, or from then on
   since : (at : List ℕ) → is.left old.tick at → then.left old.tick at ⊎ is.left mid.tick at
@@ -209,20 +217,21 @@ module _ (x : Form) (limit : ℕ) (file : List ℕ) (old mid new : SiteState) (w
         inr (subst (λ (w : PlainHistory). Recovers at w) (one_history file h k opens.recovers of_file) recovered)
   ]
 
-  boots_booted : (result : Result ManagerState StartFault) → MayRecord result → (boots : ℕ) → HoldsBoots file boots
-      → (at : List ℕ) → is.left old.tick at → was.now at ⊎ HoldsBoots at boots ⊎ (MayRecord result × HoldsBoots at (boots + 1))
-  boots_booted result may boots of_file at left =
-      let same = one_number file marks.boots boots opens.holds of_file in
+  boots_booted : (result : Result ManagerState StartFault) → MayRecord result → (renewed : Renewed) (boots : ℕ)
+      → HoldsBoots file renewed boots → (at : List ℕ) → is.left old.tick at
+      → was.now at ⊎ HoldsBoots at renewed boots ⊎ (MayRecord result × HoldsBoots at renewed (boots + 1))
+  boots_booted result may renewed boots of_file at left =
+      let same = one_number file (renewed_of marks) renewed marks.boots boots opens.holds of_file in
       elim (since at left) [
-        | inl earlier ↦ elim (holds_store x limit file old mid was then leaves boots of_file at earlier)
+        | inl earlier ↦ elim (holds_store x limit file old mid was then leaves renewed boots of_file at earlier)
             [ inl now ↦ inl now | inr holds ↦ inr (inl holds) ]
         | inr later ↦ let found = images at later in elim found.1 [
-          | inl without ↦ inr (inl (subst (λ n. HoldsBoots at n) same
+          | inl without ↦ inr (inl (holds_same at (renewed_of marks) renewed marks.boots boots (sym same.0) (sym same.1)
               (journal_holds at (canonical_text x) h marks found.0 without)))
           | inr with_it ↦ inr (inr (
             may,
-            subst (λ n. HoldsBoots at (n + 1)) same
-                (journal_holds at (canonical_text x) h (booted marks) found.0 with_it),
+            holds_same at (renewed_of marks) renewed (marks.boots + 1) (boots + 1) (sym same.0)
+                (ap (λ n. n + 1) (sym same.1)) (journal_holds at (canonical_text x) h (booted marks) found.0 with_it),
           ))
         ]
       ]
@@ -237,12 +246,12 @@ module _ (x : Form) (limit : ℕ) (file : List ℕ) (old mid new : SiteState) (w
   ]
 
   pub leaves_booted : (result : Result ManagerState StartFault) → MayRecord result → tree_size x [] ≤ limit
-      → AreAllowed x limit (actions_of h) → marks.boots < 1000000 → StartLeaves x limit file result (span old new was is)
+      → AreAllowed x limit (actions_of h) → HasBootRoom marks → StartLeaves x limit file result (span old new was is)
   leaves_booted result may within allowed few = record {
     recovers = recovers_booted;
     boots = boots_booted result may;
     own = own_booted;
-    refused = λ no. absurd (no h (marks.boots + 1) (resumed x limit file h marks.boots within allowed few opens));
+    refused = λ no. absurd (no h (renewed_of marks) (marks.boots + 1) (resumed x limit file h marks within allowed few opens));
   }
 
 -- the same, of a text, a form and a history that have another spelling
@@ -250,16 +259,16 @@ pub started_leaves : {result : Result ManagerState StartFault} (x : Form) (limit
     (was then is : Crashes) (text : List ℕ) (h pairs : PlainHistory) (form : Form) (store : Keeping)
     → MayRecord result → text ≡ canonical_text x → form ≡ x → pairs ≡ h → old.disk ≡ Some disk
     → LeavesOnStart text disk.file (span old mid was then) → DiskCalls (span old mid was then) → DiskCalls (span mid new then is)
-    → Opens disk.file text h store.marks.boots
+    → Opens disk.file text h store.marks
     → ForSome mid.disk (λ _. LeavesOnly (IsBootedOrNot (canonical_text form) pairs store.marks) (span mid new then is))
-    → tree_size x [] ≤ limit → AreAllowed x limit (actions_of h) → store.marks.boots < 1000000
+    → tree_size x [] ≤ limit → AreAllowed x limit (actions_of h) → HasBootRoom store.marks
     → StartLeaves x limit disk.file result (span old new was is)
 started_leaves {result = result} x limit disk old mid new was then is text h pairs form store may text_is form_is pairs_are told leaves before calls
     opens images =
     let told_then = stays_told old.disk mid.disk disk before.opened told in
     leaves_booted x limit disk.file old mid new was then is
     (subst (λ (t : List ℕ). LeavesOnStart t disk.file (span old mid was then)) text_is leaves) before calls h store.marks
-    (subst (λ (t : List ℕ). Opens disk.file t h store.marks.boots) text_is opens)
+    (subst (λ (t : List ℕ). Opens disk.file t h store.marks) text_is opens)
     (subst (λ (f : Form). LeavesOnly (IsBootedOrNot (canonical_text f) h store.marks) (span mid new then is)) form_is
     (subst (λ (k : PlainHistory). LeavesOnly (IsBootedOrNot (canonical_text form) k store.marks) (span mid new then is)) pairs_are
     (images told_then.0 told_then.1))) result may
@@ -302,16 +311,17 @@ few_recovered file h of_file =
     omega (arith, few, pairs, actions)
 
 -- why an engine of this expression and limit didn't take the history
-pub resume_fault : (x : Form) (limit : ℕ) (file : List ℕ) (h : PlainHistory) (boots : ℕ) (stopped : ResumeFault) → tree_size x [] ≤ limit
-    → boots < 1000000 → Opens file (canonical_text x) h boots → StopsAt x limit (actions_of h) stopped
+pub resume_fault : (x : Form) (limit : ℕ) (file : List ℕ) (h : PlainHistory) (marks : Marks) (stopped : ResumeFault) → tree_size x [] ≤ limit
+    → HasBootRoom marks → Opens file (canonical_text x) h marks → StopsAt x limit (actions_of h) stopped
     → IsStartFault x limit file (record_fault_of stopped.number stopped.why)
-resume_fault x limit file h boots stopped within few opens at = told stopped.why at.refused
+resume_fault x limit file h marks stopped within few opens at = told stopped.why at.refused
   where
     opened : OpensAs x file h
     opened = record {
       own = own_of x file opens.recovers.entries opens.own opens.recovers.keeps;
       recovers = opens.recovers;
-      boots = boots;
+      renewed = renewed_of marks;
+      boots = marks.boots;
       holds = opens.holds;
       few = few;
     }

@@ -3,13 +3,12 @@ use Rattle.std.proofs.Common.{◌≡◌, ℕ, ◌<◌, ◌≤◌, List, [], ◌�
 use Rattle.ix_words.specs.Each.{Each, no_item, item}
 use Rattle.ix_words.proofs.Each.{Each-weaker}
 use Rattle.ix_values.specs.declared.tickets.Ticket.{Ticket}
-use Rattle.ix_journal.specs.Entries.{InOrder, behind, fresh, marks_behind, marks_of, pairs_of}
+use Rattle.ix_journal.specs.Entries.{InOrder, MayFollow, behind, fresh, marks_behind, marks_of, pairs_of}
 use Rattle.ix_journal.specs.History.{Spent}
 use Rattle.ix_journal.specs.Recovery as recovery
 use Rattle.ix_journal.specs.declared.entries.Entry.{Entry}
 use Rattle.ix_journal.specs.declared.entries.Entry.TheVariants as entry
 use Rattle.ix_journal.specs.declared.entries.Marks.{Marks}
-use Rattle.ix_journal.proofs.OrderLemmas.{boots-grow}
 use Rattle.ix_journal.proofs.OutcomeLaws.{one_list}
 use Rattle.ix_manager.specs.Images.{IsStartable}
 use Rattle.ix_manager.specs.LaterLaws.{OverTicketsStayOver}
@@ -27,8 +26,22 @@ IsBelow boot spent = (ticket : Ticket) → spent.0 ≡ Some ticket → ticket.bo
 below_next : (boots boot : ℕ) → boots < boot → (spent : Spent) → IsOfBoots boots spent → IsBelow boot spent
 below_next boots boot less spent of = λ ticket is. let earlier = of ticket is in omega (arith, earlier, less)
 
+-- the number of the last boot doesn't fall
+boot_rises : (m : Marks) (e : Entry) → MayFollow m e → m.boots ≤ (behind m e).boots
+boot_rises m (entry.Renewed actions boots) follows = omega (arith, follows.1)
+boot_rises m (entry.Boot number) follows = omega arith
+boot_rises m (entry.Spent ticket action) follows = omega arith
+boot_rises m (entry.Plain action) follows = omega arith
+
+boots_rise : (m : Marks) (entries : List Entry) → InOrder m entries → m.boots ≤ (marks_behind m entries).boots
+boots_rise m [] order = omega arith
+boots_rise m (e ∷ entries) order =
+    omega (arith, boot_rises m e order.0, boots_rise (behind m e) entries order.1)
+
 of_boots : (marks : Marks) (entries : List Entry) → InOrder marks entries → Each (IsOfBoots (marks_behind marks entries).boots) (pairs_of entries)
 of_boots marks [] order = no_item
+of_boots marks (entry.Renewed actions boots ∷ entries) order =
+    of_boots (behind marks (entry.Renewed actions boots)) entries order.1
 of_boots marks (entry.Boot number ∷ entries) order = of_boots (behind marks (entry.Boot number)) entries order.1
 of_boots marks (entry.Plain a ∷ entries) order =
     item (λ ticket is. absurd (none_some ticket is)) (of_boots (behind marks (entry.Plain a)) entries order.1)
@@ -40,7 +53,7 @@ of_boots marks (entry.Spent spent a ∷ entries) order =
     (λ ticket is.
     let same : spent.boot ≡ ticket.boot = same_boot ticket is in
     let first = order.0.0 in
-    let grown = boots-grow (behind marks (entry.Spent spent a)) entries in
+    let grown = boots_rise (behind marks (entry.Spent spent a)) entries order.1 in
     omega (arith, same, first, grown))
     (of_boots (behind marks (entry.Spent spent a)) entries order.1)
   where
@@ -53,7 +66,7 @@ in_order _ _ (recovery.unfinished bytes is) = tt
 in_order _ _ (recovery.unopened bytes text is) = tt
 in_order _ _ (recovery.ready bytes text entries gate is) = is.closes.records.order
 
-pub start_well : (opening : Opening) (image : List ℕ) → IsStartable opening image → IsWell (start_of opening.history opening.boot)
+pub start_well : (opening : Opening) (image : List ℕ) → IsStartable opening image → IsWell (start_of opening.history opening.renewed opening.boot)
 start_well opening image starts =
     let kept = starts.recovers in
     let holds = starts.holds in
@@ -61,7 +74,7 @@ start_well opening image starts =
     let number : (marks_of kept.entries).boots ≡ starts.boots = ap (λ entries. (marks_of entries).boots) same ∙ holds.number in
     let each = of_boots fresh kept.entries (in_order image kept.entries kept.keeps) in
     let boots : (marks_of kept.entries).boots < opening.boot = let next = starts.next in omega (arith, number, next) in
-    starts_well opening.history opening.boot
+    starts_well opening.history opening.renewed opening.boot
     (subst (Each (IsBelow opening.boot)) kept.pairs (Each-weaker (below_next (marks_of kept.entries).boots opening.boot boots) each))
 
 pub over_tickets_stay_over : OverTicketsStayOver

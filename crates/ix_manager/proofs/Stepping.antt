@@ -8,6 +8,7 @@ use Rattle.ix_words.specs.Each.{Each, no_item, item}
 use Rattle.ix_values.specs.PlainAction.{PlainAction, Word}
 use Rattle.ix_values.specs.declared.tickets.Ticket.{Ticket}
 use Rattle.ix_journal.specs.History.{Spent}
+use Rattle.ix_journal.specs.declared.entries.Renewed.{Renewed}
 use Rattle.ix_expr.specs.Meaning.{IsPartial, IsComplete}
 use Rattle.ix_can.specs.TreeOf.{tree_size}
 use Rattle.ix_engine.specs.Allowed.{IsAllowed, IsPermitted}
@@ -39,12 +40,13 @@ use Rattle.ix_manager.proofs.Polling.{polls_refreshed}
 use Rattle.ix_manager.proofs.Refreshing.{tells_of}
 
 -- the machine of its parts
-abbrev pub core_of : EngineState → List (Option Ticket) → Slot → List PlainWatch → ℕ → ℕ → ℕ → Core
-core_of engine tickets slot watches moment boot number = record {
+abbrev pub core_of : EngineState → List (Option Ticket) → Slot → List PlainWatch → ℕ → Renewed → ℕ → ℕ → Core
+core_of engine tickets slot watches moment renewed boot number = record {
   form = engine.form;
   limit = engine.limit;
   state = record {
     history = zip tickets engine.history;
+    renewed = renewed;
     slot = slot;
     watches = map watch_of watches;
     moment = moment;
@@ -78,6 +80,11 @@ pub seen : (core core' : Core) (request : PlainRequest) (one one' : Reply) (new 
     → Does core request one new → Does core' request one' new
 seen core core' request one one' new same told does =
     subst (λ (r : Reply). Does core' request r new) (sym told) (subst (λ (k : Core). Does k request one new) same does)
+
+-- how far the machine is ahead, in another spelling
+pub ahead_is : (core core' : Core) (n : ℕ) → n ≡ machine.ahead_of core'.state.renewed → core ≡ core'
+    → n ≡ machine.ahead_of core.state.renewed
+ahead_is core core' n value same = value ∙ ap (λ (c : Core). machine.ahead_of c.state.renewed) (sym same)
 
 -- the same where nothing changes
 pub seen_same : (core core' : Core) (request : PlainRequest) (one one' : Reply) → core ≡ core' → one' ≡ one
@@ -120,10 +127,10 @@ busy_does core a lease deadline within =
         machine.busy held ticket (is ∙ ap (λ n. Held ticket held n) h.0) (subst (λ n. core.state.moment < n) h.0 h.1)
 
 module _ (engine : EngineState) (tickets : List (Option Ticket)) (slot : Slot) (watches : List PlainWatch)
-    (moment boot number : ℕ) (each : length tickets ≡ length engine.history) where
+    (moment : ℕ) (renewed : Renewed) (boot number : ℕ) (each : length tickets ≡ length engine.history) where
   -- the machine before
   abbrev old : Core
-  old = core_of engine tickets slot watches moment boot number
+  old = core_of engine tickets slot watches moment renewed boot number
 
   -- its actions are the engine's
   pub words : word_of old.state ≡ engine.history
@@ -144,9 +151,9 @@ module _ (engine : EngineState) (tickets : List (Option Ticket)) (slot : Slot) (
   along : (f : EngineState) (tickets' : List (Option Ticket)) (slot' : Slot) (watches' : List PlainWatch) (number' : ℕ)
       (state : MachineState) (request : PlainRequest) (one : Reply)
       → f.form ≡ engine.form → f.limit ≡ engine.limit
-      → (core_of f tickets' slot' watches' moment boot number').state ≡ state → CanBeTold one
+      → (core_of f tickets' slot' watches' moment renewed boot number').state ≡ state → CanBeTold one
       → Step engine.form engine.limit old.state request (one ∷ []) state
-      → Does old request one (core_of f tickets' slot' watches' moment boot number')
+      → Does old request one (core_of f tickets' slot' watches' moment renewed boot number')
   along f tickets' slot' watches' number' state request one form limit same told step = record {
     step = subst (λ (s : MachineState). Step engine.form engine.limit old.state request (one ∷ []) s) (sym same) step;
     told = told;
@@ -157,7 +164,7 @@ module _ (engine : EngineState) (tickets : List (Option Ticket)) (slot : Slot) (
   pub refused_does : (f : EngineState) (tickets' : List (Option Ticket)) (a : PlainAction) (lease : ℕ) (one : Reply)
       → f.form ≡ engine.form → f.history ≡ engine.history → f.limit ≡ engine.limit → tickets' ≡ tickets
       → ¬ IsOpenAt slot moment → Refuses engine a one
-      → Does old (request.ask a lease) one (core_of f tickets' Free watches moment boot number)
+      → Does old (request.ask a lease) one (core_of f tickets' Free watches moment renewed boot number)
   refused_does f tickets' a lease one p q r t free refuses =
       along f tickets' Free watches number (record old.state { slot = Free }) (request.ask a lease) one p r
       (λ i. record old.state { history = zip (t i) (q i); slot = Free }) (told one refuses) (step one refuses)
@@ -185,7 +192,7 @@ module _ (engine : EngineState) (tickets : List (Option Ticket)) (slot : Slot) (
       → f.form ≡ engine.form → f.history ≡ engine.history → f.limit ≡ engine.limit → tickets' ≡ tickets
       → ¬ IsOpenAt slot moment → Allows engine a → deadline ≡ min (moment + lease) (2 ^ 64 - 1)
       → Does old (request.ask a lease) (reply.Granted (next_ticket old.state))
-      (core_of f tickets' (Held (next_ticket old.state) a deadline) watches moment boot (number + 1))
+      (core_of f tickets' (Held (next_ticket old.state) a deadline) watches moment renewed boot (number + 1))
   granted_does f tickets' a lease deadline p q r t free allowed until =
       along f tickets' (Held (next_ticket old.state) a deadline) watches (number + 1)
       (record old.state { slot = Held (next_ticket old.state) a (min (moment + lease) (2 ^ 64 - 1)); number = number + 1 })
@@ -195,24 +202,25 @@ module _ (engine : EngineState) (tickets : List (Option Ticket)) (slot : Slot) (
 
   pub confirmed_does : (f : EngineState) (tickets' : List (Option Ticket)) (slot' : Slot) (ticket : Ticket) (a b : PlainAction)
       (deadline count : ℕ) → f.form ≡ engine.form → f.limit ≡ engine.limit
-      → f.history ≡ extended engine b → tickets' ≡ tickets ++ Some ticket ∷ [] → b ≡ a → count ≡ length f.history
+      → f.history ≡ extended engine b → tickets' ≡ tickets ++ Some ticket ∷ [] → b ≡ a
+      → count ≡ machine.count_of renewed (zip tickets' f.history)
       → slot ≡ Held ticket a deadline → moment < deadline → slot' ≡ Free
-      → Does old (request.confirm ticket) (reply.Confirmed count) (core_of f tickets' slot' watches moment boot number)
+      → Does old (request.confirm ticket) (reply.Confirmed count) (core_of f tickets' slot' watches moment renewed boot number)
   confirmed_does f tickets' slot' ticket a b deadline count p r q t same counted held within free =
       let grown : f.history ≡ engine.history ++ a ∷ [] = q ∙ ap (λ c. engine.history ++ c ∷ []) same in
       let history : zip tickets' f.history ≡ old.state.history ++ (Some ticket, a) ∷ [] =
       ap (λ ts. zip ts f.history) t ∙ ap (zip (tickets ++ Some ticket ∷ [])) grown
       ∙ zip-push tickets engine.history (Some ticket) a each in
-      let many : count ≡ length old.state.history + 1 =
-      counted ∙ ap length grown ∙ length-append engine.history (a ∷ []) ∙ ap (λ n. n + 1) (sym counts) in
-      subst (λ n. Does old (request.confirm ticket) (reply.Confirmed n) (core_of f tickets' slot' watches moment boot number)) (sym many)
+      let many : count ≡ machine.count old.state + 1 =
+      omega (arith, counted, ap length history, length-append old.state.history ((Some ticket, a) ∷ [])) in
+      subst (λ n. Does old (request.confirm ticket) (reply.Confirmed n) (core_of f tickets' slot' watches moment renewed boot number)) (sym many)
       (along f tickets' slot' watches number (record old.state { history = old.state.history ++ (Some ticket, a) ∷ []; slot = Free })
-      (request.confirm ticket) (reply.Confirmed (length old.state.history + 1)) p r
+      (request.confirm ticket) (reply.Confirmed (machine.count old.state + 1)) p r
       (λ i. record old.state { history = history i; slot = free i }) tt (machine.confirmed a deadline held within))
 
   pub cancelled_does : (slot' : Slot) (ticket : Ticket) (a : PlainAction) (deadline : ℕ)
       → slot ≡ Held ticket a deadline → moment < deadline → slot' ≡ Free
-      → Does old (request.cancel ticket) (reply.Cancelled ticket) (core_of engine tickets slot' watches moment boot number)
+      → Does old (request.cancel ticket) (reply.Cancelled ticket) (core_of engine tickets slot' watches moment renewed boot number)
   cancelled_does slot' ticket a deadline held within free =
       along engine tickets slot' watches number (record old.state { slot = Free }) (request.cancel ticket) (reply.Cancelled ticket) refl refl
       (λ i. record old.state { slot = free i }) tt (machine.cancelled a deadline held within)
@@ -220,28 +228,28 @@ module _ (engine : EngineState) (tickets : List (Option Ticket)) (slot : Slot) (
   -- a refusal that leaves the slot, which has another spelling
   kept_slot : (slot' : Slot) (request : PlainRequest) (one : Reply) → slot' ≡ slot → CanBeTold one
       → Step engine.form engine.limit old.state request (one ∷ []) old.state
-      → Does old request one (core_of engine tickets slot' watches moment boot number)
+      → Does old request one (core_of engine tickets slot' watches moment renewed boot number)
   kept_slot slot' request one same told step =
       along engine tickets slot' watches number old.state request one refl refl
       (λ i. record old.state { slot = same i }) told step
 
   pub confirm_expired_does : (slot' : Slot) (ticket : Ticket) → HasTicket slot ticket → ¬ IsOpenAt slot moment → slot' ≡ slot
-      → Does old (request.confirm ticket) (reply.Refused 31 0) (core_of engine tickets slot' watches moment boot number)
+      → Does old (request.confirm ticket) (reply.Refused 31 0) (core_of engine tickets slot' watches moment renewed boot number)
   confirm_expired_does slot' ticket has closed same =
       kept_slot slot' (request.confirm ticket) (reply.Refused 31 0) same (record { listed = refl; zero_else = λ e. refl }) (machine.confirm_expired has closed)
 
   pub confirm_no_such_does : (slot' : Slot) (ticket : Ticket) → ¬ HasTicket slot ticket → slot' ≡ slot
-      → Does old (request.confirm ticket) (reply.Refused 30 0) (core_of engine tickets slot' watches moment boot number)
+      → Does old (request.confirm ticket) (reply.Refused 30 0) (core_of engine tickets slot' watches moment renewed boot number)
   confirm_no_such_does slot' ticket not same =
       kept_slot slot' (request.confirm ticket) (reply.Refused 30 0) same (record { listed = refl; zero_else = λ e. refl }) (machine.confirm_no_such not)
 
   pub cancel_expired_does : (slot' : Slot) (ticket : Ticket) → HasTicket slot ticket → ¬ IsOpenAt slot moment → slot' ≡ slot
-      → Does old (request.cancel ticket) (reply.Refused 31 0) (core_of engine tickets slot' watches moment boot number)
+      → Does old (request.cancel ticket) (reply.Refused 31 0) (core_of engine tickets slot' watches moment renewed boot number)
   cancel_expired_does slot' ticket has closed same =
       kept_slot slot' (request.cancel ticket) (reply.Refused 31 0) same (record { listed = refl; zero_else = λ e. refl }) (machine.cancel_expired has closed)
 
   pub cancel_no_such_does : (slot' : Slot) (ticket : Ticket) → ¬ HasTicket slot ticket → slot' ≡ slot
-      → Does old (request.cancel ticket) (reply.Refused 30 0) (core_of engine tickets slot' watches moment boot number)
+      → Does old (request.cancel ticket) (reply.Refused 30 0) (core_of engine tickets slot' watches moment renewed boot number)
   cancel_no_such_does slot' ticket not same =
       kept_slot slot' (request.cancel ticket) (reply.Refused 30 0) same (record { listed = refl; zero_else = λ e. refl }) (machine.cancel_no_such not)
 
@@ -249,17 +257,17 @@ module _ (engine : EngineState) (tickets : List (Option Ticket)) (slot : Slot) (
   with_watches : (watches' : List PlainWatch) (new : List MachineWatch) (request : PlainRequest) (one : Reply)
       → map watch_of watches' ≡ new → CanBeTold one
       → Step engine.form engine.limit old.state request (one ∷ []) (record old.state { watches = new })
-      → Does old request one (core_of engine tickets slot watches' moment boot number)
+      → Does old request one (core_of engine tickets slot watches' moment renewed boot number)
   with_watches watches' new request one same told step =
       along engine tickets slot watches' number (record old.state { watches = new }) request one refl refl
       (λ i. record old.state { watches = same i }) told step
 
   pub watching_does : (watches' : List PlainWatch) (name : List ℕ) (a : PlainAction) (told : Bool) → AddsTold engine name a watches told watches'
-      → Does old (request.watch name a) (reply.Watching told) (core_of engine tickets slot watches' moment boot number)
+      → Does old (request.watch name a) (reply.Watching told) (core_of engine tickets slot watches' moment renewed boot number)
   watching_does watches' name a told adds = by_place adds.added adds.adds
     where
       by_place : (added : Added) → Adds watches name a told (Ok added) watches'
-          → Does old (request.watch name a) (reply.Watching told) (core_of engine tickets slot watches' moment boot number)
+          → Does old (request.watch name a) (reply.Watching told) (core_of engine tickets slot watches' moment renewed boot number)
       by_place New h =
           with_watches watches' (map watch_of watches ++ record { name = name; action = a; told = told } ∷ [])
           (request.watch name a) (reply.Watching told)
@@ -274,19 +282,19 @@ module _ (engine : EngineState) (tickets : List (Option Ticket)) (slot : Slot) (
           (ap (map watch_of) there.same ∙ map_between there.before there.watch there.behind) there.is (tells_allowed a told adds.tells))
 
   pub watches_full_does : (watches' : List PlainWatch) (name : List ℕ) (a : PlainAction) → is_watched name a watches ≡ false → length watches ≡ 4096 → watches' ≡ watches
-      → Does old (request.watch name a) (reply.Refused 40 0) (core_of engine tickets slot watches' moment boot number)
+      → Does old (request.watch name a) (reply.Refused 40 0) (core_of engine tickets slot watches' moment renewed boot number)
   watches_full_does watches' name a none many same =
       with_watches watches' (map watch_of watches) (request.watch name a) (reply.Refused 40 0) (ap (map watch_of) same) (record { listed = refl; zero_else = λ e. refl })
       (machine.watches_full (unwatched name a watches none) (length-watches watches ∙ many))
 
   pub watch_memory_does : (watches' : List PlainWatch) (name : List ℕ) (a : PlainAction) → (is_watched name a watches ≡ false → length watches < 4096) → watches' ≡ watches
-      → Does old (request.watch name a) (reply.Refused 90 0) (core_of engine tickets slot watches' moment boot number)
+      → Does old (request.watch name a) (reply.Refused 90 0) (core_of engine tickets slot watches' moment renewed boot number)
   watch_memory_does watches' name a room same =
       with_watches watches' (map watch_of watches) (request.watch name a) (reply.Refused 90 0) (ap (map watch_of) same) (record { listed = refl; zero_else = λ e. refl })
       (machine.watch_memory (λ none. let few = room (unwatched-told name a watches none) in omega (arith, length-watches watches, few)))
 
   pub dropped_does : (watches' : List PlainWatch) (name : List ℕ) (a : PlainAction) → AreDistinct watches → is_watched name a watches ≡ true → watches' ≡ without name a watches
-      → Does old (request.drop_watch name a) reply.Dropped (core_of engine tickets slot watches' moment boot number)
+      → Does old (request.drop_watch name a) reply.Dropped (core_of engine tickets slot watches' moment renewed boot number)
   dropped_does watches' name a distinct is same =
       let there = found name a true watches distinct is in
       with_watches watches' (map watch_of there.before ++ map watch_of there.behind) (request.drop_watch name a) reply.Dropped
@@ -295,18 +303,18 @@ module _ (engine : EngineState) (tickets : List (Option Ticket)) (slot : Slot) (
       (ap (map watch_of) there.same ∙ map_between there.before there.watch there.behind) there.is)
 
   pub no_such_watch_does : (watches' : List PlainWatch) (name : List ℕ) (a : PlainAction) → is_watched name a watches ≡ false → watches' ≡ without name a watches
-      → Does old (request.drop_watch name a) (reply.Refused 41 0) (core_of engine tickets slot watches' moment boot number)
+      → Does old (request.drop_watch name a) (reply.Refused 41 0) (core_of engine tickets slot watches' moment renewed boot number)
   no_such_watch_does watches' name a none same =
       with_watches watches' (map watch_of watches) (request.drop_watch name a) (reply.Refused 41 0) (ap (map watch_of) (same ∙ without_none name a watches none))
       (record { listed = refl; zero_else = λ e. refl }) (machine.drop_no_such (unwatched name a watches none))
 
   pub poll_memory_does : (watches' : List PlainWatch) (name : List ℕ) → map watch_of watches' ≡ map watch_of watches → ¬ HasNoWatch name (map watch_of watches)
-      → Does old (request.poll name) (reply.Refused 90 0) (core_of engine tickets slot watches' moment boot number)
+      → Does old (request.poll name) (reply.Refused 90 0) (core_of engine tickets slot watches' moment renewed boot number)
   poll_memory_does watches' name same has =
       with_watches watches' (map watch_of watches) (request.poll name) (reply.Refused 90 0) same (record { listed = refl; zero_else = λ e. refl }) (machine.poll_memory has)
 
   pub refreshes : (watches' : List PlainWatch) (name : List ℕ) → map watch_of watches' ≡ map watch_of watches → IsNoted engine name watches'
-      → Refreshes old name (core_of engine tickets slot watches' moment boot number)
+      → Refreshes old name (core_of engine tickets slot watches' moment renewed boot number)
   refreshes watches' name same noted = record {
     state = λ i. record old.state { watches = same i };
     refreshed = all watches' noted;
@@ -321,9 +329,9 @@ module _ (engine : EngineState) (tickets : List (Option Ticket)) (slot : Slot) (
           item (λ named. tells_allowed watch.action watch.now (tells named)) (all rest others)
 
   pub tells_poll : (watches' : List PlainWatch) (name : List ℕ) → watches' ≡ told_to name watches → IsRefreshed old name
-      → TellsPoll old name (core_of engine tickets slot watches' moment boot number)
+      → TellsPoll old name (core_of engine tickets slot watches' moment renewed boot number)
   tells_poll watches' name same refreshed =
-      subst (λ (ws : List PlainWatch). TellsPoll old name (core_of engine tickets slot ws moment boot number)) (sym same) (record {
+      subst (λ (ws : List PlainWatch). TellsPoll old name (core_of engine tickets slot ws moment renewed boot number)) (sym same) (record {
         polls = polls_refreshed (IsAllowed engine.form engine.limit (word_of old.state)) name watches refreshed;
         rest = refl;
         form = refl;
@@ -336,35 +344,42 @@ module _ (engine : EngineState) (tickets : List (Option Ticket)) (slot : Slot) (
       (machine.may (of_words (λ (w : Word). Tells (IsPermitted engine.form w a) answer) (tells_of answer both))) tt
 
   pub status_does : (complete : Bool) (count nodes : ℕ) → IsTrue complete ↔ IsComplete engine.form [] engine.history
-      → count ≡ length engine.history → nodes ≡ tree_size engine.form engine.history
+      → count ≡ machine.count old.state → nodes ≡ tree_size engine.form engine.history
       → Does old request.status (reply.Status complete count nodes) old
   status_does complete count nodes both counted sized =
-      let length_is : count ≡ length old.state.history = counted ∙ sym counts in
       let size_is : nodes ≡ tree_size engine.form (word_of old.state) = sized ∙ ap (tree_size engine.form) (sym words) in
       unchanged old request.status (reply.Status complete count nodes)
-      (subst (λ n. Step engine.form engine.limit old.state request.status (reply.Status complete n nodes ∷ []) old.state) (sym length_is)
-      (subst (λ n. Step engine.form engine.limit old.state request.status (reply.Status complete (length old.state.history) n ∷ []) old.state) (sym size_is)
+      (subst (λ n. Step engine.form engine.limit old.state request.status (reply.Status complete n nodes ∷ []) old.state) (sym counted)
+      (subst (λ n. Step engine.form engine.limit old.state request.status (reply.Status complete (machine.count old.state) n ∷ []) old.state) (sym size_is)
       (machine.status (of_words (λ (w : Word). Tells (IsComplete engine.form [] w) complete) (tells_of complete both))))) tt
 
-  pub entry_does : (place index : ℕ) (a : PlainAction) → place ≡ index + 1 → index < length engine.history → a ≡ get_or engine.history index a
+  pub entry_does : (place index : ℕ) (a : PlainAction) → place ≡ machine.ahead_of renewed + index + 1 → renewed.actions < place
+      → index < length engine.history → a ≡ get_or engine.history index a
       → Does old (request.log place) (reply.Entry place a) old
-  entry_does place index a next within there =
+  entry_does place index a next above within there =
       let parts = entry_parts engine.history index a within there in
       unchanged old (request.log place) (reply.Entry place a)
-      (machine.entry parts.before parts.behind (words ∙ parts.same) (next ∙ ap (λ n. n + 1) (sym parts.place))) tt
+      (machine.entry parts.before parts.behind (words ∙ parts.same) (omega (arith, next, parts.place)) above) tt
 
-  pub no_entry_does : (place index : ℕ) → place ≡ index + 1 → length engine.history ≤ index
+  pub entry_left_out_does : (place : ℕ) → 0 < place → place ≤ renewed.actions
+      → Does old (request.log place) (reply.Refused 33 0) old
+  entry_left_out_does place some within =
+      unchanged old (request.log place) (reply.Refused 33 0) (machine.entry_left_out some within)
+      (record { listed = refl; zero_else = λ e. refl })
+
+  pub no_entry_does : (place index : ℕ) → place ≡ machine.ahead_of renewed + index + 1 → length engine.history ≤ index
       → Does old (request.log place) (reply.Refused 42 0) old
   no_entry_does place index next behind =
       unchanged old (request.log place) (reply.Refused 42 0) (machine.no_such_entry (inr (let n = counts in omega (arith, n, next, behind)))) (record { listed = refl; zero_else = λ e. refl })
 
   -- a ticket that is kept at this index
-  pub outcome_confirmed_does : (ticket : Ticket) (index place : ℕ) → position (has_ticket ticket) tickets ≡ Some index → place ≡ index + 1
+  pub outcome_confirmed_does : (ticket : Ticket) (index place : ℕ) → position (has_ticket ticket) tickets ≡ Some index
+      → place ≡ machine.ahead_of renewed + index + 1
       → Does old (request.outcome ticket) (reply.Outcome (became.Confirmed place)) old
   outcome_confirmed_does ticket index place found next =
       let parts = kept_at ticket tickets engine.history index each found in
       unchanged old (request.outcome ticket) (reply.Outcome (became.Confirmed place))
-      (machine.outcome_confirmed parts.before parts.behind parts.action parts.same (next ∙ ap (λ n. n + 1) (sym parts.place))) tt
+      (machine.outcome_confirmed parts.before parts.behind parts.action parts.same (omega (arith, next, parts.place))) tt
 
   module _ (ticket : Ticket) (none : position (has_ticket ticket) tickets ≡ None) where
     absent : IsAbsent ticket old.state.history
@@ -380,10 +395,17 @@ module _ (engine : EngineState) (tickets : List (Option Ticket)) (slot : Slot) (
         unchanged old (request.outcome ticket) (reply.Refused 30 0) (machine.outcome_no_such absent closed ungranted)
         (record { listed = refl; zero_else = λ e. refl })
 
+    pub outcome_left_out_does : ¬ IsOpenWith slot moment ticket → ¬ IsUngranted boot number ticket
+        → ticket.boot ≤ renewed.boots → Does old (request.outcome ticket) (reply.Refused 32 0) old
+    outcome_left_out_does closed granted before =
+        unchanged old (request.outcome ticket) (reply.Refused 32 0) (machine.outcome_left_out absent closed granted before)
+        (record { listed = refl; zero_else = λ e. refl })
+
     pub outcome_never_does : ¬ IsOpenWith slot moment ticket → ¬ IsUngranted boot number ticket
-        → Does old (request.outcome ticket) (reply.Outcome became.Never) old
-    outcome_never_does closed granted =
-        unchanged old (request.outcome ticket) (reply.Outcome became.Never) (machine.outcome_never absent closed granted) tt
+        → renewed.boots < ticket.boot → Does old (request.outcome ticket) (reply.Outcome became.Never) old
+    outcome_never_does closed granted later =
+        unchanged old (request.outcome ticket) (reply.Outcome became.Never)
+        (machine.outcome_never absent closed granted later) tt
 
 -- no entry has the number 0
 pub zeroth_does : (core : Core) (number : ℕ) → number ≡ 0 → Does core (request.log number) (reply.Refused 42 0) core

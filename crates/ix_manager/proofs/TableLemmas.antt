@@ -14,7 +14,7 @@ use Rattle.ix_proto.specs.Requests.{PlainRequest}
 use Rattle.ix_proto.specs.declared.reply.Reply.{Reply}
 use Rattle.ix_proto.specs.declared.reply.Reply.TheVariants as reply
 use Rattle.ix_manager.specs.Refusals as refused
-use Rattle.ix_manager.specs.Machine.{MachineState, MachineWatch, Step, Tells, Polls, done, other, same, changed, busy, not_permitted, full, large, granted, ask_memory, confirmed, confirm_expired, confirm_no_such, cancelled, cancel_expired, cancel_no_such, outcome_confirmed, outcome_open, outcome_no_such, outcome_never, may, watches_full, watches_new, watches_again, watch_memory, dropped, drop_no_such, polled, poll_memory, status, entry, no_such_entry, stopping, word_of}
+use Rattle.ix_manager.specs.Machine.{MachineState, MachineWatch, Step, Tells, Polls, done, other, same, changed, busy, not_permitted, full, large, granted, ask_memory, confirmed, confirm_expired, confirm_no_such, cancelled, cancel_expired, cancel_no_such, outcome_confirmed, outcome_open, outcome_no_such, outcome_left_out, outcome_never, may, watches_full, watches_new, watches_again, watch_memory, dropped, drop_no_such, polled, poll_memory, status, entry, entry_left_out, no_such_entry, stopping, count, word_of}
 use Rattle.ix_manager.specs.MachineLaws.{OpenTicketsAreConfirmed, MayWantMemory, OnlySomeWantMemory, HasChanged, change_of, PollsTellWhatChanged}
 use Rattle.ix_manager.proofs.SlotLemmas.{some_ticket}
 
@@ -35,7 +35,7 @@ action_in b (Held ticket a deadline) = a
 confirmed_alone : {x : Form} {limit : ℕ} {s after : MachineState} {asked : PlainRequest} {replies : List Reply}
     → Step x limit s asked replies after → (ticket : Ticket) (deadline : ℕ) (a : PlainAction) → asked ≡ request.confirm ticket
     → s.slot ≡ Held ticket a deadline → s.moment < deadline
-    → (replies ≡ reply.Confirmed (length s.history + 1) ∷ [])
+    → (replies ≡ reply.Confirmed (count s + 1) ∷ [])
     × (after ≡ record s { history = s.history ++ (Some ticket, a) ∷ []; slot = Free })
 confirmed_alone {s = s} (confirmed {ticket = t} b end held within) ticket deadline a asked is before = (
   refl,
@@ -83,12 +83,14 @@ wants_memory (cancel_no_such _) e = absurd (omega arith)
 wants_memory (outcome_confirmed _ _ _ _ _) e = absurd (omega arith)
 wants_memory (outcome_open _ _) e = absurd (omega arith)
 wants_memory (outcome_no_such _ _ _) e = absurd (omega arith)
-wants_memory (outcome_never _ _ _) e = absurd (omega arith)
+wants_memory (outcome_left_out _ _ _ _) e = absurd (omega arith)
+wants_memory (outcome_never _ _ _ _) e = absurd (omega arith)
 wants_memory (may _) e = absurd (omega arith)
 wants_memory (dropped _ _ _ _ _) e = absurd (omega arith)
 wants_memory (drop_no_such _) e = absurd (omega arith)
 wants_memory (status _) e = absurd (omega arith)
-wants_memory (entry _ _ _ _) e = absurd (omega arith)
+wants_memory (entry _ _ _ _ _) e = absurd (omega arith)
+wants_memory (entry_left_out _ _) e = absurd (omega arith)
 wants_memory (no_such_entry _) e = absurd (omega arith)
 wants_memory stopping e = absurd (omega arith)
 

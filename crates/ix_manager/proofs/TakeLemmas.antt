@@ -187,7 +187,7 @@ pub record Reaches (conn : ℕ) (all : List Item) (first : Journaled) (before : 
   pub progress : Progress conn all first.machine before items now.machine here
   pub saves : SavesJournal going first now (span before.site here.site p q)
   pub acknowledges : Acknowledges first.machine.form (length first.machine.state.history)
-      now.machine.state.history
+      now.machine.state.history first.machine.state.renewed
       (all_replies progress.answers) (span before.site here.site p q)
 
 pub reach_begins : (conn : ℕ) (items : List Item) (j : Journaled) (w : WireState) (p : Crashes) → AreLawful w.site p
@@ -225,9 +225,10 @@ reach_acknowledges : (ending : Ending) (conn : ℕ) (all items : List Item)
     → (replies : List Reply)
     → SavesJournal ending now next (span here.site there.site q r) → SendsAll conn replies here there
     → Acknowledges now.machine.form (length now.machine.state.history)
-    (with_failed ending next.machine.state.history) replies (span here.site there.site q r)
+    (with_failed ending next.machine.state.history) now.machine.state.renewed replies
+    (span here.site there.site q r)
     → Acknowledges first.machine.form (length first.machine.state.history)
-    (with_failed ending next.machine.state.history)
+    (with_failed ending next.machine.state.history) first.machine.state.renewed
     (all_replies reach.progress.answers ++ replies) (span before.site there.site p r)
 reach_acknowledges ending conn all items first now next before here there p q r lawful reach replies
     saves sends acknowledges =
@@ -236,12 +237,14 @@ reach_acknowledges ending conn all items first now next before here there p q r 
     let mid = now.machine.state.history in
     let new = with_failed ending next.machine.state.history in
     let longer = sym (ap length reach.saves.grows) ∙ length-append h reach.saves.rest in
-    acknowledges_join x h mid new saves.rest conn (all_replies reach.progress.answers) replies
+    acknowledges_join x h mid new saves.rest first.machine.state.renewed conn (all_replies reach.progress.answers) replies
     before here there p q r lawful reach.saves.passes.left.later
     saves.passes.left_since reach.progress.sends sends reach.saves.sends saves.sends saves.told
     reach.acknowledges
-    (subst (λ y. Acknowledges y (length mid) new replies (span here.site there.site q r)) reach.progress.form
-    acknowledges)
+    (subst (λ y. Acknowledges y (length mid) new first.machine.state.renewed replies (span here.site there.site q r))
+    reach.progress.form
+    (subst (λ n. Acknowledges now.machine.form (length mid) new n replies (span here.site there.site q r))
+    reach.saves.renewed acknowledges))
     saves.grows (omega (arith, longer))
 
 -- of the replies to an item behind those so far
@@ -251,14 +254,15 @@ reach_item_acknowledges : (ending : Ending) (conn : ℕ) (all items : List Item)
     → (replies : List Reply)
     → SavesJournal ending now next (span here.site there.site q r) → SendsAll conn replies here there
     → Acknowledges now.machine.form (length now.machine.state.history)
-    (with_failed ending next.machine.state.history) replies (span here.site there.site q r)
+    (with_failed ending next.machine.state.history) now.machine.state.renewed replies
+    (span here.site there.site q r)
     → Acknowledges first.machine.form (length first.machine.state.history)
-    (with_failed ending next.machine.state.history)
+    (with_failed ending next.machine.state.history) first.machine.state.renewed
     (all_replies (reach.progress.answers ++ replies ∷ [])) (span before.site there.site p r)
 reach_item_acknowledges ending conn all items first now next before here there p q r lawful reach
     replies saves sends acknowledges =
     subst (λ rs. Acknowledges first.machine.form (length first.machine.state.history)
-    (with_failed ending next.machine.state.history) rs (span before.site there.site p r))
+    (with_failed ending next.machine.state.history) first.machine.state.renewed rs (span before.site there.site p r))
     (sym (one_item_more reach.progress.answers replies))
     (reach_acknowledges ending conn all items first now next before here there p q r lawful reach
     replies saves sends acknowledges)
@@ -270,7 +274,7 @@ record ItemGoes (conn : ℕ) (item : Item) (ending : Ending) (now next : Journal
   pub made : AnswersItem conn item ending replies now.machine next.machine here there
   pub saves : SavesJournal ending now next (span here.site there.site q r)
   pub acknowledges : Acknowledges now.machine.form (length now.machine.state.history)
-      (with_failed ending next.machine.state.history)
+      (with_failed ending next.machine.state.history) now.machine.state.renewed
       replies (span here.site there.site q r)
 
 -- one item more was answered
@@ -380,7 +384,8 @@ module _ (conn : ℕ) (all : List Item) (first : Journaled) (before : WireState)
         saves = saves_of_first going conn all [] first now next before here there p q r lawful left
             rests.saves;
         acknowledges = subst (λ replies. Acknowledges first.machine.form
-            (length first.machine.state.history) w.history replies (span before.site there.site p r))
+            (length first.machine.state.history) w.history first.machine.state.renewed replies
+            (span before.site there.site p r))
             (append-nil so_far)
             (reach_acknowledges going conn all [] first now next before here there p q r lawful_here
             left [] rests.saves nothing

@@ -7,6 +7,7 @@ use Rattle.ix_words.proofs.Each.{Each-append, Each-weaker}
 use Rattle.ix_values.specs.PlainAction.{PlainAction}
 use Rattle.ix_values.specs.declared.tickets.Ticket.{Ticket}
 use Rattle.ix_journal.specs.History.{PlainHistory, Spent}
+use Rattle.ix_journal.specs.declared.entries.Renewed.{Renewed}
 use Rattle.ix_expr.specs.Form.{Form}
 use Rattle.ix_lease.specs.Slots.{HasTicket, IsOpenAt}
 use Rattle.ix_lease.specs.declared.Slot.{Slot}
@@ -96,7 +97,7 @@ kept_before whole well = well.kept
 kept_before {s = s} (confirming {ticket = ticket} {a = a} {deadline = deadline} held before) well =
     Each-append well.kept (item (pair_granted s.boot s.number s.history ticket a (well.held ticket a deadline held)) no_item)
 
-well_starts : {s : MachineState} {kept : PlainHistory} → MayKeep s kept → IsWell s → IsWell (start_of kept (s.boot + 1))
+well_starts : {s : MachineState} {kept : PlainHistory} → MayKeep s kept → IsWell s → IsWell (start_of kept s.renewed (s.boot + 1))
 well_starts {s = s} may well = record {
   kept = Each-weaker (next_boot s.boot s.number) (kept_before may well);
   held = λ ticket a deadline is. free_holds ticket a deadline is;
@@ -173,7 +174,7 @@ absent_kept whole over = over.absent
 absent_kept {s = s} {ticket = over} (confirming {ticket = ticket} {a = a} {deadline = deadline} held before) is =
     other_pair s ticket over a deadline held before is
 
-over_starts : {s : MachineState} {kept : PlainHistory} {ticket : Ticket} → MayKeep s kept → IsOver s ticket → IsOver (start_of kept (s.boot + 1)) ticket
+over_starts : {s : MachineState} {kept : PlainHistory} {ticket : Ticket} → MayKeep s kept → IsOver s ticket → IsOver (start_of kept s.renewed (s.boot + 1)) ticket
 over_starts {s = s} may over = record {
   granted = let earlier = over.granted.earlier in record {
     earlier = omega (arith, earlier);
@@ -257,11 +258,11 @@ over_begins {s = s} (cancelled {ticket = asked} a deadline held before) holds te
     subst (IsOver (record s { slot = Free })) tells (cancelled_over s asked a deadline holds held)
 over_begins (confirm_no_such none) holds tells = let no = tells.0 in absurd (omega (arith, no))
 over_begins (cancel_no_such none) holds tells = let no = tells.0 in absurd (omega (arith, no))
-over_begins {s = s} (outcome_never {ticket = asked} absent shut ungranted) holds tells =
+over_begins {s = s} (outcome_never {ticket = asked} absent shut ungranted later) holds tells =
     subst (IsOver s) tells (record {
       granted = record {
         earlier = elim (cases_lt s.boot asked.boot) [
-          | inl later ↦ absurd (ungranted (inr (inr (inl later))))
+          | inl above ↦ absurd (ungranted (inr (inr (inl above))))
           | inr earlier ↦ earlier
         ];
         below = λ same. elim (cases_lt asked.seq s.number) [
@@ -275,9 +276,10 @@ over_begins {s = s} (outcome_never {ticket = asked} absent shut ungranted) holds
 over_begins _ holds tells = absurd tells
 
 -- a start over tickets of earlier boots
-pub starts_well : (history : PlainHistory) (boot : ℕ)
-    → Each (λ (spent : Spent). (ticket : Ticket) → spent.0 ≡ Some ticket → ticket.boot < boot) history → IsWell (start_of history boot)
-starts_well history boot each = record {
+pub starts_well : (history : PlainHistory) (renewed : Renewed) (boot : ℕ)
+    → Each (λ (spent : Spent). (ticket : Ticket) → spent.0 ≡ Some ticket → ticket.boot < boot) history
+    → IsWell (start_of history renewed boot)
+starts_well history renewed boot each = record {
   kept = Each-weaker (λ spent of. λ ticket is.
       let earlier = of ticket is in record {
         earlier = omega (arith, earlier);

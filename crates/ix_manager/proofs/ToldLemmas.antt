@@ -1,4 +1,5 @@
 -- What a run told of tickets and of entries stays.
+use Rattle.ix_journal.specs.declared.entries.Renewed.{Renewed}
 use Rattle.std.proofs.Common.{◌≡◌, ◌≢◌, ℕ, ◌+◌, ◌<◌, ◌≤◌, List, [], ◌∷◌, ◌++◌, length, Some, append_assoc, refl, sym, ◌∙◌, ap, subst, arith}
 use Rattle.std.proofs.lemmas.List.{length-map, map-append}
 use Rattle.std.specs.Prelude.{⊤}
@@ -20,14 +21,14 @@ use Rattle.ix_manager.specs.Images.{IsStartable, with_failed}
 use Rattle.ix_manager.specs.Later.{restarts, stays}
 use Rattle.ix_manager.specs.LaterLaws.{IsEntryOf, TellsOver}
 use Rattle.ix_manager.specs.Machine as machine
-use Rattle.ix_manager.specs.Machine.{IsAbsent, MachineState, MachineWatch, Polls, Step, start_of}
+use Rattle.ix_manager.specs.Machine.{IsAbsent, MachineState, MachineWatch, Polls, Step, start_of, count_of}
 use Rattle.ix_manager.specs.Refusals.{disk}
 use Rattle.ix_manager.specs.Runs.{Ending, ItemStep, Opening, Run, Steps, begin, failed, going, last, more, none, requested, stopped, takes}
 use Rattle.ix_manager.specs.ToldLaws.{AcknowledgedEntriesAreKept, AcknowledgedOutcomesAreKept, HasTicketAt, HasToldOver, TicketsAreOfTheirBoot, ToldEntriesAreKept, ToldOutcomesStay, ToldTicketsStayOver}
-use Rattle.ix_manager.proofs.AnsweredLemmas.{answered_request, run_boot, run_kept, runs_stand}
+use Rattle.ix_manager.proofs.AnsweredLemmas.{answered_request, run_boot, run_kept, runs_stand, run_renewed}
 use Rattle.ix_manager.proofs.Changing.{item_changes}
 use Rattle.ix_manager.proofs.GrowingLemmas.{Grows, grows_not}
-use Rattle.ix_manager.proofs.LaterLemmas.{changes_boot, entry_stays, entry_told, later_grows, later_join}
+use Rattle.ix_manager.proofs.LaterLemmas.{changes_boot, entry_stays, entry_told, later_grows, later_join, later_renewed}
 use Rattle.ix_manager.proofs.RequestsApart.{IsAlone, cancels_alone, confirms_alone, logs_alone, outcomes_alone}
 use Rattle.ix_manager.proofs.StartTickets.{start_well}
 use Rattle.ix_manager.proofs.TicketLemmas.{IsOver, later_over, later_well, over_begins, stays_over, well_holds}
@@ -91,14 +92,14 @@ over_alone apart _ replies ticket tells valid = absurd tells
 pub told_over : TextsTellTicketsApart → (opening : Opening) (image : List ℕ) {events : List GivenEvent} {answers : List (List (List Reply))}
     {final : MachineState} {ending : Ending} (ticket : Ticket)
     → IsStartable opening image → Run opening events answers final ending → HasToldOver ticket events answers
-    → IsOver (start_of (with_failed ending final.history) (opening.boot + 1)) ticket
+    → IsOver (start_of (with_failed ending final.history) opening.renewed (opening.boot + 1)) ticket
 told_over apart opening image {final = final} {ending = ending} ticket starts run told =
     let asked = told.0 in
     let tells = told.2 in
     let st = runs_stand (over_alone apart asked told.1 ticket tells (answered_request told.3))
     (λ is. over_apart asked ticket (subst (λ rs. TellsOver asked rs ticket) is tells)) run told.3 in
-    subst (λ boot. IsOver (start_of (with_failed ending final.history) (boot + 1)) ticket) st.boot
-    (stays_over (later_join st.comes (restarts st.keeps stays))
+    subst (λ (both : Renewed × ℕ). IsOver (start_of (with_failed ending final.history) both.0 (both.1 + 1)) ticket)
+    (λ i. (st.renewed i, st.boot i)) (stays_over (later_join st.comes (restarts st.keeps stays))
     (over_begins st.step (well_holds st.before (later_well st.reached (start_well opening image starts))) tells))
 
 pub told_tickets_stay_over : TextsTellTicketsApart → ToldTicketsStayOver
@@ -107,23 +108,25 @@ told_tickets_stay_over apart opening image events answers final ending ticket st
 
 -- a ticket that is over where a run starts isn't in its history
 pub over_in_run : {opening : Opening} {events : List GivenEvent} {answers : List (List (List Reply))} {final : MachineState} {ending : Ending}
-    (ticket : Ticket) → Run opening events answers final ending → IsOver (start_of opening.history opening.boot) ticket
+    (ticket : Ticket) → Run opening events answers final ending → IsOver (start_of opening.history opening.renewed opening.boot) ticket
     → IsAbsent ticket (with_failed ending final.history)
 over_in_run ticket run over = let kept = run_kept run in later_over (later_join kept.1 (restarts kept.2 stays)) over
 
 -- the reply to an `outcome` tells the place of a pair
-abbrev TellsPlace : PlainRequest → List Reply → PlainHistory → Type 0
-TellsPlace (request.outcome ticket) (reply.Outcome (became.Confirmed number) ∷ []) history = HasTicketAt history number ticket
-TellsPlace _ _ history = ⊤
+abbrev TellsPlace : PlainRequest → List Reply → Renewed → PlainHistory → Type 0
+TellsPlace (request.outcome ticket) (reply.Outcome (became.Confirmed number) ∷ []) renewed history =
+    HasTicketAt renewed history number ticket
+TellsPlace _ _ renewed history = ⊤
 
 place_told : {x : Form} {limit : ℕ} {s after : MachineState} {asked : PlainRequest} {replies : List Reply}
-    → Step x limit s asked replies after → TellsPlace asked replies after.history
+    → Step x limit s asked replies after → TellsPlace asked replies after.renewed after.history
 place_told (machine.outcome_confirmed before behind a split place) =
     record { before = before; action = a; behind = behind; split = split; place = place }
 place_told _ = tt
 
-place_stays : (one two : PlainHistory) (number : ℕ) (ticket : Ticket) → Grows one two → HasTicketAt one number ticket → HasTicketAt two number ticket
-place_stays one two number ticket grows is = record {
+place_stays : (renewed : Renewed) (one two : PlainHistory) (number : ℕ) (ticket : Ticket) → Grows one two
+    → HasTicketAt renewed one number ticket → HasTicketAt renewed two number ticket
+place_stays renewed one two number ticket grows is = record {
   before = is.before;
   action = is.action;
   behind = is.behind ++ grows.0;
@@ -143,12 +146,16 @@ entry_apart number a = λ is. cc
 pub told_outcomes_stay : TextsTellTicketsApart → ToldOutcomesStay
 told_outcomes_stay apart opening events answers final ending ticket number run has =
     let st = runs_stand (outcomes_alone apart ticket (answered_request has)) (outcome_apart number) run has in
-    place_stays st.behind.history final.history number ticket (later_grows st.rest) (place_told st.step)
+    let same : st.behind.renewed ≡ opening.renewed = sym (later_renewed st.rest) ∙ run_renewed run in
+    place_stays opening.renewed st.behind.history final.history number ticket (later_grows st.rest)
+    (subst (λ (r : Renewed). HasTicketAt r st.behind.history number ticket) same (place_told st.step))
 
 pub told_entries_are_kept : ToldEntriesAreKept
 told_entries_are_kept opening events answers final ending number a run has =
     let st = runs_stand (logs_alone number (answered_request has)) (entry_apart number a) run has in
-    entry_stays st.behind.history final.history number a (later_grows st.rest) (entry_told st.step)
+    let same : st.behind.renewed ≡ opening.renewed = sym (later_renewed st.rest) ∙ run_renewed run in
+    entry_stays opening.renewed st.behind.history final.history number a (later_grows st.rest)
+    (subst (λ (r : Renewed). IsEntryOf r (actions_of st.behind.history) number a) same (entry_told st.step))
 
 -- an item of a list whose place is in a front of it is one of the front
 in_front : {A : Type 0} (front rest before behind : List A) (a : A) → before ++ a ∷ behind ≡ front ++ rest → length before < length front
@@ -165,9 +172,10 @@ failed_grows going history = grows_not history
 failed_grows stopped history = grows_not history
 failed_grows (failed spent) history = (spent ∷ [], refl)
 
-entry_in_front : (kept rest all : PlainHistory) (number : ℕ) (a : PlainAction) → kept ++ rest ≡ all → number ≤ length kept
-    → IsEntryOf (actions_of all) number a → IsEntryOf (actions_of kept) number a
-entry_in_front kept rest all number a prefix within is =
+entry_in_front : (renewed : Renewed) (kept rest all : PlainHistory) (number : ℕ) (a : PlainAction) → kept ++ rest ≡ all
+    → number ≤ count_of renewed kept
+    → IsEntryOf renewed (actions_of all) number a → IsEntryOf renewed (actions_of kept) number a
+entry_in_front renewed kept rest all number a prefix within is =
     let parts : actions_of kept ++ actions_of rest ≡ actions_of all =
     sym (map-append (λ (spent : Spent). spent.1) kept rest) ∙ ap actions_of prefix in
     let long = length-map kept (λ (spent : Spent). spent.1) in
@@ -175,9 +183,10 @@ entry_in_front kept rest all number a prefix within is =
     let it = in_front (actions_of kept) (actions_of rest) is.before is.behind a (sym is.split ∙ sym parts) (omega (arith, within, long, place)) in
     record { before = is.before; behind = it.0; split = it.1; place = place }
 
-ticket_in_front : (kept rest all : PlainHistory) (number : ℕ) (ticket : Ticket) → kept ++ rest ≡ all → number ≤ length kept
-    → HasTicketAt all number ticket → HasTicketAt kept number ticket
-ticket_in_front kept rest all number ticket prefix within is =
+ticket_in_front : (renewed : Renewed) (kept rest all : PlainHistory) (number : ℕ) (ticket : Ticket) → kept ++ rest ≡ all
+    → number ≤ count_of renewed kept
+    → HasTicketAt renewed all number ticket → HasTicketAt renewed kept number ticket
+ticket_in_front renewed kept rest all number ticket prefix within is =
     let place = is.place in
     let it = in_front kept rest is.before is.behind (Some ticket, is.action) (sym is.split ∙ sym prefix) (omega (arith, within, place)) in
     record { before = is.before; action = is.action; behind = it.0; split = it.1; place = place }
@@ -185,13 +194,13 @@ ticket_in_front kept rest all number ticket prefix within is =
 pub acknowledged_entries_are_kept : AcknowledgedEntriesAreKept
 acknowledged_entries_are_kept opening events answers final ending number a least replies before left run has image acked =
     let all = with_failed ending final.history in
-    entry_in_front image.keeps.kept image.keeps.rest all number a image.keeps.prefix (image.acknowledged number acked)
-    (entry_stays final.history all number a (failed_grows ending final.history)
+    entry_in_front opening.renewed image.keeps.kept image.keeps.rest all number a image.keeps.prefix (image.acknowledged number acked)
+    (entry_stays opening.renewed final.history all number a (failed_grows ending final.history)
     (told_entries_are_kept opening events answers final ending number a run has))
 
 pub acknowledged_outcomes_are_kept : TextsTellTicketsApart → AcknowledgedOutcomesAreKept
 acknowledged_outcomes_are_kept apart opening events answers final ending ticket number least replies before left run has image acked =
     let all = with_failed ending final.history in
-    ticket_in_front image.keeps.kept image.keeps.rest all number ticket image.keeps.prefix (image.acknowledged number acked)
-    (place_stays final.history all number ticket (failed_grows ending final.history)
+    ticket_in_front opening.renewed image.keeps.kept image.keeps.rest all number ticket image.keeps.prefix (image.acknowledged number acked)
+    (place_stays opening.renewed final.history all number ticket (failed_grows ending final.history)
     (told_outcomes_stay apart opening events answers final ending ticket number run has))

@@ -5,9 +5,8 @@ use Rattle.std.proofs.lemmas.Bool.{cases_lt}
 use Rattle.std.proofs.lemmas.List.{length-append, map-append, take-append-le, take_all}
 use Rattle.ix_values.specs.PlainAction.{PlainAction, Word}
 use Rattle.ix_values.specs.declared.tickets.Ticket.{Ticket}
-use Rattle.ix_journal.specs.Entries.{marks_of}
+use Rattle.ix_journal.specs.Entries.{marks_of, renewed_of}
 use Rattle.ix_journal.specs.History.{PlainHistory, Spent, actions_of}
-use Rattle.ix_journal.specs.Recovery.{HoldsBoots}
 use Rattle.ix_expr.specs.Form.{Form}
 use Rattle.ix_lease.specs.declared.Slot.TheVariants.{Free, Held}
 use Rattle.ix_lines.specs.Items.{Item}
@@ -156,11 +155,12 @@ each_of_prefix x limit front rest whole same each count = elim (cases_lt (length
 pub kept_images_are_startable : KeptImagesAreStartable
 kept_images_are_startable x limit least history image each keeps =
     let few = (few_kept image keeps.recovers.entries keeps.recovers.keeps).boots in
-    let boots = (marks_of keeps.recovers.entries).boots in
-    let holds : HoldsBoots image boots =
-    record { entries = keeps.recovers.entries; keeps = keeps.recovers.keeps; number = refl } in
-    elim (cases_lt boots 1000000) [
+    let marks = marks_of keeps.recovers.entries in
+    let boots = marks.boots in
+    let renewed = renewed_of marks in
+    elim (cases_lt boots (renewed.boots + 1000000)) [
       | inl room ↦ inl (
+        renewed,
         boots + 1,
         record {
           own = keeps.own;
@@ -168,10 +168,19 @@ kept_images_are_startable x limit least history image each keeps =
           within = each_of_prefix x limit (actions_of keeps.kept) (actions_of keeps.rest) (actions_of history)
               (sym (map-append (λ (spent : Spent). spent.1) keeps.kept keeps.rest) ∙ ap actions_of keeps.prefix) each;
           boots = boots;
-          holds = holds;
+          holds = record {
+            entries = keeps.recovers.entries;
+            keeps = keeps.recovers.keeps;
+            said = refl;
+            number = refl;
+          };
           few = room;
           next = refl;
         },
       )
-      | inr many ↦ inr (subst (λ n. HoldsBoots image n) (let all : boots ≡ 1000000 = omega (arith, few, many) in all) holds)
+      | inr many ↦ inr (record {
+        entries = keeps.recovers.entries;
+        keeps = keeps.recovers.keeps;
+        full = omega (arith, few, many);
+      })
     ]

@@ -7,7 +7,9 @@ use Rattle.ix_outside.specs.Crashes.{Left}
 use Rattle.ix_proto.specs.declared.reply.Outcome.TheVariants as became
 use Rattle.ix_proto.specs.declared.reply.Reply.{Reply}
 use Rattle.ix_proto.specs.declared.reply.Reply.TheVariants.{Confirmed, Entry, Outcome}
+use Rattle.ix_journal.specs.declared.entries.Renewed.{Renewed}
 use Rattle.ix_manager.specs.Images.{Keeps}
+use Rattle.ix_manager.specs.Machine.{count_of}
 
 -- the reply tells of the history's action of this number: that it was confirmed, that its ticket
 -- was, or which one it is
@@ -30,11 +32,11 @@ pub data IsAcknowledged (n : ℕ) : List Reply → List SentBytes → Type 0 whe
 
 -- An image that a crash left, and what had been sent by then: it keeps at least so many actions of
 -- this history, the first ones and no others, and each that was acknowledged by then. The sends
--- behind those of before carry these replies, each one of them.
-pub record KeepsAcknowledged (x : Form) (least : ℕ) (history : PlainHistory) (replies : List Reply)
-    (before : List SentBytes) (left : Left) : Type 0 where
+-- behind those of before carry these replies, each one of them. The carried actions stand for this.
+pub record KeepsAcknowledged (x : Form) (least : ℕ) (history : PlainHistory) (renewed : Renewed)
+    (replies : List Reply) (before : List SentBytes) (left : Left) : Type 0 where
   pub keeps : Keeps x least history left.image
   pub sent : List SentBytes
   pub behind : left.sent ≡ before ++ sent
   pub carried : length sent ≤ length replies
-  pub acknowledged : (n : ℕ) → IsAcknowledged n replies sent → n ≤ length keeps.kept
+  pub acknowledged : (n : ℕ) → IsAcknowledged n replies sent → n ≤ count_of renewed keeps.kept

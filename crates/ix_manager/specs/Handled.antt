@@ -89,7 +89,7 @@ abbrev pub started : Opening → Keeping → ManagerState
 started opening store = record {
   form = opening.form;
   limit = opening.limit;
-  machine = start_of opening.history opening.boot;
+  machine = start_of opening.history opening.renewed opening.boot;
   store = store;
   lines = replicate 64 (unfinished []);
   marks = unmarked;

@@ -1,7 +1,8 @@
 -- Laws of the images that a run leaves: each can be started from.
 use Rattle.std.specs.Prelude.{◌⊎◌, ℕ, List}
 use Rattle.ix_journal.specs.History.{PlainHistory, actions_of}
-use Rattle.ix_journal.specs.Recovery.{HoldsBoots}
+use Rattle.ix_journal.specs.Recovery.{IsFullOfBoots}
+use Rattle.ix_journal.specs.declared.entries.Renewed.{Renewed}
 use Rattle.ix_expr.specs.Form.{Form}
 use Rattle.ix_outside.specs.Contents.{GivenEvent}
 use Rattle.ix_proto.specs.declared.reply.Reply.{Reply}
@@ -20,10 +21,11 @@ RunsStayWithin =
     → EachPrefixIsWithin opening.form opening.limit (actions_of (with_failed ending last.history))
 
 -- an image that keeps some of such a history's actions, the first ones, can be started from, and
--- gives these with their tickets; or it holds a million boots
+-- gives these with their tickets; or a million of its records are boots
 abbrev pub KeptImagesAreStartable : Type 0
 KeptImagesAreStartable =
     (x : Form) (limit least : ℕ) (history : PlainHistory) (image : List ℕ)
     → EachPrefixIsWithin x limit (actions_of history) → (keeps : Keeps x least history image)
-    → ((boot : ℕ) × IsStartable (opening_of x limit keeps.kept boot) image)
-    ⊎ HoldsBoots image 1000000
+    → ((renewed : Renewed) × (boot : ℕ)
+    × IsStartable (opening_of x limit keeps.kept renewed boot) image)
+    ⊎ IsFullOfBoots image

@@ -28,15 +28,15 @@ abbrev pub EachPrefixIsWithin : Form → ℕ → Word → Type 0
 EachPrefixIsWithin x limit word = (count : ℕ) → IsWithin x limit (take count word)
 
 -- An image that the opening can start from: it is the expression's, and recovers the opening's
--- history, each prefix of whose actions is within the limit. It holds fewer than a million boots,
--- and the opening's boot is the next one.
+-- history, each prefix of whose actions is within the limit. It stands for what the opening says,
+-- fewer than a million of its records are boots, and the opening's boot is the next one.
 pub record IsStartable (opening : Opening) (image : List ℕ) : Type 0 where
   pub own : IsOwn opening.form image
   pub recovers : Recovers image opening.history
   pub within : EachPrefixIsWithin opening.form opening.limit (actions_of opening.history)
   pub boots : ℕ
-  pub holds : HoldsBoots image boots
-  pub few : boots < 1000000
+  pub holds : HoldsBoots image opening.renewed boots
+  pub few : boots < opening.renewed.boots + 1000000
   pub next : opening.boot ≡ boots + 1
 
 -- the history, with the ticket and the action of a confirm that failed behind it

@@ -27,4 +27,4 @@ pub data Later (x : Form) : MachineState → MachineState → Type 0 where
       {ending : Ending}
       → ItemStep x limit s item replies between ending → Later x between later → Later x s later
   restarts : {s later : MachineState} {kept : PlainHistory}
-      → MayKeep s kept → Later x (start_of kept (s.boot + 1)) later → Later x s later
+      → MayKeep s kept → Later x (start_of kept s.renewed (s.boot + 1)) later → Later x s later

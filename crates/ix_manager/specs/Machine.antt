@@ -5,6 +5,7 @@ use Rattle.ix_words.specs.Each.{Each}
 use Rattle.ix_values.specs.PlainAction.{PlainAction, Word}
 use Rattle.ix_values.specs.declared.tickets.Ticket.{Ticket}
 use Rattle.ix_journal.specs.History.{PlainHistory, Spent, actions_of}
+use Rattle.ix_journal.specs.declared.entries.Renewed.{Renewed}
 use Rattle.ix_expr.specs.Form.{Form}
 use Rattle.ix_expr.specs.Meaning.{IsComplete}
 use Rattle.ix_can.specs.TreeOf.{tree_size}
@@ -25,10 +26,12 @@ pub record MachineWatch : Type 0 where
   pub action : PlainAction
   pub told : Bool
 
--- the confirmed actions with their tickets, the reservation, the watches, the greatest moment so
+-- the confirmed actions with their tickets, of which the carried ones stand for those of the
+-- journals before, and what they stand for; the reservation, the watches, the greatest moment so
 -- far, the boot, and the next number
 pub record MachineState : Type 0 where
   pub history : PlainHistory
+  pub renewed : Renewed
   pub slot : Slot
   pub watches : List MachineWatch
   pub moment : ℕ
@@ -36,15 +39,28 @@ pub record MachineState : Type 0 where
   pub number : ℕ
 
 -- the state at the start of this boot, with what was recovered
-abbrev pub start_of : PlainHistory → ℕ → MachineState
-start_of history boot = record {
+abbrev pub start_of : PlainHistory → Renewed → ℕ → MachineState
+start_of history renewed boot = record {
   history = history;
+  renewed = renewed;
   slot = slot.Free;
   watches = [];
   moment = 0;
   boot = boot;
   number = 1;
 }
+
+-- how many more actions the carried ones stand for than they are
+abbrev pub ahead_of : Renewed → ℕ
+ahead_of renewed = renewed.actions - renewed.carried
+
+-- the count of a history: with those that the carried ones stand for
+abbrev pub count_of : Renewed → PlainHistory → ℕ
+count_of renewed history = ahead_of renewed + length history
+
+-- how many actions were confirmed
+abbrev pub count : MachineState → ℕ
+count s = count_of s.renewed s.history
 
 -- the confirmed actions as a word
 abbrev pub word_of : MachineState → Word
@@ -136,7 +152,7 @@ pub data Step (x : Form) (limit : ℕ) (s : MachineState) : PlainRequest → Lis
       (record s { slot = slot.Free })
   confirmed : {ticket : Ticket} (a : PlainAction) (deadline : ℕ)
       → s.slot ≡ slot.Held ticket a deadline → s.moment < deadline
-      → Step x limit s (request.confirm ticket) (reply.Confirmed (length s.history + 1) ∷ [])
+      → Step x limit s (request.confirm ticket) (reply.Confirmed (count s + 1) ∷ [])
       (record s { history = s.history ++ (Some ticket, a) ∷ []; slot = slot.Free })
   confirm_expired : {ticket : Ticket}
       → HasTicket s.slot ticket → (IsOpenAt s.slot s.moment → ⊥)
@@ -155,7 +171,8 @@ pub data Step (x : Form) (limit : ℕ) (s : MachineState) : PlainRequest → Lis
       → (HasTicket s.slot ticket → ⊥)
       → Step x limit s (request.cancel ticket) (refused.no_such_ticket ∷ []) s
   outcome_confirmed : {ticket : Ticket} {place : ℕ} (before behind : PlainHistory) (a : PlainAction)
-      → s.history ≡ before ++ (Some ticket, a) ∷ behind → place ≡ length before + 1
+      → s.history ≡ before ++ (Some ticket, a) ∷ behind
+      → place ≡ ahead_of s.renewed + length before + 1
       → Step x limit s (request.outcome ticket) (reply.Outcome (became.Confirmed place) ∷ []) s
   outcome_open : {ticket : Ticket}
       → IsAbsent ticket s.history → IsOpenWith s.slot s.moment ticket
@@ -164,9 +181,13 @@ pub data Step (x : Form) (limit : ℕ) (s : MachineState) : PlainRequest → Lis
       → IsAbsent ticket s.history → (IsOpenWith s.slot s.moment ticket → ⊥)
       → IsUngranted s.boot s.number ticket
       → Step x limit s (request.outcome ticket) (refused.no_such_ticket ∷ []) s
+  outcome_left_out : {ticket : Ticket}
+      → IsAbsent ticket s.history → (IsOpenWith s.slot s.moment ticket → ⊥)
+      → (IsUngranted s.boot s.number ticket → ⊥) → ticket.boot ≤ s.renewed.boots
+      → Step x limit s (request.outcome ticket) (refused.ticket_left_out ∷ []) s
   outcome_never : {ticket : Ticket}
       → IsAbsent ticket s.history → (IsOpenWith s.slot s.moment ticket → ⊥)
-      → (IsUngranted s.boot s.number ticket → ⊥)
+      → (IsUngranted s.boot s.number ticket → ⊥) → s.renewed.boots < ticket.boot
       → Step x limit s (request.outcome ticket) (reply.Outcome became.Never ∷ []) s
   may : {a : PlainAction} {answer : Bool}
       → Tells (IsPermitted x (word_of s) a) answer
@@ -206,11 +227,15 @@ pub data Step (x : Form) (limit : ℕ) (s : MachineState) : PlainRequest → Lis
   status : {complete : Bool}
       → Tells (IsComplete x [] (word_of s)) complete
       → Step x limit s request.status
-      (reply.Status complete (length s.history) (tree_size x (word_of s)) ∷ []) s
+      (reply.Status complete (count s) (tree_size x (word_of s)) ∷ []) s
   entry : {number : ℕ} {a : PlainAction} (before behind : Word)
-      → word_of s ≡ before ++ a ∷ behind → number ≡ length before + 1
+      → word_of s ≡ before ++ a ∷ behind → number ≡ ahead_of s.renewed + length before + 1
+      → s.renewed.actions < number
       → Step x limit s (request.log number) (reply.Entry number a ∷ []) s
+  entry_left_out : {number : ℕ}
+      → 0 < number → number ≤ s.renewed.actions
+      → Step x limit s (request.log number) (refused.entry_left_out ∷ []) s
   no_such_entry : {number : ℕ}
-      → (number ≡ 0) ⊎ (length s.history < number)
+      → (number ≡ 0) ⊎ (count s < number)
       → Step x limit s (request.log number) (refused.no_such_entry ∷ []) s
   stopping : Step x limit s request.stop (reply.Stopping ∷ []) s

@@ -12,7 +12,7 @@ use Rattle.ix_proto.specs.Requests.{PlainRequest}
 use Rattle.ix_proto.specs.declared.reply.Reply.{Reply}
 use Rattle.ix_proto.specs.declared.reply.Reply.TheVariants as reply
 use Rattle.ix_manager.specs.Refusals as refused
-use Rattle.ix_manager.specs.Machine.{MachineState, MachineWatch, Step, Tells, word_of}
+use Rattle.ix_manager.specs.Machine.{MachineState, MachineWatch, Step, Tells, count, word_of}
 
 -- a confirm with the ticket of the open reservation is confirmed: ticket and action join the
 -- history, and the slot is free
@@ -22,7 +22,7 @@ OpenTicketsAreConfirmed =
     (replies : List Reply) (after : MachineState)
     → s.slot ≡ slot.Held ticket a deadline → s.moment < deadline
     → Step x limit s (request.confirm ticket) replies after
-    → (replies ≡ reply.Confirmed (length s.history + 1) ∷ [])
+    → (replies ≡ reply.Confirmed (count s + 1) ∷ [])
     × (after ≡ record s { history = s.history ++ (Some ticket, a) ∷ []; slot = slot.Free })
 
 -- an ask, a watch or a poll

@@ -28,6 +28,14 @@ no_such_ticket = Refused 30 0
 abbrev pub expired : Reply
 expired = Refused 31 0
 
+-- whether an action was confirmed with the ticket is left out of the journal
+abbrev pub ticket_left_out : Reply
+ticket_left_out = Refused 32 0
+
+-- the action of this number is left out of the journal
+abbrev pub entry_left_out : Reply
+entry_left_out = Refused 33 0
+
 -- there are as many watches as there may be
 abbrev pub too_many_watches : Reply
 too_many_watches = Refused 40 0

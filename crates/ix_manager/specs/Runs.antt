@@ -4,6 +4,7 @@ use Rattle.std.specs.Prelude.{Some}
 use Rattle.ix_values.specs.PlainAction.{PlainAction}
 use Rattle.ix_values.specs.declared.tickets.Ticket.{Ticket}
 use Rattle.ix_journal.specs.History.{PlainHistory, Spent}
+use Rattle.ix_journal.specs.declared.entries.Renewed.{Renewed}
 use Rattle.ix_expr.specs.Form.{Form}
 use Rattle.ix_lines.specs.Items.{Item, line, too_long, items}
 use Rattle.ix_outside.specs.Contents.{GivenEvent}
@@ -19,17 +20,19 @@ use Rattle.ix_proto.specs.declared.reply.Reply.TheVariants as reply
 use Rattle.ix_manager.specs.Refusals.{disk}
 use Rattle.ix_manager.specs.Machine.{MachineState, Step, start_of}
 
--- what a run starts from: the expression, the limit of Size, the history and the boot
+-- what a run starts from: the expression, the limit of Size, the history, what its carried actions
+-- stand for, and the boot
 pub record Opening : Type 0 where
   pub form : Form
   pub limit : ℕ
   pub history : PlainHistory
+  pub renewed : Renewed
   pub boot : ℕ
 
--- the opening of an expression, a limit, a history and a boot
-abbrev pub opening_of : Form → ℕ → PlainHistory → ℕ → Opening
-opening_of x limit history boot =
-    record { form = x; limit = limit; history = history; boot = boot }
+-- the opening of an expression, a limit, a history, what its carried actions stand for, and a boot
+abbrev pub opening_of : Form → ℕ → PlainHistory → Renewed → ℕ → Opening
+opening_of x limit history renewed boot =
+    record { form = x; limit = limit; history = history; renewed = renewed; boot = boot }
 
 -- whether the run goes on, or ended: by `stop`, or by a confirm that failed, with its ticket and
 -- its action
@@ -104,7 +107,7 @@ pub record Completes (text : List ℕ) (given : GivenEvent) (completed : List It
 -- each event completes, the last state, and whether it goes on. No event is taken after its end.
 pub data Run (opening : Opening)
     : List GivenEvent → List (List (List Reply)) → MachineState → Ending → Type 0 where
-  begin : Run opening [] [] (start_of opening.history opening.boot) going
+  begin : Run opening [] [] (start_of opening.history opening.renewed opening.boot) going
   takes : {events : List GivenEvent} {answers : List (List (List Reply))} {s after : MachineState}
       {ending : Ending}
       (given : GivenEvent) (completed : List Item) (last : List (List Reply))

@@ -1,5 +1,5 @@
 -- Which files a run can't start from, and why.
-use Rattle.std.specs.Prelude.{◌⊎◌, ℕ, ◌-◌, ◌<◌, ◌≤◌, List, [], length, take}
+use Rattle.std.specs.Prelude.{◌⊎◌, ℕ, ◌+◌, ◌-◌, ◌<◌, ◌≤◌, List, [], length, take}
 use Rattle.ix_values.specs.PlainAction.{Word}
 use Rattle.ix_journal.specs.History.{PlainHistory}
 use Rattle.ix_expr.specs.Form.{Form}
@@ -8,6 +8,7 @@ use Rattle.ix_can.specs.TreeOf.{tree_size}
 use Rattle.ix_journal.specs.Kinds.{IsUnopened}
 use Rattle.ix_journal.specs.Recovery.{HoldsBoots, Recovers}
 use Rattle.ix_journal.specs.declared.TheConstants.{MOST_BOOTS}
+use Rattle.ix_journal.specs.declared.entries.Renewed.{Renewed}
 use Rattle.ix_store.specs.Opening.{IsReadyWith}
 use Rattle.ix_manager.specs.Images.{IsOwn, EachPrefixIsWithin}
 
@@ -37,6 +38,7 @@ pub record IsHeavy (x : Form) (limit : ℕ) (word : Word) (number : ℕ) : Type 
 pub record OpensAs (x : Form) (file : List ℕ) (history : PlainHistory) : Type 0 where
   pub own : IsOwn x file
   pub recovers : Recovers file history
+  pub renewed : Renewed
   pub boots : ℕ
-  pub holds : HoldsBoots file boots
-  pub few : boots < MOST_BOOTS
+  pub holds : HoldsBoots file renewed boots
+  pub few : boots < renewed.boots + MOST_BOOTS

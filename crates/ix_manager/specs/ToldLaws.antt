@@ -3,6 +3,7 @@ use Rattle.std.specs.Prelude.{◌≡◌, ℕ, ◌+◌, List, [], ◌∷◌, ◌+
 use Rattle.ix_values.specs.PlainAction.{PlainAction}
 use Rattle.ix_values.specs.declared.tickets.Ticket.{Ticket}
 use Rattle.ix_journal.specs.History.{PlainHistory, actions_of}
+use Rattle.ix_journal.specs.declared.entries.Renewed.{Renewed}
 use Rattle.ix_outside.specs.Contents.{GivenEvent, SentBytes}
 use Rattle.ix_outside.specs.Crashes.{Left}
 use Rattle.ix_proto.specs.Requests as request
@@ -14,7 +15,7 @@ use Rattle.ix_manager.specs.Acknowledged.{IsAcknowledged, KeepsAcknowledged}
 use Rattle.ix_manager.specs.Answered.{HasAnswered, HasGranted}
 use Rattle.ix_manager.specs.Images.{IsStartable, with_failed}
 use Rattle.ix_manager.specs.LaterLaws.{IsEntryOf, TellsOver}
-use Rattle.ix_manager.specs.Machine.{IsAbsent, MachineState}
+use Rattle.ix_manager.specs.Machine.{IsAbsent, MachineState, ahead_of}
 use Rattle.ix_manager.specs.Runs.{Ending, Opening, Run}
 
 -- a ticket that a run granted is of its boot
@@ -39,13 +40,15 @@ ToldTicketsStayOver =
     → IsStartable opening image → Run opening events answers last ending
     → HasToldOver ticket events answers → IsAbsent ticket (with_failed ending last.history)
 
--- the history's pair of this number, counted from 1, has the ticket
-pub record HasTicketAt (history : PlainHistory) (number : ℕ) (ticket : Ticket) : Type 0 where
+-- the history's pair of this number, counted from 1, has the ticket, where the carried ones stand
+-- for this
+pub record HasTicketAt (renewed : Renewed) (history : PlainHistory) (number : ℕ) (ticket : Ticket) :
+    Type 0 where
   pub before : PlainHistory
   pub action : PlainAction
   pub behind : PlainHistory
   pub split : history ≡ before ++ (Some ticket, action) ∷ behind
-  pub place : number ≡ length before + 1
+  pub place : number ≡ ahead_of renewed + length before + 1
 
 -- where a run told the number that a ticket was confirmed with, it is the ticket's in its history
 abbrev pub ToldOutcomesStay : Type 0
@@ -55,7 +58,7 @@ ToldOutcomesStay =
     → Run opening events answers last ending
     → HasAnswered (request.outcome ticket) (reply.Outcome (became.Confirmed number) ∷ []) events
     answers
-    → HasTicketAt last.history number ticket
+    → HasTicketAt opening.renewed last.history number ticket
 
 -- an entry that a run told is in its history
 abbrev pub ToldEntriesAreKept : Type 0
@@ -64,7 +67,7 @@ ToldEntriesAreKept =
     (last : MachineState) (ending : Ending) (number : ℕ) (a : PlainAction)
     → Run opening events answers last ending
     → HasAnswered (request.log number) (reply.Entry number a ∷ []) events answers
-    → IsEntryOf (actions_of last.history) number a
+    → IsEntryOf opening.renewed (actions_of last.history) number a
 
 -- of an entry that a run told, so that a byte of the reply was sent by then, each image keeps it
 abbrev pub AcknowledgedEntriesAreKept : Type 0
@@ -74,10 +77,11 @@ AcknowledgedEntriesAreKept =
     (least : ℕ) (replies : List Reply) (before : List SentBytes) (left : Left)
     → Run opening events answers last ending
     → HasAnswered (request.log number) (reply.Entry number a ∷ []) events answers
-    → (image : KeepsAcknowledged opening.form least (with_failed ending last.history) replies before
-    left)
+    → (image : KeepsAcknowledged opening.form least
+    (with_failed ending last.history) opening.renewed
+    replies before left)
     → IsAcknowledged number replies image.sent
-    → IsEntryOf (actions_of image.keeps.kept) number a
+    → IsEntryOf opening.renewed (actions_of image.keeps.kept) number a
 
 -- and so of a number that a ticket was confirmed with
 abbrev pub AcknowledgedOutcomesAreKept : Type 0
@@ -88,7 +92,8 @@ AcknowledgedOutcomesAreKept =
     → Run opening events answers last ending
     → HasAnswered (request.outcome ticket) (reply.Outcome (became.Confirmed number) ∷ []) events
     answers
-    → (image : KeepsAcknowledged opening.form least (with_failed ending last.history) replies before
-    left)
+    → (image : KeepsAcknowledged opening.form least
+    (with_failed ending last.history) opening.renewed
+    replies before left)
     → IsAcknowledged number replies image.sent
-    → HasTicketAt image.keeps.kept number ticket
+    → HasTicketAt opening.renewed image.keeps.kept number ticket

@@ -1,8 +1,8 @@
 //! Answers that change nothing.
 
-ghost use Rattle.std.specs.Prelude.{◌≡◌, ◌↔◌, IsTrue, position};
+ghost use Rattle.std.specs.Prelude.{◌≡◌, ◌↔◌, ◌+◌, ◌^◌, ◌≤◌, IsTrue, position};
 ghost use Rattle.ix_proto.specs.Requests as request;
-ghost use Rattle.ix_manager.specs.Machine.{IsOpenWith, IsUngranted};
+ghost use Rattle.ix_manager.specs.Machine.{IsOpenWith, IsUngranted, ahead_of, count};
 ghost use Rattle.ix_manager.specs.inside.Does.{Does};
 ghost use Rattle.ix_manager.specs.inside.Ready.{has_ticket};
 
@@ -25,7 +25,7 @@ impl Machine {
     {
         Reply::Status {
             complete: self.engine.is_complete(),
-            length: self.engine.history().len() as u64,
+            length: self.count(),
             nodes: self.engine.nodes() as u64,
         }
     }
@@ -34,9 +34,13 @@ impl Machine {
     pub(crate) fn log(&self, number: u64) -> Reply
         ensures { Does self.now (request.log number) result self.now }
     {
-        let Some(index) = number.checked_sub(1) else {
+        if number == 0 {
             return refused(Refusal::NoSuchEntry);
-        };
+        }
+        if number <= self.renewed.actions {
+            return refused(Refusal::EntryLeftOut);
+        }
+        let index = number - self.ahead() - 1;
         match self.engine.history().get(index as usize) {
             Some(action) => Reply::Entry(number, *action),
             None => refused(Refusal::NoSuchEntry),
@@ -48,7 +52,7 @@ impl Machine {
         ensures { Does self.now (request.outcome ticket.now) result self.now }
     {
         if let Some(index) = place_of(&self.tickets, ticket) {
-            return Reply::Outcome(Outcome::Confirmed(index as u64 + 1));
+            return Reply::Outcome(Outcome::Confirmed(self.ahead() + index as u64 + 1));
         }
         if is_open_with(&self.slot, self.moment, ticket) {
             return Reply::Outcome(Outcome::Waiting);
@@ -56,7 +60,27 @@ impl Machine {
         if is_ungranted(self.boot, self.number, ticket) {
             return refused(Refusal::NoSuchTicket);
         }
+        if ticket.boot <= self.renewed.boots {
+            return refused(Refusal::TicketLeftOut);
+        }
         Reply::Outcome(Outcome::Never)
+    }
+
+    /// How many actions were confirmed, with those that the carried ones stand for.
+    pub(crate) fn count(&self) -> u64
+        ensures value { result ≡ count self.now.state }
+        ensures fits { result ≤ 2 ^ 63 + 1000000 }
+    {
+        self.ahead() + self.engine.history().len() as u64
+    }
+
+    /// How many more actions the carried ones stand for than they are.
+    fn ahead(&self) -> u64
+        ensures value { result ≡ ahead_of self.now.state.renewed }
+        ensures fits { result ≤ self.now.state.renewed.actions }
+        ensures most { result ≤ 2 ^ 63 }
+    {
+        self.renewed.actions - self.renewed.carried
     }
 }
 

@@ -8,10 +8,12 @@ ghost use Rattle.ix_manager.specs.Machine.{start_of, word_of};
 ghost use Rattle.ix_manager.specs.Runs.{raised};
 ghost use Rattle.ix_manager.specs.inside.Core.{MachineAnswers, IsRefreshed, TellsPoll};
 ghost use Rattle.ix_manager.specs.inside.Does.{MayReserve};
+ghost use Rattle.ix_manager.specs.inside.Ready.{IsSoundRenewal};
 ghost use Rattle.ix_proto.specs.Requests.{PlainRequest, IsRequest};
 ghost use Rattle.ix_proto.specs.inside.Lends.{Lends};
 
 use ix_engine::{Engine, Next};
+use ix_journal::Renewed;
 use ix_lease::Slot;
 use ix_proto::{Reply, Request};
 use ix_values::{Action, Name, Ticket};
@@ -43,6 +45,8 @@ pub(crate) struct Machine {
     pub(crate) watches: Watches,
     /// The greatest moment of all events so far, in milliseconds.
     pub(crate) moment: u64,
+    /// What the carried actions stand for.
+    pub(crate) renewed: Renewed,
     /// How many times the journal was started from, this run included.
     pub(crate) boot: u64,
     /// The number of the next ticket.
@@ -65,6 +69,7 @@ impl Model for Machine {
       limit = m.engine.limit;
       state = record {
         history = zip m.tickets.items m.engine.history;
+        renewed = m.renewed;
         slot = m.slot;
         watches = map watch_of m.watches;
         moment = m.moment;
@@ -77,23 +82,26 @@ impl Model for Machine {
     ghost use Rattle.ix_manager.specs.inside.Ready.{IsMachine};
 
     // Each action has its ticket, or none. That of a reservation is prepared, and there is memory
-    // for both.
-    ghost invariant = { λ m. IsMachine m.engine m.tickets m.slot m.pending };
+    // for both. No more actions are carried than they stand for.
+    ghost invariant = { λ m. IsMachine m.engine m.tickets m.slot m.pending m.renewed };
 }
 
 impl Machine {
-    /// The machine of an engine and the tickets of its actions, at the start of this boot.
+    /// The machine of an engine and the tickets of its actions, of which the carried ones stand for
+    /// this, at the start of this boot.
     pub(crate) fn new(
         alloc: Global,
         engine: Engine,
         tickets: Vec<Option<Ticket>>,
+        renewed: Renewed,
         boot: u64,
     ) -> Machine
-        requires { length tickets.items ≡ length engine.history }
+        requires each { length tickets.items ≡ length engine.history }
+        requires stands { IsSoundRenewal renewed }
         ensures { result ≡ record {
           form = engine.form;
           limit = engine.limit;
-          state = start_of (zip tickets.items engine.history) boot;
+          state = start_of (zip tickets.items engine.history) renewed boot;
           noted = [];
         } }
     {
@@ -104,6 +112,7 @@ impl Machine {
             slot: Slot::Free,
             watches: Watches::new(alloc),
             moment: 0,
+            renewed,
             boot,
             number: 1,
         }

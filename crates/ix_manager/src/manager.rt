@@ -12,13 +12,15 @@ ghost use Rattle.ix_outside.specs.inside.DiskCalls.{DiskCalls, LeavesOnly};
 ghost use Rattle.ix_store.specs.inside.Keeping.{Fits, IsBootedOrNot};
 ghost use Rattle.ix_store.specs.inside.KeptBy.{kept};
 ghost use Rattle.ix_manager.specs.inside.Saving.{FitsJournal};
+ghost use Rattle.ix_journal.specs.Entries.{renewed_of};
 ghost use Rattle.ix_journal.specs.History.{Spent, actions_of};
+ghost use Rattle.ix_journal.specs.inside.Counting.{HasBootRoom};
 ghost use Rattle.ix_can.specs.TreeOf.{tree_size};
 ghost use Rattle.ix_step.specs.inside.Limits.{most_size};
 ghost use Rattle.ix_lines.specs.Feeding.{unfinished};
 ghost use Rattle.ix_manager.specs.Handled.{FitsEvent, started};
 ghost use Rattle.ix_manager.specs.inside.StartAnswers.{StartsFrom, StartLeaves};
-ghost use Rattle.ix_manager.specs.Machine.{start_of, word_of};
+ghost use Rattle.ix_manager.specs.Machine.{count, start_of, word_of};
 ghost use Rattle.ix_manager.specs.Runs.{opening_of};
 ghost use Rattle.ix_manager.specs.inside.OverSite.{FitsSite, HandlesOver, OnlyServes};
 ghost use Rattle.ix_manager.specs.inside.StartFaults.{start_fault_of, open_fault_of};
@@ -109,7 +111,8 @@ impl Manager {
         ensures not_large { tree_size expression [] ≤ limit → ForSome (S.state site.old).disk
             (λ disk. StartsFrom expression limit disk.file result) }
         ensures starts { IfOk result (λ m. m
-            ≡ started (opening_of expression limit m.machine.history m.machine.boot) m.store) }
+            ≡ started (opening_of expression limit m.machine.history m.machine.renewed
+            m.machine.boot) m.store) }
         ensures fits { IfOk result (λ m. FitsSite m (S.state site.new) (S.crashes site.new)) }
         ensures failed { result ≡ Err StartFault.Disk
             → Rose (S.state site.old).counts.disk (S.state site.new).counts.disk }
@@ -259,6 +262,14 @@ impl Manager {
         self.journaled.machine.history()
     }
 
+    /// How many actions were confirmed: those of the journals before, which the carried ones stand
+    /// for, among them.
+    pub fn count(&self) -> u64
+        ensures { result ≡ count self.now.machine }
+    {
+        self.journaled.machine.count()
+    }
+
     /// The number of the next ticket, which is 1 at the start.
     pub fn tickets(&self) -> u64
         ensures { result ≡ self.now.machine.number }
@@ -296,13 +307,14 @@ fn start_machine<S: Site>(
     requires each { length tickets.items ≡ length engine.history }
     requires attached { (S.state site.old).attached ≡ true }
     requires works { (kept store).failed ≡ false }
-    requires room { (kept store).marks.boots < 1000000 }
+    requires room { HasBootRoom (kept store).marks }
     requires fits { Fits (S.state site.old) (S.crashes site.old) (kept store)
         (canonical_text engine.form) (zip tickets.items engine.history) }
     ensures starts { IfOk result (λ j. j.machine ≡ record {
       form = engine.form;
       limit = engine.limit;
-      state = start_of (zip tickets.items engine.history) ((kept store).marks.boots + 1);
+      state = start_of (zip tickets.items engine.history) (renewed_of (kept store).marks)
+          ((kept store).marks.boots + 1);
       noted = [];
     }) }
     ensures fits { IfOk result (λ j. FitsJournal j (S.state site.new) (S.crashes site.new)) }
@@ -313,8 +325,9 @@ fn start_machine<S: Site>(
         (S.state site.old).counts.disk (S.state site.new).counts.disk }
     ensures calls { DiskCalls (stretch_of S.state S.crashes site.old site.new) }
 {
+    let renewed = store.renewed();
     let boot = store.boot(site)?;
-    let machine = Machine::new(alloc, engine, tickets, boot);
+    let machine = Machine::new(alloc, engine, tickets, renewed, boot);
     Ok(Journaled { machine, store })
 }
 

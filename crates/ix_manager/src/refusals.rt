@@ -24,6 +24,10 @@ pub(crate) enum Refusal {
     NoSuchTicket,
     /// The reservation of the ticket isn't open any more.
     Expired,
+    /// Whether an action was confirmed with the ticket is left out of the journal.
+    TicketLeftOut,
+    /// The entry is left out of the journal.
+    EntryLeftOut,
     /// There are as many watches as there may be.
     TooManyWatches,
     /// The pair isn't watched.
@@ -49,6 +53,8 @@ pub(crate) fn refused(refusal: Refusal) -> Reply
         Refusal::Full => (23, 0),
         Refusal::NoSuchTicket => (30, 0),
         Refusal::Expired => (31, 0),
+        Refusal::TicketLeftOut => (32, 0),
+        Refusal::EntryLeftOut => (33, 0),
         Refusal::TooManyWatches => (40, 0),
         Refusal::NoSuchWatch => (41, 0),
         Refusal::NoSuchEntry => (42, 0),

@@ -73,7 +73,7 @@ impl Machine {
                 let pushed = self.tickets.push(Some(ticket));
                 prove!(pushed.is_ok());
                 self.slot = Slot::Free;
-                Reply::Confirmed(self.engine.history().len() as u64)
+                Reply::Confirmed(self.count())
             }
             None => unreachable!(),
         }

@@ -73,6 +73,15 @@ same_entry m action y v w k b =
     λ i. Entry (places.0 i) (texts_apart action other v.1 w.1 places.1 i))
     y k w b
 
+same_refusal : (c m : ℕ) (y : Reply) → IsReply (Refused c m) → IsReply y → kind_of y ≡ kind.Refused
+    → behind (Refused c m) ≡ behind y → Refused c m ≡ y
+same_refusal c m y v w k b =
+    only.only_refused (λ y. IsReply y → behind (Refused c m) ≡ behind y → Refused c m ≡ y)
+    (λ d n w e.
+    let codes = number_same c d _ _ (omega (arith, v.0)) (omega (arith, w.0)) (some_same e) in
+    λ i. Refused (codes.0 i) (refused_apart c d m n codes.0 v.1 w.1 v.2 w.2 codes.1 i))
+    y k w b
+
 same_reply : TextsTellTicketsApart → (x y : Reply) → IsReply x → IsReply y → kind_of y ≡ kind_of x → behind x ≡ behind y → x ≡ y
 same_reply apart (Granted t) y v w k b =
     only.only_granted (λ y. IsReply y → Some (ticket_text t) ≡ behind y → Granted t ≡ y)
@@ -107,12 +116,7 @@ same_reply apart (Status a m s) y v w k b =
     λ i. Status (completes_apart a c front.0 i) (counts.0 i) (nodes_apart s t v.1 w.1 counts.1 i))
     y k w b
 same_reply apart (Entry m action) y v w k b = same_entry m action y v w k b
-same_reply apart (Refused c m) y v w k b =
-    only.only_refused (λ y. IsReply y → behind (Refused c m) ≡ behind y → Refused c m ≡ y)
-    (λ d n w e.
-    let codes = number_same c d _ _ (omega (arith, v.0)) (omega (arith, w.0)) (some_same e) in
-    λ i. Refused (codes.0 i) (refused_apart c d m n codes.0 v.1 w.1 v.2 w.2 codes.1 i))
-    y k w b
+same_reply apart (Refused c m) y v w k b = same_refusal c m y v w k b
 
 same_parts : (x y : Reply) → reply_text x ≡ reply_text y → (kind_of y ≡ kind_of x) × (behind x ≡ behind y)
 same_parts x y e =
@@ -125,6 +129,12 @@ pub entry_apart : (m : ℕ) (action : PlainAction) (y : Reply) → IsReply (Entr
     → reply_text (Entry m action) ≡ reply_text y → Entry m action ≡ y
 entry_apart m action y v w e =
     let parts = same_parts (Entry m action) y e in same_entry m action y v w parts.0 parts.1
+
+-- nor is that of a refusal
+pub refusal_apart : (c m : ℕ) (y : Reply) → IsReply (Refused c m) → IsReply y
+    → reply_text (Refused c m) ≡ reply_text y → Refused c m ≡ y
+refusal_apart c m y v w e =
+    let parts = same_parts (Refused c m) y e in same_refusal c m y v w parts.0 parts.1
 
 pub replies_apart : TextsTellTicketsApart → TextsTellRepliesApart
 replies_apart apart x y v w e = let parts = same_parts x y e in same_reply apart x y v w parts.0 parts.1

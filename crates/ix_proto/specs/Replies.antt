@@ -29,6 +29,8 @@ refusal_text code =
     if code == 23 then Some (codes "full") else
     if code == 30 then Some (codes "no such ticket") else
     if code == 31 then Some (codes "expired") else
+    if code == 32 then Some (codes "left out") else
+    if code == 33 then Some (codes "left out") else
     if code == 40 then Some (codes "watches full") else
     if code == 41 then Some (codes "no such watch") else
     if code == 42 then Some (codes "no such entry") else

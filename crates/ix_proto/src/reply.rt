@@ -251,6 +251,7 @@ pub(crate) fn refusal_text(code: u8) -> Option<&'static [u8]>
         23 => Some(b"full"),
         30 => Some(b"no such ticket"),
         31 => Some(b"expired"),
+        32 | 33 => Some(b"left out"),
         40 => Some(b"watches full"),
         41 => Some(b"no such watch"),
         42 => Some(b"no such entry"),

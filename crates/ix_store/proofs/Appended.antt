@@ -17,6 +17,7 @@ use Rattle.ix_store.specs.Keeping.{Keeping}
 use Rattle.ix_store.specs.inside.Steps.{MaybeTorn}
 use Rattle.ix_store.proofs.Told.{of_told, to_told, made, came, just}
 use Rattle.ix_store.proofs.Calls.{now_has, calls_more, torn_has}
+use Rattle.ix_journal.proofs.OrderLemmas.{one-of}
 use Rattle.ix_store.proofs.Histories.{MayAppend}
 use Rattle.ix_store.proofs.Appending.{torn_behind, staged, torn_gate, opened_gate}
 
@@ -70,16 +71,13 @@ module _ (old mid : SiteState) (was then : Crashes) (calls : DiskCalls (span old
         let within = journal.journal.closes.records.within in omega arith)
 
     -- `new` is behind the call that opens the gate
-    module _ (entry : Entry) (may : MayAppend store.count store.marks entry)
+    module _ (entry : Entry) (may : MayAppend store.marks entry)
         (spelled : bytes ≡ record_of entry ++ 0 ∷ [])
         (written : MakesFile (Overwrites (store.gate + 1) bytes) old.disk mid.disk)
         (settled : LeavesTheFile mid.disk then.now) (new : SiteState) (is : Crashes)
       where
         abbrev both : List ℕ → Type 0
         both image = IsWithOrWithout text history store.marks entry image
-
-        may_append : MayAppend (length history) store.marks entry
-        may_append = subst (λ (n : ℕ). MayAppend n store.marks entry) fits.count may
 
         module _ (disk : Disk) (told : old.disk ≡ Some disk) where
           journal : IsJournalWith disk.file text history store.marks store.gate
@@ -105,7 +103,7 @@ module _ (old mid : SiteState) (was then : Crashes) (calls : DiskCalls (span old
               calls_more both old mid was then calls before new is calls' (λ image left.
               torn_has both store.gate 1 mid.disk there.disk then.now there.told settled
               (now_has both old mid was then calls before lawful')
-              (λ after torn. torn_gate text history store.marks store.gate disk.file journal entry may_append
+              (λ after torn. torn_gate text history store.marks store.gate disk.file journal entry may
               after
               (subst (λ (f : List ℕ). Torn store.gate 1 f after)
               (middle there.disk there.makes) torn))
@@ -115,13 +113,18 @@ module _ (old mid : SiteState) (was then : Crashes) (calls : DiskCalls (span old
         pub fits_more : MakesFile (Overwrites store.gate (165 ∷ [])) mid.disk new.disk
             → LeavesTheFile new.disk is.now → (after : Keeping)
             → after.gate ≡ store.gate + length bytes
-            → after.count ≡ store.count + length (pair_of entry)
             → after.marks ≡ behind store.marks entry
             → Fits new is after text (history ++ pair_of entry)
-        fits_more opened settled' after gate count marked =
+        fits_more opened settled' after gate marked =
             let more : PlainHistory = history ++ pair_of entry in
             record {
-              count = let counts = fits.count in omega (arith, length-append history (pair_of entry));
+              count = omega (
+                arith,
+                fits.count,
+                ap (λ (m : Marks). m.actions) marked,
+                one-of store.marks entry,
+                length-append history (pair_of entry),
+              );
               images = λ last told image now.
                   let there = came _ mid.disk new.disk last told opened in
                   let first = came _ old.disk mid.disk there.disk there.told written in
@@ -133,5 +136,5 @@ module _ (old mid : SiteState) (was then : Crashes) (calls : DiskCalls (span old
                   (subst (IsJournalWith image text more (behind store.marks entry)) (sym place)
                   (opened_gate text history store.marks store.gate first.disk.file
                   (journal first.disk first.told)
-                  entry may_append image over));
+                  entry may image over));
             }

@@ -62,7 +62,7 @@ module _ (text : List ℕ) (history : PlainHistory) (marks : Marks) (gate : ℕ)
   staged file bytes = take (gate + 1) file ++ bytes ++ drop (gate + 1 + length bytes) file
 
   module _ (file : List ℕ) (journal : IsJournalWith file text history marks gate) (entry : Entry)
-      (may : MayAppend (length history) marks entry) where
+      (may : MayAppend marks entry) where
     abbrev bytes : List ℕ
     bytes = record_of entry ++ 0 ∷ []
 

@@ -11,7 +11,6 @@ use Rattle.std.specs.List.{starts_with}
 use Rattle.ix_outside.specs.Crashes.{LeavesBy, LeavesTheFile}
 use Rattle.ix_outside.specs.Disk.{Disk, Torn, MaybeCut, Overwrites}
 use Rattle.ix_journal.specs.Format.{IsVersion, header}
-use Rattle.ix_journal.specs.inside.Writing.{new_header}
 use Rattle.ix_journal.specs.Kinds.{IsUnfinished}
 use Rattle.ix_journal.proofs.WritingLaws.{begun}
 use Rattle.ix_store.specs.Opening.{IsNew}
@@ -54,31 +53,31 @@ module _ (text : List ℕ) (short : length text < 65536) where
   closing file image (inl (inr first)) other torn = absurd (other first)
   closing file image (inr unopened) other torn =
       let is = unopened.header.spells in
-      let version = unopened.header.version in
-      let whole : image ≡ get_or image 0 0 ∷ (header version text ++ unopened.gate ∷ []) =
+      let whole : image ≡ get_or image 0 0 ∷ (header unopened.header.version text ++ unopened.gate ∷ []) =
       first_torn file image (omega (arith, ap length is)) torn
       ∙ ap (λ (l : List ℕ). get_or image 0 0 ∷ drop 1 l) is in
       subst (IsBegun text) (sym whole)
-      (begun_behind (get_or image 0 0) version text unopened.gate unopened.header.known short
+      (begun_behind (get_or image 0 0) unopened.header.version text unopened.gate unopened.header.known short
       unopened.closed)
 
+module _ (version : ℕ) (known : IsVersion version) (text : List ℕ) (short : length text < 65536) where
   -- the header is written behind 00
   pub heading : (count : ℕ) (image : List ℕ) → Torn 1 count (0 ∷ []) image → IsBegun text image
   heading count image torn = inl (inl (begins_closed image torn.before))
 
   -- the file with the header behind 00
-  pub headed : (bytes before file : List ℕ) → before ≡ 0 ∷ [] → bytes ≡ new_header text ++ 0 ∷ []
-      → Overwrites 1 bytes before file → file ≡ 0 ∷ (new_header text ++ 0 ∷ [])
+  pub headed : (bytes before file : List ℕ) → before ≡ 0 ∷ [] → bytes ≡ header version text ++ 0 ∷ []
+      → Overwrites 1 bytes before file → file ≡ 0 ∷ (header version text ++ 0 ∷ [])
   headed bytes before file cleared spelled writes =
       writes ∙ ap (λ (f : List ℕ). take 1 f ++ bytes ++ drop (1 + length bytes) f) cleared
       ∙ ap (λ (l : List ℕ). (0 ∷ bytes) ++ l) (drop_all (1 + length bytes) (0 ∷ []) (omega arith))
       ∙ append-nil (0 ∷ bytes) ∙ ap (λ (l : List ℕ). 0 ∷ l) spelled
 
   -- any byte is in the place of the head gate
-  pub opening : (image : List ℕ) → Torn 0 1 (0 ∷ (new_header text ++ 0 ∷ [])) image → IsBegun text image
+  pub opening : (image : List ℕ) → Torn 0 1 (0 ∷ (header version text ++ 0 ∷ [])) image → IsBegun text image
   opening image torn =
-      let whole = first_torn (0 ∷ (new_header text ++ 0 ∷ [])) image (omega arith) torn in
-      subst (IsBegun text) (sym whole) (begun_behind (get_or image 0 0) 50 text 0 (inr refl) short (omega arith))
+      let whole = first_torn (0 ∷ (header version text ++ 0 ∷ [])) image (omega arith) torn in
+      subst (IsBegun text) (sym whole) (begun_behind (get_or image 0 0) version text 0 known short (omega arith))
 
 -- the front tells whether the file begins with 00
 module _ (bytes file : List ℕ) (r : Bool) (starts : r ≡ starts_with nat_eq bytes (0 ∷ []))

@@ -2,22 +2,23 @@
 use Rattle.std.proofs.Common.{◌≡◌, ◌≢◌, ℕ, ◌+◌, ◌≤◌, List, [], ◌∷◌, ◌++◌, length, take, sym, ◌∙◌, ap, subst, arith, inl, inr}
 use Rattle.std.proofs.lemmas.List.{append-nil, length-append}
 use Rattle.ix_journal.specs.Entries.{AreFew, IsEntry, MayFollow, behind, marks_of, pair_of, pairs_of}
+use Rattle.ix_journal.specs.Entries.{renewed_of}
 use Rattle.ix_journal.specs.Format.{IsClosed, record_of}
+use Rattle.ix_journal.specs.inside.Counting.{AreNotMany}
 use Rattle.ix_journal.specs.History.{PlainHistory}
 use Rattle.ix_journal.specs.Recovery.{IsJournalWith}
 use Rattle.ix_journal.specs.declared.entries.Entry.{Entry}
 use Rattle.ix_journal.specs.declared.entries.Entry.TheVariants as entry
 use Rattle.ix_journal.specs.declared.entries.Marks.{Marks}
-use Rattle.ix_journal.proofs.OrderLemmas.{marks_of-more, pairs-append}
+use Rattle.ix_journal.proofs.OrderLemmas.{marks_of-more, number_of, pairs-append}
 use Rattle.ix_journal.proofs.WritingLaws.{ignores_the_rest, appended}
 use Rattle.ix_store.specs.inside.Keeping.{IsBootedOrNot, IsWithOrWithout, booted}
 
--- a record may be appended to a journal of so many actions and these marks
-pub record MayAppend (count : ℕ) (marks : Marks) (entry : Entry) : Type 0 where
+-- a record may be appended to a journal of these marks
+pub record MayAppend (marks : Marks) (entry : Entry) : Type 0 where
   pub valid : IsEntry entry
   pub follows : MayFollow marks entry
-  pub actions : count + length (pair_of entry) ≤ 1000000
-  pub boots : (behind marks entry).boots ≤ 1000000
+  pub few : AreNotMany (behind marks entry)
 
 -- what the records tell with one more
 pub pairs-more : (entries : List Entry) (entry : Entry)
@@ -27,17 +28,24 @@ pairs-more entries entry =
     ∙ ap (λ (h : PlainHistory). pairs_of entries ++ h) (append-nil (pair_of entry))
 
 -- with one more they aren't too many
-pub few-more : (entries : List Entry) (entry : Entry)
-    → length (pairs_of entries) + length (pair_of entry) ≤ 1000000
-    → (behind (marks_of entries) entry).boots ≤ 1000000 → AreFew (entries ++ entry ∷ [])
-few-more entries entry actions boots = record {
-  actions = omega (
-    arith,
-    ap length (pairs-more entries entry),
-    length-append (pairs_of entries) (pair_of entry),
-  );
-  boots = omega (arith, ap (λ (m : Marks). m.boots) (marks_of-more entries entry));
-}
+pub few-more : (entries : List Entry) (entry : Entry) → AreNotMany (behind (marks_of entries) entry)
+    → AreFew (entries ++ entry ∷ [])
+few-more entries entry few =
+    let marked = marks_of-more entries entry in
+    record {
+      actions = omega (
+        arith,
+        number_of (entries ++ entry ∷ []),
+        ap (λ (m : Marks). m.actions) marked,
+        few.0,
+      );
+      boots = omega (
+        arith,
+        ap (λ (m : Marks). m.boots) marked,
+        ap (λ (m : Marks). (renewed_of m).boots) marked,
+        few.1,
+      );
+    }
 
 -- what stands behind the first closed gate means nothing
 pub ignores : (bytes text : List ℕ) (history : PlainHistory) (marks : Marks) (gate : ℕ) (new : List ℕ)
@@ -53,14 +61,13 @@ ignores bytes text history marks gate new w same closed = record {
 -- with its gate opened, a record that may be appended is the next record
 pub grows : (bytes text : List ℕ) (history : PlainHistory) (marks : Marks) (gate : ℕ) (entry : Entry)
     (closed : ℕ) (rest : List ℕ)
-    → IsJournalWith bytes text history marks gate → MayAppend (length history) marks entry
+    → IsJournalWith bytes text history marks gate → MayAppend marks entry
     → closed ≢ 165
     → IsJournalWith (take gate bytes ++ 165 ∷ record_of entry ++ closed ∷ rest) text
     (history ++ pair_of entry) (behind marks entry) (gate + 1 + length (record_of entry))
 grows bytes text history marks gate entry closed rest w may shut =
-    let actions = may.actions in
-    let few = few-more w.entries entry (omega (arith, ap length w.pairs))
-    (subst (λ (m : Marks). (behind m entry).boots ≤ 1000000) (sym w.marked) may.boots) in
+    let few = few-more w.entries entry
+    (subst (λ (m : Marks). AreNotMany (behind m entry)) (sym w.marked) may.few) in
     record {
       entries = w.entries ++ entry ∷ [];
       journal = appended bytes text w.entries gate entry closed rest w.journal few may.valid

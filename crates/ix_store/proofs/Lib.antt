@@ -8,3 +8,4 @@ mod Reading
 mod Beginning
 mod Begun
 pub mod Opened
+pub mod Renewing

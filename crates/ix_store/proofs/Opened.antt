@@ -3,7 +3,8 @@ use Rattle.std.proofs.Common.{◌≡◌, ◌⊎◌, ℕ, ◌+◌, ◌<◌, List,
 use Rattle.std.proofs.Common.{Option, Vec, Result, Ok, Err, MatchResult}
 use Rattle.std.proofs.Common.{refl, sym, ◌∙◌, ap, subst, arith, inl, inr}
 use Rattle.std.specs.declared.alloc.Global.{Global}
-use Rattle.ix_journal.specs.Entries.{fresh, marks_of, pairs_of}
+use Rattle.ix_journal.specs.Entries.{fresh, renewed_of}
+use Rattle.ix_journal.specs.inside.Counting.{HasBootRoom}
 use Rattle.ix_journal.specs.History.{PlainHistory}
 use Rattle.ix_journal.specs.declared.entries.Entry.{Entry}
 use Rattle.ix_journal.specs.declared.entries.Marks.{Marks}
@@ -11,11 +12,11 @@ use Rattle.ix_outside.specs.Crashes.{Crashes, LeavesTheFile}
 use Rattle.ix_outside.specs.Disk.{Disk, OfFile, MakesFile, Stays}
 use Rattle.ix_outside.specs.SiteState.{SiteState}
 use Rattle.ix_outside.specs.inside.DiskCalls.{DiskCalls, LeavesOnly, span}
-use Rattle.ix_journal.specs.inside.Writing.{new_header}
+use Rattle.ix_journal.specs.Format.{header}
 use Rattle.ix_journal.specs.Kinds.{IsReady, unfinished, unopened, foreign, ready}
 use Rattle.ix_journal.specs.Recovery.{IsJournalWith, Keeps}
 use Rattle.ix_journal.proofs.KindLaws.{one_kind}
-use Rattle.ix_journal.proofs.OrderLemmas.{number_of}
+use Rattle.ix_journal.proofs.OrderLemmas.{records-behind, records_of, sound-fresh}
 use Rattle.ix_journal.proofs.OutcomeLaws.{one_list}
 use Rattle.ix_journal.proofs.WritingLaws.{opened}
 use Rattle.ix_store.specs.declared.fault.OpenFault.{OpenFault}
@@ -49,13 +50,17 @@ journal_keeps file text history marks gate w = Keeps.ready file text w.entries g
 begun_keeps : (text image : List ℕ) → IsBegun text image → Keeps image []
 begun_keeps text image (inl new) = new_keeps image text new
 begun_keeps text image (inr w) =
-    subst (Keeps image) (none w.entries w.pairs (ap (λ (m : Marks). m.boots) w.marked))
+    let records = w.journal.closes.records in
+    subst (Keeps image) (none w.entries (omega (
+      arith,
+      records-behind fresh w.entries sound-fresh records.valid records.order,
+      ap records_of w.marked,
+    )))
     (journal_keeps image text [] fresh (7 + length text) w)
   where
-    none : (entries : List Entry) → pairs_of entries ≡ [] → (marks_of entries).boots ≡ 0 → entries ≡ []
-    none [] pairs boots = refl
-    none (e ∷ entries) pairs boots =
-        absurd (omega (arith, number_of (e ∷ entries), ap length pairs))
+    none : (entries : List Entry) → length entries ≡ 0 → entries ≡ []
+    none [] long = refl
+    none (e ∷ entries) long = absurd (omega arith)
 
 begun_own : (text image : List ℕ) → IsBegun text image → IsOwn image text
 begun_own text image (inl new) = inl new
@@ -74,7 +79,7 @@ found_new text found head file is found_so =
     let P : Found → Type 0 = λ f. IsFound text f file in subst P is found_so
 
 pub found_sound : (found : Found) (kept : Kept) → found ≡ fd.Journal kept → IsSound found
-    → IsSoundly kept.history.items kept.marks kept.gate × (kept.marks.boots < 1000000)
+    → IsSoundly kept.history.items kept.marks kept.gate × HasBootRoom kept.marks
 found_sound found kept is sound = subst IsSound is sound
 
 -- what was found of a file that stays was found of it before
@@ -153,7 +158,7 @@ module _ (head file text : List ℕ) (is_head : IsHeadOf head file) where
 
     -- a journal of a million boots has no room for another
     pub full_read : (history : PlainHistory) (marks : Marks) (gate : ℕ)
-        → ClosesWith file first history marks gate → marks.boots ≡ 1000000
+        → ClosesWith file first history marks gate → marks.boots ≡ (renewed_of marks).boots + 1000000
         → Refuses file text fault.Many
     full_read history marks gate w full =
         let journal = journal_read history marks gate w in (
@@ -161,7 +166,12 @@ module _ (head file text : List ℕ) (is_head : IsHeadOf head file) where
           inr (record {
             entries = journal.entries;
             keeps = journal_keeps file text history marks gate journal;
-            number = ap (λ (m : Marks). m.boots) journal.marked ∙ full;
+            full = omega (
+              arith,
+              full,
+              ap (λ (m : Marks). m.boots) journal.marked,
+              ap (λ (m : Marks). (renewed_of m).boots) journal.marked,
+            );
           }),
         )
 
@@ -180,16 +190,16 @@ module _ (head file text : List ℕ) (is_head : IsHeadOf head file) where
     stop_read fault.Memory stops = tt
 
 -- a new file and a journal are opened
-pub opens_new : (file text : List ℕ) → IsNew file text → Opens file text [] 0
+pub opens_new : (file text : List ℕ) → IsNew file text → Opens file text [] fresh
 opens_new file text new = record {
   own = inl new;
   recovers = record { entries = []; keeps = new_keeps file text new; pairs = refl };
-  holds = record { entries = []; keeps = new_keeps file text new; number = refl };
+  holds = record { entries = []; keeps = new_keeps file text new; said = refl; number = refl };
 }
 
 pub opens_journal : (file text : List ℕ) (history : PlainHistory) (marks : Marks) (gate : ℕ)
     → IsJournalWith file text history marks gate
-    → Opens file text history marks.boots
+    → Opens file text history marks
 opens_journal file text history marks gate w =
     let keeps = journal_keeps file text history marks gate w in
     record {
@@ -198,6 +208,7 @@ opens_journal file text history marks gate w =
       holds = record {
         entries = w.entries;
         keeps = keeps;
+        said = ap renewed_of w.marked;
         number = ap (λ (m : Marks). m.boots) w.marked;
       };
     }
@@ -205,7 +216,7 @@ opens_journal file text history marks gate w =
 -- the store of a journal that alone may be left fits
 pub fits_only : (site : SiteState) (crashes : Crashes) (store : Keeping) (text : List ℕ)
     (history : PlainHistory)
-    → store.count ≡ length history → LeavesTheFile site.disk crashes.now
+    → store.marks.actions ≡ length history → LeavesTheFile site.disk crashes.now
     → ((disk : Disk) → site.disk ≡ Some disk → IsJournalWith disk.file text history store.marks
     store.gate)
     → Fits site crashes store text history
@@ -252,13 +263,13 @@ leaves_begun text file old mid new was then is new_file calls only calls' begun 
 
 -- the journal that was made
 pub made_anew : (text : List ℕ) → length text < 65536 → (file : List ℕ)
-    → file ≡ 165 ∷ (new_header text ++ 0 ∷ [])
+    → file ≡ 165 ∷ (header 50 text ++ 0 ∷ [])
     → IsJournalWith file text [] fresh (7 + length text)
 made_anew text short file is =
     subst (λ (f : List ℕ). IsJournalWith f text [] fresh (7 + length text)) (sym is)
     (record {
       entries = [];
-      journal = opened 50 text 0 [] (inr refl) short (omega arith);
+      journal = opened 50 text 0 [] (inr (inl refl)) short (omega arith);
       pairs = refl;
       marked = refl;
     })

@@ -17,7 +17,7 @@ use Rattle.ix_journal.specs.declared.entries.Entry.TheVariants as said
 use Rattle.ix_journal.specs.declared.entries.Marks.{Marks}
 use Rattle.ix_journal.specs.declared.slide.Slid.TheVariants as slid
 use Rattle.ix_journal.specs.Entries.{AreFew, IsEntry, MayFollow, behind, entry_text, marks_of}
-use Rattle.ix_journal.specs.Entries.{pair_of, pairs_of}
+use Rattle.ix_journal.specs.Entries.{pair_of, pairs_of, renewed_of}
 use Rattle.ix_journal.specs.History.{PlainHistory, Spent}
 use Rattle.ix_journal.specs.Kinds.{HasKind}
 use Rattle.ix_journal.specs.Format.{IsClosed, header, with_length, record_of}
@@ -25,17 +25,18 @@ use Rattle.ix_journal.specs.Records.{BeginsWithRecord, Holds, ClosesAt, IsDamage
 use Rattle.ix_journal.specs.Answers.{Standing, at_gate, Gives}
 use Rattle.ix_journal.specs.Kept.{Kept, empty_at, extended, moved}
 use Rattle.ix_journal.specs.Slide.{GivesText, Leaves, Tells, RecordsGive, WantMore, IsShort}
+use Rattle.ix_journal.specs.inside.Counting.{AreMany, AreNotMany, AreSound}
 use Rattle.ix_journal.specs.inside.Reading.{IsText, Says}
 use Rattle.ix_journal.proofs.EntryTexts.{entries-same}
 use Rattle.ix_journal.proofs.HoldsLemmas.{holds_none, holds_more, gate_behind}
 use Rattle.ix_journal.proofs.KindFronts.{Covers, kinds_of_front}
-use Rattle.ix_journal.proofs.OrderLemmas.{entry_near, marks_of-more}
+use Rattle.ix_journal.proofs.OrderLemmas.{boots_since, entry_near, marks_of-more, record_more}
+use Rattle.ix_journal.proofs.OrderLemmas.{records_of, renewals_most, room_of, sound-behind, sound-fresh}
+use Rattle.ix_journal.proofs.Following.{not_few}
 use Rattle.ix_journal.proofs.SlideLaws.{stays_away}
 use Rattle.ix_journal.proofs.SlideLemmas.{gives_text, gives_closed, gives_damage, further}
 use Rattle.ix_store.specs.inside.Reading.{HasFront, ReadsOn, IsHeadOf}
-use Rattle.ix_store.specs.inside.Steps.{ClosesWith, KeepsNot, MayKeep, StopsReading}
-use Rattle.ix_store.specs.declared.fault.OpenFault.{OpenFault}
-use Rattle.ix_store.specs.declared.fault.OpenFault.TheVariants as fault
+use Rattle.ix_store.specs.inside.Steps.{ClosesWith}
 use Rattle.ix_store.proofs.Histories.{pairs-more}
 use Rattle.ix_store.proofs.Told.{of_told}
 
@@ -52,10 +53,11 @@ pub record IsOnWay (first at : ℕ) (history : PlainHistory) (kept : Kept) : Typ
   pub place : at ≡ kept.gate + length kept.bytes
   pub some : 0 < length kept.bytes
   pub room : length kept.bytes ≤ 4096
-  pub near : kept.gate ≤ first + 197 * length history + 15 * kept.marks.boots
+  pub near : kept.gate ≤ first + room_of kept.marks
   pub valid : All (λ (spent : Spent). IsAction spent.1) history
-  pub few : length history ≤ 1000000
-  pub boots : kept.marks.boots ≤ 1000000
+  pub counted : kept.marks.actions ≡ length history
+  pub few : AreNotMany kept.marks
+  pub sound : AreSound kept.marks
 
 -- the records of the file up to the Slide's gate tell these actions and leave the Slide's marks, and
 -- the kept bytes are the file's
@@ -68,9 +70,9 @@ pub record Reached (first at : ℕ) (history : PlainHistory) (kept : Kept) (file
   pub end : kept.ended ≡ true → drop at file ≡ []
 
 -- a number that falls from step to step
-abbrev pub steps_left : PlainHistory → Kept → ℕ
-steps_left history kept =
-    (2000000 - (length history + kept.marks.boots)) * 5000 + (4096 - length kept.bytes)
+abbrev pub steps_left : Kept → ℕ
+steps_left kept =
+    (2000001 - records_of kept.marks) * 5000 + (4096 - length kept.bytes)
     + (if kept.ended then 0 else 1)
 
 -- the Slide at the first gate, with so many bytes of the front from there on
@@ -89,8 +91,9 @@ module _ (head : List ℕ) (first count : ℕ) (within : first < length head)
     room = omega (arith, piece_len);
     near = omega arith;
     valid = All-nil (λ (spent : Spent). IsAction spent.1);
-    few = omega arith;
-    boots = omega arith;
+    counted = refl;
+    few = (omega arith, omega arith);
+    sound = sound-fresh;
   }
 
   pub starts_reached : (file : List ℕ) → HasFront head file
@@ -119,8 +122,13 @@ few_reached : (first at : ℕ) (history : PlainHistory) (kept : Kept) (file : Li
     → (reached : Reached first at history kept file) → IsOnWay first at history kept
     → AreFew reached.entries
 few_reached first at history kept file reached way = record {
-  actions = let few = way.few in omega (arith, ap length reached.pairs);
-  boots = let boots = way.boots in omega (arith, ap (λ (m : Marks). m.boots) reached.marked);
+  actions = omega (arith, ap length reached.pairs, way.counted, way.few.0);
+  boots = omega (
+    arith,
+    ap (λ (m : Marks). m.boots) reached.marked,
+    ap (λ (m : Marks). (renewed_of m).boots) reached.marked,
+    way.few.1,
+  );
 }
 
 -- a record is lent
@@ -164,22 +172,31 @@ module _ (kept new : Kept) (text : Bor (List ℕ)) (entry : Entry) (says : Says 
   gate_kept =
       omega (arith, ap length lent.given.1, gate_behind kept.bytes 0 lent.given.0 lent.given.2.begins)
 
-  module _ (first at : ℕ) (history : PlainHistory) (may : MayKeep (length history) entry)
+  -- behind it the boots before a renewal are among the boots
+  pub marks_within : (first at : ℕ) (history : PlainHistory) → IsOnWay first at history kept
+      → (renewed_of new.marks).boots ≤ new.marks.boots
+  marks_within first at history way =
+      let sound = sound-behind kept.marks entry way.sound says.valid follows in
+      let within = sound.within in
+      omega (
+        arith,
+        ap (λ (k : Kept). k.marks.boots) lent.next,
+        ap (λ (k : Kept). (renewed_of k.marks).boots) lent.next,
+      )
+
+  module _ (first at : ℕ) (history : PlainHistory) (may : AreNotMany new.marks)
       (way : IsOnWay first at history kept) where
-    room_for : (length history + length (pair_of entry) ≤ 1000000)
-        × ((behind kept.marks entry).boots ≤ 1000000)
-    room_for = by entry may follows
-      where
-        by : (e : Entry) → MayKeep (length history) e → MayFollow kept.marks e
-            → (length history + length (pair_of e) ≤ 1000000) × ((behind kept.marks e).boots ≤ 1000000)
-        by (said.Boot number) may follows = let few = way.few in (omega arith, omega arith)
-        by (said.Spent ticket action) may follows = let boots = way.boots in (omega arith, omega arith)
-        by (said.Plain action) may follows = let boots = way.boots in (omega arith, omega arith)
+    room_for : AreNotMany (behind kept.marks entry)
+    room_for = subst (λ (k : Kept). AreNotMany k.marks) lent.next may
+
+    sound_behind : AreSound (behind kept.marks entry)
+    sound_behind = sound-behind kept.marks entry way.sound says.valid follows
 
     more_valid : All (λ (spent : Spent). IsAction spent.1) (pair_of entry)
     more_valid = by entry says.valid
       where
         by : (e : Entry) → IsEntry e → All (λ (spent : Spent). IsAction spent.1) (pair_of e)
+        by (said.Renewed actions boots) valid = All-nil (λ (spent : Spent). IsAction spent.1)
         by (said.Boot number) valid = All-nil (λ (spent : Spent). IsAction spent.1)
         by (said.Spent ticket action) valid =
             All-cons (λ (spent : Spent). IsAction spent.1) (Some ticket, action) [] valid.1
@@ -188,12 +205,11 @@ module _ (kept new : Kept) (text : Bor (List ℕ)) (entry : Entry) (says : Says 
             All-cons (λ (spent : Spent). IsAction spent.1) (None, action) [] valid
             (All-nil (λ (spent : Spent). IsAction spent.1))
 
-    one_more : 1 + length history + kept.marks.boots
-        ≤ length history + length (pair_of entry) + (behind kept.marks entry).boots
-    one_more = by entry
+    counted_behind : (behind kept.marks entry).actions ≡ length (history ++ pair_of entry)
+    counted_behind = omega (arith, by entry, way.counted, length-append history (pair_of entry))
       where
-        by : (e : Entry) → 1 + length history + kept.marks.boots
-            ≤ length history + length (pair_of e) + (behind kept.marks e).boots
+        by : (e : Entry) → (behind kept.marks e).actions ≡ kept.marks.actions + length (pair_of e)
+        by (said.Renewed actions boots) = omega arith
         by (said.Boot number) = omega arith
         by (said.Spent ticket action) = omega arith
         by (said.Plain action) = omega arith
@@ -208,31 +224,39 @@ module _ (kept new : Kept) (text : Bor (List ℕ)) (entry : Entry) (says : Says 
         let place = way.place in
         let room = way.room in
         let left = length-drop (3 + length text.now) kept.bytes in
-        let pushed = length-append history (pair_of entry) in
         record {
           place = omega (arith, left);
           some = omega (arith, left);
           room = omega (arith, left);
-          near = omega (arith, pushed, len, entry_near kept.marks entry says.valid follows room_for.1);
+          near = omega (
+            arith,
+            len,
+            entry_near kept.marks entry way.sound says.valid follows (omega (arith, room_for.1)),
+          );
           valid = All-append (λ (spent : Spent). IsAction spent.1) history (pair_of entry) way.valid
               more_valid;
-          few = omega (arith, pushed, room_for.0);
-          boots = room_for.1;
+          counted = counted_behind;
+          few = room_for;
+          sound = sound_behind;
         }
 
     pub next_on_way : IsOnWay first at (history ++ pair_of entry) new
     next_on_way =
         subst (IsOnWay first at (history ++ pair_of entry)) (sym lent.next) lent_on_way
 
-    lent_less : steps_left (history ++ pair_of entry) after < steps_left history kept
+    lent_less : steps_left after < steps_left kept
     lent_less =
         let room = way.room in
-        omega (arith, length-append history (pair_of entry), one_more, room_for.0, room_for.1)
+        omega (
+          arith,
+          record_more kept.marks entry way.sound follows,
+          room_for.0,
+          room_for.1,
+          renewals_most (behind kept.marks entry).renewal,
+        )
 
-    pub next_less : steps_left (history ++ pair_of entry) new < steps_left history kept
-    next_less =
-        subst (λ (k : Kept). steps_left (history ++ pair_of entry) k < steps_left history kept)
-        (sym lent.next) lent_less
+    pub next_less : steps_left new < steps_left kept
+    next_less = subst (λ (k : Kept). steps_left k < steps_left kept) (sym lent.next) lent_less
 
   -- in the file the record stands behind those reached
   module _ (first at : ℕ) (history : PlainHistory) (file : List ℕ)
@@ -284,9 +308,8 @@ module _ (kept new : Kept) (text : Bor (List ℕ)) (entry : Entry) (says : Says 
         lent_reached
 
     -- a record that isn't kept makes too many
-    pub lent_many : IsOnWay first at history kept → (MayKeep (length history) entry → ⊥)
-        → IsManyFrom file first
-    lent_many way not = record {
+    pub lent_many : IsOnWay first at history kept → AreMany new.marks → IsManyFrom file first
+    lent_many way many = record {
       entries = reached.entries;
       entry = entry;
       gate = kept.gate;
@@ -295,31 +318,15 @@ module _ (kept new : Kept) (text : Bor (List ℕ)) (entry : Entry) (says : Says 
       few = few_reached first at history kept file reached way;
       begins = begins_there;
       follows = follows_there;
-      many = λ few. not (kept_few few);
+      many = λ few. by (subst (λ (k : Kept). AreMany k.marks) lent.next many) few;
     }
       where
-        kept_few : AreFew (reached.entries ++ entry ∷ []) → MayKeep (length history) entry
-        kept_few few =
-            let actions = few.actions in
-            let boots = few.boots in
-            by entry follows
-            (omega (
-              arith,
-              ap length (pairs-more reached.entries entry),
-              ap length reached.pairs,
-              length-append (pairs_of reached.entries) (pair_of entry),
-            ))
-            (omega (
-              arith,
-              ap (λ (m : Marks). m.boots) (marks_of-more reached.entries entry),
-              ap (λ (m : Marks). (behind m entry).boots) reached.marked,
-            ))
-          where
-            by : (e : Entry) → MayFollow kept.marks e → length history + length (pair_of e) ≤ 1000000
-                → (behind kept.marks e).boots ≤ 1000000 → MayKeep (length history) e
-            by (said.Boot number) follows actions boots = omega arith
-            by (said.Spent ticket action) follows actions boots = omega arith
-            by (said.Plain action) follows actions boots = omega arith
+        marked : behind kept.marks entry ≡ marks_of (reached.entries ++ entry ∷ [])
+        marked =
+            sym (marks_of-more reached.entries entry ∙ ap (λ (m : Marks). behind m entry) reached.marked)
+
+        by : AreMany (behind kept.marks entry) → AreFew (reached.entries ++ entry ∷ []) → ⊥
+        by many few = not_few (reached.entries ++ entry ∷ []) (behind kept.marks entry) marked many few
 
 -- a closed gate is met, or damage
 module _ (first at : ℕ) (history : PlainHistory) (kept : Kept) (file : List ℕ)
@@ -367,17 +374,6 @@ module _ (first at : ℕ) (history : PlainHistory) (kept : Kept) (file : List �
           omega arith;
     }
 
--- why a record isn't kept is a reason to stop
-pub stops_keeping : (first count : ℕ) (file : List ℕ) (entry : Entry) (why : OpenFault)
-    → KeepsNot count entry why → ((MayKeep count entry → ⊥) → IsManyFrom file first)
-    → StopsReading first why file
-stops_keeping first count file entry fault.NotJournal not many = absurd not
-stops_keeping first count file entry (fault.OtherExpression kept) not many = absurd not
-stops_keeping first count file entry (fault.Damaged at) not many = absurd not
-stops_keeping first count file entry fault.Many not many = many not
-stops_keeping first count file entry fault.Disk not many = absurd not
-stops_keeping first count file entry fault.Memory not many = tt
-
 -- more bytes come, or the end is told
 module _ (first at : ℕ) (history : PlainHistory) (kept : Kept) (short : IsShort kept) where
   short_few : length kept.bytes ≤ 210
@@ -391,8 +387,9 @@ module _ (first at : ℕ) (history : PlainHistory) (kept : Kept) (short : IsShor
     room = omega (arith, length-append kept.bytes piece);
     near = way.near;
     valid = way.valid;
+    counted = way.counted;
     few = way.few;
-    boots = way.boots;
+    sound = way.sound;
   }
   fed_on_way disk _ _ (ReadsOn.told_the_end file) way = record {
     place = way.place;
@@ -400,15 +397,16 @@ module _ (first at : ℕ) (history : PlainHistory) (kept : Kept) (short : IsShor
     room = way.room;
     near = way.near;
     valid = way.valid;
+    counted = way.counted;
     few = way.few;
-    boots = way.boots;
+    sound = way.sound;
   }
 
   going : let left : ℕ = if kept.ended then 0 else 1 in left ≡ 1
   going = let one_left : Bool → ℕ = λ b. if b then 0 else 1 in ap one_left short.0
 
   pub fed_less : (disk : Option Disk) (next : ℕ) (new : Kept) → ReadsOn disk at kept next new
-      → steps_left history new < steps_left history kept
+      → steps_left new < steps_left kept
   fed_less disk _ _ (ReadsOn.took piece some room file) =
       let few = short_few in omega (arith, length-append kept.bytes piece)
   fed_less disk _ _ (ReadsOn.told_the_end file) = let e = going in omega arith

@@ -4,5 +4,6 @@ pub mod KeptBy
 pub mod Opens
 pub mod Reading
 pub mod Refusals
+pub mod Renewing
 pub mod Starting
 pub mod Steps

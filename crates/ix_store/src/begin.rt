@@ -1,6 +1,6 @@
 //! A journal that is made anew.
 
-ghost use Rattle.std.specs.Prelude.{◌≡◌, ◌<◌, ◌≤◌, [], ◌∷◌, true, ℕ, List, length, take};
+ghost use Rattle.std.specs.Prelude.{◌≡◌, ◌<◌, ◌≤◌, [], ◌∷◌, ◌++◌, true, ℕ, List, length, take};
 ghost use Rattle.std.specs.Prelude.{drop, OnOk, IfErr};
 ghost use Rattle.std.specs.Option.{ForSome};
 ghost use Rattle.ix_outside.specs.Counts.{CountsFault};
@@ -10,21 +10,24 @@ ghost use Rattle.ix_outside.specs.inside.DiskCalls.{DiskCalls, LeavesOnly};
 ghost use Rattle.ix_store.specs.Opening.{IsNew};
 ghost use Rattle.ix_store.specs.inside.Reading.{IsHeadOf};
 ghost use Rattle.ix_store.specs.inside.Refusals.{TellsNothing};
-ghost use Rattle.ix_store.specs.inside.Starting.{CountsOpening, new_journal};
+ghost use Rattle.ix_journal.specs.Format.{header};
+ghost use Rattle.ix_journal.specs.inside.Writing.{digit_of};
+ghost use Rattle.ix_store.specs.inside.Starting.{CountsOpening};
 ghost use Rattle.ix_store.specs.inside.Steps.{IsBegun};
 
 use crate::OpenFault;
 use crate::write::write_through;
-use ix_journal::{CLOSED, OPEN, header_bytes};
+use ix_journal::{CLOSED, OPEN, Version, header_bytes};
 use ix_outside::{DiskFailed, Site};
 use std::alloc::Global;
 
-/// Makes the journal of this text anew, without records, over a file that begins with these bytes.
-/// Its head gate is opened last.
+/// Makes the journal of this text anew, without records and with a header of this version, over a
+/// file that begins with these bytes. Its head gate is opened last.
 pub(crate) fn begin<S: Site>(
     alloc: Global,
     site: &mut S,
     bytes: &[u8],
+    version: Version,
     text: &[u8],
 ) -> Result<(), OpenFault>
     requires attached { (S.state site.old).attached ≡ true }
@@ -33,7 +36,7 @@ pub(crate) fn begin<S: Site>(
     requires is_new { OfFile (λ file. IsNew file text.now) (S.state site.old).disk }
     requires settled { LeavesTheFile (S.state site.old).disk (S.crashes site.old).now }
     ensures begun { OnOk result (MakesFile
-        (λ _ file. file ≡ new_journal text.now)
+        (λ _ file. file ≡ OPEN ∷ header (digit_of version) text.now ++ CLOSED ∷ [])
         (S.state site.old).disk (S.state site.new).disk) }
     ensures settled { OnOk result
         (LeavesTheFile (S.state site.new).disk (S.crashes site.new).now) }
@@ -44,7 +47,7 @@ pub(crate) fn begin<S: Site>(
         (S.state site.old).counts.disk (S.state site.new).counts.disk }
     ensures calls { DiskCalls (stretch_of S.state S.crashes site.old site.new) }
 {
-    let Ok(header) = header_bytes(alloc, text) else {
+    let Ok(header) = header_bytes(alloc, version, text) else {
         return Err(OpenFault::Memory);
     };
     let Ok(()) = clear(site, bytes) else {

@@ -14,7 +14,6 @@ use crate::OpenFault;
 use crate::judge::judge;
 use crate::read::read_head;
 use crate::records::{Kept, read_records};
-use ix_journal::MOST_BOOTS;
 use ix_outside::Site;
 use std::alloc::Global;
 
@@ -75,7 +74,7 @@ fn find<S: Site>(alloc: Global, site: &mut S, text: &[u8]) -> Result<Found, Open
     };
     match read_records(alloc, site, &head, first) {
         Ok(kept) => {
-            if kept.marks.boots >= MOST_BOOTS {
+            if !kept.marks.has_room() {
                 return Err(OpenFault::Many);
             }
             Ok(Found::Journal(kept))

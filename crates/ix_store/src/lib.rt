@@ -12,10 +12,12 @@ mod begin;
 mod fault;
 mod find;
 mod judge;
+mod making;
 mod read;
 mod records;
 mod store;
 mod write;
 
 pub use fault::OpenFault;
+pub use making::{RenewFault, renew};
 pub use store::Store;

@@ -5,18 +5,17 @@ ghost use Rattle.std.specs.Prelude.{OnOk, MatchResult};
 ghost use Rattle.ix_outside.specs.Counts.{CountsFault};
 ghost use Rattle.ix_outside.specs.Crashes.{stretch_of};
 ghost use Rattle.ix_outside.specs.Disk.{OfFile};
-ghost use Rattle.ix_journal.specs.Entries.{IsEntry, pair_of};
+ghost use Rattle.ix_journal.specs.Entries.{fresh, pair_of};
 ghost use Rattle.ix_journal.specs.Format.{farthest_gate};
 ghost use Rattle.ix_store.specs.inside.Reading.{HasFront, ReadsOn, OnlyReads};
 ghost use Rattle.ix_store.specs.inside.Starting.{CountsOpening};
-ghost use Rattle.ix_store.specs.inside.Steps.{ClosesWith, IsSoundly, KeepsNot, MayKeep};
-ghost use Rattle.ix_store.specs.inside.Steps.{StopsReading};
+ghost use Rattle.ix_store.specs.inside.Steps.{ClosesWith, IsSoundly, StopsReading};
 
 use crate::OpenFault;
-use ix_journal::{Entry, MOST_BOOTS, MOST_RECORDS, Marks, SLIDE_ROOM, Slid, Slide};
+use ix_journal::{Entry, Marks, SLIDE_ROOM, Slid, Slide};
 use ix_outside::{DiskFailed, Site};
 use ix_values::{Action, Ticket};
-use std::alloc::Global;
+use std::alloc::{AllocError, Global};
 
 /// What the open records of a ready file tell, and the place of its first closed gate.
 #[derive(Drop)]
@@ -37,7 +36,7 @@ pub(crate) fn read_records<S: Site>(
 ) -> Result<Kept, OpenFault>
     requires attached { (S.state site.old).attached ≡ true }
     requires within { first < length head.now }
-    requires near { first ≤ farthest_gate 0 0 }
+    requires near { first ≤ farthest_gate fresh }
     requires head { OfFile (HasFront head.now) (S.state site.old).disk }
     ensures file { MatchResult result
         (λ kept. OfFile (λ file. ClosesWith file first kept.history.items kept.marks kept.gate)
@@ -58,10 +57,16 @@ pub(crate) fn read_records<S: Site>(
                 Ok(next) => at = next,
                 Err(_) => return Err(OpenFault::Disk),
             },
-            Slid::Record(text) => match keep(&mut history, Entry::of_text(text)) {
-                Ok(()) => {}
-                Err(fault) => return Err(fault),
-            },
+            Slid::Record(text) => {
+                let entry = Entry::of_text(text);
+                if slide.marks().are_many() {
+                    return Err(OpenFault::Many);
+                }
+                match keep(&mut history, entry) {
+                    Ok(()) => {}
+                    Err(_) => return Err(OpenFault::Memory),
+                }
+            }
             Slid::Closed { gate } => {
                 let marks = slide.marks();
                 return Ok(Kept {
@@ -75,26 +80,17 @@ pub(crate) fn read_records<S: Site>(
     }
 }
 
-/// Keeps an action that a record tells behind those of the history, with its ticket. A record that
-/// would make too many actions or boots is refused.
-fn keep(history: &mut Vec<(Option<Ticket>, Action)>, entry: Entry) -> Result<(), OpenFault>
-    ensures kept { OnOk result (history.new.items ≡ history.old.items ++ pair_of entry) }
-    ensures may { OnOk result (MayKeep (length history.old.items) entry) }
-    ensures refused { IfErr result (KeepsNot (length history.old.items) entry) }
+/// Keeps an action that a record tells behind those of the history, with its ticket.
+fn keep(history: &mut Vec<(Option<Ticket>, Action)>, entry: Entry) -> Result<(), AllocError>
+    ensures { OnOk result (history.new.items ≡ history.old.items ++ pair_of entry) }
 {
     let spent = match entry {
-        Entry::Boot(number) if number > MOST_BOOTS => return Err(OpenFault::Many),
-        Entry::Boot(_) => return Ok(()),
+        Entry::Renewed { .. } | Entry::Boot(_) => return Ok(()),
         Entry::Spent { ticket, action } => (Some(ticket), action),
         Entry::Plain(action) => (None, action),
     };
-    if history.len() >= MOST_RECORDS {
-        return Err(OpenFault::Many);
-    }
-    match history.push(spent) {
-        Ok(()) => Ok(()),
-        Err(_) => Err(OpenFault::Memory),
-    }
+    history.push(spent)?;
+    Ok(())
 }
 
 /// Reads the next bytes of the file into the slide, or tells it that there are no more, and gives

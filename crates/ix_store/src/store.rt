@@ -1,33 +1,32 @@
 //! The store.
 
-ghost use Rattle.std.specs.Prelude.{◌≡◌, ◌+◌, ◌<◌, ◌≤◌, length};
-ghost use Rattle.ix_journal.specs.Entries.{behind, pair_of};
+ghost use Rattle.std.specs.Prelude.{◌≡◌, ◌+◌, ◌<◌, ◌≤◌, ◌^◌, length};
+ghost use Rattle.ix_journal.specs.Entries.{MayFollow, behind, pair_of, renewed_of};
 ghost use Rattle.ix_journal.specs.Format.{farthest_gate};
-ghost use Rattle.ix_journal.specs.declared.TheConstants.{MOST_RECORDS, MOST_BOOTS};
-ghost use Rattle.ix_journal.specs.inside.Writing.{entry_of};
+ghost use Rattle.ix_journal.specs.declared.TheConstants.{MOST_RECORDS};
+ghost use Rattle.ix_journal.specs.inside.Counting.{AreNotMany, AreSound, HasBootRoom};
+ghost use Rattle.ix_journal.specs.inside.Writing.{CanBeWritten, entry_of};
 
 use crate::OpenFault;
 use crate::begin::begin;
 use crate::find::{Found, sync_and_find};
 use crate::write::write_through;
 use arrayvec::ArrayVec;
-use ix_journal::{FRONT_LENGTH, MOST_BOOTS, MOST_RECORDS, Marks, OPEN, Record, record_bytes};
+use ix_journal::{FRONT_LENGTH, Marks, OPEN, Record, Renewed, Version, record_bytes};
 use ix_outside::{DiskFailed, Site};
 use ix_values::{Action, Ticket};
 use std::alloc::Global;
 
-/// The place of the first closed gate of a site's journal, how many actions stand in front of it,
-/// and what the records there leave. A store whose append or boot failed takes no other: the
-/// journal is to be opened again.
+/// The place of the first closed gate of a site's journal, and what the records in front of it
+/// leave. A store whose append or boot failed takes no other: the journal is to be opened again.
 #[derive(Drop, Debug)]
 pub struct Store {
     gate: u64,
-    count: usize,
     marks: Marks,
     failed: bool,
-    ghost near: { gate ≤ farthest_gate count marks.boots },
-    ghost actions: { count ≤ MOST_RECORDS },
-    ghost boots: { marks.boots ≤ MOST_BOOTS },
+    ghost near: { gate ≤ farthest_gate marks },
+    ghost few: { AreNotMany marks },
+    ghost sound: { AreSound marks },
 }
 
 impl Store {
@@ -35,7 +34,7 @@ impl Store {
     ghost use Rattle.std.specs.Prelude.{IfOk, IfErr, OnOk, All, is_err};
     ghost use Rattle.std.specs.Option.{ForSome};
     ghost use Rattle.ix_values.specs.Texts.{IsAction};
-    ghost use Rattle.ix_journal.specs.Entries.{CanSpend, MayFollow};
+    ghost use Rattle.ix_journal.specs.Entries.{CanSpend};
     ghost use Rattle.ix_journal.specs.History.{PlainHistory, Spent};
     ghost use Rattle.ix_journal.specs.declared.entries.Entry.TheVariants as entry;
     ghost use Rattle.ix_outside.specs.Counts.{CountsFault};
@@ -75,7 +74,7 @@ impl Store {
 
         // What the file is, as it reads at the call.
         ensures opened { IfOk result (λ opened. ForSome (S.state site.old).disk (λ disk.
-            Opens disk.file text.now opened.1.items (kept opened.0).marks.boots)) }
+            Opens disk.file text.now opened.1.items (kept opened.0).marks)) }
         ensures refused { IfErr result (λ fault. ForSome (S.state site.old).disk (λ disk.
             Refuses disk.file text.now fault)) }
 
@@ -83,7 +82,7 @@ impl Store {
         ensures fits { IfOk result (λ opened. Fits (S.state site.new) (S.crashes site.new)
             (kept opened.0) text.now opened.1.items) }
         ensures works { IfOk result (λ opened. (kept opened.0).failed ≡ false) }
-        ensures room { IfOk result (λ opened. (kept opened.0).marks.boots < MOST_BOOTS) }
+        ensures room { IfOk result (λ opened. HasBootRoom (kept opened.0).marks) }
         ensures valid { IfOk result
             (λ opened. All (λ (spent : Spent). IsAction spent.1) opened.1.items) }
 
@@ -101,17 +100,15 @@ impl Store {
             Ok(Found::Journal(kept)) => {
                 let store = Store {
                     gate: kept.gate,
-                    count: kept.history.len(),
                     marks: kept.marks,
                     failed: false,
                 };
                 Ok((store, kept.history))
             }
-            Ok(Found::New { head }) => match begin(alloc, site, &head, text) {
+            Ok(Found::New { head }) => match begin(alloc, site, &head, Version::Started, text) {
                 Ok(()) => {
                     let store = Store {
                         gate: (FRONT_LENGTH + text.len()) as u64,
-                        count: 0,
                         marks: Marks::fresh(),
                         failed: false,
                     };
@@ -123,13 +120,14 @@ impl Store {
         }
     }
 
-    /// Appends the next boot to the journal, and gives its number, from 1. After Ok it is kept.
+    /// Appends the next boot to the journal, and gives its number: one more than that of the last
+    /// boot, which behind a renewal goes on from those before it. After Ok it is kept.
     /// After a fault it may be kept or not, and the journal is to be opened again. The history
     /// stays as it is. No memory is taken.
     pub fn boot<S: Site>(&mut self, site: &mut S) -> Result<u64, DiskFailed>
         requires attached { (S.state site.old).attached ≡ true }
         requires works { (kept self.old).failed ≡ false }
-        requires room { (kept self.old).marks.boots < MOST_BOOTS }
+        requires room { HasBootRoom (kept self.old).marks }
         requires fits { (text : List ℕ) × (history : PlainHistory)
             × Fits (S.state site.old) (S.crashes site.old) (kept self.old) text history }
 
@@ -168,7 +166,7 @@ impl Store {
     ) -> Result<(), DiskFailed>
         requires attached { (S.state site.old).attached ≡ true }
         requires works { (kept self.old).failed ≡ false }
-        requires few { (kept self.old).count < MOST_RECORDS }
+        requires few { (kept self.old).marks.actions < MOST_RECORDS }
         requires spends { CanSpend (kept self.old).marks ticket }
         requires fits { (text : List ℕ) × (history : PlainHistory)
             × Fits (S.state site.old) (S.crashes site.old) (kept self.old) text history }
@@ -195,12 +193,21 @@ impl Store {
         self.append_record(site, &Record::Spent { ticket, action })
     }
 
-    /// How many boots the journal holds: as many as the file as it was read, and one more for each
-    /// that was written since.
+    /// The number of the last boot of the journal: that of the file as it was read, and one more
+    /// for each boot that was written since.
     pub fn boots(&self) -> u64
         ensures { result ≡ (kept self.now).marks.boots }
     {
         self.marks.boots
+    }
+
+    /// What the journal stands for besides its own records.
+    pub fn renewed(&self) -> Renewed
+        ensures value { result ≡ renewed_of (kept self.now).marks }
+        ensures carried { result.carried ≤ result.actions }
+        ensures actions { result.actions ≤ 2 ^ 63 }
+    {
+        self.marks.renewed()
     }
 
     /// Whether an append or a boot failed.
@@ -218,12 +225,10 @@ impl Store {
     ) -> Result<(), DiskFailed>
         requires attached { (S.state site.old).attached ≡ true }
         requires works { (kept self.old).failed ≡ false }
-        requires actions { (kept self.old).count + length (pair_of (entry_of written.now))
-            ≤ MOST_RECORDS }
-        requires boots { (behind (kept self.old).marks (entry_of written.now)).boots
-            ≤ MOST_BOOTS }
+        requires few { AreNotMany (behind (kept self.old).marks (entry_of written.now)) }
+        requires fits { CanBeWritten written.now }
         requires follows { MayFollow (kept self.old).marks (entry_of written.now) }
-        requires fits { (text : List ℕ) × (history : PlainHistory)
+        requires journal { (text : List ℕ) × (history : PlainHistory)
             × Fits (S.state site.old) (S.crashes site.old) (kept self.old) text history }
 
         ensures appended { OnOk result ((text : List ℕ) (history : PlainHistory)
@@ -250,37 +255,44 @@ impl Store {
         write_through(site, gate + 1, bytes.as_slice())?;
         // The record is on the disk before the gate in front of it is opened.
         write_through(site, gate, &[OPEN])?;
-        let (count, marks) = passed(self.count, &self.marks, written);
+        let marks = passed(&self.marks, written);
         self.gate = gate + bytes.len() as u64;
-        self.count = count;
         self.marks = marks;
         self.failed = false;
         Ok(())
     }
 }
 
-/// How many actions there are, and what the records leave, with this one behind them.
-fn passed(count: usize, marks: &Marks, written: &Record<'_>) -> (usize, Marks)
-    requires actions { count + length (pair_of (entry_of written.now)) ≤ MOST_RECORDS }
-    requires boots { (behind marks.now (entry_of written.now)).boots ≤ MOST_BOOTS }
-    ensures count { result.0 ≡ count + length (pair_of (entry_of written.now)) }
-    ensures marks { result.1 ≡ behind marks.now (entry_of written.now) }
+/// What the records leave with this one behind them.
+fn passed(marks: &Marks, written: &Record<'_>) -> Marks
+    requires few { AreNotMany (behind marks.now (entry_of written.now)) }
+    requires follows { MayFollow marks.now (entry_of written.now) }
+    ensures { result ≡ behind marks.now (entry_of written.now) }
 {
     match written {
-        Record::Boot(_) => (
-            count,
-            Marks {
-                boots: marks.boots + 1,
-                seq: 0,
-            },
-        ),
-        Record::Spent { ticket, .. } => (
-            count + 1,
-            Marks {
-                boots: marks.boots,
-                seq: ticket.seq,
-            },
-        ),
-        Record::Plain(_) => (count + 1, *marks),
+        Record::Renewed { actions, boots } => Marks {
+            actions: marks.actions,
+            boots: *boots,
+            seq: 0,
+            renewal: Some(Renewed {
+                carried: marks.actions,
+                actions: *actions,
+                boots: *boots,
+            }),
+        },
+        Record::Boot(number) => Marks {
+            boots: *number,
+            seq: 0,
+            ..*marks
+        },
+        Record::Spent { ticket, .. } => Marks {
+            actions: marks.actions + 1,
+            seq: ticket.seq,
+            ..*marks
+        },
+        Record::Plain(_) => Marks {
+            actions: marks.actions + 1,
+            ..*marks
+        },
     }
 }

@@ -10,5 +10,5 @@ returns-in_default-as_str c =
     let other = c.in_default-as_str in
     unknown_blamed _ c.as_str.result.now first other.not-trace other.not-replay other.not-serve
     other.not-work other.not-simplify other.not-bound other.not-follow other.not-lint
-    other.not-why other.not-next other.not-stuck
+    other.not-why other.not-next other.not-stuck other.not-renew
     c.no_command-in_default-as_str.result

@@ -2,11 +2,11 @@
 use Rattle.std.specs.Prelude.{ℕ, List, map, string_bytes, ⊤}
 use Rattle.ix_cli.specs.declared.job.Job.{Job as ReadJob}
 use Rattle.ix_cli.specs.declared.job.Job.TheVariants.{Trace, Replay, Serve, Work, Simplify, Bound}
-use Rattle.ix_cli.specs.declared.job.Job.TheVariants.{Follow, Lint, Why, Next, Stuck}
+use Rattle.ix_cli.specs.declared.job.Job.TheVariants.{Follow, Lint, Why, Next, Stuck, Renew}
 use Rattle.ix_cli.specs.declared.fault.WordsFault.{WordsFault}
 use Rattle.ix_cli.specs.declared.fault.WordsFault.TheVariants.{Bad, Memory}
 use Rattle.ix_cli.specs.Words.{Job, NamesNoJob, trace, replay, serve, work, simplify, bound}
-use Rattle.ix_cli.specs.Words.{follow, lint, why, next, stuck}
+use Rattle.ix_cli.specs.Words.{follow, lint, why, next, stuck, renew}
 
 -- the job that was read
 abbrev pub job_of : ReadJob → Job
@@ -26,6 +26,8 @@ job_of (Next expr actions values nodes) =
     next (string_bytes expr) (string_bytes actions) (map string_bytes values.items) nodes
 job_of (Stuck expr values nodes states) =
     stuck (string_bytes expr) (string_bytes values) nodes states
+job_of (Renew expr journal new nodes) =
+    renew (string_bytes expr) (string_bytes journal) (string_bytes new) nodes
 
 -- words that are bad name no job, and want of memory says nothing of them
 abbrev pub Explains : List (List ℕ) → WordsFault → Type 0

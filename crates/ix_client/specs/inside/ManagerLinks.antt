@@ -1,5 +1,6 @@
 -- A link to a manager in memory, as contracts see it.
 use Rattle.std.specs.Prelude.{◌≡◌, ℕ, ◌^◌, ◌<◌, ◌≤◌, ◌==◌, nat_le, nat_lt, ◌&&◌, ◌||◌, not, Bool}
+use Rattle.std.specs.Prelude.{if◌then◌else◌}
 use Rattle.std.specs.Prelude.{true, false, List, [], ◌∷◌, Option, None, Some, ⊤}
 use Rattle.std.specs.List.{list_all}
 use Rattle.ix_values.specs.PlainAction.{PlainAction}
@@ -19,12 +20,13 @@ use Rattle.ix_client.specs.Links.{LinkState, Told}
 use Rattle.ix_client.specs.Sound.{pairs_of}
 
 -- the text of the expression, the limit of Size, the manager, unless none could be started, its
--- site, and the link's counts and line
+-- site, the calls that are told to fail, and the link's counts and line
 pub record ManagerLinkState : Type 0 where
   pub text : List ℕ
   pub limit : ℕ
   pub manager : Option ManagerState
   pub site : MemorySiteState
+  pub fail : List (ℕ × Bool)
   pub calls : ℕ
   pub line : List ℕ
   pub faults : ℕ
@@ -84,8 +86,14 @@ link_state link = record {
 abbrev pub call_noted : List ℕ → ManagerLinkState → ManagerLinkState
 call_noted line link = record link { calls = one_more link.calls; line = line }
 
--- what is noted of calls stays
+-- what is told of the call of this number: that it fails, and then whether behind its step
+abbrev pub told_at : ℕ → List (ℕ × Bool) → Option Bool
+told_at number [] = None
+told_at number (one ∷ fail) = if one.0 == number then Some one.1 else told_at number fail
+
+-- what is told and noted of calls stays
 pub record NotesStay (old new : ManagerLinkState) : Type 0 where
+  pub fail : new.fail ≡ old.fail
   pub calls : new.calls ≡ old.calls
   pub line : new.line ≡ old.line
 

@@ -1,6 +1,7 @@
 -- What passing a request on makes of a manager and its site.
 use Rattle.std.specs.Prelude.{◌≡◌, ℕ, ◌<◌, ◌≤◌, ◌-◌, ◌++◌, [], ◌∷◌, true, List, length}
 use Rattle.std.specs.Prelude.{Option, None, Some, slice_get}
+use Rattle.ix_journal.specs.declared.entries.Renewed.{Renewed}
 use Rattle.ix_values.specs.declared.tickets.Ticket.{Ticket}
 use Rattle.ix_expr.specs.Form.{Form}
 use Rattle.ix_journal.specs.History.{PlainHistory}
@@ -29,8 +30,9 @@ pub record EndsInLine (sent : ℕ) (sends : Sends) (line : List ℕ) : Type 0 wh
 
 -- whatever starts from the image comes later than the state
 abbrev pub StartsAgain : Form → MachineState → List ℕ → Type 0
-StartsAgain x s image = (limit : ℕ) (history : PlainHistory) (boot : ℕ)
-    → IsStartable (opening_of x limit history boot) image → Later x s (start_of history boot)
+StartsAgain x s image = (limit : ℕ) (history : PlainHistory) (renewed : Renewed) (boot : ℕ)
+    → IsStartable (opening_of x limit history renewed boot) image
+    → Later x s (start_of history renewed boot)
 
 -- A manager answered a request and goes on over its site. Where the site still tells its contents,
 -- the line is that of its reply.
@@ -65,8 +67,9 @@ pub record StartedFrom (text : List ℕ) (limit : ℕ) (m : ManagerState)
     (before after : MemorySiteState) : Type 0 where
   pub manages : IsManagerOf text limit m after
   pub startable : before.told ≡ true
-      → IsStartable (opening_of m.form m.limit m.machine.history m.machine.boot) before.image
-  pub machine : m.machine ≡ start_of m.machine.history m.machine.boot
+      → IsStartable (opening_of m.form m.limit m.machine.history m.machine.renewed m.machine.boot)
+      before.image
+  pub machine : m.machine ≡ start_of m.machine.history m.machine.renewed m.machine.boot
 
 -- the bytes, and a byte 10 at their end alone, which a manager takes as one line
 pub record IsShortLine (bytes all : List ℕ) : Type 0 where

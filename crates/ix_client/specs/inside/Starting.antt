@@ -15,5 +15,6 @@ pub record TellsStarted (text : List ℕ) (limit : ℕ) (image : List ℕ) (link
   pub stands : StandsFor text told.form
   pub limit_is : told.limit ≡ limit
   pub startable : IsStartable
-      (opening_of told.form limit told.machine.history told.machine.boot) image
-  pub machine : told.machine ≡ start_of told.machine.history told.machine.boot
+      (opening_of told.form limit told.machine.history told.machine.renewed
+      told.machine.boot) image
+  pub machine : told.machine ≡ start_of told.machine.history told.machine.renewed told.machine.boot

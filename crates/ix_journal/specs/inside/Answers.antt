@@ -26,7 +26,7 @@ abbrev pub items_left : Standing → Count
 items_left old = at_most (if old.damaged then 0 else length old.bytes - old.gate)
 
 -- what a scan tells: the text, how many open records are of actions, the place of the first closed
--- gate, and how many open records are boots
+-- gate, and the number of the last boot
 pub data IsScanned (bytes : List ℕ) : Option (List ℕ) → ℕ → ℕ → ℕ → Type 0 where
   unfinished : IsUnfinished bytes → IsScanned bytes None 0 0 0
   unopened : (text : List ℕ) → IsUnopened bytes text → IsScanned bytes (Some text) 0 0 0

@@ -1,17 +1,27 @@
--- What a record that is written says, and the header of a journal that is made.
-use Rattle.std.specs.Prelude.{ℕ, List}
-use Rattle.ix_journal.specs.Format.{header}
+-- What a record that is written says, and the version of a header that is.
+use Rattle.std.specs.Prelude.{ℕ, ◌≤◌, ◌^◌, ⊤}
 use Rattle.ix_journal.specs.declared.entries.Entry.{Entry}
 use Rattle.ix_journal.specs.declared.entries.Entry.TheVariants as entry
 use Rattle.ix_journal.specs.declared.writing.Record.{Record}
 use Rattle.ix_journal.specs.declared.writing.Record.TheVariants as written
+use Rattle.ix_journal.specs.declared.writing.Version.{Version}
+use Rattle.ix_journal.specs.declared.writing.Version.TheVariants as version
 
 -- what it says
 abbrev pub entry_of : Record → Entry
+entry_of (written.Renewed actions boots) = entry.Renewed actions boots
 entry_of (written.Boot number) = entry.Boot number
 entry_of (written.Spent ticket action) = entry.Spent ticket action.now
 entry_of (written.Plain action) = entry.Plain action.now
 
--- the header of a journal that is made now: that of version 2
-abbrev pub new_header : List ℕ → List ℕ
-new_header text = header 50 text
+-- the numbers of a renewal fit
+abbrev pub CanBeWritten : Record → Type 0
+CanBeWritten (written.Renewed actions boots) = (actions ≤ 2 ^ 63) × (boots ≤ 2 ^ 63)
+CanBeWritten (written.Boot number) = ⊤
+CanBeWritten (written.Spent ticket action) = ⊤
+CanBeWritten (written.Plain action) = ⊤
+
+-- the digit of a version: 2 or 3
+abbrev pub digit_of : Version → ℕ
+digit_of version.Started = 50
+digit_of version.Renewed = 51

@@ -1,6 +1,7 @@
 -- The job of words that were read.
-use Rattle.ix_cli.specs.Words.{Job, trace, replay, serve, work, follow}
+use Rattle.ix_cli.specs.Words.{Job, trace, replay, serve, work, follow, renew}
 use Rattle.ix_manage.specs.declared.job.FollowWords.{FollowWords}
+use Rattle.ix_manage.specs.declared.job.RenewWords.{RenewWords}
 use Rattle.ix_manage.specs.declared.job.TraceWords.{TraceWords}
 use Rattle.ix_manage.specs.declared.job.ReplayWords.{ReplayWords}
 use Rattle.ix_manage.specs.declared.job.ServeWords.{ServeWords}
@@ -27,3 +28,8 @@ work_of names = work names.count names.seed names.limit
 -- the follow that words name
 abbrev pub follow_of : FollowWords → Job
 follow_of names = follow names.expression.now names.lines.now names.limit
+
+-- the renew that words name
+abbrev pub renew_of : RenewWords → Job
+renew_of names =
+    renew names.expression.now names.journal.now names.new.now names.limit

@@ -59,16 +59,20 @@ pub record StartsOver (x : Form) (limit : ℕ) (journal : List ℕ) (before afte
   pub at : SiteState
   pub only : OnlyDisk before after
   pub attached : after.attached ≡ true
-  pub fresh : m ≡ started (opening_of x limit m.machine.history m.machine.boot) m.store
+  pub fresh : m ≡ started
+      (opening_of x limit m.machine.history m.machine.renewed m.machine.boot) m.store
   pub small : tree_size x [] ≤ limit
   pub opened : IsOpened journal at.tick before.disk at.disk
   pub stays : KeepsOpened at.disk after.disk
   pub later : at.tick ≤ after.tick
-  pub starts : ForSome at.disk (λ disk. IsStartable (opening_of x limit m.machine.history m.machine.boot) disk.file)
+  pub starts : ForSome at.disk (λ disk. IsStartable
+      (opening_of x limit m.machine.history m.machine.renewed m.machine.boot) disk.file)
   pub keeps : IsSome at.disk → (image : List ℕ) → is.left at.tick image
       → Keeps x (length m.machine.history) m.machine.history image
   pub reopens : IsSome at.disk → (image : List ℕ) → is.left at.tick image
-      → Reopens (opening_of x limit m.machine.history m.machine.boot) image
+      → Reopens (opening_of x limit m.machine.history m.machine.renewed m.machine.boot) image
   pub fits : FitsSite m after is
   pub since : (sends : Sends) → before.contents.sends ≡ Some sends
-      → ServesSince at.tick x (length m.machine.history) m.machine.history sends [] [] unmarked after is
+      → ServesSince at.tick x
+      (length m.machine.history) m.machine.history m.machine.renewed sends [] [] unmarked after
+      is

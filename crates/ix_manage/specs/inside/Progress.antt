@@ -15,7 +15,13 @@ use Rattle.ix_manage.specs.declared.outcome.EventOutcome.TheVariants.{More, Done
 -- what a manager's run would start from as the manager stands
 abbrev pub opening_at : ManagerState → Opening
 opening_at m =
-    record { form = m.form; limit = m.limit; history = m.machine.history; boot = m.machine.boot }
+    record {
+      form = m.form;
+      limit = m.limit;
+      history = m.machine.history;
+      renewed = m.machine.renewed;
+      boot = m.machine.boot;
+    }
 
 -- the manager was just started
 abbrev pub IsStarted : ManagerState → Type 0
@@ -34,4 +40,5 @@ IsEventOutcome lost ending kind Failed =
 -- goes on or ended so in this state
 abbrev pub SavesFrom : Opening → Ending → MachineState → Keeping → Stretch → Type 0
 SavesFrom opening ending last store stretch =
-    Saves ending opening.form (start_of opening.history opening.boot) last store stretch
+    Saves ending opening.form
+    (start_of opening.history opening.renewed opening.boot) last store stretch

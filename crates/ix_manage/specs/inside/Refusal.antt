@@ -4,12 +4,14 @@ use Rattle.ix_manage.specs.declared.refusal.Refusal.{Refusal}
 use Rattle.ix_manage.specs.declared.refusal.Input.{Input}
 use Rattle.ix_manage.specs.declared.refusal.Input.TheVariants.{Expression, Actions, Script, Lines}
 use Rattle.ix_manage.specs.declared.refusal.Input.TheVariants.{Values}
+use Rattle.ix_manage.specs.declared.refusal.Input.TheVariants as input
 use Rattle.ix_manage.specs.declared.refusal.Refusal.TheVariants.{Bad, Lost, Large, Unfollowed}
 use Rattle.ix_manage.specs.declared.refusal.Refusal.TheVariants.{NotAllowed, Words, Candidates}
 use Rattle.ix_manage.specs.declared.refusal.Refusal.TheVariants.{Disk, Wire, Journal, Turns, Memory}
 use Rattle.ix_manage.specs.declared.refusal.JournalRefusal.{JournalRefusal}
 use Rattle.ix_manage.specs.declared.refusal.JournalRefusal.TheVariants.{Foreign, Damaged, Many}
-use Rattle.ix_manage.specs.declared.refusal.JournalRefusal.TheVariants.{Word, Heavy}
+use Rattle.ix_manage.specs.declared.refusal.JournalRefusal.TheVariants.{Word, Heavy, Unopened}
+use Rattle.ix_manage.specs.declared.refusal.JournalRefusal.TheVariants.{There}
 use Rattle.ix_outside.specs.Counts.{Rose}
 use Rattle.ix_outside.specs.Files.{HasLonger, Listing}
 use Rattle.ix_outside.specs.FilesState.{FilesState}
@@ -28,6 +30,8 @@ abbrev pub journal_words : JournalRefusal → List ℕ
 journal_words Foreign = codes "foreign"
 journal_words (Damaged at) = codes "damaged " ++ decimal at
 journal_words Many = codes "many"
+journal_words Unopened = codes "unopened"
+journal_words There = codes "there"
 journal_words (Word number) = codes "word " ++ decimal number
 journal_words (Heavy number limit) =
     codes "large " ++ decimal number ++ codes " " ++ decimal limit
@@ -43,6 +47,7 @@ input_word Actions = codes "actions"
 input_word Script = codes "script"
 input_word Lines = codes "lines"
 input_word Values = codes "values"
+input_word input.Journal = codes "journal"
 
 -- the line that says that a file couldn't be read
 abbrev pub lost_line : List ℕ → List ℕ

@@ -4,7 +4,6 @@ use Rattle.std.specs.Prelude.{◌∷◌, ◌++◌}
 use Rattle.std.specs.Prelude.{length, Option, None, Some, Result}
 use Rattle.std.specs.Io.KnownBytes.{append_known}
 use Rattle.ix_words.specs.Each.{Each}
-use Rattle.ix_journal.specs.History.{PlainHistory}
 use Rattle.ix_outside.specs.Contents.{Contents, GivenEvent}
 use Rattle.ix_outside.specs.Counts.{Rose}
 use Rattle.ix_outside.specs.Crashes.{Crashes, Stretch}
@@ -155,14 +154,14 @@ ReplaysOn opening turns script last stretch status whole part session =
     × ReplaysScript opening turns script taken last stretch status whole part session
 
 -- the line of the history was put
-pub record PutsHistory (history : PlainHistory) (old new : SinkState) : Type 0 where
-  pub put : new.written ≡ append_known old.written (history_line history)
+pub record PutsHistory (opening : Opening) (old new : SinkState) : Type 0 where
+  pub put : new.written ≡ append_known old.written (history_line opening)
   pub rest : OnlyPuts old new
 
 -- how taking the events of a script leaves the sink, where the line of the history was put before
 abbrev pub TakesEvents : {T : Type 0} → ℕ → ManagerState → Player → ManagerState → Player → Stretch
     → Result T EarlyEnd → Type 0
 TakesEvents turns old was new now stretch result =
-    (start : SinkState) → PutsHistory old.machine.history start was.sink
+    (start : SinkState) → PutsHistory (opening_at old) start was.sink
     → LeavesOutput (ReplaysScript (opening_at old) turns was.script now.given new.machine stretch)
     start now.sink result

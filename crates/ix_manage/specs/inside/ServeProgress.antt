@@ -46,9 +46,11 @@ pub record SentFor (opening : Opening) (history : PlainHistory) (taken : List Gi
       → (old : List GivenEvent) × (stretch.before.contents.given ≡ Some old) × (new ≡ old ++ taken)
   pub told : IsSome stretch.after.contents.sends → IsSome stretch.before.contents.sends
   pub since : (t : ℕ) (start : Sends)
-      → ServesSince t opening.form (length opening.history) opening.history start [] [] unmarked
+      → ServesSince t opening.form
+      (length opening.history) opening.history opening.renewed start [] [] unmarked
       stretch.before stretch.was
-      → ServesSince t opening.form (length opening.history) history start taken answers marks
+      → ServesSince t opening.form
+      (length opening.history) history opening.renewed start taken answers marks
       stretch.after stretch.is
   pub whole : ¬ Rose stretch.before.counts.send stretch.after.counts.send → (marks ≡ unmarked)
       × ((old new : Sends) → stretch.before.contents.sends ≡ Some old
@@ -82,9 +84,11 @@ pub record TakesOver (old new : ManagerState) (stretch : Stretch) (outcome : Eve
   pub saves : SavesRun ending old new stretch
   pub since : (t : ℕ) (least : ℕ) (start : Sends) (taken : List GivenEvent)
       (answers : List (List (List Reply)))
-      → ServesSince t old.form least old.machine.history start taken answers old.marks
+      → ServesSince t old.form least old.machine.history old.machine.renewed start taken answers
+      old.marks
       stretch.before stretch.was
-      → ServesSince t old.form least (with_failed ending new.machine.history) start
+      → ServesSince t old.form least
+      (with_failed ending new.machine.history) old.machine.renewed start
       (taken ++ given_event event piece ∷ []) (answers ++ handled.answers ∷ []) new.marks
       stretch.after stretch.is
 
@@ -95,9 +99,11 @@ pub data ServesEvent (old new : ManagerState) (stretch : Stretch) : EventOutcome
       → SavesRun going old new stretch
       → ((t : ℕ) (least : ℕ) (start : Sends) (taken : List GivenEvent)
       (answers : List (List (List Reply)))
-      → ServesSince t old.form least old.machine.history start taken answers old.marks
+      → ServesSince t old.form least old.machine.history old.machine.renewed start taken answers
+      old.marks
       stretch.before stretch.was
-      → ServesSince t old.form least old.machine.history start taken answers old.marks
+      → ServesSince t old.form least old.machine.history old.machine.renewed start taken answers
+      old.marks
       stretch.after stretch.is)
       → ServesEvent old new stretch Cut
   took : {outcome : EventOutcome} → TakesOver old new stretch outcome → ServesEvent old new stretch outcome
@@ -115,7 +121,7 @@ pub record ServedSession (opening : Opening) (turns : ℕ) (last : MachineState)
 abbrev pub EndsTo : {T : Type 0} → ℕ → Counts → Counts → Session → Result T EarlyEnd → Type 0
 EndsTo turns before after session (Ok done) = IsOver session
 EndsTo turns before after session (Err (Refused refusal)) = (status : ℕ) (whole part : List ℕ)
-    → LastLine (refusal_status refusal) (history_line session.opening.history)
+    → LastLine (refusal_status refusal) (history_line session.opening)
     (refusal_line refusal) status whole part
     → ServeEnds turns before after session status whole part
 EndsTo turns before after session (Err (Words text)) = ⊥
@@ -140,9 +146,10 @@ pub record ServesFrom (socket : List ℕ) (session : Session) (stretch : Stretch
   pub marks : List Bool
   pub since : (t : ℕ) (start : Sends) → stretch.before.contents.sends ≡ Some start
       → ServesSince t session.opening.form (length session.opening.history) session.opening.history
-      start [] [] unmarked stretch.before stretch.was
+      session.opening.renewed start [] [] unmarked stretch.before stretch.was
       → ServesSince t session.opening.form (length session.opening.history)
-      (with_failed session.ending session.last.history) (with_heard socket start)
+      (with_failed session.ending session.last.history) session.opening.renewed
+      (with_heard socket start)
       session.taken session.answers marks stretch.after stretch.is
   pub whole : ¬ Rose stretch.before.counts.send stretch.after.counts.send → (old new : Sends)
       → stretch.before.contents.sends ≡ Some old → stretch.after.contents.sends ≡ Some new
@@ -153,7 +160,8 @@ pub data ServesOn (opening : Opening) (turns : ℕ) (socket : List ℕ) (last : 
     (stretch : Stretch) : ℕ → List ℕ → List ℕ → Option Session → Type 0 where
   unheard : {status : ℕ} {whole part : List ℕ} (store : Keeping)
       → stretch.after.contents ≡ stretch.before.contents
-      → SavesFrom opening going (start_of opening.history opening.boot) store stretch
+      → SavesFrom opening going
+      (start_of opening.history opening.renewed opening.boot) store stretch
       → Rose stretch.before.counts.wire stretch.after.counts.wire
       → LastLine 6 [] (line (codes "refused wire")) status whole part
       → ServesOn opening turns socket last stretch status whole part None

@@ -2,6 +2,7 @@
 -- began keeps beside that.
 use Rattle.std.specs.Prelude.{◌≡◌, ℕ, ◌≤◌, List, ◌++◌, length, Some, IsSome}
 use Rattle.ix_journal.specs.History.{PlainHistory}
+use Rattle.ix_journal.specs.declared.entries.Renewed.{Renewed}
 use Rattle.ix_expr.specs.Form.{Form}
 use Rattle.ix_outside.specs.Contents.{SentBytes, Sends}
 use Rattle.ix_outside.specs.Crashes.{Left, Stretch}
@@ -29,9 +30,9 @@ pub record SendsMore (stretch : Stretch) : Type 0 where
 
 -- Over calls that sent these replies, in order: where the site still tells its disk and its sends,
 -- each image that a crash since they began may have left keeps what was acknowledged by then.
-abbrev pub Acknowledges : Form → ℕ → PlainHistory → List Reply → Stretch → Type 0
-Acknowledges x least history replies stretch =
+abbrev pub Acknowledges : Form → ℕ → PlainHistory → Renewed → List Reply → Stretch → Type 0
+Acknowledges x least history renewed replies stretch =
     IsSome stretch.after.disk → (sends sends' : Sends)
     → stretch.before.contents.sends ≡ Some sends → stretch.after.contents.sends ≡ Some sends'
     → (left : Left) → stretch.is.left_since stretch.before.tick left
-    → KeepsAcknowledged x least history replies sends.sent left
+    → KeepsAcknowledged x least history renewed replies sends.sent left

@@ -17,9 +17,10 @@ use Rattle.ix_manager.specs.inside.Core.{Core, IsRefreshed}
 use Rattle.ix_manager.specs.declared.machine.Answer.{Answer}
 use Rattle.ix_manager.specs.declared.machine.Answer.TheVariants as answer
 
--- The boot stays. The slot and the next number stay, or the slot is free now, or it is held by the
--- next ticket, and the number rose by one.
+-- What the carried actions stand for stays, and the boot. The slot and the next number stay, or the
+-- slot is free now, or it is held by the next ticket, and the number rose by one.
 pub record MayReserve (old new : MachineState) : Type 0 where
+  pub renewed : new.renewed ≡ old.renewed
   pub boot : new.boot ≡ old.boot
   pub slot : ((new.slot ≡ old.slot) × (new.number ≡ old.number))
       ⊎ ((new.slot ≡ Free) × (new.number ≡ old.number))

@@ -28,8 +28,8 @@ pub record Over (Made : Ending → List Reply → Type 0) (result : Result Go St
   pub answered : EndsBy result ending
   pub made : Made ending replies
   pub saves : Saves ending x old new store (site_stretch wires)
-  pub acknowledges : Acknowledges x (length old.history) (with_failed ending new.history) replies
-      (site_stretch wires)
+  pub acknowledges : Acknowledges x (length old.history) (with_failed ending new.history)
+      old.renewed replies (site_stretch wires)
 
 -- by a machine with its journal
 abbrev pub OverJournal :

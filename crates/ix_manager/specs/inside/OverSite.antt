@@ -3,7 +3,7 @@ use Rattle.std.specs.Prelude.{◌≡◌, ◌⊎◌, ◌<◌, ◌≤◌, ℕ, fal
 use Rattle.std.specs.Prelude.{None, IsSome, Result, Ok, Err}
 use Rattle.ix_values.specs.PlainAction.{PlainAction}
 use Rattle.ix_values.specs.declared.tickets.Ticket.{Ticket}
-use Rattle.ix_journal.specs.Entries.{CanSpend}
+use Rattle.ix_journal.specs.Entries.{CanSpend, renewed_of}
 use Rattle.ix_journal.specs.History.{Spent}
 use Rattle.ix_journal.specs.Recovery.{HoldsBoots}
 use Rattle.ix_journal.specs.declared.entries.Marks.{Marks}
@@ -27,12 +27,14 @@ use Rattle.ix_manager.specs.Machine.{MachineState}
 use Rattle.ix_manager.specs.Wire.{all_replies}
 use Rattle.ix_manager.specs.inside.Acknowledging.{Acknowledges, SendsMore}
 
--- The tickets of a machine go on behind those that are kept: it is in the boot that was kept last,
+-- The tickets of a machine go on behind those that are kept: its carried actions stand for what is
+-- kept, it is in the boot that was kept last, which has a record in the file,
 -- and its next number is above the last one spent in it. So is that of the ticket that is reserved,
 -- which was granted in this boot.
 pub record TicketsGoOn (marks : Marks) (s : MachineState) : Type 0 where
+  pub renewed : s.renewed ≡ renewed_of marks
   pub boot : s.boot ≡ marks.boots
-  pub begun : 0 < s.boot
+  pub begun : s.renewed.boots < s.boot
   pub number : marks.seq < s.number
   pub reserved : (ticket : Ticket) (a : PlainAction) (deadline : ℕ)
       → s.slot ≡ Held ticket a deadline → CanSpend marks ticket × (ticket.seq < s.number)
@@ -73,11 +75,12 @@ pub record HandlesOver (old : ManagerState) (event : Event) (bytes : List ℕ)
   pub keeps : IsSome stretch.after.disk → LeavesOnly
       (Keeps old.form (length old.machine.history) (with_failed ending new.machine.history)) stretch
   pub boots : IsSome stretch.after.disk
-      → LeavesOnly (λ image. HoldsBoots image old.machine.boot) stretch
+      → LeavesOnly (λ image. HoldsBoots image old.machine.renewed old.machine.boot) stretch
   pub ends : IsSome stretch.after.disk
       → (image : List ℕ) → stretch.is.now image → EndsAs ending new.machine.history image
   pub acknowledges : Acknowledges old.form (length old.machine.history)
-      (with_failed ending new.machine.history) (all_replies handles.answers) stretch
+      (with_failed ending new.machine.history) old.machine.renewed (all_replies handles.answers)
+      stretch
   pub sends : SendsMore stretch
 
 -- Nothing changed but the counts of the disk and of sends, neither of which fell, the tick, and

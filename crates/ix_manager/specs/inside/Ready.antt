@@ -1,10 +1,12 @@
 -- What stands ready for a reservation, and why an action isn't prepared for one.
-use Rattle.std.specs.Prelude.{◌≡◌, ℕ, ◌<◌, ◌≤◌, ◌==◌, Bool, false, Option, Some, None, length, Vec}
+use Rattle.std.specs.Prelude.{◌≡◌, ℕ, ◌^◌, ◌<◌, ◌≤◌, ◌==◌, Bool, false, Option, Some, None, length}
+use Rattle.std.specs.Prelude.{Vec}
 use Rattle.std.specs.Prelude.{if◌then◌else◌}
 use Rattle.std.specs.Vec.{vec_capacity, vec_len}
 use Rattle.std.specs.declared.alloc.Global.{Global}
 use Rattle.ix_values.specs.PlainAction.{PlainAction}
 use Rattle.ix_values.specs.declared.tickets.Ticket.{Ticket}
+use Rattle.ix_journal.specs.declared.entries.Renewed.{Renewed}
 use Rattle.ix_can.specs.TreeOf.{tree_size}
 use Rattle.ix_engine.specs.inside.Engine.{EngineState, Follows, Permits, extended}
 use Rattle.ix_engine.specs.declared.next.Next.{Next}
@@ -26,11 +28,18 @@ IsReady engine tickets (Held ticket action deadline) None = ⊥
 IsReady engine tickets (Held ticket action deadline) (Some next) =
     IsPrepared engine action next × (vec_len tickets < vec_capacity tickets)
 
--- each action of the engine has its ticket, or none, and a reservation is ready
+-- no more actions are carried than they stand for, which fit
+pub record IsSoundRenewal (renewed : Renewed) : Type 0 where
+  pub carried : renewed.carried ≤ renewed.actions
+  pub actions : renewed.actions ≤ 2 ^ 63
+
+-- each action of the engine has its ticket, or none, a reservation is ready, and the carried
+-- actions stand for no fewer
 pub record IsMachine (engine : EngineState) (tickets : Vec (Option Ticket) Global) (slot : Slot)
-    (pending : Option Next) : Type 0 where
+    (pending : Option Next) (renewed : Renewed) : Type 0 where
   pub each : length tickets.items ≡ length engine.history
   pub ready : IsReady engine tickets slot pending
+  pub stands : IsSoundRenewal renewed
 
 -- the pair's ticket is this one
 abbrev pub has_ticket : Ticket → Option Ticket → Bool

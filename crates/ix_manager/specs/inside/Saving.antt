@@ -69,10 +69,12 @@ pub record Saves (ending : Ending) (x : Form) (old new : MachineState) (store : 
   pub told : IsSome stretch.after.disk → IsSome stretch.before.disk
   pub rest : PlainHistory
   pub grows : old.history ++ rest ≡ with_failed ending new.history
+  pub renewed : new.renewed ≡ old.renewed
   pub boot : new.boot ≡ old.boot
   pub keeps : IsSome stretch.after.disk
       → LeavesOnly (Keeps x (length old.history) (with_failed ending new.history)) stretch
-  pub boots : IsSome stretch.after.disk → LeavesOnly (λ image. HoldsBoots image old.boot) stretch
+  pub boots : IsSome stretch.after.disk
+      → LeavesOnly (λ image. HoldsBoots image old.renewed old.boot) stretch
   pub ends : IsSome stretch.after.disk
       → (image : List ℕ) → stretch.is.now image → EndsAs ending new.history image
   pub fits : UnlessFailed ending (FitsWith x new store stretch.after stretch.is)

@@ -5,7 +5,8 @@ use Rattle.ix_journal.specs.History.{PlainHistory, actions_of}
 use Rattle.ix_expr.specs.CanonicalText.{canonical_text}
 use Rattle.ix_expr.specs.Form.{Form}
 use Rattle.ix_journal.specs.Kinds.{IsUnfinished, IsForeign}
-use Rattle.ix_journal.specs.Recovery.{HoldsBoots, IsDamaged, IsMany, Recovers}
+use Rattle.ix_journal.specs.Recovery.{HoldsBoots, IsDamaged, IsFullOfBoots, IsMany, Recovers}
+use Rattle.ix_journal.specs.declared.entries.Renewed.{Renewed}
 use Rattle.ix_outside.specs.Crashes.{Stretch}
 use Rattle.ix_outside.specs.Disk.{MakesFile, Stays}
 use Rattle.ix_outside.specs.inside.DiskCalls.{LeavesOnly}
@@ -28,7 +29,7 @@ IsStartFault x limit file (fault.Other kept) =
 IsStartFault x limit file (fault.Damaged at) =
     IsReadyWith file (canonical_text x) × IsDamaged file at
 IsStartFault x limit file fault.Many =
-    IsReadyWith file (canonical_text x) × (IsMany file ⊎ HoldsBoots file 1000000)
+    IsReadyWith file (canonical_text x) × (IsMany file ⊎ IsFullOfBoots file)
 IsStartFault x limit file (fault.Word number) =
     (history : PlainHistory) × OpensAs x file history
     × IsNoWord x limit (actions_of history) number
@@ -40,7 +41,7 @@ IsStartFault x limit file fault.Memory = ⊤
 -- what a start answers by the file, under a limit that the initial tree is within
 abbrev pub StartsFrom : Form → ℕ → List ℕ → Result ManagerState StartFault → Type 0
 StartsFrom x limit file (Ok m) =
-    IsStartable (opening_of x limit m.machine.history m.machine.boot) file
+    IsStartable (opening_of x limit m.machine.history m.machine.renewed m.machine.boot) file
 StartsFrom x limit file (Err why) = IsStartFault x limit file why
 
 -- only a start that answers Ok, or whose disk failed, records a boot
@@ -58,13 +59,13 @@ pub record StartLeaves (x : Form) (limit : ℕ) (file : List ℕ)
     (result : Result ManagerState StartFault) (stretch : Stretch) : Type 0 where
   pub recovers : (history : PlainHistory) → Recovers file history
       → LeavesOnly (λ image. stretch.was.now image ⊎ Recovers image history) stretch
-  pub boots : (boots : ℕ) → HoldsBoots file boots → LeavesOnly
-      (λ image. stretch.was.now image ⊎ HoldsBoots image boots
-      ⊎ (MayRecord result × HoldsBoots image (boots + 1)))
+  pub boots : (renewed : Renewed) (boots : ℕ) → HoldsBoots file renewed boots → LeavesOnly
+      (λ image. stretch.was.now image ⊎ HoldsBoots image renewed boots
+      ⊎ (MayRecord result × HoldsBoots image renewed (boots + 1)))
       stretch
   pub own : IsUnfinished file ⊎ HasText file (canonical_text x)
       → LeavesOnly (λ image. stretch.was.now image ⊎ IsOwn x image) stretch
-  pub refused : ((history : PlainHistory) (boot : ℕ)
-      → ¬ IsStartable (opening_of x limit history boot) file)
+  pub refused : ((history : PlainHistory) (renewed : Renewed) (boot : ℕ)
+      → ¬ IsStartable (opening_of x limit history renewed boot) file)
       → MakesFile Stays stretch.before.disk stretch.after.disk
       × LeavesOnly stretch.was.now stretch

@@ -5,6 +5,7 @@ use Rattle.ix_journal.specs.Entries.{behind, pair_of}
 use Rattle.ix_journal.specs.History.{PlainHistory}
 use Rattle.ix_journal.specs.Recovery.{IsJournalWith}
 use Rattle.ix_journal.specs.declared.entries.Entry.{Entry}
+use Rattle.ix_journal.specs.declared.entries.Entry.TheVariants as entry
 use Rattle.ix_journal.specs.declared.entries.Marks.{Marks}
 use Rattle.ix_outside.specs.Crashes.{Crashes}
 use Rattle.ix_outside.specs.SiteState.{SiteState}
@@ -16,13 +17,13 @@ use Rattle.ix_store.specs.Keeping.{Keeping}
 pub record Fits (site : SiteState) (crashes : Crashes) (store : Keeping) (text : List ℕ)
     (history : PlainHistory)
     : Type 0 where
-  pub count : store.count ≡ length history
+  pub count : store.marks.actions ≡ length history
   pub images : ForSome site.disk (λ disk. (image : List ℕ) → crashes.now image
       → IsJournalWith image text history store.marks store.gate)
 
 -- the marks behind one boot more
 abbrev pub booted : Marks → Marks
-booted marks = record { boots = marks.boots + 1; seq = 0 }
+booted marks = behind marks (entry.Boot (marks.boots + 1))
 
 -- a journal of this text with the history, and with as many boots or one more
 abbrev pub IsBootedOrNot : List ℕ → PlainHistory → Marks → List ℕ → Type 0

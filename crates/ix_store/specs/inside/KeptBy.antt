@@ -6,7 +6,6 @@ use Rattle.ix_store.specs.Keeping.{Keeping}
 abbrev pub kept : Store → Keeping
 kept store = record {
   gate = store.gate;
-  count = store.count;
   marks = store.marks;
   failed = store.failed;
 }

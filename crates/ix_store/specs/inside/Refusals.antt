@@ -1,8 +1,7 @@
 -- What a fault tells of the file that wasn't opened.
 use Rattle.std.specs.Prelude.{◌≢◌, ◌⊎◌, List, ℕ, ⊤}
 use Rattle.ix_journal.specs.Kinds.{IsForeign, IsUnopened}
-use Rattle.ix_journal.specs.Recovery.{HoldsBoots, IsDamaged, IsMany}
-use Rattle.ix_journal.specs.declared.TheConstants.{MOST_BOOTS}
+use Rattle.ix_journal.specs.Recovery.{IsDamaged, IsFullOfBoots, IsMany}
 use Rattle.ix_store.specs.declared.fault.OpenFault.{OpenFault}
 use Rattle.ix_store.specs.declared.fault.OpenFault.TheVariants as fault
 use Rattle.ix_store.specs.Opening.{IsReadyWith}
@@ -14,7 +13,7 @@ Refuses file text fault.NotJournal = IsForeign file
 Refuses file text (fault.OtherExpression kept) =
     (IsUnopened file kept.items ⊎ IsReadyWith file kept.items) × (kept.items ≢ text)
 Refuses file text (fault.Damaged at) = IsReadyWith file text × IsDamaged file at
-Refuses file text fault.Many = IsReadyWith file text × (IsMany file ⊎ HoldsBoots file MOST_BOOTS)
+Refuses file text fault.Many = IsReadyWith file text × (IsMany file ⊎ IsFullOfBoots file)
 Refuses file text fault.Disk = ⊤
 Refuses file text fault.Memory = ⊤
 

@@ -6,7 +6,7 @@ use Rattle.ix_outside.specs.Crashes.{LeavesTheFile, Stretch}
 use Rattle.ix_outside.specs.Disk.{Disk, MakesFile, Stays}
 use Rattle.ix_outside.specs.inside.DiskCalls.{LeavesOnly}
 use Rattle.ix_journal.specs.declared.TheConstants.{CLOSED, OPEN}
-use Rattle.ix_journal.specs.inside.Writing.{new_header}
+use Rattle.ix_journal.specs.Format.{header}
 use Rattle.ix_journal.specs.Recovery.{Keeps}
 use Rattle.ix_store.specs.declared.fault.OpenFault.{OpenFault}
 use Rattle.ix_store.specs.declared.fault.OpenFault.TheVariants as fault
@@ -26,9 +26,10 @@ pub record LeavesOnStart (text file : List ℕ) (stretch : Stretch) : Type 0 whe
   pub stays : ¬ IsNew file text → MakesFile Stays stretch.before.disk stretch.after.disk
       × LeavesOnly stretch.was.now stretch
 
--- the bytes of a journal of this text that was made anew: an open gate, its header, a closed gate
+-- the bytes of a journal of this text that was made anew: an open gate, its header of version 2, a
+-- closed gate
 abbrev pub new_journal : List ℕ → List ℕ
-new_journal text = OPEN ∷ new_header text ++ CLOSED ∷ []
+new_journal text = OPEN ∷ header 50 text ++ CLOSED ∷ []
 
 -- a file that is to be made anew has these bytes then
 abbrev pub MakesNew : List ℕ → List ℕ → List ℕ → Type 0

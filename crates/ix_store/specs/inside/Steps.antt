@@ -1,5 +1,5 @@
 -- What the parts of a start and an append come to.
-use Rattle.std.specs.Prelude.{◌≡◌, ◌≢◌, ◌⊎◌, ℕ, ◌+◌, ◌<◌, ◌≤◌, List, [], length, All, ⊤}
+use Rattle.std.specs.Prelude.{◌≡◌, ◌≢◌, ◌⊎◌, ℕ, ◌+◌, ◌≤◌, List, [], length, All, ⊤}
 use Rattle.std.specs.Prelude.{Option, Some, None}
 use Rattle.ix_values.specs.Texts.{IsAction}
 use Rattle.ix_outside.specs.Disk.{Torn}
@@ -9,9 +9,9 @@ use Rattle.ix_journal.specs.History.{PlainHistory, Spent}
 use Rattle.ix_journal.specs.Kinds.{IsForeign, IsReady, IsUnopened}
 use Rattle.ix_journal.specs.Records.{ClosesAt, IsDamagedFrom, IsManyFrom}
 use Rattle.ix_journal.specs.Recovery.{IsJournalWith}
-use Rattle.ix_journal.specs.declared.TheConstants.{FRONT_LENGTH, MOST_RECORDS, MOST_BOOTS}
+use Rattle.ix_journal.specs.declared.TheConstants.{FRONT_LENGTH}
+use Rattle.ix_journal.specs.inside.Counting.{AreNotMany, AreSound, HasBootRoom}
 use Rattle.ix_journal.specs.declared.entries.Entry.{Entry}
-use Rattle.ix_journal.specs.declared.entries.Entry.TheVariants as entry
 use Rattle.ix_journal.specs.declared.entries.Marks.{Marks}
 use Rattle.ix_store.specs.declared.fault.OpenFault.{OpenFault}
 use Rattle.ix_store.specs.declared.fault.OpenFault.TheVariants as fault
@@ -58,31 +58,20 @@ IsFound text (found.New head) file = IsNew file text × IsHeadOf head.items file
 IsFound text (found.Journal kept) file =
     IsJournalWith file text kept.history.items kept.marks kept.gate
 
--- whatever the site tells, the gate is as near as those of a journal, the actions are actions, and
--- they and the boots aren't too many
+-- whatever the site tells, the gate is as near as those of a journal, the actions are actions, they
+-- and the boots aren't too many, and the marks are sound
 pub record IsSoundly (history : PlainHistory) (marks : Marks) (gate : ℕ) : Type 0 where
-  pub near : gate ≤ farthest_gate (length history) marks.boots
+  pub near : gate ≤ farthest_gate marks
   pub valid : All (λ (spent : Spent). IsAction spent.1) history
-  pub actions : length history ≤ MOST_RECORDS
-  pub boots : marks.boots ≤ MOST_BOOTS
+  pub counted : marks.actions ≡ length history
+  pub few : AreNotMany marks
+  pub sound : AreSound marks
 
 -- so is what was found, and it has room for a boot
 abbrev pub IsSound : Found → Type 0
 IsSound (found.New head) = ⊤
 IsSound (found.Journal kept) =
-    IsSoundly kept.history.items kept.marks kept.gate × (kept.marks.boots < MOST_BOOTS)
-
--- a record may be kept behind so many actions: another one, or a boot that isn't one too many
-abbrev pub MayKeep : ℕ → Entry → Type 0
-MayKeep count (entry.Boot number) = number ≤ MOST_BOOTS
-MayKeep count (entry.Spent ticket action) = count < MOST_RECORDS
-MayKeep count (entry.Plain action) = count < MOST_RECORDS
-
--- why a record isn't kept behind so many actions: it may not be, or memory ran out
-abbrev pub KeepsNot : ℕ → Entry → OpenFault → Type 0
-KeepsNot count entry fault.Many = ¬ MayKeep count entry
-KeepsNot count entry fault.Memory = ⊤
-KeepsNot count entry _ = ⊥
+    IsSoundly kept.history.items kept.marks kept.gate × HasBootRoom kept.marks
 
 -- the text that is kept, unless memory ran out
 abbrev pub KeepsOther : List ℕ → OpenFault → Type 0

@@ -111,5 +111,12 @@ const NEW: &[u8] = b"\xA5IXJ2\x00\x05a - b\xA5\x00\x06boot 1\x00";
 // The same behind a run in which `a` was confirmed.
 const NEW_OF_A: &[u8] = b"\xA5IXJ2\x00\x05a - b\xA5\x00\x06boot 1\xA5\x00\x051-1 a\x00";
 
+// One of a renewal that carries `a`, for 5 actions and 2 boots.
+const RENEWED: &[u8] = b"\xA5IXJ3\x00\x05a - b\xA5\x00\x01a\xA5\x00\x0Brenewed 5 2\x00";
+
+// One of a renewal that carries nothing, for 2 actions and 1 boot.
+const RENEWED_NONE: &[u8] = b"\xA5IXJ3\x00\x05a - b\xA5\x00\x0Brenewed 2 1\x00";
+
 mod journals;
+mod renewals;
 mod serves;

@@ -1,7 +1,12 @@
 //! Files that a crash may leave: each is opened, with the history that its synced bytes have.
+ghost use Rattle.std.specs.Prelude.{◌≡◌, true};
+
 use super::stores::{
-    EMPTY, NEW, UNOPENED, Wanted, Went, action, append_both, site_with, start_at, start_on, tells,
+    EMPTY, NEW, RENEWED, RENEWED_NONE, UNOPENED, Wanted, Went, action, append_both, site_with,
+    start_at, start_on, tells,
 };
+use ix_memory::MemorySite;
+use ix_store::{RenewFault, renew};
 use std::alloc::Global;
 use std::test::Fail;
 
@@ -14,6 +19,20 @@ const BOOT: &[u8] = b"\xA5IXJ1\x00\x05a - b\xA5\x00\x06boot 1\x00";
 const CLOSED: &[u8] = b"\xA5IXJ1\x00\x05a - b\xA5\x00\x06boot 1\x00\x00\x051-1 a\x00";
 
 const ONE: &[u8] = b"\xA5IXJ1\x00\x05a - b\xA5\x00\x06boot 1\xA5\x00\x051-1 a\x00";
+
+// A journal of a renewal with a boot behind a closed gate, and the record of `a` behind one.
+const RENEWED_CLOSED_BOOT: &[u8] =
+    b"\xA5IXJ3\x00\x05a - b\xA5\x00\x0Brenewed 2 1\x00\x00\x06boot 2\x00";
+
+const RENEWED_CLOSED: &[u8] = b"\xA5IXJ3\x00\x05a - b\xA5\x00\x0Brenewed 2 1\
+\xA5\x00\x06boot 2\x00\x00\x052-1 a\x00";
+
+// What a renewal leaves in front of its last three steps.
+const RENEWED_SHUT: &[u8] = b"\x00IXJ3\x00\x05a - b\x00";
+
+const RENEWED_BEGUN: &[u8] = b"\xA5IXJ3\x00\x05a - b\x00";
+
+const RENEWED_FILLED: &[u8] = b"\xA5IXJ3\x00\x05a - b\x00\x00\x01a\xA5\x00\x0Brenewed 5 2\x00";
 
 // One without records whose head gate isn't open yet, and the same of the first version.
 const SHUT: &[u8] = b"\x00IXJ2\x00\x05a - b\x00";
@@ -28,6 +47,21 @@ struct Pending {
     to: usize,
     least: usize,
 }
+
+// The head gate of a file without more, the header behind it, and the head gate of a whole file.
+const HEAD: Pending = Pending {
+    from: 0,
+    to: 1,
+    least: 0,
+};
+
+const HEADER: Pending = Pending {
+    from: 1,
+    to: 13,
+    least: 1,
+};
+
+const WHOLE: Pending = Pending { least: 13, ..HEAD };
 
 // The image of this length with this byte in place of each that is pending.
 fn image_of(
@@ -81,9 +115,9 @@ fn first_lost_of_all(
     Ok(None)
 }
 
-// The file behind appends of a boot and of `a` that end so where the call of this number fails.
-fn behind_an_append(alloc: Global, call: u64, end: Went) -> Result<Vec<u8>, Fail> {
-    let mut site = site_with(alloc, EMPTY, &[call])?;
+// This file behind appends of a boot and of `a` that end so where the call of this number fails.
+fn behind_an_append(alloc: Global, file: &[u8], call: u64, end: Went) -> Result<Vec<u8>, Fail> {
+    let mut site = site_with(alloc, file, &[call])?;
     let went = append_both(alloc, &mut site, &action(b"a")?, &action(b"b")?)?;
     if went != end {
         return Err("another end".into());
@@ -95,22 +129,25 @@ const NOT_BOOTED: Went = Went::NotBooted { has_failed: true };
 
 const NOT_APPENDED: Went = Went::Opened { has_failed: true };
 
-// Whether appends that end so where the call of this number fails leave this file.
-fn leaves(alloc: Global, call: u64, end: Went, then: &[u8]) -> Result<bool, Fail> {
-    let left = behind_an_append(alloc, call, end)?;
+// Whether appends to a file that end so where the call of this number fails leave that one.
+fn leaves(alloc: Global, file: &[u8], call: u64, end: Went, then: &[u8]) -> Result<bool, Fail> {
+    let left = behind_an_append(alloc, file, call, end)?;
     Ok(left.as_slice() == then)
 }
 
 #[test]
 fn images_of_a_record_that_was_not_synced(rt: HostRuntime) -> Result<(), Fail> {
     // Calls 0 to 4 attach and read the journal, 5 writes the boot, and 6 syncs; 9 and 10 do so
-    // for the action. A row that ends where it begins has each front of what was written as it is.
-    let cases: [(u64, Went, &[u8], usize); 2] = [
-        (6, NOT_BOOTED, CLOSED_BOOT, 13),
-        (10, NOT_APPENDED, CLOSED, 22),
+    // for the action. One call more reads a file with records. A row that ends where it begins has
+    // each front of what was written as it is.
+    let cases: [(&[u8], u64, Went, &[u8], usize); 4] = [
+        (EMPTY, 6, NOT_BOOTED, CLOSED_BOOT, 13),
+        (EMPTY, 10, NOT_APPENDED, CLOSED, 22),
+        (RENEWED_NONE, 7, NOT_BOOTED, RENEWED_CLOSED_BOOT, 27),
+        (RENEWED_NONE, 11, NOT_APPENDED, RENEWED_CLOSED, 36),
     ];
-    for (call, end, then, least) in cases {
-        assert!(rt; leaves(rt.alloc(), call, end, then)?, "call {call}");
+    for (file, call, end, then, least) in cases {
+        assert!(rt; leaves(rt.alloc(), file, call, end, then)?, "call {call}");
         let to = then.len();
         for from in [least, least + 1, least + 2, to - 1, to] {
             let pending = Pending { from, to, least };
@@ -142,7 +179,7 @@ fn images_of_a_gate_that_was_not_synced(rt: HostRuntime) -> Result<(), Fail> {
         (12, NOT_APPENDED, ONE),
     ];
     for (call, end, then) in cases {
-        assert!(rt; leaves(rt.alloc(), call, end, then)?, "call {call}");
+        assert!(rt; leaves(rt.alloc(), EMPTY, call, end, then)?, "call {call}");
     }
     Ok(())
 }
@@ -154,9 +191,15 @@ fn has_boots(alloc: Global, byte: u8, boots: u64) -> Result<bool, Fail> {
     Ok(told.word == "opened" && told.boots == boots)
 }
 
-// Whether one with this byte in place of the action's gate is opened with this history.
-fn has_history(alloc: Global, byte: u8, text: &[u8]) -> Result<bool, Fail> {
-    let image = with_byte(alloc, ONE, 21, byte)?;
+// Whether a file with this byte in place of that gate is opened with this history.
+fn has_history(
+    alloc: Global,
+    file: &[u8],
+    gate: usize,
+    byte: u8,
+    text: &[u8],
+) -> Result<bool, Fail> {
+    let image = with_byte(alloc, file, gate, byte)?;
     let told = start_on(alloc, &image, b"a - b")?;
     Ok(told.word == "opened" && told.text.as_slice() == text)
 }
@@ -171,8 +214,12 @@ fn a_gate_is_open_by_one_byte(rt: HostRuntime) -> Result<(), Fail> {
             "the boot's gate {byte}"
         );
         assert!(rt;
-            has_history(rt.alloc(), byte, history)?,
+            has_history(rt.alloc(), ONE, 21, byte, history)?,
             "the action's gate {byte}"
+        );
+        assert!(rt;
+            has_history(rt.alloc(), RENEWED, 12, byte, history)?,
+            "the gate {byte} that a renewal opens last"
         );
     }
     Ok(())
@@ -220,25 +267,14 @@ fn images_of_a_start(rt: HostRuntime) -> Result<(), Fail> {
     // The file, the call that fails, the file then, and what is pending of it. Calls 3 and 4 write
     // and sync the first step of an absent file, and 5 to 7 write, cut and sync that of another;
     // two calls for each further step follow.
-    let head = Pending {
-        from: 0,
-        to: 1,
-        least: 0,
-    };
-    let header = Pending {
-        from: 1,
-        to: 13,
-        least: 1,
-    };
-    let whole = Pending { least: 13, ..head };
     let rows: [(&[u8], u64, &[u8], Pending); 7] = [
-        (b"", 4, b"\x00", head),
-        (b"", 6, SHUT, header),
-        (b"", 8, NEW, whole),
-        (UNOPENED, 6, SHUT_BEFORE, whole),
-        (UNOPENED, 7, b"\x00", head),
-        (UNOPENED, 9, SHUT, header),
-        (UNOPENED, 11, NEW, whole),
+        (b"", 4, b"\x00", HEAD),
+        (b"", 6, SHUT, HEADER),
+        (b"", 8, NEW, WHOLE),
+        (UNOPENED, 6, SHUT_BEFORE, WHOLE),
+        (UNOPENED, 7, b"\x00", HEAD),
+        (UNOPENED, 9, SHUT, HEADER),
+        (UNOPENED, 11, NEW, WHOLE),
     ];
     for (file, call, then, pending) in rows {
         assert!(rt;
@@ -247,6 +283,76 @@ fn images_of_a_start(rt: HostRuntime) -> Result<(), Fail> {
         );
         let lost = first_lost_of_all(rt.alloc(), then, pending)?;
         assert_eq!(rt; lost, None, "call {call} of {file:?}");
+    }
+    Ok(())
+}
+
+// Why a renewal of `a - b` into the site's file makes no journal that carries `a`, for 5 actions
+// and 2 boots.
+fn renew_at(alloc: Global, site: &mut MemorySite) -> Result<Option<RenewFault>, Fail>
+    requires { site.old.attached ≡ true }
+{
+    let carried = [action(b"a")?];
+    Ok(renew(alloc, site, b"a - b", &carried, 5, 2).err())
+}
+
+// Whether such a renewal where the call of this number fails ends so and leaves that file.
+fn renewal_leaves(
+    alloc: Global,
+    file: &[u8],
+    call: u64,
+    fault: Option<RenewFault>,
+    then: &[u8],
+) -> Result<bool, Fail> {
+    let mut site = site_with(alloc, file, &[call])?;
+    let told = renew_at(alloc, &mut site)?;
+    Ok(told == fault && site.image() == then)
+}
+
+#[test]
+fn images_of_a_renewal(rt: HostRuntime) -> Result<(), Fail> {
+    // The call that fails, the file then, and what is pending of it. Calls 3 and 4 write and sync
+    // the first step, and two calls for each further step follow; 11 and 12 open the last gate.
+    let filled = Pending {
+        from: 13,
+        to: 31,
+        least: 13,
+    };
+    let rows: [(u64, &[u8], Pending); 4] = [
+        (4, b"\x00", HEAD),
+        (6, RENEWED_SHUT, HEADER),
+        (8, RENEWED_BEGUN, WHOLE),
+        (10, RENEWED_FILLED, filled),
+    ];
+    for (call, then, pending) in rows {
+        assert!(rt;
+            renewal_leaves(rt.alloc(), b"", call, Some(RenewFault::Disk), then)?,
+            "call {call}"
+        );
+        let lost = first_lost_of_all(rt.alloc(), then, pending)?;
+        assert_eq!(rt; lost, None, "call {call}");
+    }
+    Ok(())
+}
+
+#[test]
+fn files_that_are_renewed_into_or_not(rt: HostRuntime) -> Result<(), Fail> {
+    let disk = Some(RenewFault::Disk);
+    let there = Some(RenewFault::There);
+    // The file, the call that fails, the fault, and the file then. A renewal makes 12 calls.
+    let rows: [(&[u8], u64, Option<RenewFault>, &[u8]); 6] = [
+        (b"", 13, None, RENEWED),
+        (b"", 12, disk, RENEWED),
+        (b"", 11, disk, RENEWED_FILLED),
+        (b"", 1, disk, b""),
+        (b"\x00", 13, there, b"\x00"),
+        (ONE, 13, there, ONE),
+    ];
+    for (file, call, fault, then) in rows {
+        assert!(rt;
+            renewal_leaves(rt.alloc(), file, call, fault, then)?,
+            "call {call} of {file:?}"
+        );
     }
     Ok(())
 }

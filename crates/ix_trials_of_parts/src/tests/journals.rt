@@ -4,7 +4,8 @@ ghost use Rattle.std.specs.Prelude.{◌<◌, length};
 
 use arrayvec::ArrayVec;
 use ix_journal::{
-    CLOSED, Head, JournalFault, OPEN, Record, Records, header_bytes, header_of, record_bytes, scan,
+    CLOSED, Head, JournalFault, OPEN, Record, Records, Version, header_bytes, header_of,
+    record_bytes, scan,
 };
 use ix_values::{Action, Ticket};
 use std::alloc::{AllocError, Global};
@@ -13,6 +14,9 @@ use std::test::Fail;
 
 // A journal of `a - b` whose one record is `a`.
 const JOURNAL: &[u8] = b"\xA5IXJ1\x00\x05a - b\xA5\x00\x01a\x00";
+
+// One that carries `a`, for 5 actions and 2 boots.
+const RENEWED: &[u8] = b"\xA5IXJ3\x00\x05a - b\xA5\x00\x01a\xA5\x00\x0Brenewed 5 2\x00";
 
 // That a scan finds this text, or none, so many records and this first closed gate.
 fn compare(rt: &impl Abort, bytes: &[u8], text: Option<&[u8]>, count: usize, gate: usize) {
@@ -33,17 +37,25 @@ fn compare_fault(rt: &impl Abort, bytes: &[u8], fault: JournalFault) {
     assert_eq!(rt; scan(bytes).err(), Some(fault), "in {bytes:?}");
 }
 
-#[test]
-fn prefixes_of_a_journal(rt: HostRuntime) {
-    compare(&rt, JOURNAL, Some(b"a - b"), 1, 16);
-    for length in 0..JOURNAL.len() {
-        let front = &JOURNAL[..length];
+// What each prefix of such a journal is, whose first record is `a`.
+fn compare_prefixes(rt: &impl Abort, journal: &[u8]) {
+    for length in 0..journal.len() {
+        let front = &journal[..length];
         match length {
-            0 | 1 => compare(&rt, front, None, 0, 0),
-            2..=12 => compare_fault(&rt, front, JournalFault::NotJournal),
-            _ => compare_fault(&rt, front, JournalFault::Damaged { at: 13 }),
+            0 | 1 => compare(rt, front, None, 0, 0),
+            2..=12 => compare_fault(rt, front, JournalFault::NotJournal),
+            13..=16 => compare_fault(rt, front, JournalFault::Damaged { at: 13 }),
+            _ => compare_fault(rt, front, JournalFault::Damaged { at: 17 }),
         }
     }
+}
+
+#[test]
+fn prefixes_of_journals(rt: HostRuntime) {
+    compare(&rt, JOURNAL, Some(b"a - b"), 1, 16);
+    compare_prefixes(&rt, JOURNAL);
+    compare(&rt, RENEWED, Some(b"a - b"), 1, 30);
+    compare_prefixes(&rt, RENEWED);
 }
 
 #[test]
@@ -68,7 +80,7 @@ fn kinds_of_file(rt: HostRuntime) {
         b"\x7FIXJ1\x00\x05a - b\xA5".as_slice(),
         b"\x7FIXJ1\x00\x05a - b\x00\x00",
         b"\x7FIXJ1\x00\x05a - b",
-        b"\xA5IXJ3\x00\x05a - b\x00",
+        b"\xA5IXJ4\x00\x05a - b\x00",
         b"\xA5IXK2\x00\x05a - b\x00",
         b"\xA5IXJ1\x05\x00a - b\x00",
         b"#!/bin/sh",
@@ -146,7 +158,7 @@ fn what_is_written(rt: HostRuntime) -> Result<(), Fail> {
     record_bytes(&Record::Boot(10), &mut out);
     assert_eq!(rt; out.as_slice(), b"\x00\x07boot 10\x00".as_slice());
     assert_eq!(rt;
-        header_bytes(rt.alloc(), b"a - b")?.as_slice(),
+        header_bytes(rt.alloc(), Version::Started, b"a - b")?.as_slice(),
         b"IXJ2\x00\x05a - b\x00".as_slice()
     );
     Ok(())
@@ -191,6 +203,36 @@ fn boots_and_tickets(rt: HostRuntime) {
             3,
             2,
         ),
+        // Behind a renewal boots go on from those before it, whatever the magic is.
+        (b"\xA5IXJ3\x00\x01a\xA5\x00\x0Brenewed 5 2\x00", 0, 2),
+        (
+            b"\xA5IXJ3\x00\x01a\xA5\x00\x01a\xA5\x00\x0Brenewed 5 2\xA5\x00\x06boot 3\
+            \xA5\x00\x053-1 a\x00",
+            2,
+            3,
+        ),
+        (
+            b"\xA5IXJ2\x00\x01a\xA5\x00\x01a\xA5\x00\x0Brenewed 1 0\xA5\x00\x06boot 1\x00",
+            1,
+            1,
+        ),
+        (
+            b"\xA5IXJ1\x00\x01a\xA5\x00\x01a\xA5\x00\x0Brenewed 1 0\x00",
+            1,
+            0,
+        ),
+        (
+            b"\xA5IXJ3\x00\x01a\xA5\x00\x2Frenewed 9223372036854775808 9223372036854775808\
+            \xA5\x00\x18boot 9223372036854775809\xA5\x00\x179223372036854775809-1 a\x00",
+            1,
+            9223372036854775809,
+        ),
+        // The most boots are those of the file.
+        (
+            b"\xA5IXJ3\x00\x01a\xA5\x00\x11renewed 0 1000000\xA5\x00\x0Cboot 1000001\x00",
+            0,
+            1000001,
+        ),
     ] {
         compare_counts(&rt, bytes, count, boots);
     }
@@ -198,7 +240,7 @@ fn boots_and_tickets(rt: HostRuntime) {
 
 // Records that may not stand where they stand, and texts that are no record's: a journal, and the
 // place of damage.
-const OUT_OF_ORDER: [(&[u8], usize); 12] = [
+const OUT_OF_ORDER: [(&[u8], usize); 24] = [
     // A boot that isn't one more than those in front of it, and boot 0.
     (b"\xA5IXJ2\x00\x01a\xA5\x00\x06boot 2\x00", 9),
     (b"\xA5IXJ2\x00\x01a\xA5\x00\x06boot 0\x00", 9),
@@ -236,6 +278,49 @@ const OUT_OF_ORDER: [(&[u8], usize); 12] = [
         b"\xA5IXJ2\x00\x01a\xA5\x00\x06boot 1\xA5\x00\x071-1 a b\x00",
         18,
     ),
+    // A renewal behind a boot, behind a ticket, behind another one, and with fewer actions than it
+    // carries.
+    (
+        b"\xA5IXJ3\x00\x01a\xA5\x00\x06boot 1\xA5\x00\x0Brenewed 0 0\x00",
+        18,
+    ),
+    (
+        b"\xA5IXJ3\x00\x01a\xA5\x00\x06boot 1\xA5\x00\x051-1 a\xA5\x00\x0Brenewed 1 1\x00",
+        26,
+    ),
+    (
+        b"\xA5IXJ3\x00\x01a\xA5\x00\x0Brenewed 0 0\xA5\x00\x0Brenewed 0 0\x00",
+        23,
+    ),
+    (
+        b"\xA5IXJ3\x00\x01a\xA5\x00\x01a\xA5\x00\x0Brenewed 0 0\x00",
+        13,
+    ),
+    // One with a number above 2^63, with a leading zero, and with one number or three.
+    (
+        b"\xA5IXJ3\x00\x01a\xA5\x00\x1Drenewed 9223372036854775809 0\x00",
+        9,
+    ),
+    (
+        b"\xA5IXJ3\x00\x01a\xA5\x00\x1Drenewed 0 9223372036854775809\x00",
+        9,
+    ),
+    (b"\xA5IXJ3\x00\x01a\xA5\x00\x0Crenewed 01 0\x00", 9),
+    (b"\xA5IXJ3\x00\x01a\xA5\x00\x09renewed 1\x00", 9),
+    (b"\xA5IXJ3\x00\x01a\xA5\x00\x0Drenewed 1 0 0\x00", 9),
+    // Behind one a boot of before, and a ticket of before without a boot and behind one.
+    (
+        b"\xA5IXJ3\x00\x01a\xA5\x00\x0Brenewed 0 1\xA5\x00\x06boot 1\x00",
+        23,
+    ),
+    (
+        b"\xA5IXJ3\x00\x01a\xA5\x00\x0Brenewed 0 1\xA5\x00\x051-1 a\x00",
+        23,
+    ),
+    (
+        b"\xA5IXJ3\x00\x01a\xA5\x00\x0Brenewed 0 1\xA5\x00\x06boot 2\xA5\x00\x051-1 a\x00",
+        32,
+    ),
 ];
 
 #[test]
@@ -243,8 +328,9 @@ fn records_out_of_order(rt: HostRuntime) {
     for (bytes, at) in OUT_OF_ORDER {
         compare_fault(&rt, bytes, JournalFault::Damaged { at });
     }
-    // `boot` without a number is an action.
+    // `boot` and `renewed` without a number are actions.
     compare_counts(&rt, b"\xA5IXJ2\x00\x01a\xA5\x00\x04boot\x00", 1, 0);
+    compare_counts(&rt, b"\xA5IXJ2\x00\x01a\xA5\x00\x07renewed\x00", 1, 0);
 }
 
 // A journal of `*a` with so many records `a`, the gates of all of them open, and these bytes
@@ -317,7 +403,7 @@ fn headed(alloc: Global, text: &[u8]) -> Result<Vec<u8>, AllocError>
     requires { length text.now < 65536 }
 {
     let mut bytes = Vec::from_slice(alloc, b"\xA5")?;
-    bytes.extend_from_slice(&header_bytes(alloc, text)?)?;
+    bytes.extend_from_slice(&header_bytes(alloc, Version::Started, text)?)?;
     Ok(bytes)
 }
 

@@ -151,6 +151,8 @@ fn later_refusals(rt: HostRuntime) {
     compare(&rt, refused(23, 0), b"refused 23 full");
     compare(&rt, refused(30, 0), b"refused 30 no such ticket");
     compare(&rt, refused(31, 0), b"refused 31 expired");
+    compare(&rt, refused(32, 0), b"refused 32 left out");
+    compare(&rt, refused(33, 0), b"refused 33 left out");
     compare(&rt, refused(40, 0), b"refused 40 watches full");
     compare(&rt, refused(41, 0), b"refused 41 no such watch");
     compare(&rt, refused(42, 0), b"refused 42 no such entry");

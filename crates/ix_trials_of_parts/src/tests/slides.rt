@@ -1,6 +1,9 @@
 //! A Slide beside the plain records, whatever the pieces; and its answers at their edges.
+
+ghost use Rattle.ix_journal.specs.inside.Writing.{CanBeWritten};
+
 use arrayvec::ArrayVec;
-use ix_journal::{OPEN, Record, Records, Slid, Slide, header_bytes, record_bytes};
+use ix_journal::{OPEN, Record, Records, Slid, Slide, Version, header_bytes, record_bytes};
 use ix_values::{Action, Ticket};
 use std::alloc::Global;
 use std::process::Abort;
@@ -53,7 +56,7 @@ fn compare(rt: &impl Abort, file: &[u8], first: usize, length: usize) {
 // What a file has in front of its first record, when its text is `*a`.
 fn begun(alloc: Global) -> Result<Vec<u8>, Fail> {
     let mut file = Vec::from_slice(alloc, b"\xA5")?;
-    file.extend_from_slice(&header_bytes(alloc, b"*a")?)?;
+    file.extend_from_slice(&header_bytes(alloc, Version::Started, b"*a")?)?;
     Ok(file)
 }
 
@@ -64,7 +67,9 @@ fn append(file: &mut Vec<u8>, text: &[u8]) -> Result<(), Fail> {
 }
 
 // Opens the last gate, and puts this record and a closed gate behind it.
-fn append_record(file: &mut Vec<u8>, record: &Record<'_>) -> Result<(), Fail> {
+fn append_record(file: &mut Vec<u8>, record: &Record<'_>) -> Result<(), Fail>
+    requires { CanBeWritten «record».now }
+{
     let mut bytes = ArrayVec::new();
     record_bytes(record, &mut bytes);
     let _ = file.pop();
@@ -193,7 +198,7 @@ fn answer(bytes: &[u8], is_all: bool) -> Answer {
 }
 
 // Bytes, what it answers to them, and what it answers if no more come.
-const FEW_BYTES: [(&[u8], Answer, Answer); 15] = [
+const FEW_BYTES: [(&[u8], Answer, Answer); 16] = [
     (b"\xA5", ("more", 0), ("damaged", 10)),
     (b"\xA5\x00", ("more", 0), ("damaged", 10)),
     (b"\xA5\x00\x01", ("more", 0), ("damaged", 10)),
@@ -204,6 +209,11 @@ const FEW_BYTES: [(&[u8], Answer, Answer); 15] = [
     (b"\xA5\x00\x01 \x00", ("damaged", 10), ("damaged", 10)),
     (b"\xA5\x00\x06boot 1\x00", ("record", 6), ("record", 6)),
     (b"\xA5\x00\x06boot 2\x00", ("damaged", 10), ("damaged", 10)),
+    (
+        b"\xA5\x00\x0Brenewed 5 2\x00",
+        ("record", 11),
+        ("record", 11),
+    ),
     // Lengths of 207, 208 and 256 bytes.
     (b"\xA5\x00\xCF", ("more", 0), ("damaged", 10)),
     (b"\xA5\x00\xD0", ("damaged", 10), ("damaged", 10)),

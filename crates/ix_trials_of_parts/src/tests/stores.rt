@@ -23,6 +23,14 @@ pub(super) const UNOPENED: &[u8] = b"\x7FIXJ1\x00\x05a - b\x00";
 // What a start makes of no journal.
 pub(super) const NEW: &[u8] = b"\xA5IXJ2\x00\x05a - b\x00";
 
+// Ones of a renewal that carries `a`, and nothing.
+pub(super) const RENEWED: &[u8] = b"\xA5IXJ3\x00\x05a - b\xA5\x00\x01a\xA5\x00\x0Brenewed 5 2\x00";
+
+pub(super) const RENEWED_NONE: &[u8] = b"\xA5IXJ3\x00\x05a - b\xA5\x00\x0Brenewed 2 1\x00";
+
+// One of a renewal behind the most boots.
+const RENEWED_OF_MOST: &[u8] = b"\xA5IXJ3\x00\x05a - b\xA5\x00\x11renewed 0 1000000\x00";
+
 // One with a record of each kind: a boot, an action with its ticket, and an action alone.
 const KINDS: &[u8] = b"\xA5IXJ2\x00\x05a - b\xA5\x00\x06boot 1\xA5\x00\x051-1 a\xA5\x00\x01b\x00";
 
@@ -143,6 +151,8 @@ const OPENED: &[(&[u8], &[u8], &[u8])] = &[
     (KINDS, b"a b ", KINDS),
     (ONE, b"a ", ONE),
     (BOTH, b"a b ", BOTH),
+    (RENEWED, b"a ", RENEWED),
+    (RENEWED_OF_MOST, b"", RENEWED_OF_MOST),
     // The gate in front of the record is closed.
     (
         b"\xA5IXJ1\x00\x05a - b\x7F\x00\x01a\x00",
@@ -426,10 +436,11 @@ fn stops_at(alloc: Global, file: &[u8], texts: [&[u8]; 2], number: u64) -> Resul
 #[test]
 fn each_call_of_the_disk_fails_in_turn(rt: HostRuntime) -> Result<(), Fail> {
     let short: [&[u8]; 2] = [b"a", b"b"];
-    let rows: [(&[u8], [&[u8]; 2]); 4] = [
+    let rows: [(&[u8], [&[u8]; 2]); 5] = [
         (b"", short),
         (b"\x00IXJ", short),
         (EMPTY, short),
+        (RENEWED_NONE, short),
         (EMPTY, [LONGEST, LONGEST]),
     ];
     for (file, texts) in rows {

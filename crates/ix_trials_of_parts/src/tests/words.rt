@@ -77,6 +77,12 @@ fn shown(alloc: Global, job: &Job) -> Result<String, AllocError> {
         Job::Bound { expr, count } => format!(in alloc; "bound {expr} {count}"),
         Job::Follow { expr, lines, nodes } => format!(in alloc; "follow {expr} {lines} {nodes}"),
         Job::Lint { expr } => format!(in alloc; "lint {expr}"),
+        Job::Renew {
+            expr,
+            journal,
+            new,
+            nodes,
+        } => format!(in alloc; "renew {expr} {journal} {new} {nodes}"),
         of_the_desk => shown_desk(alloc, of_the_desk),
     }
 }
@@ -127,6 +133,8 @@ const JOBS: &[(&str, &str)] = &[
     ),
     ("stuck x v", "stuck x v 100000 100000"),
     ("stuck x v --states 9 --nodes 8", "stuck x v 8 9"),
+    ("renew x j n", "renew x j n 100000"),
+    ("renew --nodes 8 x j n", "renew x j n 8"),
 ];
 
 // Whether the words of a text are answered so.
@@ -222,6 +230,10 @@ const REFUSED: &[(&str, &str)] = &[
         "error: invalid value '0' for '--states <states>': ",
     ),
     (
+        "renew x j",
+        "error: the following required arguments were not provided:\n  <NEW>\n",
+    ),
+    (
         "simplify x --nodes 8",
         "error: unexpected argument '--nodes' found\n",
     ),
@@ -261,6 +273,7 @@ Commands:
   why EXPR ACTIONS ACTION [--nodes N]
   next EXPR ACTIONS [VALUE..] [--nodes N]
   stuck EXPR VALUES [--nodes N] [--states N]
+  renew EXPR JOURNAL NEW [--nodes N]
 
 For more information on a command, put '--help' behind its name.
 ";

@@ -1,6 +1,6 @@
-use Rattle.std.proofs.Common.{sym, ap, arith}
-use Rattle.ix_journal.proofs.Following.{none_followed, followed_more, followed_many, followed_damage}
-use Rattle.ix_journal.proofs.Following.{followed_end, followed_within, boots_within, few_followed}
+use Rattle.std.proofs.Common.{sym}
+use Rattle.ix_journal.proofs.Following.{boots_within, few_followed, followed_damage, followed_end}
+use Rattle.ix_journal.proofs.Following.{followed_many, followed_more, none_followed}
 use Rattle.ix_journal.proofs.scanning.follow.Goals as goal
 
 pub loop-item-init : goal.loop-item-init
@@ -10,39 +10,34 @@ loop-item-init c =
 
 pub are_many-requires : goal.are_many-requires
 are_many-requires c =
-    let more = followed_more _ _ _ _ _ c.loop-item.invariant.so_far _ _ c.loop-item.invariant.place _ _
-    c.in-Some.ensures.steps c.in-Ok.is in
-    omega (arith, ap (λ m. m.boots) c.marks.ensures, boots_within _ _ _ _ _ more.1)
+    let more = followed_more _ _ _ _ c.loop-item.invariant.so_far _ _ c.loop-item.invariant.place _ _
+    c.in-Some.ensures.steps c.in_default-item.is in
+    rw c.marks.ensures (boots_within _ _ _ _ more.1)
 
 pub returns-then-are_many : goal.returns-then-are_many
 returns-then-are_many c =
-    followed_many _ _ _ _ _ c.loop-item.invariant.so_far _ _ c.loop-item.invariant.place _ _
-    c.in-Some.ensures.steps c.in-Ok.is (rw (sym c.marks.ensures) (c.are_many.ensures.many c.if-are_many.true))
+    followed_many _ _ _ _ c.loop-item.invariant.so_far _ _ c.loop-item.invariant.place _ _
+    c.in-Some.ensures.steps c.in_default-item.is
+    (rw (sym c.marks.ensures) (c.are_many.ensures.many c.if-are_many.true))
 
 pub loop-item-preserved : goal.loop-item-preserved
 loop-item-preserved c =
-    let more = followed_more _ _ _ _ _ c.loop-item.invariant.so_far _ _ c.loop-item.invariant.place _ _
-    c.in-Some.ensures.steps c.in-Ok.is in
+    let more = followed_more _ _ _ _ c.loop-item.invariant.so_far _ _ c.loop-item.invariant.place _ _
+    c.in-Some.ensures.steps c.in_default-item.is in
     record {
       progress = (tt, tt);
       place = more.0;
-      so_far = few_followed _ _ _ _ _ more.1 (rw (sym c.marks.ensures) (c.are_many.ensures.few c.if-are_many.false));
+      so_far =
+          few_followed _ _ _ _ more.1 (rw (sym c.marks.ensures) (c.are_many.ensures.few c.if-are_many.false));
     }
 
 pub returns-in-Err : goal.returns-in-Err
 returns-in-Err c =
-    followed_damage _ _ _ _ _ c.loop-item.invariant.so_far _ _ c.loop-item.invariant.place _ _
+    followed_damage _ _ _ _ c.loop-item.invariant.so_far _ _ c.loop-item.invariant.place _ _
     c.in-Some.ensures.steps c.in-Err.is
-
-pub overflow_sub-result : goal.overflow_sub-result
-overflow_sub-result c =
-    omega (
-      arith,
-      ap (λ m. m.boots) c.marks-boots.ensures,
-      followed_within _ _ _ _ _ c.loop-item.invariant.so_far _ _ c.loop-item.invariant.place c.in_default.ensures.steps,
-    )
 
 pub returns : goal.returns
 returns c =
-    rw (c.marks-boots.ensures, c.gate.ensures.place)
-    (followed_end _ _ _ _ _ c.loop-item.invariant.so_far _ _ c.loop-item.invariant.place c.in_default.ensures.steps)
+    rw (c.marks-marks.ensures, c.gate.ensures.place)
+    (followed_end _ _ _ _ c.loop-item.invariant.so_far _ _ c.loop-item.invariant.place
+    c.in_default.ensures.steps)

@@ -10,8 +10,8 @@ use Rattle.ix_manage.specs.declared.early_end.EarlyEnd.TheVariants.{Refused}
 use Rattle.ix_manage.specs.declared.refusal.Refusal.TheVariants.{Disk}
 use Rattle.ix_manage.specs.inside.EarlyEnds.{unstarted_end}
 use Rattle.ix_manage.specs.Journal.{UsesJournal}
-use Rattle.ix_manage.proofs.Devices.{disk_calls_then}
-use Rattle.ix_manage.proofs.Opening.{left_at, none_opened, of_journal, on_journal, some_is, start_keeps, start_reopens, start_uses}
+use Rattle.ix_renew.proofs.Making.{disk_calls_then, only_left}
+use Rattle.ix_manage.proofs.Opening.{none_opened, of_journal, on_journal, some_is, start_keeps, start_reopens, start_uses}
 use Rattle.ix_manage.proofs.Playing.{disk_stops, fault_kind, start_stops, started_small}
 use Rattle.ix_manage.proofs.Stops.{handed_on}
 use Rattle.ix_manage.proofs.open.open.Goals as goal
@@ -48,7 +48,7 @@ returns-in_err-start-clause-stops g c =
     (λ d is e after. subst (λ n. UsesJournal x n None e.file (record { name = name; tick = at.tick; file = d.file }) q)
     (sym it.limit_is)
     (start_uses x limit at mid p q d name is
-    (left_at at.disk p.now c.in_ok-attach.ensures.now d is) (Err why) (told.leaves d is)
+    (only_left at.disk p.now c.in_ok-attach.ensures.now d is) (Err why) (told.leaves d is)
     (g.met.S.Site.lawful c.start.new.site) told.calls.passes.left.later e after)))
     (disk_calls_then before at mid c.in_ok-attach.ensures.rest told.calls.rest) sink why (λ l same. told.only_large l (ap Err same))
     (fault_kind limit (tree_size x _) (Err why) why refl told.large)
@@ -80,25 +80,25 @@ returns-clause-starts g c =
       keeps = λ some.
           let disk = the_value at.disk some in
           start_keeps x limit at mid p q disk.0 c.args.journal.now disk.1
-          (left_at at.disk p.now c.in_ok-attach.ensures.now disk.0 disk.1) (Ok m) (told.leaves disk.0 disk.1)
-          m.machine.history m.machine.boot (told.not_large small disk.0 disk.1);
+          (only_left at.disk p.now c.in_ok-attach.ensures.now disk.0 disk.1) (Ok m) (told.leaves disk.0 disk.1)
+          m.machine.history m.machine.renewed m.machine.boot (told.not_large small disk.0 disk.1);
       reopens = λ some.
           let disk = the_value at.disk some in
           start_reopens x limit at mid p q disk.0 c.args.journal.now disk.1
-          (left_at at.disk p.now c.in_ok-attach.ensures.now disk.0 disk.1) (Ok m) (told.leaves disk.0 disk.1)
-          m.machine.history m.machine.boot (told.not_large small disk.0 disk.1);
+          (only_left at.disk p.now c.in_ok-attach.ensures.now disk.0 disk.1) (Ok m) (told.leaves disk.0 disk.1)
+          m.machine.history m.machine.renewed m.machine.boot (told.not_large small disk.0 disk.1);
       fits = told.fits;
       since = λ sends known.
           let contents = told.calls.rest.contents ∙ c.in_ok-attach.ensures.rest.contents in
           let at_known = ap (λ (k : Contents). k.sends) c.in_ok-attach.ensures.rest.contents ∙ known in
-          serves_begin at.tick x (length m.machine.history) m.machine.history sends mid q
+          serves_begin at.tick x (length m.machine.history) m.machine.history m.machine.renewed sends mid q
           (g.met.S.Site.lawful c.start.new.site) told.calls.passes.left.later (omega arith)
           (λ now is. some_is (sym is ∙ ap (λ (k : Contents). k.sends) contents ∙ known))
           (λ some.
           let disk = the_value at.disk (kept_told at.disk mid.disk told.calls.opened some) in
           start_keeps x limit at mid p q disk.0 c.args.journal.now disk.1
-          (left_at at.disk p.now c.in_ok-attach.ensures.now disk.0 disk.1) (Ok m) (told.leaves disk.0 disk.1)
-          m.machine.history m.machine.boot (told.not_large small disk.0 disk.1))
+          (only_left at.disk p.now c.in_ok-attach.ensures.now disk.0 disk.1) (Ok m) (told.leaves disk.0 disk.1)
+          m.machine.history m.machine.renewed m.machine.boot (told.not_large small disk.0 disk.1))
           (λ now is. (
             ap (λ (s : Sends). s.sent) (some_is (sym is ∙ ap (λ (k : Contents). k.sends) contents ∙ known)),
             λ left since. told.calls.sent sends at_known left since,

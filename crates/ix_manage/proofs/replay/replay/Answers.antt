@@ -23,6 +23,7 @@ returns-in_err-expression-clause-leaves g c =
       touches = disk_calls_still site;
       journal = none_opened files.contents (replay_of names) site site is is
           (g.met.S.Site.lawful c.args.site.now) c.requires.attached refl;
+      made = tt;
       wire = λ socket none. absurd (none-some socket none);
     }))
 
@@ -43,6 +44,7 @@ returns-in_err-bytes-clause-leaves g c =
       touches = disk_calls_still site;
       journal = none_opened files.contents (replay_of names) site site is is
           (g.met.S.Site.lawful c.args.site.now) c.requires.attached refl;
+      made = tt;
       wire = λ socket none. absurd (none-some socket none);
     }))
 
@@ -67,6 +69,7 @@ returns-in_err-script-clause-leaves g c =
       touches = disk_calls_still site;
       journal = none_opened files.contents (replay_of names) site site is is
           (g.met.S.Site.lawful c.args.site.now) c.requires.attached refl;
+      made = tt;
       wire = λ socket none. absurd (none-some socket none);
     }))
 

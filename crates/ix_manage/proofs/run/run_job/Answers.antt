@@ -35,6 +35,7 @@ returns-in-Trace-clause-leaves g c =
       ends = end site;
       touches = refl;
       journal = λ expression journal of_expression has_journal. absurd (none-some journal has_journal);
+      made = tt;
       wire = λ socket same. absurd (none-some socket same);
     }) in
     leaves_on ends (g.K.Sink.state c.args.out.now) (g.K.Sink.state c.trace.new.out)
@@ -57,6 +58,7 @@ returns-in-Work-clause-leaves g c =
       ends = end files site;
       touches = refl;
       journal = λ expression journal of_expression has_journal. absurd (none-some journal has_journal);
+      made = tt;
       wire = λ socket same. absurd (none-some socket same);
     }) in
     leaves_on ends (g.K.Sink.state c.args.out.now) (g.K.Sink.state c.work.new.out)
@@ -80,6 +82,7 @@ returns-in-Simplify-clause-leaves g c =
       ends = end site;
       touches = refl;
       journal = λ expression journal of_expression has_journal. absurd (none-some journal has_journal);
+      made = tt;
       wire = λ socket same. absurd (none-some socket same);
     }) in
     leaves_on ends (g.K.Sink.state c.args.out.now) (g.K.Sink.state c.simplify.new.out)
@@ -104,6 +107,7 @@ returns-in-Bound-clause-leaves g c =
       ends = end site;
       touches = refl;
       journal = λ expression journal of_expression has_journal. absurd (none-some journal has_journal);
+      made = tt;
       wire = λ socket same. absurd (none-some socket same);
     }) in
     leaves_on ends (g.K.Sink.state c.args.out.now) (g.K.Sink.state c.bound.new.out)
@@ -129,6 +133,7 @@ returns-in-Follow-clause-leaves g c =
       ends = end site;
       touches = refl;
       journal = λ expression journal of_expression has_journal. absurd (none-some journal has_journal);
+      made = tt;
       wire = λ socket same. absurd (none-some socket same);
     }) in
     leaves_on ends (g.K.Sink.state c.args.out.now) (g.K.Sink.state c.follow.new.out)
@@ -152,6 +157,7 @@ returns-in-Lint-clause-leaves g c =
       ends = end site;
       touches = refl;
       journal = λ expression journal of_expression has_journal. absurd (none-some journal has_journal);
+      made = tt;
       wire = λ socket same. absurd (none-some socket same);
     }) in
     leaves_on ends (g.K.Sink.state c.args.out.now) (g.K.Sink.state c.lint.new.out)
@@ -179,6 +185,7 @@ returns-in-Why-clause-leaves g c =
       ends = end site;
       touches = refl;
       journal = λ expression journal of_expression has_journal. absurd (none-some journal has_journal);
+      made = tt;
       wire = λ socket same. absurd (none-some socket same);
     }) in
     leaves_on ends (g.K.Sink.state c.args.out.now) (g.K.Sink.state c.why.new.out)
@@ -207,6 +214,7 @@ returns-in-Next-clause-leaves g c =
       ends = end site;
       touches = refl;
       journal = λ expression journal of_expression has_journal. absurd (none-some journal has_journal);
+      made = tt;
       wire = λ socket same. absurd (none-some socket same);
     }) in
     leaves_on ends (g.K.Sink.state c.args.out.now) (g.K.Sink.state c.next.new.out)
@@ -234,6 +242,7 @@ returns-in-Stuck-clause-leaves g c =
       ends = end site;
       touches = refl;
       journal = λ expression journal of_expression has_journal. absurd (none-some journal has_journal);
+      made = tt;
       wire = λ socket same. absurd (none-some socket same);
     }) in
     leaves_on ends (g.K.Sink.state c.args.out.now) (g.K.Sink.state c.stuck.new.out)

@@ -19,6 +19,7 @@ returns-in_err-expression-clause-leaves g c =
       touches = calls_still site;
       journal = none_opened (g.F.Files.state c.args.files.now).contents (serve_of names) site site
           (g.S.Site.crashes c.args.site.now) _ (g.met.S.Site.lawful c.args.site.now) c.requires.attached refl;
+      made = tt;
       wire = λ socket same. refl;
     }))
 

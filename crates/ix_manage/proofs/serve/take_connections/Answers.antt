@@ -2,7 +2,7 @@ use Rattle.std.proofs.Common.{ap, ◌∙◌, arith}
 use Rattle.std.specs.Io.KnownBytes.{append_known}
 use Rattle.ix_manager.proofs.SavingLemmas.{fits_sends}
 use Rattle.ix_manage.specs.declared.early_end.EarlyEnd.TheVariants.{Output, Refused}
-use Rattle.ix_manage.proofs.HistoryLines.{line_of}
+use Rattle.ix_manage.specs.Session.{length_line}
 use Rattle.ix_manage.proofs.Replaying.{saves_resting}
 use Rattle.ix_manage.specs.declared.refusal.Refusal.TheVariants.{Wire}
 use Rattle.ix_manage.specs.inside.ServeProgress.{unheard}
@@ -49,7 +49,7 @@ returns-in_err-put-clause-leaves g c =
     (g.S.Site.state old) (g.S.Site.state new) (g.S.Site.crashes old) (g.S.Site.crashes new) saves
     c.in_ok-listen.ensures.contents c.in_ok-listen.ensures.rest.send since
     (g.K.Sink.state c.args.out.now) (g.K.Sink.state c.put.new.self)
-    (c.deref.ensures.0 ∙ c.history_line.ensures ∙ line_of _ _ c.history.ensures)
+    (c.deref.ensures.0 ∙ c.history_line.ensures ∙ ap length_line c.count.ensures)
     c.in_err-put.ensures.part c.in_err-put.ensures.failed)
 
 pub returns-in_err-put-clause-site : goal.returns-in_err-put-clause-site
@@ -86,7 +86,7 @@ returns-clause-leaves g c =
     (g.met.S.Site.lawful end) c.requires.manager saves c.in_ok-listen.ensures.contents c.in_ok-listen.ensures.rest.send since
     (g.K.Sink.state c.args.out.now) (g.K.Sink.state c.put.new.self)
     (c.in_ok-put.ensures.whole ∙ ap (λ line. append_known (g.K.Sink.state c.args.out.now).written line)
-    (c.deref.ensures.0 ∙ c.history_line.ensures ∙ line_of _ _ c.history.ensures))
+    (c.deref.ensures.0 ∙ c.history_line.ensures ∙ ap length_line c.count.ensures))
     (let same = c.in_ok-listen.ensures.rest.disk in omega (arith, same)) c.in_ok-listen.ensures.rest.wire
     c.serve_events.result c.serve_events.ensures.serves
 

@@ -1,5 +1,5 @@
 use Rattle.std.proofs.Common.{refl, ◌∙◌, ap, length}
-use Rattle.ix_manager.specs.Machine.{MachineState}
+use Rattle.ix_manager.specs.Machine.{MachineState, count}
 use Rattle.ix_manager.specs.declared.faults.Go.TheVariants.{More, Stopped}
 use Rattle.ix_manager.specs.inside.Core.{Core}
 use Rattle.ix_manager.specs.inside.WireState.{wired}
@@ -45,7 +45,7 @@ returns-in-Poll g c =
     (poll_answered c.args.conn c.args.request.now c.in-Poll.name old c.answer.new.self c.tell.new.self before after
     polls.0 polls.1 c.answer.ensures.form c.answer.ensures.limit c.tell.ensures c.send_changes.ensures.sends)
     c.send_changes.ensures.only (item tt
-    (changes_within (length old.state.history) (changes_of c.in-Poll.name c.answer.new.self.noted)))
+    (changes_within (count old.state) (changes_of c.in-Poll.name c.answer.new.self.noted)))
 
 -- a confirm
 pub returns-in-Confirm : goal.returns-in-Confirm

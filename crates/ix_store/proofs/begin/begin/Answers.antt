@@ -1,5 +1,7 @@
 use Rattle.std.proofs.Common.{◌∙◌}
-use Rattle.ix_outside.proofs.Passing.{DiskCalls-none}
+use Rattle.ix_outside.proofs.Passing.{DiskCalls-none, DiskCalls-join}
+use Rattle.ix_journal.specs.inside.Writing.{digit_of}
+use Rattle.ix_journal.proofs.WritingLaws.{is_version}
 use Rattle.ix_store.proofs.Begun.{headed_images, opened_images}
 use Rattle.ix_store.proofs.Told.{of_told, made}
 use Rattle.ix_store.proofs.begin.begin.Goals as goal
@@ -17,7 +19,7 @@ pub returns-in_default-write_through-clause-images :
 returns-in_default-write_through-clause-images g c told is =
     let cleared = c.clear.ensures in
     let there = made _ _ _ told is c.in-Ok-clear.ensures.cleared in
-    headed_images c.args.text.now c.requires.short _ _ _ _
+    headed_images (digit_of c.args.version) (is_version c.args.version) c.args.text.now c.requires.short _ _ _ _
     (g.met.S.Site.lawful c.clear.new.site) cleared.calls
     (cleared.images told is c.args.text.now c.requires.short
     (of_told _ _ told is c.requires.is_new))
@@ -29,7 +31,7 @@ pub returns-in_default-write_through-2-clause-images :
 returns-in_default-write_through-2-clause-images g c told is =
     let cleared = c.clear.ensures in
     let there = made _ _ _ told is c.in-Ok-clear.ensures.cleared in
-    opened_images c.args.text.now c.requires.short _ _ _ _
+    opened_images (digit_of c.args.version) (is_version c.args.version) c.args.text.now c.requires.short _ _ _ _
     (g.met.S.Site.lawful c.clear.new.site) cleared.calls
     (cleared.images told is c.args.text.now c.requires.short
     (of_told _ _ told is c.requires.is_new))
@@ -43,7 +45,7 @@ pub returns-clause-images : goal.returns-clause-images
 returns-clause-images g c told is =
     let cleared = c.clear.ensures in
     let there = made _ _ _ told is c.in-Ok-clear.ensures.cleared in
-    opened_images c.args.text.now c.requires.short _ _ _ _
+    opened_images (digit_of c.args.version) (is_version c.args.version) c.args.text.now c.requires.short _ _ _ _
     (g.met.S.Site.lawful c.clear.new.site) cleared.calls
     (cleared.images told is c.args.text.now c.requires.short
     (of_told _ _ told is c.requires.is_new))
@@ -52,3 +54,18 @@ returns-clause-images g c told is =
     (g.met.S.Site.lawful c.write_through.new.site) (c.deref.ensures.value ∙ c.in-Ok.ensures)
     c.in-Ok-write_through.ensures.written c.in-Ok-write_through.ensures.settled
     _ _ c.write_through-2.ensures.calls c.write_through-2.ensures.images
+
+pub returns-in_default-write_through-2-clause-calls :
+    goal.returns-in_default-write_through-2-clause-calls
+returns-in_default-write_through-2-clause-calls g c =
+    DiskCalls-join _ _ _ _ _ _ (g.met.S.Site.lawful c.write_through-2.new.site)
+    (DiskCalls-join _ _ _ _ _ _ (g.met.S.Site.lawful c.write_through.new.site)
+    c.clear.ensures.calls c.write_through.ensures.calls)
+    c.write_through-2.ensures.calls
+
+pub returns-clause-calls : goal.returns-clause-calls
+returns-clause-calls g c =
+    DiskCalls-join _ _ _ _ _ _ (g.met.S.Site.lawful c.write_through-2.new.site)
+    (DiskCalls-join _ _ _ _ _ _ (g.met.S.Site.lawful c.write_through.new.site)
+    c.clear.ensures.calls c.write_through.ensures.calls)
+    c.write_through-2.ensures.calls

@@ -1,4 +1,8 @@
-use Rattle.std.proofs.Common.{List, ℕ, sym, arith, subst}
+use Rattle.std.proofs.Common.{◌≡◌, ◌↔◌, ◌+◌, ◌≤◌, IsTrue, Bool, false, List, ℕ, sym, ◌∙◌, arith, subst, inl, inr, true≢false}
+use Rattle.ix_journal.specs.Entries.{renewed_of}
+use Rattle.ix_journal.specs.declared.entries.Marks.{Marks}
+use Rattle.ix_journal.specs.inside.Counting.{HasBootRoom}
+use Rattle.std.proofs.lemmas.Bool.{cases_lt}
 use Rattle.ix_store.specs.declared.fault.OpenFault.TheVariants as fault
 use Rattle.ix_store.specs.declared.find.Found.TheVariants as found
 use Rattle.ix_store.specs.inside.Reading.{IsHeadOf}
@@ -36,8 +40,8 @@ returns-in-Err-judge-clause-file g c =
     refusal_read c.deref.result.now told.file c.args.text.now same _ c.in-Err-judge.ensures)
 
 -- there is no room for a boot
-pub returns-then-kept-ge-MOST_BOOTS-clause-file : goal.returns-then-kept-ge-MOST_BOOTS-clause-file
-returns-then-kept-ge-MOST_BOOTS-clause-file g c =
+pub returns-then-not-has_room-clause-file : goal.returns-then-not-has_room-clause-file
+returns-then-not-has_room-clause-file g c =
     let text = c.args.text.now in
     let front = c.deref.result.now in
     let kept = c.in-Ok-read_records.kept in
@@ -50,10 +54,17 @@ returns-then-kept-ge-MOST_BOOTS-clause-file g c =
     let judged = subst (IsJudged front text) c.in-Ok-Some.field-0-is c.in-Ok-Some.ensures in
     let closes = of_told (λ file. ClosesWith file c.in-Ok-Some.first kept.history.items kept.marks kept.gate)
     _ there.disk there.told c.in-Ok-read_records.ensures.file in
-    let most = c.in-Ok-read_records.ensures.sound.boots in
-    let full = c.if-kept-ge-MOST_BOOTS.true in
+    let most = c.in-Ok-read_records.ensures.sound.few.1 in
+    let full = full_of kept.marks c.has_room.result c.has_room.ensures c.if-not-has_room.true most in
     full_read front told.file text same c.in-Ok-Some.first judged kept.history.items kept.marks
     kept.gate
     (subst (λ (f : List ℕ). ClosesWith f c.in-Ok-Some.first kept.history.items kept.marks kept.gate)
     there.makes closes)
-    (omega arith))
+    full)
+  where
+    full_of : (m : Marks) (r : Bool) → (IsTrue r ↔ HasBootRoom m) → r ≡ false
+        → m.boots ≤ (renewed_of m).boots + 1000000 → m.boots ≡ (renewed_of m).boots + 1000000
+    full_of m r room none most = elim (cases_lt m.boots ((renewed_of m).boots + 1000000)) [
+      | inl less ↦ absurd (true≢false (sym (room.1 less) ∙ none))
+      | inr full ↦ omega (arith, full, most)
+    ]

@@ -1,18 +1,20 @@
-use Rattle.std.proofs.Common.{◌≡◌, ◌+◌, ◌<◌, length, take, drop}
+use Rattle.std.proofs.Common.{◌≡◌, ◌+◌, ◌≤◌, length, take, drop}
 use Rattle.std.proofs.Common.{refl, sym, ◌∙◌, ap, subst, arith}
 use Rattle.std.proofs.lemmas.List.{take_rest}
 use Rattle.ix_journal.specs.History.{PlainHistory}
 use Rattle.ix_journal.specs.Kept.{Kept, empty_at, extended}
 use Rattle.ix_journal.specs.declared.entries.Marks.{Marks}
 use Rattle.ix_journal.specs.Slide.{Leaves}
+use Rattle.ix_journal.specs.Entries.{renewed_of}
+use Rattle.ix_journal.specs.inside.Counting.{AreMany, AreNotMany}
 use Rattle.ix_store.specs.declared.fault.OpenFault.TheVariants as fault
 use Rattle.ix_store.specs.inside.Reading.{ReadsOn}
 use Rattle.ix_store.specs.inside.Steps.{ClosesWith, StopsReading}
 use Rattle.ix_store.proofs.ReadCalls.{reads_none, reads_join}
 use Rattle.ix_store.proofs.Reading.{IsOnWay, Reached, starts_on_way, starts_reached}
 use Rattle.ix_store.proofs.Reading.{fed_on_way, fed_less, fed_reached}
-use Rattle.ix_store.proofs.Reading.{next_on_way, next_less, next_reached, lent_many, text_lent}
-use Rattle.ix_store.proofs.Reading.{closes, damages, steps_left, stops_keeping}
+use Rattle.ix_store.proofs.Reading.{marks_within, next_on_way, next_less, next_reached, lent_many, text_lent}
+use Rattle.ix_store.proofs.Reading.{closes, damages, steps_left}
 use Rattle.ix_store.proofs.Told.{of_told, to_told, made}
 use Rattle.ix_store.proofs.records.read_records.Goals as goal
 
@@ -78,18 +80,40 @@ records-preserved-in-Ok g c =
     }
 
 -- a record is lent
-pub of_text-requires : goal.of_text-requires
-of_text-requires g c = text_lent c.records.slide c.in-Record.text c.in-Record.ensures.tells
+pub of_text-entry-requires : goal.of_text-entry-requires
+of_text-entry-requires g c = text_lent c.records.slide c.in-Record.text c.in-Record.ensures.tells
 
+pub are_many-requires : goal.are_many-requires
+are_many-requires g c =
+    let now = c.records in
+    let new = c.next.follows.lender-at-none in
+    let leaves = subst (λ a. Leaves now.slide a new) c.in-Record.is c.next.follows.holds-at-none in
+    subst (λ (m : Marks). (renewed_of m).boots ≤ m.boots) (sym c.marks.ensures)
+    (marks_within now.slide new c.in-Record.text c.of_text-entry.result c.of_text-entry.ensures leaves
+    c.args.first now.at now.history.items now.invariant.way)
+
+-- it makes too many
+pub returns-then-are_many-clause-file : goal.returns-then-are_many-clause-file
+returns-then-are_many-clause-file g c =
+    let now = c.records in
+    let items = now.history.items in
+    let new = c.next.follows.lender-at-none in
+    let leaves = subst (λ a. Leaves now.slide a new) c.in-Record.is c.next.follows.holds-at-none in
+    let many = subst AreMany c.marks.ensures (c.are_many.ensures.many c.if-are_many.true) in
+    to_told (StopsReading c.args.first fault.Many) (g.S.Site.state c.args.site.now).disk
+    (λ told is.
+    lent_many now.slide new c.in-Record.text c.of_text-entry.result c.of_text-entry.ensures leaves c.args.first
+    now.at items told.file (of_told _ _ told is now.invariant.reached) now.invariant.way many)
+
+-- it is kept
 pub records-smaller : goal.records-smaller
 records-smaller g c =
     let now = c.records in
     let new = c.next.follows.lender-at-none in
     let leaves = subst (λ a. Leaves now.slide a new) c.in-Record.is c.next.follows.holds-at-none in
-    subst (λ (h : PlainHistory). steps_left h new < steps_left now.history.items now.slide)
-    (sym c.in-Ok-keep.ensures.kept)
-    (next_less now.slide new c.in-Record.text c.of_text.result c.of_text.ensures leaves c.args.first
-    now.at now.history.items c.in-Ok-keep.ensures.may now.invariant.way)
+    let few = subst AreNotMany c.marks.ensures (c.are_many.ensures.few c.if-are_many.false) in
+    next_less now.slide new c.in-Record.text c.of_text-entry.result c.of_text-entry.ensures leaves c.args.first
+    now.at now.history.items few now.invariant.way
 
 pub records-preserved : goal.records-preserved
 records-preserved g c =
@@ -97,35 +121,22 @@ records-preserved g c =
     let items = now.history.items in
     let new = c.next.follows.lender-at-none in
     let text = c.in-Record.text in
-    let entry = c.of_text.result in
+    let entry = c.of_text-entry.result in
+    let says = c.of_text-entry.ensures in
     let leaves = subst (λ a. Leaves now.slide a new) c.in-Record.is c.next.follows.holds-at-none in
-    let pushed = c.in-Ok-keep.ensures.kept in
+    let few = subst AreNotMany c.marks.ensures (c.are_many.ensures.few c.if-are_many.false) in
+    let pushed = c.in-Ok-keep.ensures in
     record {
       reads = now.invariant.reads;
       counts = now.invariant.counts;
       way = subst (λ (h : PlainHistory). IsOnWay c.args.first now.at h new) (sym pushed)
-          (next_on_way now.slide new text entry c.of_text.ensures leaves c.args.first now.at items
-          c.in-Ok-keep.ensures.may now.invariant.way);
+          (next_on_way now.slide new text entry says leaves c.args.first now.at items few now.invariant.way);
       reached = to_told (Reached c.args.first now.at c.keep.new.history.items new)
           (g.S.Site.state c.args.site.now).disk (λ told is.
           subst (λ (h : PlainHistory). Reached c.args.first now.at h new told.file) (sym pushed)
-          (next_reached now.slide new text entry c.of_text.ensures leaves c.args.first now.at items
+          (next_reached now.slide new text entry says leaves c.args.first now.at items
           told.file (of_told _ _ told is now.invariant.reached)));
     }
-
--- a record isn't kept
-pub returns-in-Err-keep-clause-file : goal.returns-in-Err-keep-clause-file
-returns-in-Err-keep-clause-file g c =
-    let now = c.records in
-    let items = now.history.items in
-    let new = c.next.follows.lender-at-none in
-    let leaves = subst (λ a. Leaves now.slide a new) c.in-Record.is c.next.follows.holds-at-none in
-    to_told (StopsReading c.args.first c.in-Err-keep.fault) (g.S.Site.state c.args.site.now).disk
-    (λ told is.
-    stops_keeping c.args.first (length items) told.file c.of_text.result c.in-Err-keep.fault
-    c.in-Err-keep.ensures.refused
-    (lent_many now.slide new c.in-Record.text c.of_text.result c.of_text.ensures leaves c.args.first
-    now.at items told.file (of_told _ _ told is now.invariant.reached) now.invariant.way))
 
 -- damage, or a closed gate
 pub returns-in-Damaged-clause-file : goal.returns-in-Damaged-clause-file

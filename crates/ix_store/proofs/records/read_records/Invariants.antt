@@ -15,4 +15,4 @@ invariant-records g l = record {
 }
 
 abbrev pub decreases-records : goal.decreases-records
-decreases-records g l = steps_left l.history.items l.slide
+decreases-records g l = steps_left l.slide

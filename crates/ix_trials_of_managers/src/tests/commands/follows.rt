@@ -11,9 +11,10 @@ const FOLLOWS: [(&[&str], &[u8], &[u8], u8, &[u8]); 6] = [
     (
         &FOLLOW,
         b"a - b",
-        b"entry 2 b\nentry 1 a\nentry 1 a\nyes\nentry 2 b",
+        b"entry 2 b\nentry 1 a\nentry 1 a\nyes\nrefused 33 left out\nrefused 32 left out\n\
+            entry 2 b",
         0,
-        b"early 2\ntaken 1\nold 1\nother\ntaken 2\ncomplete\n",
+        b"early 2\ntaken 1\nold 1\nother\nleft out\nother\ntaken 2\ncomplete\n",
     ),
     (
         &FOLLOW,

@@ -5,18 +5,18 @@ const ASK_A: &[u8] = b"100 0 ask a 50\n149 0 confirm 1-1";
 
 // A replay's journal, script and expression, and what is wanted.
 #[derive(Clone, Copy)]
-struct Row {
-    words: &'static [&'static str],
-    expression: &'static [u8],
-    script: &'static [u8],
-    before: Before<'static>,
-    status: u8,
-    bytes: &'static [u8],
-    journal: &'static [u8],
+pub(super) struct Row {
+    pub(super) words: &'static [&'static str],
+    pub(super) expression: &'static [u8],
+    pub(super) script: &'static [u8],
+    pub(super) before: Before<'static>,
+    pub(super) status: u8,
+    pub(super) bytes: &'static [u8],
+    pub(super) journal: &'static [u8],
 }
 
 // A replay of `a - b` over a journal where no call fails.
-fn make_row(
+pub(super) fn make_row(
     journal: &'static [u8],
     script: &'static [u8],
     status: u8,
@@ -51,7 +51,7 @@ fn failing_row(call: Option<u64>, put: Option<u64>, status: u8, bytes: &'static 
 }
 
 // Whether a run of the row ends as it should, puts what it should, and leaves such a journal.
-fn ends_so(alloc: Global, row: Row) -> Result<bool, Fail> {
+pub(super) fn ends_so(alloc: Global, row: Row) -> Result<bool, Fail> {
     let (ended, journal) = run_from(alloc, row.words, row.expression, row.script, row.before)?;
     let is_same = ended.status == row.status && ended.bytes.as_slice() == row.bytes;
     Ok(is_same && journal.as_slice() == row.journal)

@@ -187,6 +187,18 @@ fn serves_go_on_from_their_journals(rt: HostRuntime) -> Result<(), Fail> {
     Ok(())
 }
 
+// A serve of `a - b` over RENEWED_NONE, in which `a` is asked for and confirmed.
+fn serve_renewed(alloc: Global, fuse: u64) -> Result<Served, Fail> {
+    let coming: [Coming<'_>; 2] = [(0, 100, b"ask a 50\n"), (0, 149, b"confirm 2-1\n")];
+    let outside = Outside {
+        journal: RENEWED_NONE,
+        coming: &coming,
+        call: None,
+        fuse: Some(fuse),
+    };
+    serve_over(alloc, b"a - b", outside)
+}
+
 // A serve of `a - b` without a journal, in which `a` is asked for and confirmed.
 fn serve_a(alloc: Global, call: Option<u64>, fuse: Option<u64>) -> Result<Served, Fail> {
     let coming: [Coming<'_>; 2] = [(0, 100, b"ask a 50\n"), (0, 149, b"confirm 1-1\n")];
@@ -245,9 +257,14 @@ fn each_call_of_a_serve_fails_in_turn(rt: HostRuntime) -> Result<(), Fail> {
     Ok(())
 }
 
-// Whether a start from the journal that was left finds the action; or finds none, where no byte of
-// `confirmed` was sent.
-fn is_kept(alloc: Global, served: &Served) -> Result<bool, Fail> {
+// Whether a start from the journal that was left finds the action, and puts the second line; or
+// finds none, and puts the first, where no byte of `confirmed` was sent, as in this text.
+fn is_kept(
+    alloc: Global,
+    served: &Served,
+    lines: [&[u8]; 2],
+    confirmed: &[u8],
+) -> Result<bool, Fail> {
     let left = Before {
         journal: &served.journal,
         call: None,
@@ -255,18 +272,38 @@ fn is_kept(alloc: Global, served: &Served) -> Result<bool, Fail> {
     };
     let (opened, _) = run_from(alloc, &REPLAY, b"a - b", b"", left)?;
     let put = opened.bytes.as_slice();
-    let acknowledged = served.sent.as_slice().starts_with(b"0 granted 1-1\n0 c");
-    let found = put == b"history 1\n".as_slice();
-    Ok(found || (put == b"history 0\n".as_slice() && !acknowledged))
+    let acknowledged = served.sent.as_slice().starts_with(confirmed);
+    Ok(put == lines[1] || (put == lines[0] && !acknowledged))
 }
 
 #[test]
 fn what_was_acknowledged_is_kept(rt: HostRuntime) -> Result<(), Fail> {
     for fuse in 0..24 {
         let served = serve_a(rt.alloc(), None, Some(fuse))?;
-        let kept = is_kept(rt.alloc(), &served)?;
+        let kept = is_kept(
+            rt.alloc(),
+            &served,
+            [b"history 0\n", b"history 1\n"],
+            b"0 granted 1-1\n0 c",
+        )?;
         assert!(rt; kept, "fuse {fuse}");
         assert_eq!(rt; served.status == 0, fuse == 23, "fuse {fuse}");
+    }
+    Ok(())
+}
+
+#[test]
+fn what_was_acknowledged_behind_a_renewal_is_kept(rt: HostRuntime) -> Result<(), Fail> {
+    for fuse in 0..21 {
+        let served = serve_renewed(rt.alloc(), fuse)?;
+        let kept = is_kept(
+            rt.alloc(),
+            &served,
+            [b"history 2\n", b"history 3\n"],
+            b"0 granted 2-1\n0 c",
+        )?;
+        assert!(rt; kept, "fuse {fuse}");
+        assert_eq!(rt; served.status == 0, fuse == 20, "fuse {fuse}");
     }
     Ok(())
 }

@@ -28,7 +28,7 @@ returns-in-Err-clause-outcome g c =
     (wire_saves m.form m.machine m.store a b p q lawful lawful' c.requires.fits
     (next_only a b p q told.rest told.now told.call sends))
     (λ t least start taken answers serves.
-    serves_call t m.form least m.machine.history start taken answers m.marks a b p q lawful lawful'
+    serves_call t m.form least m.machine.history m.machine.renewed start taken answers m.marks a b p q lawful lawful'
     told.call told.now sends told.rest.file serves)
 
 pub returns-in-Err-clause-site : goal.returns-in-Err-clause-site
@@ -89,7 +89,7 @@ returns-clause-outcome g c =
       since = λ t least start taken answers serves.
           serves_handled t m.form least start taken answers m event c.piece.result.now go.result go.new.self b d q r
           lawful' go.ensures.passes refl (told_before b.disk d.disk go.ensures.site.opened) over
-          (serves_call t m.form least m.machine.history start taken answers m.marks a b p q lawful lawful'
+          (serves_call t m.form least m.machine.history m.machine.renewed start taken answers m.marks a b p q lawful lawful'
           told.call told.now sends told.rest.file serves);
     })
 

@@ -17,7 +17,7 @@ pub returns-in-Ok : goal.returns-in-Ok
 returns-in-Ok c =
     let i = c.self.inside in
     seen _ _ _ _ _ _ c.self.view_is refl
-    (granted_does i.engine i.tickets.items i.slot i.watches i.moment i.boot i.number c.self.invariant.each c.prepare.new.engine c.prepare.new.tickets.items c.args.action c.args.lease c.deadline_of-deadline.result
+    (granted_does i.engine i.tickets.items i.slot i.watches i.moment i.renewed i.boot i.number c.self.invariant.each c.prepare.new.engine c.prepare.new.tickets.items c.args.action c.args.lease c.deadline_of-deadline.result
     c.prepare.ensures.form c.prepare.ensures.history c.prepare.ensures.limit c.prepare.ensures.tickets
     c.in_default.ensures.none c.in-Ok.ensures.permitted c.deadline_of-deadline.ensures)
 
@@ -25,6 +25,6 @@ pub returns-in-Err : goal.returns-in-Err
 returns-in-Err c =
     let i = c.self.inside in
     seen _ _ _ _ _ _ c.self.view_is refl
-    (refused_does i.engine i.tickets.items i.slot i.watches i.moment i.boot i.number c.self.invariant.each c.prepare.new.engine c.prepare.new.tickets.items c.args.action c.args.lease c.in-Err.refusal
+    (refused_does i.engine i.tickets.items i.slot i.watches i.moment i.renewed i.boot i.number c.self.invariant.each c.prepare.new.engine c.prepare.new.tickets.items c.args.action c.args.lease c.in-Err.refusal
     c.prepare.ensures.form c.prepare.ensures.history c.prepare.ensures.limit c.prepare.ensures.tickets
     c.in_default.ensures.none c.in-Err.ensures.refused)

@@ -13,8 +13,8 @@ returns-clause-commits c = λ a deadline held within.
     let pending : i.pending ≡ Some c.in-Some.next = cc in
     let tickets : c.push-pushed.new.self.items ≡ i.tickets.items ++ Some ticket ∷ [] = search rules in
     seen _ _ _ _ _ _ c.self.view_is refl
-    (confirmed_does i.engine i.tickets.items i.slot i.watches i.moment i.boot i.number c.self.invariant.each
+    (confirmed_does i.engine i.tickets.items i.slot i.watches i.moment i.renewed i.boot i.number c.self.invariant.each
     c.commit.new.self c.push-pushed.new.self.items Free ticket a c.in-Some.next.action
-    deadline (length c.history.result.now) c.commit.ensures.form c.commit.ensures.limit c.commit.ensures.history tickets
+    deadline c.count.result c.commit.ensures.form c.commit.ensures.limit c.commit.ensures.history tickets
     (ready_action i.engine i.tickets i.slot i.pending ticket a deadline c.in-Some.next c.self.invariant.ready slot pending)
-    (ap length c.history.ensures.value) slot open_still refl)
+    c.count.ensures.value slot open_still refl)

@@ -7,5 +7,5 @@ use Rattle.ix_manager.proofs.machine.Machine.history.Goals as goal
 pub returns : goal.returns
 returns c =
     let i = c.self.inside in
-    c.history.ensures.value ∙ sym (words i.engine i.tickets.items i.slot i.watches i.moment i.boot i.number c.self.invariant.each)
+    c.history.ensures.value ∙ sym (words i.engine i.tickets.items i.slot i.watches i.moment i.renewed i.boot i.number c.self.invariant.each)
     ∙ ap (λ (core : Core). word_of core.state) c.self.view_is

@@ -1,31 +1,46 @@
-use Rattle.std.proofs.Common.{◌≡◌, ◌+◌, ◌<◌, ◌≤◌, length, get_or, refl, sym, subst, arith}
+use Rattle.std.proofs.Common.{◌≡◌, ◌+◌, ◌-◌, ◌<◌, ◌≤◌, get_or, length, refl, sym, ◌∙◌, ap, subst, arith}
 use Rattle.ix_values.specs.PlainAction.{Word}
 use Rattle.ix_proto.specs.Requests as request
 use Rattle.ix_proto.specs.declared.reply.Reply.{Reply}
+use Rattle.ix_manager.specs.Machine.{ahead_of}
+use Rattle.ix_manager.specs.inside.Core.{Core}
 use Rattle.ix_manager.specs.inside.Does.{Does}
-use Rattle.ix_manager.proofs.Stepping.{seen_same, entry_does, no_entry_does, zeroth_does}
+use Rattle.ix_manager.proofs.Stepping.{seen_same, ahead_is, entry_does, entry_left_out_does, no_entry_does, zeroth_does}
 use Rattle.ix_manager.proofs.machine.Machine.log.Goals as goal
 
-pub returns-in_default : goal.returns-in_default
-returns-in_default c =
-    let none : c.args.number ≡ 0 = let h = c.in_default.ensures in omega arith in
+pub returns-then-number-eq0 : goal.returns-then-number-eq0
+returns-then-number-eq0 c =
     subst (λ (r : Reply). Does c.args.self.now (request.log c.args.number) r c.args.self.now) (sym c.refused.ensures)
-    (zeroth_does c.args.self.now c.args.number none)
+    (zeroth_does c.args.self.now c.args.number c.if-number-eq0.true)
 
-pub returns-in-Some-get : goal.returns-in-Some-get
-returns-in-Some-get c =
+pub returns-then-number-self : goal.returns-then-number-self
+returns-then-number-self c =
     let i = c.self.inside in
-    let next : c.args.number ≡ c.in-Some.index + 1 = let h = c.in-Some.ensures in omega arith in
+    let some = c.if-number-eq0.false in
+    seen_same _ _ _ _ _ c.self.view_is c.refused-then-number-self.ensures
+    (entry_left_out_does i.engine i.tickets.items i.slot i.watches i.moment i.renewed i.boot i.number c.self.invariant.each
+    c.args.number (omega (arith, some)) c.if-number-self.true)
+
+pub returns-in-Some : goal.returns-in-Some
+returns-in-Some c =
+    let i = c.self.inside in
+    let above = c.if-number-self.false in
+    let ahead : c.ahead.result ≡ ahead_of i.renewed = ahead_is _ _ _ c.ahead.ensures.value c.self.view_is in
+    let index = c.args.number - c.ahead.result - 1 in
+    let next : c.args.number ≡ ahead_of i.renewed + index + 1 = omega (arith, above, ahead) in
     seen_same _ _ _ _ _ c.self.view_is refl
-    (entry_does i.engine i.tickets.items i.slot i.watches i.moment i.boot i.number c.self.invariant.each c.args.number c.in-Some.index c.in-Some-get.action.now next
-    (subst (λ (w : Word). c.in-Some.index < length w) c.history.ensures.value c.in-Some-get.ensures.lookup.3.0)
-    (subst (λ (w : Word). c.in-Some-get.action.now ≡ get_or w c.in-Some.index c.in-Some-get.action.now) c.history.ensures.value
-    (c.in-Some-get.ensures.lookup.3.1 c.in-Some-get.action.now)))
+    (entry_does i.engine i.tickets.items i.slot i.watches i.moment i.renewed i.boot i.number c.self.invariant.each c.args.number index c.in-Some.action.now next above
+    (subst (λ (w : Word). index < length w) c.history.ensures.value c.in-Some.ensures.lookup.3.0)
+    (subst (λ (w : Word). c.in-Some.action.now ≡ get_or w index c.in-Some.action.now) c.history.ensures.value
+    (c.in-Some.ensures.lookup.3.1 c.in-Some.action.now)))
 
 pub returns-in-None : goal.returns-in-None
 returns-in-None c =
     let i = c.self.inside in
-    let next : c.args.number ≡ c.in-Some.index + 1 = let h = c.in-Some.ensures in omega arith in
+    let above = c.if-number-self.false in
+    let ahead : c.ahead.result ≡ ahead_of i.renewed = ahead_is _ _ _ c.ahead.ensures.value c.self.view_is in
+    let index = c.args.number - c.ahead.result - 1 in
+    let next : c.args.number ≡ ahead_of i.renewed + index + 1 = omega (arith, above, ahead) in
     seen_same _ _ _ _ _ c.self.view_is c.refused-in-None.ensures
-    (no_entry_does i.engine i.tickets.items i.slot i.watches i.moment i.boot i.number c.self.invariant.each c.args.number c.in-Some.index next
-    (subst (λ (w : Word). length w ≤ c.in-Some.index) c.history.ensures.value c.in-None.ensures.lookup.3))
+    (no_entry_does i.engine i.tickets.items i.slot i.watches i.moment i.renewed i.boot i.number c.self.invariant.each c.args.number index next
+    (subst (λ (w : Word). length w ≤ index) c.history.ensures.value c.in-None.ensures.lookup.3))

@@ -6,4 +6,4 @@ pub returns : goal.returns
 returns c =
     let i = c.self.inside in
     seen_same _ _ _ _ _ c.self.view_is refl
-    (may_does i.engine i.tickets.items i.slot i.watches i.moment i.boot i.number c.self.invariant.each c.args.action.now c.may.result c.may.ensures)
+    (may_does i.engine i.tickets.items i.slot i.watches i.moment i.renewed i.boot i.number c.self.invariant.each c.args.action.now c.may.result c.may.ensures)

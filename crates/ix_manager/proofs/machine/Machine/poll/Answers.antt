@@ -12,16 +12,16 @@ returns c =
     let i = c.self.inside in
     let name = c.args.name in
     let watches = c.refresh.new.watches in
-    let new = core_of i.engine i.tickets.items i.slot watches i.moment i.boot i.number in
+    let new = core_of i.engine i.tickets.items i.slot watches i.moment i.renewed i.boot i.number in
     elim c.match-refresh.branch [
       | in-Ok w ↦
           subst (λ (r : Answer). PollAnswers c.args.self.now name r new) (sym w.result-is) (
             refl,
             subst (λ (core : Core). Refreshes core name new) c.self.view_is
-                (refreshes i.engine i.tickets.items i.slot i.watches i.moment i.boot i.number c.self.invariant.each watches name c.refresh.ensures.kept w.in-Ok.ensures.noted),
+                (refreshes i.engine i.tickets.items i.slot i.watches i.moment i.renewed i.boot i.number c.self.invariant.each watches name c.refresh.ensures.kept w.in-Ok.ensures.noted),
           )
       | in-Err w ↦
           subst (λ (r : Answer). PollAnswers c.args.self.now name r new) (sym (w.result-is ∙ ap answer.One w.refused.ensures))
           (seen _ _ _ _ _ _ c.self.view_is refl
-          (poll_memory_does i.engine i.tickets.items i.slot i.watches i.moment i.boot i.number c.self.invariant.each watches name c.refresh.ensures.kept w.in-Err.ensures.asked))
+          (poll_memory_does i.engine i.tickets.items i.slot i.watches i.moment i.renewed i.boot i.number c.self.invariant.each watches name c.refresh.ensures.kept w.in-Err.ensures.asked))
     ]

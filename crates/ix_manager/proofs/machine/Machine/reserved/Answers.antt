@@ -16,5 +16,5 @@ returns-clause-room c = λ a is.
     let i = c.self.inside in
     let facts = subst (λ (t : Take). Takes i.slot c.args.ticket i.moment t c.take.new.self) is c.take.ensures in
     subst (λ (core : Core). length core.state.history < 1000000) c.self.view_is
-    (subst (λ n. n < 1000000) (sym (counts i.engine i.tickets.items i.slot i.watches i.moment i.boot i.number c.self.invariant.each))
+    (subst (λ n. n < 1000000) (sym (counts i.engine i.tickets.items i.slot i.watches i.moment i.renewed i.boot i.number c.self.invariant.each))
     (ready_room i.engine i.tickets i.slot i.pending c.args.ticket a facts.0 c.self.invariant.ready facts.1))

@@ -1,4 +1,6 @@
-use Rattle.std.proofs.Common.{length, refl, ap}
+use Rattle.std.proofs.Common.{refl, sym, ◌∙◌, ap}
+use Rattle.ix_manager.specs.Machine.{count}
+use Rattle.ix_manager.specs.inside.Core.{Core}
 use Rattle.ix_manager.proofs.Stepping.{seen_same, status_does}
 use Rattle.ix_manager.proofs.machine.Machine.status.Goals as goal
 
@@ -6,5 +8,6 @@ pub returns : goal.returns
 returns c =
     let i = c.self.inside in
     seen_same _ _ _ _ _ c.self.view_is refl
-    (status_does i.engine i.tickets.items i.slot i.watches i.moment i.boot i.number c.self.invariant.each c.is_complete.result (length c.history.result.now) c.nodes.result
-    c.is_complete.ensures (ap length c.history.ensures.value) c.nodes.ensures.value)
+    (status_does i.engine i.tickets.items i.slot i.watches i.moment i.renewed i.boot i.number c.self.invariant.each
+    c.is_complete.result c.count.result c.nodes.result c.is_complete.ensures
+    (c.count.ensures.value ∙ ap (λ (core : Core). count core.state) (sym c.self.view_is)) c.nodes.ensures.value)

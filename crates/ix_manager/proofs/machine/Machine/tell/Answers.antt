@@ -7,6 +7,6 @@ pub returns : goal.returns
 returns c =
     let i = c.self.inside in
     let name = c.args.name.now in
-    subst (λ (core : Core). TellsPoll core name (core_of i.engine i.tickets.items i.slot c.tell.new.self i.moment i.boot i.number)) c.self.view_is
-    (tells_poll i.engine i.tickets.items i.slot i.watches i.moment i.boot i.number c.self.invariant.each c.tell.new.self name c.tell.ensures
+    subst (λ (core : Core). TellsPoll core name (core_of i.engine i.tickets.items i.slot c.tell.new.self i.moment i.renewed i.boot i.number)) c.self.view_is
+    (tells_poll i.engine i.tickets.items i.slot i.watches i.moment i.renewed i.boot i.number c.self.invariant.each c.tell.new.self name c.tell.ensures
     (subst (λ (core : Core). IsRefreshed core name) (sym c.self.view_is) c.requires))

@@ -14,15 +14,15 @@ returns c =
     elim c.match-add_watch.branch [
       | in-Ok w ↦
           seen _ _ _ _ _ _ c.self.view_is w.result-is
-          (watching_does i.engine i.tickets.items i.slot i.watches i.moment i.boot i.number c.self.invariant.each new name action w.in-Ok.told w.in-Ok.ensures)
+          (watching_does i.engine i.tickets.items i.slot i.watches i.moment i.renewed i.boot i.number c.self.invariant.each new name action w.in-Ok.told w.in-Ok.ensures)
       | in-Err-Full w ↦
           let is : c.add_watch.result ≡ Err Full = cc in
           let facts = subst (λ r. WatchAnswers i.engine name action i.watches r new) is c.add_watch.ensures in
           seen _ _ _ _ _ _ c.self.view_is (w.result-is ∙ w.refused.ensures)
-          (watches_full_does i.engine i.tickets.items i.slot i.watches i.moment i.boot i.number c.self.invariant.each new name action facts.0 facts.1 facts.2)
+          (watches_full_does i.engine i.tickets.items i.slot i.watches i.moment i.renewed i.boot i.number c.self.invariant.each new name action facts.0 facts.1 facts.2)
       | in-Err-Memory w ↦
           let is : c.add_watch.result ≡ Err Memory = cc in
           let facts = subst (λ r. WatchAnswers i.engine name action i.watches r new) is c.add_watch.ensures in
           seen _ _ _ _ _ _ c.self.view_is (w.result-is ∙ w.refused-in-Err-Memory.ensures)
-          (watch_memory_does i.engine i.tickets.items i.slot i.watches i.moment i.boot i.number c.self.invariant.each new name action facts.0 facts.1)
+          (watch_memory_does i.engine i.tickets.items i.slot i.watches i.moment i.renewed i.boot i.number c.self.invariant.each new name action facts.0 facts.1)
     ]

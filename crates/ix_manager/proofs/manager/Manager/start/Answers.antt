@@ -5,6 +5,7 @@ use Rattle.ix_expr.specs.Form.{Form}
 use Rattle.ix_engine.specs.Histories.{AreAllowed, StopsAt}
 use Rattle.ix_outside.proofs.Passing.{DiskCalls-none, DiskCalls-join}
 use Rattle.ix_values.specs.PlainAction.{Word}
+use Rattle.ix_journal.specs.Entries.{renewed_of}
 use Rattle.ix_journal.specs.History.{PlainHistory, Spent, actions_of}
 use Rattle.ix_store.specs.inside.Keeping.{Fits}
 use Rattle.ix_store.specs.inside.KeptBy.{kept}
@@ -90,14 +91,14 @@ returns-in-Err-resume-clause-not_large g c = λ small disk is.
     let words : c.in-Ok-take_apart.actions.items ≡ actions_of history =
     c.in-Ok-take_apart.ensures.actions ∙ ap actions_of c.deref-2.ensures.value in
     let stopped = c.in-Err-resume.fault in
-    let boots = (kept c.in-Ok-start.opened.0).marks.boots in
-    let opens = subst (λ (t : List ℕ). Opens disk.file t history boots) text (c.in-Ok-start.ensures.opened disk is) in
+    let marks = (kept c.in-Ok-start.opened.0).marks in
+    let opens = subst (λ (t : List ℕ). Opens disk.file t history marks) text (c.in-Ok-start.ensures.opened disk is) in
     let at = subst (λ (w : Word). StopsAt x limit w stopped) words
     (subst (λ (form : Form). StopsAt form limit c.in-Ok-take_apart.actions.items stopped) c.in-Ok-new.ensures.form
     (subst (λ most. StopsAt c.in-Ok-new.engine.form most c.in-Ok-take_apart.actions.items stopped) c.in-Ok-new.ensures.limit
     c.in-Err-resume.ensures.refused)) in
     subst (λ (fault : StartFault). IsStartFault x limit disk.file fault) (sym c.record_fault.ensures)
-    (resume_fault x limit disk.file history boots stopped small c.in-Ok-start.ensures.room opens at)
+    (resume_fault x limit disk.file history marks stopped small c.in-Ok-start.ensures.room opens at)
 
 pub returns-in-Err-resume-clause-leaves : goal.returns-in-Err-resume-clause-leaves
 returns-in-Err-resume-clause-leaves g c = λ disk is.
@@ -149,12 +150,12 @@ returns-in-Ok-start_machine-clause-not_large g c = λ small disk is.
     (subst (λ (f : Form). AreAllowed f limit c.in-Ok-take_apart.actions.items) c.in-Ok-new.ensures.form
     (subst (λ most. AreAllowed c.in-Ok-new.engine.form most c.in-Ok-take_apart.actions.items) c.in-Ok-new.ensures.limit
     c.in-Ok-resume.ensures.allowed)) in
-    let boots = (kept c.in-Ok-start.opened.0).marks.boots in
-    let opens = subst (λ (t : List ℕ). Opens disk.file t history boots) text (c.in-Ok-start.ensures.opened disk is) in
-    subst (λ (s : MachineState). IsStartable (opening_of x limit s.history s.boot) disk.file)
+    let marks = (kept c.in-Ok-start.opened.0).marks in
+    let opens = subst (λ (t : List ℕ). Opens disk.file t history marks) text (c.in-Ok-start.ensures.opened disk is) in
+    subst (λ (s : MachineState). IsStartable (opening_of x limit s.history s.renewed s.boot) disk.file)
     (sym (ap (λ (core : Core). core.state) c.in-Ok-start_machine.ensures.starts
-    ∙ ap (λ (h : PlainHistory). start_of h (boots + 1)) pairs))
-    (resumed x limit disk.file history boots small allowed c.in-Ok-start.ensures.room opens)
+    ∙ ap (λ (h : PlainHistory). start_of h (renewed_of marks) (marks.boots + 1)) pairs))
+    (resumed x limit disk.file history marks small allowed c.in-Ok-start.ensures.room opens)
 
 pub returns-in-Ok-start_machine-clause-leaves : goal.returns-in-Ok-start_machine-clause-leaves
 returns-in-Ok-start_machine-clause-leaves g c = λ disk is.

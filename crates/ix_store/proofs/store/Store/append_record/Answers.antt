@@ -1,9 +1,10 @@
-use Rattle.std.proofs.Common.{ℕ, ◌+◌, ◌∷◌, [], ◌∙◌, ap, arith, length, sym}
+use Rattle.std.proofs.Common.{ℕ, ◌+◌, ◌∷◌, [], ◌∙◌, ap, arith, length, subst, sym}
 use Rattle.std.proofs.lemmas.List.{length-append}
-use Rattle.ix_journal.specs.Format.{record_of}
+use Rattle.ix_journal.specs.Format.{farthest_gate, record_of}
+use Rattle.ix_journal.specs.inside.Counting.{AreNotMany, AreSound}
 use Rattle.ix_journal.specs.declared.entries.Marks.{Marks}
 use Rattle.ix_journal.specs.inside.Writing.{entry_of}
-use Rattle.ix_journal.proofs.OrderLemmas.{entry_near}
+use Rattle.ix_journal.proofs.OrderLemmas.{entry_near, sound-behind}
 use Rattle.ix_store.specs.inside.KeptBy.{kept}
 use Rattle.ix_store.proofs.Appended.{place_behind, place_gate, recorded_images, gated_images}
 use Rattle.ix_store.proofs.Appended.{fits_more}
@@ -12,7 +13,7 @@ use Rattle.ix_store.proofs.store.Store.append_record.Goals as goal
 -- the record is written
 pub write_through-requires-clause-place : goal.write_through-requires-clause-place
 write_through-requires-clause-place g c =
-    let fits = c.requires.fits in
+    let fits = c.requires.journal in
     place_behind _ _ _ fits.0 fits.1 (g.met.S.Site.lawful c.args.site.now) fits.2
 
 pub returns-in_err-write_through-clause-images : goal.returns-in_err-write_through-clause-images
@@ -27,7 +28,7 @@ returns-in_err-write_through-clause-images g c text history fits =
 pub write_through-requires-2-clause-place : goal.write_through-requires-2-clause-place
 write_through-requires-2-clause-place g c =
     let first = c.write_through in
-    let fits = c.requires.fits in
+    let fits = c.requires.journal in
     place_gate _ _ _ _ first.ensures.calls
     (g.met.S.Site.lawful c.args.site.now) (g.met.S.Site.lawful first.new.site)
     (kept c.args.self.now) fits.0 fits.1 fits.2 c.as_slice.result.now first.ensures.images
@@ -43,8 +44,7 @@ returns-in_err-write_through-2-clause-images g c text history fits disk told =
     (entry_of c.args.written.now) (record {
       valid = c.record_bytes.ensures.valid;
       follows = c.requires.follows;
-      actions = c.requires.actions;
-      boots = c.requires.boots;
+      few = c.requires.few;
     })
     (c.as_slice.ensures.value ∙ c.record_bytes.ensures.bytes) done.written done.settled _ _
     disk told c.write_through-2.ensures.calls c.write_through-2.ensures.images
@@ -59,8 +59,7 @@ returns-clause-images g c text history fits disk told =
     (entry_of c.args.written.now) (record {
       valid = c.record_bytes.ensures.valid;
       follows = c.requires.follows;
-      actions = c.requires.actions;
-      boots = c.requires.boots;
+      few = c.requires.few;
     })
     (c.as_slice.ensures.value ∙ c.record_bytes.ensures.bytes) done.written done.settled _ _
     disk told c.write_through-2.ensures.calls c.write_through-2.ensures.images
@@ -77,32 +76,34 @@ returns-clause-appended g c text history fits =
     (entry_of c.args.written.now) (record {
       valid = c.record_bytes.ensures.valid;
       follows = c.requires.follows;
-      actions = c.requires.actions;
-      boots = c.requires.boots;
+      few = c.requires.few;
     })
     (c.as_slice.ensures.value ∙ c.record_bytes.ensures.bytes) done.written done.settled
     (g.S.Site.state second.new.site) (g.S.Site.crashes second.new.site)
     c.in_ok-write_through-2.ensures.written c.in_ok-write_through-2.ensures.settled
-    _ (ap (λ (n : ℕ). c.args.self.now.gate + n) long) c.passed-count.ensures.count c.passed-count.ensures.marks
+    _ (ap (λ (n : ℕ). c.args.self.now.gate + n) long) c.passed-marks.ensures
 
 pub invariant_of-self-2 : goal.invariant_of-self-2
 invariant_of-self-2 g c =
     let entry = entry_of c.args.written.now in
-    let near = c.args.self.now.near in
+    let old = c.args.self.now in
+    let near = old.near in
     let bytes = ap length c.record_bytes.ensures.bytes in
-    let most = entry_near c.args.self.now.marks entry c.record_bytes.ensures.valid c.requires.follows
-    c.requires.boots in
-    let boots = ap (λ (m : Marks). m.boots) c.passed-count.ensures.marks in
+    let valid = c.record_bytes.ensures.valid in
+    let sound = old.sound in
+    let few = c.requires.few in
+    let most = entry_near old.marks entry sound valid c.requires.follows (omega (arith, few.1)) in
+    let sound_behind = sound-behind old.marks entry sound valid c.requires.follows in
+    let marked = c.passed-marks.ensures in
     record {
       near = omega (
         arith,
         c.len.ensures.value,
         bytes,
         most,
-        c.passed-count.ensures.count,
-        boots,
+        ap farthest_gate marked,
         length-append (record_of entry) (0 ∷ []),
       );
-      actions = omega (arith, c.passed-count.ensures.count, c.requires.actions);
-      boots = omega (arith, boots, c.requires.boots);
+      few = subst AreNotMany (sym marked) few;
+      sound = subst AreSound (sym marked) sound_behind;
     }

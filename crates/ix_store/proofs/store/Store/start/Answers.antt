@@ -20,10 +20,7 @@ pub invariant_of-store : goal.invariant_of-store
 invariant_of-store g c =
     let kept = c.in-Ok-Journal.kept in
     let sound = found_sound _ kept c.in-Ok-Journal.field-0-is c.in-Ok-Journal.ensures.sound in
-    let near = sound.0.near in
-    let actions = sound.0.actions in
-    let counts : c.len.result ≡ length kept.history.items = c.len.ensures ∙ kept.history.ok.0 in
-    record { near = omega arith; actions = omega arith; boots = sound.0.boots }
+    record { near = sound.0.near; few = sound.0.few; sound = sound.0.sound }
 
 pub returns-in-Ok-Journal-clause-opened : goal.returns-in-Ok-Journal-clause-opened
 returns-in-Ok-Journal-clause-opened g c told is =
@@ -37,8 +34,9 @@ pub returns-in-Ok-Journal-clause-fits : goal.returns-in-Ok-Journal-clause-fits
 returns-in-Ok-Journal-clause-fits g c =
     let kept = c.in-Ok-Journal.kept in
     let text = c.args.text.now in
-    fits_only _ _ _ text kept.history.items
-    (c.len.ensures ∙ kept.history.ok.0) c.in-Ok-Journal.ensures.settled (λ disk told.
+    let sound = found_sound _ kept c.in-Ok-Journal.field-0-is c.in-Ok-Journal.ensures.sound in
+    fits_only _ _ _ text kept.history.items sound.0.counted c.in-Ok-Journal.ensures.settled
+    (λ disk told.
     let before = came _ _ _ disk told c.sync_and_find.ensures.stays in
     subst (λ (f : List ℕ). IsJournalWith f text kept.history.items kept.marks kept.gate) (sym before.makes)
     (found_journal text _ kept before.disk.file c.in-Ok-Journal.field-0-is
@@ -89,15 +87,16 @@ returns-in-Ok-clause-opened g c told is =
     let new = found_new c.args.text.now _ c.in-Ok-New.head told.file c.in-Ok-New.field-0-is
     (of_told _ _ told is c.in-Ok-New.ensures.file) in
     let text = c.args.text.now in
-    subst (λ (m : Marks). Opens told.file text c.new.result.items m.boots) (sym c.fresh.ensures)
-    (subst (λ (h : PlainHistory). Opens told.file text h 0) (sym c.new.ensures.items)
+    subst (λ (m : Marks). Opens told.file text c.new.result.items m) (sym c.fresh.ensures)
+    (subst (λ (h : PlainHistory). Opens told.file text h fresh) (sym c.new.ensures.items)
     (opens_new told.file text new.0))
 
 pub returns-in-Ok-clause-fits : goal.returns-in-Ok-clause-fits
 returns-in-Ok-clause-fits g c =
     let text = c.args.text.now in
     let none = sym c.new.ensures.items in
-    fits_only _ _ _ text c.new.result.items (ap length none) c.in-Ok.ensures.settled
+    fits_only _ _ _ text c.new.result.items (ap (λ (m : Marks). m.actions) c.fresh.ensures ∙ ap length none)
+    c.in-Ok.ensures.settled
     (λ disk told.
     let before = came _ _ _ disk told c.in-Ok.ensures.begun in
     subst (λ (m : Marks). IsJournalWith disk.file text c.new.result.items m (7 + length text))
