@@ -14,7 +14,7 @@ from .log import CHAIN, HELD, chained
 from .version import version
 
 OPEN = 0xA5
-MAGIC = (b"IXJ1", b"IXJ2")
+MAGIC = (b"IXJ1", b"IXJ2", b"IXJ3")
 HEAD = 7  # bytes in front of the expression's text
 
 
@@ -29,6 +29,14 @@ class Entry:
     number: int
     ticket: str
     action: str
+
+
+@dataclass(frozen=True)
+class History:
+    """What a journal tells: where it was renewed it leaves out its first actions, which the old journal has."""
+
+    left_out: int
+    entries: list[Entry]
 
 
 @dataclass
@@ -55,16 +63,28 @@ def texts_of(data: bytes) -> Iterator[str]:
         yield text.decode("ascii", "backslashreplace")
 
 
-def entries_of(data: bytes) -> list[Entry]:
-    """The actions of a journal's history."""
-    entries: list[Entry] = []
+def history_of(data: bytes) -> History:
+    """The actions of a journal's history. The carried ones of a renewed journal are no part of it: they stand for others."""
+    left_out, entries = 0, list[Entry]()
     for text in texts_of(data):
         first, _, rest = text.partition(" ")
-        if first == "boot":
-            continue
-        ticket, action = (first, rest) if rest else ("", first)
-        entries.append(Entry(len(entries) + 1, ticket, action))
-    return entries
+        if first == "renewed" and rest:
+            left_out = int(rest.partition(" ")[0])
+            entries.clear()
+        elif first != "boot" or not rest:
+            ticket, action = (first, rest) if rest else ("", first)
+            entries.append(Entry(left_out + len(entries) + 1, ticket, action))
+    return History(left_out, entries)
+
+
+def together(histories: list[History]) -> History:
+    """One history of several journals, each renewed from the one before: what is left out is what none of them has."""
+    entries = {entry.number: entry for history in histories for entry in history.entries}
+    ordered = [entries[number] for number in sorted(entries)]
+    last = max(history.left_out + len(history.entries) for history in histories)
+    if [entry.number for entry in ordered] != list(range(last - len(ordered) + 1, last + 1)):
+        raise NoJournal("a journal between two of these is missing")
+    return History(last - len(ordered), ordered)
 
 
 class Reader:
@@ -116,6 +136,12 @@ class Reader:
             self.evidence.confirmed[request[1], int(reply[1])] = record
 
 
+def read(path: str) -> History:
+    """The history of a journal in a file."""
+    with open(path, "rb") as file:
+        return history_of(file.read())
+
+
 def who(record: dict[str, Any]) -> str:
     """Who did what a record tells, and when."""
     name = f"cert {record['cert']}" if "cert" in record else f"uid {record.get('uid')} pid {record.get('pid')}"
@@ -141,19 +167,19 @@ def main() -> int:
     parser = argparse.ArgumentParser(prog="audit", description="Who asked for each action, and who confirmed it.")
     parser.add_argument("--version", action="version", version=f"ixm-audit {version()}")
     parser.add_argument("--missing", action="store_true", help="tell only what is missing")
+    parser.add_argument("--old", metavar="JOURNAL", action="append", default=[], help="one that was renewed; again for each")
     parser.add_argument("journal", metavar="JOURNAL")
     parser.add_argument("logs", metavar="LOG", nargs="+", help="the log's files, the oldest first")
     words = parser.parse_args()
     reader = Reader()
     try:
-        with open(words.journal, "rb") as file:
-            entries = entries_of(file.read())
+        history = together([read(path) for path in (*words.old, words.journal)])
         for path in words.logs:
             reader.read(path)
     except (OSError, NoJournal) as error:
         print(f"audit: {error}", file=sys.stderr)
         return 2
-    evidence, faults, whole = reader.evidence, 0, 0
+    evidence, entries, faults, whole = reader.evidence, history.entries, 0, 0
     for entry in entries:
         line, missing = told(entry, evidence)
         whole += not missing
@@ -162,11 +188,13 @@ def main() -> int:
             print(each)
     there = {(entry.ticket, entry.number) for entry in entries}
     foreign = [f"confirmed {number} by ticket {ticket}: not in the journal"
-               for ticket, number in evidence.confirmed if (ticket, number) not in there]
+               for ticket, number in evidence.confirmed if number > history.left_out and (ticket, number) not in there]
     for each in (*foreign, *evidence.faults):
         print(each)
     faults += len(foreign) + len(evidence.faults)
     chain = "whose chain is whole" if not evidence.faults else f"whose chain has {len(evidence.faults)} faults"
     how_many = "all" if whole == len(entries) else f"{whole} of them"
+    if history.left_out:
+        print(f"left out are the first {history.left_out} actions: --old names the journal that has them")
     print(f"{len(entries)} actions: {how_many} asked for and confirmed by the log, {chain}")
     return 1 if faults else 0

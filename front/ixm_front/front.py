@@ -332,6 +332,8 @@ class Front:
         elif request.verb == b"log":
             if reply.startswith(protocol.ENTRY):
                 self._recent.named(int(word(reply, 1)), word(reply, 2))
+            elif reply == protocol.ENTRY_LEFT_OUT:
+                self._recent.named(int(word(request.line, 1)), b"left out")
         elif request.about is not None:
             self._settle(request.about, reply)
 
