@@ -10,7 +10,7 @@ import ssl
 from typing import Protocol
 
 from ixm import protocol
-from ixm.errors import ForPeople, NotKept, TooLate
+from ixm.errors import ForPeople, LeftOut, NotKept, TooLate
 from ixm.store import Record, read_record
 
 
@@ -133,6 +133,8 @@ class Activity:
             await self.confirm(talk, ticket, is_own=False)
         elif reply == protocol.OUTCOME_NEVER:
             await self.keep(Record("never", ticket, self.action))
+        elif reply == protocol.OUTCOME_LEFT_OUT:
+            raise LeftOut(self.action, reply, ticket)
         else:
             # 30: this manager's journal never granted the ticket, as after a backup was put back.
             raise ForPeople(self.action, reply, ticket)
@@ -142,6 +144,8 @@ class Activity:
         from a backup may have granted the same ticket again, for another action."""
         if not is_own:
             entry = await talk.ask(f"log {number}")
+            if entry == protocol.ENTRY_LEFT_OUT:
+                raise LeftOut(self.action, f"the log has {entry}", ticket)
             if entry != f"entry {number} {self.action}":
                 raise ForPeople(self.action, f"the log has {entry}", ticket)
         done = Record("done", ticket, self.action, number)

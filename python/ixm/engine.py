@@ -17,17 +17,17 @@ import time
 from collections.abc import AsyncIterator, Callable, Iterator
 
 from ixm.core import LEASE, LONGEST_PAUSE, TURN, WAIT, Core, Link, T, Tell, drive
-from ixm.errors import ForPeople, NotDone, NotKept, Refused, TooLate, Unspent
+from ixm.errors import ForPeople, LeftOut, NotDone, NotKept, Refused, TooLate, Unspent
 from ixm.grants import (
-    CANCELLED, EXPIRED, NEVER, Done, Granted, Pending, ask, cancel, confirm, settle,
+    CANCELLED, EXPIRED, LEFT_OUT, NEVER, Done, Granted, Pending, ask, cancel, confirm, settle,
 )
 from ixm.link import Address, AsyncConnection, Connection
 from ixm.store import FileStore, MemoryStore, SqliteStore, Store
 
 __all__ = [
-    "CANCELLED", "EXPIRED", "NEVER", "Address", "AsyncConnection", "AsyncEngine", "Connection", "Done", "Engine",
-    "FileStore", "ForPeople", "Granted", "MemoryStore", "NotDone", "NotKept", "Pending", "Refused", "SqliteStore",
-    "Store", "TooLate", "Unspent", "ask", "cancel", "confirm", "settle",
+    "CANCELLED", "EXPIRED", "LEFT_OUT", "NEVER", "Address", "AsyncConnection", "AsyncEngine", "Connection", "Done",
+    "Engine", "FileStore", "ForPeople", "Granted", "LeftOut", "MemoryStore", "NotDone", "NotKept", "Pending", "Refused",
+    "SqliteStore", "Store", "TooLate", "Unspent", "ask", "cancel", "confirm", "settle",
 ]
 
 
@@ -68,7 +68,7 @@ class Engine:
         as soon as it is granted, so it has to be an instant: a beginning, an end, a decision. After
         `within` seconds, if that is given, no further try is made.
 
-        Raises a `NotDone`: `ForPeople`, `TooLate`, or `NotKept`. If its `ticket` isn't None the
+        Raises a `NotDone`: `ForPeople` (of which `LeftOut` is one), `TooLate`, or `NotKept`. If its `ticket` isn't None the
         action may be in the history, and the next call with the same store finds out.
         """
         return drive(self._core.activity(action, store, within))

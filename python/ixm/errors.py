@@ -23,6 +23,11 @@ class ForPeople(NotDone):
     """The answer was one that no engine can mend, or that its programmer has to."""
 
 
+class LeftOut(ForPeople):
+    """The journal was renewed, and what became of the ticket is left out of it: the action happened or
+    it didn't, and no later run tells. The old journal's log does."""
+
+
 class TooLate(NotDone):
     """The time that the caller set has passed."""
 

@@ -11,6 +11,7 @@ from ixm.link import Requests
 EXPIRED: Literal["expired"] = "expired"  # the action isn't in the history by this ticket, and never will be
 CANCELLED: Literal["cancelled"] = "cancelled"  # the same
 NEVER: Literal["never"] = "never"  # the same
+LEFT_OUT: Literal["left out"] = "left out"  # the action happened or it didn't, and no later run tells
 
 
 class Grant:
@@ -68,7 +69,7 @@ class Done:
 
 Confirmed = Done | Literal["expired"] | Pending
 Cancelled = Literal["cancelled", "expired"] | Pending
-Settled = Done | Literal["never"] | Granted | Pending
+Settled = Done | Literal["never", "left out"] | Granted | Pending
 
 
 def ask(link: Requests, action: str, lease: int = LEASE) -> Granted:
@@ -95,8 +96,8 @@ def cancel(link: Requests, granted: Granted) -> Cancelled:
 
 
 def settle(link: Requests, pending: Pending) -> Settled:
-    """Asks what became of the action: a `Done`, `NEVER`, a `Granted` that is still open, or a
-    `Pending` again.
+    """Asks what became of the action: a `Done`, `NEVER`, `LEFT_OUT`, a `Granted` that is still open, or
+    a `Pending` again.
 
     Whether the action of that number is this one is for the caller to see in the log, if the ticket
     was kept over a restart of anything.
@@ -144,5 +145,7 @@ def read_settle(pending: Pending, reply: str | None) -> Settled:
         return Done(int(number))
     if reply == protocol.OUTCOME_NEVER:
         return NEVER
+    if reply == protocol.OUTCOME_LEFT_OUT:
+        return LEFT_OUT
     is_open = reply == protocol.OUTCOME_OPEN
     return Granted(ticket, action) if is_open else Pending(ticket, action)

@@ -49,6 +49,7 @@ class Machine:
         self.clock = clock or (lambda: time.time_ns() // 1_000_000)
         self.history: list[tuple[str, str]] = []  # tickets and actions
         self.boots, self.last = 1, 0
+        self.left_out, self.left_boots = 0, 0  # actions and boots that a renewed journal doesn't tell
         self.reserved: _Reservation | None = None
         self.watched: dict[tuple[str, str], bool] = {}
 
@@ -59,6 +60,11 @@ class Machine:
     def restart(self) -> None:
         """What a start on the same journal leaves: the history alone."""
         self.boots, self.last, self.reserved, self.watched = self.boots + 1, 0, None, {}
+
+    def renew(self) -> None:
+        """What a start on the renewed journal leaves: nobody is told any more of the history so far."""
+        self.left_out, self.left_boots = len(self.history), self.boots
+        self.restart()
 
     def answer(self, line: str) -> list[str]:
         """The lines of the reply."""
@@ -108,11 +114,13 @@ class Machine:
 
     def outcome(self, ticket: str) -> list[str]:
         boot, number = map(int, ticket.split("-"))
-        tickets = [it for it, _ in self.history]
+        tickets = [it for it, _ in self.history[self.left_out:]]
         if ticket in tickets:
-            return [f"outcome confirmed {tickets.index(ticket) + 1}"]
+            return [f"outcome confirmed {self.left_out + tickets.index(ticket) + 1}"]
         if boot == 0 or number == 0 or (boot, number) > (self.boots, self.last if boot == self.boots else number):
             return ["refused 30 no such ticket"]
+        if boot <= self.left_boots:
+            return ["refused 32 left out"]
         is_open = self.reserved is not None and self.reserved.ticket == ticket and self.take(ticket) is None
         return ["outcome open" if is_open else "outcome never"]
 
@@ -138,6 +146,8 @@ class Machine:
     def log(self, number: str) -> list[str]:
         if not 1 <= int(number) <= len(self.history):
             return ["refused 42 no such entry"]
+        if int(number) <= self.left_out:
+            return ["refused 33 left out"]
         return [f"entry {number} {self.actions[int(number) - 1]}"]
 
     def stop(self) -> list[str]:

@@ -41,6 +41,8 @@ OUTCOME_CONFIRMED = Form("outcome confirmed N")
 CHANGES = Form("changes N")
 OUTCOME_OPEN = "outcome open"
 OUTCOME_NEVER = "outcome never"
+OUTCOME_LEFT_OUT = "refused 32 left out"
+ENTRY_LEFT_OUT = "refused 33 left out"
 EXPIRED = "refused 31 expired"
 DISK = "refused 91 disk"
 

@@ -15,8 +15,8 @@ from typing import Any, Protocol
 
 from ixm import trials
 from ixm.engine import (
-    Address, AsyncConnection, AsyncEngine, Connection, Engine, FileStore, ForPeople, MemoryStore,
-    NotKept, SqliteStore, Store, TooLate,
+    LEFT_OUT, NEVER, Address, AsyncConnection, AsyncEngine, Connection, Done, Engine, FileStore, ForPeople, LeftOut,
+    MemoryStore, NotKept, Pending, SqliteStore, Store, TooLate, settle,
 )
 from ixm.played import (
     CLOSE, KILLED, KILLED_BEHIND, LOST as LOST_LINE, SILENCE, UNHEARD, Fate, Faulty, Machine, Played,
@@ -160,12 +160,28 @@ class TestEngine(Place):
             ("of no entry", [(OUTCOME, "outcome confirmed 8"), ("log 8", "refused 42 no such entry")]),
             ("that the journal never granted", [(OUTCOME, "refused 30 no such ticket")]),
             ("of a stranger", [(OUTCOME, "confirmed 8")]),
+            ("that is left out", [(OUTCOME, "refused 32 left out")]),
+            ("whose entry is left out", [(OUTCOME, "outcome confirmed 8"), ("log 8", "refused 33 left out")]),
         ]
         for name, row in rows:
             store = MemoryStore(OPEN)
             with self.subTest(name), self.assertRaises(ForPeople) as raised:
                 self.play([[TURN, *row]], lambda engine: engine.activity(A, store=store, within=100))
             self.assertEqual((raised.exception.ticket, store.text), ("1-3", OPEN))
+            self.assertEqual(isinstance(raised.exception, LeftOut), "left out" in name)
+
+    def test_settling_says_what_became_of_a_grant(self) -> None:
+        class Told:
+            def __init__(self, reply: str) -> None:
+                self.reply = reply
+
+            def request(self, line: str) -> list[str]:
+                return [self.reply if line == OUTCOME else "refused 11 word"]
+
+        rows = [("outcome confirmed 8", Done(8)), ("outcome never", NEVER), ("refused 32 left out", LEFT_OUT)]
+        for reply, wanted in rows:
+            with self.subTest(reply):
+                self.assertEqual(settle(Told(reply), Pending("1-3", A)), wanted)
 
     def test_a_store_decides_what_is_asked(self) -> None:
         settled = [TURN, (OUTCOME, "outcome confirmed 8"), log(8)]

@@ -113,6 +113,8 @@ final class Activity {
             confirm(talk, ticket, false);
         } else if (reply.equals(Reply.OUTCOME_NEVER)) {
             keep(new Kept.Never(ticket, action));
+        } else if (reply.equals(Reply.OUTCOME_LEFT_OUT)) {
+            throw notDone(NotDone.Kind.LEFT_OUT, reply, null);
         } else {
             throw forPeople(reply);
         }
@@ -124,6 +126,9 @@ final class Activity {
             throws IOException, NotDone {
         if (!isOwn) {
             String entry = talk.ask("log " + number);
+            if (entry.equals(Reply.ENTRY_LEFT_OUT)) {
+                throw notDone(NotDone.Kind.LEFT_OUT, "the log has " + entry, null);
+            }
             if (!entry.equals("entry " + number + " " + action)) {
                 throw forPeople("the log has " + entry);
             }

@@ -10,6 +10,9 @@ public final class NotDone extends Exception {
     public enum Kind {
         /** The answer was one that no engine can mend, or that its programmer has to. */
         FOR_PEOPLE,
+        /** The journal was renewed, and what became of the ticket is left out of it: the action
+         * happened or it didn't, and no later run tells. The old journal's log does. */
+        LEFT_OUT,
         /** The time that the caller set has passed. */
         TOO_LATE,
         /** The store couldn't be read or written; its error is the cause. */

@@ -16,6 +16,8 @@ final class Reply {
     static final Reply OUTCOME_CONFIRMED = new Reply("outcome confirmed N");
     static final String OUTCOME_OPEN = "outcome open";
     static final String OUTCOME_NEVER = "outcome never";
+    static final String OUTCOME_LEFT_OUT = "refused 32 left out";
+    static final String ENTRY_LEFT_OUT = "refused 33 left out";
     static final String EXPIRED = "refused 31 expired";
     static final String DISK = "refused 91 disk";
     static final String NOT_PERMITTED = "refused 21 not permitted";

@@ -53,6 +53,7 @@ NO_GRANT = ["granted", "granted 1", "granted 01-1", "granted 1-01", "granted 1-1
 NO_OUTCOME = ["outcome", "outcome confirmed", "outcome confirmed 01", "outcome confirmed 1 ",
               f"outcome confirmed {MOST + 1}", "confirmed 1", "outcome never ", "outcome neve", "never",
               "outcome open ", "refused 30 no such ticket", "refused 11 word", "outcome confirmed 1\r",
+              "refused 32 left out", "refused 32", "refused 33 left out",
               "", "outcome confirmed \xe9"]
 
 
@@ -126,6 +127,9 @@ def crashes() -> list[Case]:
              must_be_done=True),
         Case("both are killed before the confirm", 7, kills=lost, between=Machine.restart,
              must_be_done=True),
+        Case("the client is killed behind its confirm, and the journal renewed", 4, kills=counts, between=Machine.renew),
+        Case("the client is killed before its confirm, and the journal renewed", 4, kills=lost, between=Machine.renew),
+        Case("the entry of a done action is left out", 7, {"log": [says("refused 33 left out")]}, kills=counts),
         Case("it is run again behind done", 7, runs=2, must_be_done=True),
         Case("its ticket is another action's since a journal was put back", 7, kills=counts,
              between=put_back),

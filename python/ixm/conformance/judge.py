@@ -33,6 +33,7 @@ class Ticket:
     was_confirmed: bool = False  # a confirm was sent, so it may be in the history
     number: str = ""
     is_to_check: bool = False  # done by an outcome, and the log wasn't heard yet
+    is_left_out: bool = False  # the last outcome was that
 
 
 @dataclass
@@ -114,6 +115,7 @@ class Judge:
         self.met.add(4)
         self.outcomes += 1
         ticket.is_to_check = True
+        ticket.is_left_out = reply == protocol.OUTCOME_LEFT_OUT
         number = protocol.OUTCOME_CONFIRMED.read(reply)
         if number is not None:
             ticket.phase, ticket.number = Phase.DONE, number
@@ -135,7 +137,7 @@ class Judge:
         broken."""
         self.met |= {5, rule}
         wanted = self.wanted()
-        is_right = put in wanted if wanted else not put.startswith(("done ", "unsure "))
+        is_right = put in wanted if wanted else not put.startswith(("done ", "unsure ", "left out "))
         if not is_right:
             told = " or ".join(f"`{it}`" for it in sorted(wanted)) or "a line that says neither done nor unsure"
             self.broken.append((rule, f"it put {put!r} in place of {told}"))
@@ -148,7 +150,8 @@ class Judge:
         done = [name for name, it in confirmed.items() if it.phase is Phase.DONE]
         open_ones = [name for name, it in confirmed.items() if it.phase is not Phase.NEVER]
         unsure = [name for name in done or open_ones if confirmed[name].is_to_check or not done]
-        return {f"done {confirmed[it].number}" for it in done} | {f"unsure {it}" for it in unsure}
+        left_out = {f"left out {it}" for it in unsure if confirmed[it].is_left_out}
+        return {f"done {confirmed[it].number}" for it in done} | {f"unsure {it}" for it in unsure} | left_out
 
 
 def whole_line(sent: bytes) -> str | None:

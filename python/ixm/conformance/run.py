@@ -188,7 +188,7 @@ def judge_log(judge: Judge, client: Client, history: list[str], put: str) -> Non
         judge.broken.append((6, f"{judge.action} is there {len(there)} times"))
     if put.startswith("done ") and put not in there:
         judge.broken.append((5, f"it put {put!r}, and the log says {there}"))
-    if not put.startswith(("done ", "unsure ")) and there:
+    if not put.startswith(("done ", "unsure ", "left out ")) and there:
         judge.broken.append((5, f"it put {put!r}, and {judge.action} is there"))
 
 
