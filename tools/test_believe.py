@@ -129,7 +129,7 @@ NAMES = {
     "an operator is another, renamed": Way([
         (MANAGE, "Prelude.{◌≡◌,", "Prelude.{◌≥◌ as ◌≤◌, ◌≡◌,")], RENAMES),
     "a name of ours is given to a library's": Way([
-        (MANAGE, "Prelude.{◌≡◌, false, map, string_bytes}", "Prelude.{◌≡◌, false, string_bytes}"),
+        (MANAGE, "false, map, string_bytes}", "false, string_bytes}"),
         (MANAGE, USE_ROSE, "Rattle.ix_outside.specs.Counts.{Rose, Rose as map}")], RENAMES),
     "a definition comes from a crate of another name": Way(AID + [
         ("crates/aid/proofs/Weak.antt", "", "-- Weak.\nabbrev pub Keeps : Type 0\nKeeps = Type 0\n"),
