@@ -12,14 +12,6 @@ use Rattle.ix_journal.specs.History.{PlainHistory, Spent, actions_of}
 use Rattle.ix_manager.specs.Machine.{IsAbsent}
 use Rattle.ix_manager.specs.inside.Ready.{has_ticket}
 
--- one more of both
-pub zip-push : {K X : Type 0} (ks : List K) (xs : List X) (k : K) (x : X) → length ks ≡ length xs
-    → zip (ks ++ k ∷ []) (xs ++ x ∷ []) ≡ zip ks xs ++ (k, x) ∷ []
-zip-push [] [] k x same = refl
-zip-push [] (y ∷ xs) k x same = absurd (omega arith)
-zip-push (j ∷ ks) [] k x same = absurd (omega arith)
-zip-push (j ∷ ks) (y ∷ xs) k x same = ap (λ ps. (j, y) ∷ ps) (zip-push ks xs k x (omega arith))
-
 -- the pair with a ticket, with what stands before it and behind it
 pub record KeptAt (ticket : Ticket) (history : PlainHistory) (index : ℕ) : Type 0 where
   pub before : PlainHistory

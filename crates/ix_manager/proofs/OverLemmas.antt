@@ -1,6 +1,6 @@
 -- What is answered over a site.
 use Rattle.ix_journal.specs.Entries.{behind}
-use Rattle.std.proofs.Common.{length, ◌≡◌, ℕ, Bool, false, List, [], ◌∷◌, ◌++◌, Some, Result, Ok, Err, refl, sym, ap, subst}
+use Rattle.std.proofs.Common.{◌≡◌, ℕ, Bool, false, List, [], ◌∷◌, ◌++◌, Some, Result, Ok, Err, refl, sym, ap, subst}
 use Rattle.std.specs.Option.{ForSome}
 use Rattle.ix_values.specs.PlainAction.{PlainAction}
 use Rattle.ix_values.specs.declared.tickets.Ticket.{Ticket}

@@ -34,7 +34,8 @@ use Rattle.ix_manager.specs.inside.Core.{Core, watch_of, IsRefreshed, TellsPoll}
 use Rattle.ix_manager.specs.inside.Ready.{IsReady, Refuses, not_permitted, full, large, memory, IsOpenUpTo}
 use Rattle.ix_manager.specs.inside.Ready.{has_ticket}
 use Rattle.ix_manager.specs.inside.Does.{Does, Refreshes, IsNoted, AddsTold}
-use Rattle.ix_manager.proofs.Keeping.{kept_at, not_kept, zip-push}
+use Rattle.ix_store.proofs.Pairing.{zip-push}
+use Rattle.ix_manager.proofs.Keeping.{kept_at, not_kept}
 use Rattle.ix_manager.proofs.WatchLists.{found, unwatched, unwatched-told, without_none, map_between, map_both, length-watches}
 use Rattle.ix_manager.proofs.Polling.{polls_refreshed}
 use Rattle.ix_manager.proofs.Refreshing.{tells_of}

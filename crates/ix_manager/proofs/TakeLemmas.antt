@@ -32,7 +32,7 @@ use Rattle.ix_manager.specs.inside.Saving.{FitsJournal, Saves, SavesJournal}
 use Rattle.ix_manager.specs.inside.TakenItems.{TakesOne, TakesNone, TakesBytes}
 use Rattle.ix_manager.specs.inside.Core.{Core}
 use Rattle.ix_manager.specs.inside.Clean.{IsClean, AreClean}
-use Rattle.ix_manager.specs.inside.WireState.{WireState, wired, SendsAll, AnswersItem, AnswersItems, wire_span, wire_stretch}
+use Rattle.ix_manager.specs.inside.WireState.{WireState, SendsAll, AnswersItem, AnswersItems, wire_span, wire_stretch}
 use Rattle.ix_manager.specs.inside.Over.{OverJournal, OverRun}
 use Rattle.ix_manager.proofs.SavingLemmas.{saves_none, saves_join}
 use Rattle.ix_manager.proofs.AcknowledgeSteps.{saves_acknowledges, acknowledges_join}

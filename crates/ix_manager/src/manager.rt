@@ -1,7 +1,7 @@
 //! The manager of a site's connections.
 
 ghost use Rattle.std.specs.Prelude.{◌≡◌, ◌⊎◌, ℕ, ◌+◌, ◌-◌, ◌^◌, ◌<◌, ◌≤◌, Bool, false, true, []};
-ghost use Rattle.std.specs.Prelude.{length, map};
+ghost use Rattle.std.specs.Prelude.{length};
 ghost use Rattle.std.specs.Prelude.{get_or, set, replicate, Err, IfOk, OnOk, OnErr};
 ghost use Rattle.std.specs.List.{zip};
 ghost use Rattle.std.specs.Option.{ForSome};
@@ -13,7 +13,6 @@ ghost use Rattle.ix_store.specs.inside.Keeping.{Fits, IsBootedOrNot};
 ghost use Rattle.ix_store.specs.inside.KeptBy.{kept};
 ghost use Rattle.ix_manager.specs.inside.Saving.{FitsJournal};
 ghost use Rattle.ix_journal.specs.Entries.{renewed_of};
-ghost use Rattle.ix_journal.specs.History.{Spent, actions_of};
 ghost use Rattle.ix_journal.specs.inside.Counting.{HasBootRoom};
 ghost use Rattle.ix_can.specs.TreeOf.{tree_size};
 ghost use Rattle.ix_step.specs.inside.Limits.{most_size};
@@ -137,9 +136,7 @@ impl Manager {
             Ok(opened) => opened,
             Err(fault) => return Err(open_fault(fault)),
         };
-        let Ok((tickets, actions)) = take_apart(alloc, &history) else {
-            return Err(StartFault::Memory);
-        };
+        let (tickets, actions) = history.into_parts();
         let engine = match engine.resume(alloc, actions) {
             Ok(engine) => engine,
             Err(fault) => return Err(record_fault(fault)),
@@ -276,24 +273,6 @@ impl Manager {
     {
         self.journaled.machine.number()
     }
-}
-
-/// The tickets and the actions of a history.
-fn take_apart(
-    alloc: Global,
-    history: &[(Option<Ticket>, Action)],
-) -> Result<(Vec<Option<Ticket>>, Vec<Action>), AllocError>
-    ensures tickets { IfOk result
-        (λ parts. parts.0.items ≡ map (λ (spent : Spent). spent.0) history.now) }
-    ensures actions { IfOk result (λ parts. parts.1.items ≡ actions_of history.now) }
-{
-    let mut tickets = Vec::with_capacity(alloc, history.len())?;
-    let mut actions = Vec::with_capacity(alloc, history.len())?;
-    for spent in history {
-        tickets.push(spent.0)?;
-        actions.push(spent.1)?;
-    }
-    Ok((tickets, actions))
 }
 
 /// Records the boot, and starts the machine of an engine with the tickets of its actions in it.

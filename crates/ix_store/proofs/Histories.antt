@@ -1,6 +1,6 @@
 -- Journals by what their records tell.
-use Rattle.std.proofs.Common.{◌≡◌, ◌≢◌, ℕ, ◌+◌, ◌≤◌, List, [], ◌∷◌, ◌++◌, length, take, sym, ◌∙◌, ap, subst, arith, inl, inr}
-use Rattle.std.proofs.lemmas.List.{append-nil, length-append}
+use Rattle.std.proofs.Common.{◌≡◌, ◌≢◌, ℕ, ◌+◌, List, [], ◌∷◌, ◌++◌, length, take, sym, ◌∙◌, ap, subst, arith, inl, inr}
+use Rattle.std.proofs.lemmas.List.{append-nil}
 use Rattle.ix_journal.specs.Entries.{AreFew, IsEntry, MayFollow, behind, marks_of, pair_of, pairs_of}
 use Rattle.ix_journal.specs.Entries.{renewed_of}
 use Rattle.ix_journal.specs.Format.{IsClosed, record_of}

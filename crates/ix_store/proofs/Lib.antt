@@ -2,6 +2,7 @@ mod Told
 mod Calls
 mod ReadCalls
 mod Histories
+pub mod Pairing
 mod Appending
 mod Appended
 mod Reading

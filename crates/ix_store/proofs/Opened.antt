@@ -1,7 +1,7 @@
 -- What a file is, from its first bytes, and what a start leaves of it.
 use Rattle.std.proofs.Common.{◌≡◌, ◌⊎◌, ℕ, ◌+◌, ◌<◌, List, [], ◌∷◌, ◌++◌, length, Some}
 use Rattle.std.proofs.Common.{Option, Vec, Result, Ok, Err, MatchResult}
-use Rattle.std.proofs.Common.{refl, sym, ◌∙◌, ap, subst, arith, inl, inr}
+use Rattle.std.proofs.Common.{refl, sym, ap, subst, arith, inl, inr}
 use Rattle.std.specs.declared.alloc.Global.{Global}
 use Rattle.ix_journal.specs.Entries.{fresh, renewed_of}
 use Rattle.ix_journal.specs.inside.Counting.{HasBootRoom}
@@ -69,7 +69,7 @@ begun_own text image (inr w) = inr (w.journal.first, w.journal.ready)
 -- what was found, of the file and whatever the site tells
 pub found_journal : (text : List ℕ) (found : Found) (kept : Kept) (file : List ℕ)
     → found ≡ fd.Journal kept → IsFound text found file
-    → IsJournalWith file text kept.history.items kept.marks kept.gate
+    → IsJournalWith file text kept.history kept.marks kept.gate
 found_journal text found kept file is found_so =
     let P : Found → Type 0 = λ f. IsFound text f file in subst P is found_so
 
@@ -79,7 +79,7 @@ found_new text found head file is found_so =
     let P : Found → Type 0 = λ f. IsFound text f file in subst P is found_so
 
 pub found_sound : (found : Found) (kept : Kept) → found ≡ fd.Journal kept → IsSound found
-    → IsSoundly kept.history.items kept.marks kept.gate × HasBootRoom kept.marks
+    → IsSoundly kept.history kept.marks kept.gate × HasBootRoom kept.marks
 found_sound found kept is sound = subst IsSound is sound
 
 -- what was found of a file that stays was found of it before

@@ -30,7 +30,7 @@ use Rattle.ix_journal.specs.inside.Reading.{IsText, Says}
 use Rattle.ix_journal.proofs.EntryTexts.{entries-same}
 use Rattle.ix_journal.proofs.HoldsLemmas.{holds_none, holds_more, gate_behind}
 use Rattle.ix_journal.proofs.KindFronts.{Covers, kinds_of_front}
-use Rattle.ix_journal.proofs.OrderLemmas.{boots_since, entry_near, marks_of-more, record_more}
+use Rattle.ix_journal.proofs.OrderLemmas.{entry_near, marks_of-more, record_more}
 use Rattle.ix_journal.proofs.OrderLemmas.{records_of, renewals_most, room_of, sound-behind, sound-fresh}
 use Rattle.ix_journal.proofs.Following.{not_few}
 use Rattle.ix_journal.proofs.SlideLaws.{stays_away}

@@ -11,6 +11,7 @@
 mod begin;
 mod fault;
 mod find;
+mod history;
 mod judge;
 mod making;
 mod read;
@@ -19,5 +20,6 @@ mod store;
 mod write;
 
 pub use fault::OpenFault;
+pub use history::History;
 pub use making::{RenewFault, renew};
 pub use store::Store;

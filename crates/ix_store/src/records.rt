@@ -11,16 +11,15 @@ ghost use Rattle.ix_store.specs.inside.Reading.{HasFront, ReadsOn, OnlyReads};
 ghost use Rattle.ix_store.specs.inside.Starting.{CountsOpening};
 ghost use Rattle.ix_store.specs.inside.Steps.{ClosesWith, IsSoundly, StopsReading};
 
-use crate::OpenFault;
+use crate::{History, OpenFault};
 use ix_journal::{Entry, Marks, SLIDE_ROOM, Slid, Slide};
 use ix_outside::{DiskFailed, Site};
-use ix_values::{Action, Ticket};
 use std::alloc::{AllocError, Global};
 
 /// What the open records of a ready file tell, and the place of its first closed gate.
 #[derive(Drop)]
 pub(crate) struct Kept {
-    pub(crate) history: Vec<(Option<Ticket>, Action)>,
+    pub(crate) history: History,
     pub(crate) gate: u64,
     pub(crate) marks: Marks,
 }
@@ -39,18 +38,18 @@ pub(crate) fn read_records<S: Site>(
     requires near { first ≤ farthest_gate fresh }
     requires head { OfFile (HasFront head.now) (S.state site.old).disk }
     ensures file { MatchResult result
-        (λ kept. OfFile (λ file. ClosesWith file first kept.history.items kept.marks kept.gate)
+        (λ kept. OfFile (λ file. ClosesWith file first kept.history kept.marks kept.gate)
         (S.state site.old).disk)
         (λ fault. OfFile (StopsReading first fault) (S.state site.old).disk) }
     ensures sound { IfOk result
-        (λ kept. IsSoundly kept.history.items kept.marks kept.gate) }
+        (λ kept. IsSoundly kept.history kept.marks kept.gate) }
     ensures reads { OnlyReads (stretch_of S.state S.crashes site.old site.new) }
     ensures failed { CountsOpening result
         (S.state site.old).counts.disk (S.state site.new).counts.disk }
 {
     let mut slide = Slide::new(first as u64);
     let mut at = (first + slide.take(&head[first..])) as u64;
-    let mut history = Vec::new(alloc);
+    let mut history = History::new(alloc);
     'records: loop {
         match slide.next() {
             Slid::More => match feed(site, &mut slide, at) {
@@ -81,16 +80,14 @@ pub(crate) fn read_records<S: Site>(
 }
 
 /// Keeps an action that a record tells behind those of the history, with its ticket.
-fn keep(history: &mut Vec<(Option<Ticket>, Action)>, entry: Entry) -> Result<(), AllocError>
-    ensures { OnOk result (history.new.items ≡ history.old.items ++ pair_of entry) }
+fn keep(history: &mut History, entry: Entry) -> Result<(), AllocError>
+    ensures { OnOk result (history.new ≡ history.old ++ pair_of entry) }
 {
-    let spent = match entry {
-        Entry::Renewed { .. } | Entry::Boot(_) => return Ok(()),
-        Entry::Spent { ticket, action } => (Some(ticket), action),
-        Entry::Plain(action) => (None, action),
-    };
-    history.push(spent)?;
-    Ok(())
+    match entry {
+        Entry::Renewed { .. } | Entry::Boot(_) => Ok(()),
+        Entry::Spent { ticket, action } => history.push(Some(ticket), action),
+        Entry::Plain(action) => history.push(None, action),
+    }
 }
 
 /// Reads the next bytes of the file into the slide, or tells it that there are no more, and gives

@@ -7,10 +7,10 @@ ghost use Rattle.ix_journal.specs.declared.TheConstants.{MOST_RECORDS};
 ghost use Rattle.ix_journal.specs.inside.Counting.{AreNotMany, AreSound, HasBootRoom};
 ghost use Rattle.ix_journal.specs.inside.Writing.{CanBeWritten, entry_of};
 
-use crate::OpenFault;
 use crate::begin::begin;
 use crate::find::{Found, sync_and_find};
 use crate::write::write_through;
+use crate::{History, OpenFault};
 use arrayvec::ArrayVec;
 use ix_journal::{FRONT_LENGTH, Marks, OPEN, Record, Renewed, Version, record_bytes};
 use ix_outside::{DiskFailed, Site};
@@ -68,23 +68,23 @@ impl Store {
         alloc: Global,
         site: &mut S,
         text: &[u8],
-    ) -> Result<(Store, Vec<(Option<Ticket>, Action)>), OpenFault>
+    ) -> Result<(Store, History), OpenFault>
         requires attached { (S.state site.old).attached ≡ true }
         requires short { length text.now < 65536 }
 
         // What the file is, as it reads at the call.
         ensures opened { IfOk result (λ opened. ForSome (S.state site.old).disk (λ disk.
-            Opens disk.file text.now opened.1.items (kept opened.0).marks)) }
+            Opens disk.file text.now opened.1 (kept opened.0).marks)) }
         ensures refused { IfErr result (λ fault. ForSome (S.state site.old).disk (λ disk.
             Refuses disk.file text.now fault)) }
 
         // The store and the history.
         ensures fits { IfOk result (λ opened. Fits (S.state site.new) (S.crashes site.new)
-            (kept opened.0) text.now opened.1.items) }
+            (kept opened.0) text.now opened.1) }
         ensures works { IfOk result (λ opened. (kept opened.0).failed ≡ false) }
         ensures room { IfOk result (λ opened. HasBootRoom (kept opened.0).marks) }
         ensures valid { IfOk result
-            (λ opened. All (λ (spent : Spent). IsAction spent.1) opened.1.items) }
+            (λ opened. All (λ (spent : Spent). IsAction spent.1) opened.1) }
 
         // What the disk is left with, whatever the answer.
         ensures made { OnOk result (MakesFile (MakesNew text.now)
@@ -112,7 +112,7 @@ impl Store {
                         marks: Marks::fresh(),
                         failed: false,
                     };
-                    Ok((store, Vec::new(alloc)))
+                    Ok((store, History::new(alloc)))
                 }
                 Err(fault) => Err(fault),
             },

@@ -56,7 +56,7 @@ pub record ClosesWith (file : List ℕ) (first : ℕ) (history : PlainHistory) (
 abbrev pub IsFound : List ℕ → Found → List ℕ → Type 0
 IsFound text (found.New head) file = IsNew file text × IsHeadOf head.items file
 IsFound text (found.Journal kept) file =
-    IsJournalWith file text kept.history.items kept.marks kept.gate
+    IsJournalWith file text kept.history kept.marks kept.gate
 
 -- whatever the site tells, the gate is as near as those of a journal, the actions are actions, they
 -- and the boots aren't too many, and the marks are sound
@@ -71,7 +71,7 @@ pub record IsSoundly (history : PlainHistory) (marks : Marks) (gate : ℕ) : Typ
 abbrev pub IsSound : Found → Type 0
 IsSound (found.New head) = ⊤
 IsSound (found.Journal kept) =
-    IsSoundly kept.history.items kept.marks kept.gate × HasBootRoom kept.marks
+    IsSoundly kept.history kept.marks kept.gate × HasBootRoom kept.marks
 
 -- the text that is kept, unless memory ran out
 abbrev pub KeepsOther : List ℕ → OpenFault → Type 0

@@ -4,7 +4,7 @@ ghost use Rattle.std.specs.Prelude.{◌≡◌, ◌<◌, length, true, IfOk};
 use arrayvec::ArrayVec;
 use ix_memory::MemorySite;
 use ix_outside::Site;
-use ix_store::{OpenFault, Store};
+use ix_store::{History, OpenFault, Store};
 use ix_values::{Action, Ticket};
 use std::alloc::Global;
 use std::test::Fail;
@@ -49,9 +49,10 @@ pub(super) fn site_with(alloc: Global, file: &[u8], fail: &[u64]) -> Result<Memo
 }
 
 // The texts of the actions, with a space behind each.
-fn texts_of(alloc: Global, history: &[(Option<Ticket>, Action)]) -> Result<Vec<u8>, Fail> {
+fn texts_of(alloc: Global, history: History) -> Result<Vec<u8>, Fail> {
+    let (_, actions) = history.into_parts();
     let mut texts = Vec::new(alloc);
-    for (_, action) in history {
+    for action in &actions {
         let mut text = ArrayVec::new();
         action.write(&mut text);
         texts.extend_from_slice(&text)?;
@@ -94,7 +95,7 @@ pub(super) fn start_at(alloc: Global, site: &mut MemorySite, text: &[u8]) -> Res
             } else {
                 "opened"
             };
-            (word, texts_of(alloc, &history)?, 0)
+            (word, texts_of(alloc, history)?, 0)
         }
         Err(OpenFault::Disk) => ("disk", Vec::new(alloc), 0),
         Err(OpenFault::NotJournal) => ("foreign", Vec::new(alloc), 0),

@@ -52,13 +52,13 @@ returns-then-not-has_room-clause-file g c =
     let same : IsHeadOf front told.file =
     subst (λ (b : List ℕ). IsHeadOf b told.file) (sym c.deref.ensures.value) is_head in
     let judged = subst (IsJudged front text) c.in-Ok-Some.field-0-is c.in-Ok-Some.ensures in
-    let closes = of_told (λ file. ClosesWith file c.in-Ok-Some.first kept.history.items kept.marks kept.gate)
+    let closes = of_told (λ file. ClosesWith file c.in-Ok-Some.first kept.history kept.marks kept.gate)
     _ there.disk there.told c.in-Ok-read_records.ensures.file in
     let most = c.in-Ok-read_records.ensures.sound.few.1 in
     let full = full_of kept.marks c.has_room.result c.has_room.ensures c.if-not-has_room.true most in
-    full_read front told.file text same c.in-Ok-Some.first judged kept.history.items kept.marks
+    full_read front told.file text same c.in-Ok-Some.first judged kept.history kept.marks
     kept.gate
-    (subst (λ (f : List ℕ). ClosesWith f c.in-Ok-Some.first kept.history.items kept.marks kept.gate)
+    (subst (λ (f : List ℕ). ClosesWith f c.in-Ok-Some.first kept.history kept.marks kept.gate)
     there.makes closes)
     full)
   where

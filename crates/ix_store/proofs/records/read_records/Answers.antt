@@ -14,7 +14,7 @@ use Rattle.ix_store.proofs.ReadCalls.{reads_none, reads_join}
 use Rattle.ix_store.proofs.Reading.{IsOnWay, Reached, starts_on_way, starts_reached}
 use Rattle.ix_store.proofs.Reading.{fed_on_way, fed_less, fed_reached}
 use Rattle.ix_store.proofs.Reading.{marks_within, next_on_way, next_less, next_reached, lent_many, text_lent}
-use Rattle.ix_store.proofs.Reading.{closes, damages, steps_left}
+use Rattle.ix_store.proofs.Reading.{closes, damages}
 use Rattle.ix_store.proofs.Told.{of_told, to_told, made}
 use Rattle.ix_store.proofs.records.read_records.Goals as goal
 
@@ -23,9 +23,9 @@ records-init g c =
     let head = c.args.head.now in
     let first = c.args.first in
     let count = c.take.result in
-    let items = c.new-history.result.items in
+    let items = c.new-history.result in
     let slide = c.take.new.self in
-    let none = sym c.new-history.ensures.items in
+    let none = sym c.new-history.ensures in
     let empty = ap (λ (k : Kept). length k.bytes) c.new-slide.ensures in
     let behind = ap length (take_rest head first) in
     let counted = c.take.ensures.count in
@@ -55,12 +55,16 @@ records-smaller-in-Ok g c =
     let same = subst (λ a. Leaves now.slide a c.next.follows.lender-at-none) c.in-More.is c.next.follows.holds-at-none in
     let fed = subst (λ (k : Kept). ReadsOn (g.S.Site.state now.site).disk now.at k c.in-Ok.next
     c.feed.new.slide) same c.in-Ok.ensures.fed in
-    fed_less c.args.first now.at now.history.items now.slide c.in-More.ensures.tells _ _ _ fed
+    fed_less c.args.first now.at now.history now.slide c.in-More.ensures.tells _ _ _ fed
+
+pub returns-in-Err-clause-reads : goal.returns-in-Err-clause-reads
+returns-in-Err-clause-reads g c =
+    reads_join _ _ _ _ _ _ (g.met.S.Site.lawful c.feed.new.site) c.records.invariant.reads c.feed.ensures.reads
 
 pub records-preserved-in-Ok : goal.records-preserved-in-Ok
 records-preserved-in-Ok g c =
     let now = c.records in
-    let items = now.history.items in
+    let items = now.history in
     let tells = c.in-More.ensures.tells in
     let next = c.in-Ok.next in
     let new = c.feed.new.slide in
@@ -90,13 +94,13 @@ are_many-requires g c =
     let leaves = subst (λ a. Leaves now.slide a new) c.in-Record.is c.next.follows.holds-at-none in
     subst (λ (m : Marks). (renewed_of m).boots ≤ m.boots) (sym c.marks.ensures)
     (marks_within now.slide new c.in-Record.text c.of_text-entry.result c.of_text-entry.ensures leaves
-    c.args.first now.at now.history.items now.invariant.way)
+    c.args.first now.at now.history now.invariant.way)
 
 -- it makes too many
 pub returns-then-are_many-clause-file : goal.returns-then-are_many-clause-file
 returns-then-are_many-clause-file g c =
     let now = c.records in
-    let items = now.history.items in
+    let items = now.history in
     let new = c.next.follows.lender-at-none in
     let leaves = subst (λ a. Leaves now.slide a new) c.in-Record.is c.next.follows.holds-at-none in
     let many = subst AreMany c.marks.ensures (c.are_many.ensures.many c.if-are_many.true) in
@@ -113,12 +117,12 @@ records-smaller g c =
     let leaves = subst (λ a. Leaves now.slide a new) c.in-Record.is c.next.follows.holds-at-none in
     let few = subst AreNotMany c.marks.ensures (c.are_many.ensures.few c.if-are_many.false) in
     next_less now.slide new c.in-Record.text c.of_text-entry.result c.of_text-entry.ensures leaves c.args.first
-    now.at now.history.items few now.invariant.way
+    now.at now.history few now.invariant.way
 
 pub records-preserved : goal.records-preserved
 records-preserved g c =
     let now = c.records in
-    let items = now.history.items in
+    let items = now.history in
     let new = c.next.follows.lender-at-none in
     let text = c.in-Record.text in
     let entry = c.of_text-entry.result in
@@ -131,7 +135,7 @@ records-preserved g c =
       counts = now.invariant.counts;
       way = subst (λ (h : PlainHistory). IsOnWay c.args.first now.at h new) (sym pushed)
           (next_on_way now.slide new text entry says leaves c.args.first now.at items few now.invariant.way);
-      reached = to_told (Reached c.args.first now.at c.keep.new.history.items new)
+      reached = to_told (Reached c.args.first now.at c.keep.new.history new)
           (g.S.Site.state c.args.site.now).disk (λ told is.
           subst (λ (h : PlainHistory). Reached c.args.first now.at h new told.file) (sym pushed)
           (next_reached now.slide new text entry says leaves c.args.first now.at items
@@ -144,14 +148,14 @@ returns-in-Damaged-clause-file g c =
     let now = c.records in
     to_told (StopsReading c.args.first (fault.Damaged c.in-Damaged.at))
     (g.S.Site.state c.args.site.now).disk (λ told is.
-    damages c.args.first now.at now.history.items now.slide told.file
+    damages c.args.first now.at now.history now.slide told.file
     (of_told _ _ told is now.invariant.reached) now.invariant.way c.in-Damaged.at
     c.in-Damaged.ensures.tells)
 
 pub returns-in-Closed-clause-file : goal.returns-in-Closed-clause-file
 returns-in-Closed-clause-file g c =
     let now = c.records in
-    let items = now.history.items in
+    let items = now.history in
     let gate = c.in-Closed.gate in
     let new = c.next.follows.lender-at-none in
     let same = subst (λ a. Leaves now.slide a new) c.in-Closed.is c.next.follows.holds-at-none in

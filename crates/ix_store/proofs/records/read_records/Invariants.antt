@@ -9,9 +9,9 @@ use Rattle.ix_outside.specs.Crashes.{stretch_of}
 abbrev pub invariant-records : goal.invariant-records
 invariant-records g l = record {
   reads : OnlyReads (stretch_of g.S.Site.state g.S.Site.crashes l.fn.site l.site);
-  way : IsOnWay l.first l.at l.history.items l.slide;
+  way : IsOnWay l.first l.at l.history l.slide;
   counts : (g.S.Site.state l.site).counts.disk ≡ (g.S.Site.state l.fn.site).counts.disk;
-  reached : OfFile (Reached l.first l.at l.history.items l.slide) (g.S.Site.state l.fn.site).disk;
+  reached : OfFile (Reached l.first l.at l.history l.slide) (g.S.Site.state l.fn.site).disk;
 }
 
 abbrev pub decreases-records : goal.decreases-records

@@ -1,4 +1,4 @@
-use Rattle.std.proofs.Common.{◌≡◌, ◌<◌, ℕ, rules, [], ◌∷◌, ◌++◌, length, Some, refl, sym, subst, ap, ◌∙◌}
+use Rattle.std.proofs.Common.{◌≡◌, ◌<◌, ℕ, rules, [], ◌∷◌, ◌++◌, Some, refl, sym, subst, ap, ◌∙◌}
 use Rattle.ix_lease.specs.declared.Slot.TheVariants.{Free, Held}
 use Rattle.ix_manager.specs.inside.Core.{Core}
 use Rattle.ix_manager.proofs.Stepping.{seen, ready_action, confirmed_does}

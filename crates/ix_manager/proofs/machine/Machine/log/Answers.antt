@@ -1,9 +1,8 @@
-use Rattle.std.proofs.Common.{◌≡◌, ◌+◌, ◌-◌, ◌<◌, ◌≤◌, get_or, length, refl, sym, ◌∙◌, ap, subst, arith}
+use Rattle.std.proofs.Common.{◌≡◌, ◌+◌, ◌-◌, ◌<◌, ◌≤◌, get_or, length, refl, sym, subst, arith}
 use Rattle.ix_values.specs.PlainAction.{Word}
 use Rattle.ix_proto.specs.Requests as request
 use Rattle.ix_proto.specs.declared.reply.Reply.{Reply}
 use Rattle.ix_manager.specs.Machine.{ahead_of}
-use Rattle.ix_manager.specs.inside.Core.{Core}
 use Rattle.ix_manager.specs.inside.Does.{Does}
 use Rattle.ix_manager.proofs.Stepping.{seen_same, ahead_is, entry_does, entry_left_out_does, no_entry_does, zeroth_does}
 use Rattle.ix_manager.proofs.machine.Machine.log.Goals as goal

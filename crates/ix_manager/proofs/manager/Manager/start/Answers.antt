@@ -69,33 +69,20 @@ pub returns-in-Err-start-clause-failed : goal.returns-in-Err-start-clause-failed
 returns-in-Err-start-clause-failed g c = λ is.
     c.in-Err-start.ensures.failed (disk_fault c.in-Err-start.fault c.open_fault.result c.open_fault.ensures is)
 
--- memory ran out for the tickets or the actions
-pub returns-in_default-take_apart-clause-leaves : goal.returns-in_default-take_apart-clause-leaves
-returns-in_default-take_apart-clause-leaves g c = λ disk is.
-    let x = c.args.expression in
-    let limit = c.args.limit in
-    let text : c.deref.result.now ≡ canonical_text x = c.deref.ensures.value ∙ c.in-Ok.ensures.value in
-    let old = c.args.site.now in
-    let new = c.start.new.site in
-    leaves_store x limit disk.file (g.S.Site.state old) (g.S.Site.state new) (g.S.Site.crashes old) (g.S.Site.crashes new)
-    (subst (λ (t : List ℕ). LeavesOnStart t disk.file (stretch_of g.S.Site.state g.S.Site.crashes old new)) text
-    (c.in-Ok-start.ensures.images disk is)) c.in-Ok-new.ensures.within
-
 -- a record was refused
 pub returns-in-Err-resume-clause-not_large : goal.returns-in-Err-resume-clause-not_large
 returns-in-Err-resume-clause-not_large g c = λ small disk is.
     let x = c.args.expression in
     let limit = c.args.limit in
     let text : c.deref.result.now ≡ canonical_text x = c.deref.ensures.value ∙ c.in-Ok.ensures.value in
-    let history = c.in-Ok-start.opened.1.items in
-    let words : c.in-Ok-take_apart.actions.items ≡ actions_of history =
-    c.in-Ok-take_apart.ensures.actions ∙ ap actions_of c.deref-2.ensures.value in
+    let history = c.in-Ok-start.opened.1 in
+    let words : c.into_parts-tickets.result.1.items ≡ actions_of history = c.into_parts-tickets.ensures.actions in
     let stopped = c.in-Err-resume.fault in
     let marks = (kept c.in-Ok-start.opened.0).marks in
     let opens = subst (λ (t : List ℕ). Opens disk.file t history marks) text (c.in-Ok-start.ensures.opened disk is) in
     let at = subst (λ (w : Word). StopsAt x limit w stopped) words
-    (subst (λ (form : Form). StopsAt form limit c.in-Ok-take_apart.actions.items stopped) c.in-Ok-new.ensures.form
-    (subst (λ most. StopsAt c.in-Ok-new.engine.form most c.in-Ok-take_apart.actions.items stopped) c.in-Ok-new.ensures.limit
+    (subst (λ (form : Form). StopsAt form limit c.into_parts-tickets.result.1.items stopped) c.in-Ok-new.ensures.form
+    (subst (λ most. StopsAt c.in-Ok-new.engine.form most c.into_parts-tickets.result.1.items stopped) c.in-Ok-new.ensures.limit
     c.in-Err-resume.ensures.refused)) in
     subst (λ (fault : StartFault). IsStartFault x limit disk.file fault) (sym c.record_fault.ensures)
     (resume_fault x limit disk.file history marks stopped small c.in-Ok-start.ensures.room opens at)
@@ -117,15 +104,14 @@ start_machine-requires-clause-fits g c =
     let x = c.args.expression in
     let limit = c.args.limit in
     let text : c.deref.result.now ≡ canonical_text x = c.deref.ensures.value ∙ c.in-Ok.ensures.value in
-    let history = c.in-Ok-start.opened.1.items in
-    let words : c.in-Ok-take_apart.actions.items ≡ actions_of history =
-    c.in-Ok-take_apart.ensures.actions ∙ ap actions_of c.deref-2.ensures.value in
-    let tickets : c.in-Ok-take_apart.tickets.items ≡ map (λ (spent : Spent). spent.0) history =
-    c.in-Ok-take_apart.ensures.tickets ∙ ap (λ (h : PlainHistory). map (λ (spent : Spent). spent.0) h) c.deref-2.ensures.value in
+    let history = c.in-Ok-start.opened.1 in
+    let words : c.into_parts-tickets.result.1.items ≡ actions_of history = c.into_parts-tickets.ensures.actions in
+    let tickets : c.into_parts-tickets.result.0.items ≡ map (λ (spent : Spent). spent.0) history =
+    c.into_parts-tickets.ensures.tickets in
     let engine = c.in-Ok-resume.engine in
     let form : engine.form ≡ x = c.in-Ok-resume.ensures.form ∙ c.in-Ok-new.ensures.form in
-    let pairs : zip c.in-Ok-take_apart.tickets.items engine.history ≡ history =
-    zipped history c.in-Ok-take_apart.tickets.items engine.history tickets (c.in-Ok-resume.ensures.history ∙ words) in
+    let pairs : zip c.into_parts-tickets.result.0.items engine.history ≡ history =
+    zipped history c.into_parts-tickets.result.0.items engine.history tickets (c.in-Ok-resume.ensures.history ∙ words) in
     let site = c.start.new.site in
     let store = kept c.in-Ok-start.opened.0 in
     subst (λ (h : PlainHistory). Fits (g.S.Site.state site) (g.S.Site.crashes site) store (canonical_text engine.form) h) (sym pairs)
@@ -137,18 +123,17 @@ returns-in-Ok-start_machine-clause-not_large g c = λ small disk is.
     let x = c.args.expression in
     let limit = c.args.limit in
     let text : c.deref.result.now ≡ canonical_text x = c.deref.ensures.value ∙ c.in-Ok.ensures.value in
-    let history = c.in-Ok-start.opened.1.items in
-    let words : c.in-Ok-take_apart.actions.items ≡ actions_of history =
-    c.in-Ok-take_apart.ensures.actions ∙ ap actions_of c.deref-2.ensures.value in
-    let tickets : c.in-Ok-take_apart.tickets.items ≡ map (λ (spent : Spent). spent.0) history =
-    c.in-Ok-take_apart.ensures.tickets ∙ ap (λ (h : PlainHistory). map (λ (spent : Spent). spent.0) h) c.deref-2.ensures.value in
+    let history = c.in-Ok-start.opened.1 in
+    let words : c.into_parts-tickets.result.1.items ≡ actions_of history = c.into_parts-tickets.ensures.actions in
+    let tickets : c.into_parts-tickets.result.0.items ≡ map (λ (spent : Spent). spent.0) history =
+    c.into_parts-tickets.ensures.tickets in
     let engine = c.in-Ok-resume.engine in
     let form : engine.form ≡ x = c.in-Ok-resume.ensures.form ∙ c.in-Ok-new.ensures.form in
-    let pairs : zip c.in-Ok-take_apart.tickets.items engine.history ≡ history =
-    zipped history c.in-Ok-take_apart.tickets.items engine.history tickets (c.in-Ok-resume.ensures.history ∙ words) in
+    let pairs : zip c.into_parts-tickets.result.0.items engine.history ≡ history =
+    zipped history c.into_parts-tickets.result.0.items engine.history tickets (c.in-Ok-resume.ensures.history ∙ words) in
     let allowed = subst (λ (w : Word). AreAllowed x limit w) words
-    (subst (λ (f : Form). AreAllowed f limit c.in-Ok-take_apart.actions.items) c.in-Ok-new.ensures.form
-    (subst (λ most. AreAllowed c.in-Ok-new.engine.form most c.in-Ok-take_apart.actions.items) c.in-Ok-new.ensures.limit
+    (subst (λ (f : Form). AreAllowed f limit c.into_parts-tickets.result.1.items) c.in-Ok-new.ensures.form
+    (subst (λ most. AreAllowed c.in-Ok-new.engine.form most c.into_parts-tickets.result.1.items) c.in-Ok-new.ensures.limit
     c.in-Ok-resume.ensures.allowed)) in
     let marks = (kept c.in-Ok-start.opened.0).marks in
     let opens = subst (λ (t : List ℕ). Opens disk.file t history marks) text (c.in-Ok-start.ensures.opened disk is) in
@@ -162,24 +147,23 @@ returns-in-Ok-start_machine-clause-leaves g c = λ disk is.
     let x = c.args.expression in
     let limit = c.args.limit in
     let text : c.deref.result.now ≡ canonical_text x = c.deref.ensures.value ∙ c.in-Ok.ensures.value in
-    let history = c.in-Ok-start.opened.1.items in
-    let words : c.in-Ok-take_apart.actions.items ≡ actions_of history =
-    c.in-Ok-take_apart.ensures.actions ∙ ap actions_of c.deref-2.ensures.value in
-    let tickets : c.in-Ok-take_apart.tickets.items ≡ map (λ (spent : Spent). spent.0) history =
-    c.in-Ok-take_apart.ensures.tickets ∙ ap (λ (h : PlainHistory). map (λ (spent : Spent). spent.0) h) c.deref-2.ensures.value in
+    let history = c.in-Ok-start.opened.1 in
+    let words : c.into_parts-tickets.result.1.items ≡ actions_of history = c.into_parts-tickets.ensures.actions in
+    let tickets : c.into_parts-tickets.result.0.items ≡ map (λ (spent : Spent). spent.0) history =
+    c.into_parts-tickets.ensures.tickets in
     let engine = c.in-Ok-resume.engine in
     let form : engine.form ≡ x = c.in-Ok-resume.ensures.form ∙ c.in-Ok-new.ensures.form in
-    let pairs : zip c.in-Ok-take_apart.tickets.items engine.history ≡ history =
-    zipped history c.in-Ok-take_apart.tickets.items engine.history tickets (c.in-Ok-resume.ensures.history ∙ words) in
+    let pairs : zip c.into_parts-tickets.result.0.items engine.history ≡ history =
+    zipped history c.into_parts-tickets.result.0.items engine.history tickets (c.in-Ok-resume.ensures.history ∙ words) in
     let allowed = subst (λ (w : Word). AreAllowed x limit w) words
-    (subst (λ (f : Form). AreAllowed f limit c.in-Ok-take_apart.actions.items) c.in-Ok-new.ensures.form
-    (subst (λ most. AreAllowed c.in-Ok-new.engine.form most c.in-Ok-take_apart.actions.items) c.in-Ok-new.ensures.limit
+    (subst (λ (f : Form). AreAllowed f limit c.into_parts-tickets.result.1.items) c.in-Ok-new.ensures.form
+    (subst (λ most. AreAllowed c.in-Ok-new.engine.form most c.into_parts-tickets.result.1.items) c.in-Ok-new.ensures.limit
     c.in-Ok-resume.ensures.allowed)) in
     let old = c.args.site.now in
     let mid = c.start.new.site in
     let new = c.start_machine.new.site in
     started_leaves x limit disk (g.S.Site.state old) (g.S.Site.state mid) (g.S.Site.state new) (g.S.Site.crashes old) (g.S.Site.crashes mid)
-    (g.S.Site.crashes new) c.deref.result.now history (zip c.in-Ok-take_apart.tickets.items engine.history) engine.form
+    (g.S.Site.crashes new) c.deref.result.now history (zip c.into_parts-tickets.result.0.items engine.history) engine.form
     (kept c.in-Ok-start.opened.0) tt text form pairs is (c.in-Ok-start.ensures.images disk is) c.start.ensures.calls c.start_machine.ensures.calls
     (c.in-Ok-start.ensures.opened disk is) c.start_machine.ensures.images c.in-Ok-new.ensures.within allowed c.in-Ok-start.ensures.room
 
@@ -197,24 +181,23 @@ returns-clause-leaves g c = λ disk is.
     let x = c.args.expression in
     let limit = c.args.limit in
     let text : c.deref.result.now ≡ canonical_text x = c.deref.ensures.value ∙ c.in-Ok.ensures.value in
-    let history = c.in-Ok-start.opened.1.items in
-    let words : c.in-Ok-take_apart.actions.items ≡ actions_of history =
-    c.in-Ok-take_apart.ensures.actions ∙ ap actions_of c.deref-2.ensures.value in
-    let tickets : c.in-Ok-take_apart.tickets.items ≡ map (λ (spent : Spent). spent.0) history =
-    c.in-Ok-take_apart.ensures.tickets ∙ ap (λ (h : PlainHistory). map (λ (spent : Spent). spent.0) h) c.deref-2.ensures.value in
+    let history = c.in-Ok-start.opened.1 in
+    let words : c.into_parts-tickets.result.1.items ≡ actions_of history = c.into_parts-tickets.ensures.actions in
+    let tickets : c.into_parts-tickets.result.0.items ≡ map (λ (spent : Spent). spent.0) history =
+    c.into_parts-tickets.ensures.tickets in
     let engine = c.in-Ok-resume.engine in
     let form : engine.form ≡ x = c.in-Ok-resume.ensures.form ∙ c.in-Ok-new.ensures.form in
-    let pairs : zip c.in-Ok-take_apart.tickets.items engine.history ≡ history =
-    zipped history c.in-Ok-take_apart.tickets.items engine.history tickets (c.in-Ok-resume.ensures.history ∙ words) in
+    let pairs : zip c.into_parts-tickets.result.0.items engine.history ≡ history =
+    zipped history c.into_parts-tickets.result.0.items engine.history tickets (c.in-Ok-resume.ensures.history ∙ words) in
     let allowed = subst (λ (w : Word). AreAllowed x limit w) words
-    (subst (λ (f : Form). AreAllowed f limit c.in-Ok-take_apart.actions.items) c.in-Ok-new.ensures.form
-    (subst (λ most. AreAllowed c.in-Ok-new.engine.form most c.in-Ok-take_apart.actions.items) c.in-Ok-new.ensures.limit
+    (subst (λ (f : Form). AreAllowed f limit c.into_parts-tickets.result.1.items) c.in-Ok-new.ensures.form
+    (subst (λ most. AreAllowed c.in-Ok-new.engine.form most c.into_parts-tickets.result.1.items) c.in-Ok-new.ensures.limit
     c.in-Ok-resume.ensures.allowed)) in
     let old = c.args.site.now in
     let mid = c.start.new.site in
     let new = c.start_machine.new.site in
     started_leaves x limit disk (g.S.Site.state old) (g.S.Site.state mid) (g.S.Site.state new) (g.S.Site.crashes old) (g.S.Site.crashes mid)
-    (g.S.Site.crashes new) c.deref.result.now history (zip c.in-Ok-take_apart.tickets.items engine.history) engine.form
+    (g.S.Site.crashes new) c.deref.result.now history (zip c.into_parts-tickets.result.0.items engine.history) engine.form
     (kept c.in-Ok-start.opened.0) tt text form pairs is (c.in-Ok-start.ensures.images disk is) c.start.ensures.calls c.start_machine.ensures.calls
     (c.in-Ok-start.ensures.opened disk is) c.start_machine.ensures.images c.in-Ok-new.ensures.within allowed c.in-Ok-start.ensures.room
 

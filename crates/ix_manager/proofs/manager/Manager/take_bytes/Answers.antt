@@ -6,7 +6,7 @@ use Rattle.ix_manager.specs.Handled.{ManagerState, held_at}
 use Rattle.ix_manager.specs.declared.faults.Go.TheVariants.{More}
 use Rattle.ix_manager.specs.inside.OverSite.{FitsWith}
 use Rattle.ix_manager.specs.inside.TakenItems.{TakesBytes}
-use Rattle.ix_manager.specs.inside.WireState.{wired, AnswersItems, wire_stretch}
+use Rattle.ix_manager.specs.inside.WireState.{AnswersItems, wire_stretch}
 use Rattle.ix_manager.specs.inside.Over.{OverJournal, OverRun}
 use Rattle.ix_manager.proofs.TakeLemmas.{managed, ended_by, bytes_taken, get_or_any}
 use Rattle.ix_manager.proofs.manager.Manager.take_bytes.Goals as goal

@@ -2,7 +2,6 @@ use Rattle.std.proofs.Common.{ℕ, ◌+◌, ◌∷◌, [], ◌∙◌, ap, arith,
 use Rattle.std.proofs.lemmas.List.{length-append}
 use Rattle.ix_journal.specs.Format.{farthest_gate, record_of}
 use Rattle.ix_journal.specs.inside.Counting.{AreNotMany, AreSound}
-use Rattle.ix_journal.specs.declared.entries.Marks.{Marks}
 use Rattle.ix_journal.specs.inside.Writing.{entry_of}
 use Rattle.ix_journal.proofs.OrderLemmas.{entry_near, sound-behind}
 use Rattle.ix_store.specs.inside.KeptBy.{kept}

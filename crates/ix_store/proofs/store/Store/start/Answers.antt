@@ -1,4 +1,4 @@
-use Rattle.std.proofs.Common.{◌≡◌, ◌+◌, ℕ, List, length, ◌∙◌, sym, ap, arith, subst}
+use Rattle.std.proofs.Common.{◌≡◌, ◌+◌, ℕ, List, length, ◌∙◌, sym, ap, subst}
 use Rattle.ix_journal.specs.Entries.{fresh}
 use Rattle.ix_journal.specs.Recovery.{IsJournalWith}
 use Rattle.ix_journal.specs.declared.entries.Marks.{Marks}
@@ -35,10 +35,10 @@ returns-in-Ok-Journal-clause-fits g c =
     let kept = c.in-Ok-Journal.kept in
     let text = c.args.text.now in
     let sound = found_sound _ kept c.in-Ok-Journal.field-0-is c.in-Ok-Journal.ensures.sound in
-    fits_only _ _ _ text kept.history.items sound.0.counted c.in-Ok-Journal.ensures.settled
+    fits_only _ _ _ text kept.history sound.0.counted c.in-Ok-Journal.ensures.settled
     (λ disk told.
     let before = came _ _ _ disk told c.sync_and_find.ensures.stays in
-    subst (λ (f : List ℕ). IsJournalWith f text kept.history.items kept.marks kept.gate) (sym before.makes)
+    subst (λ (f : List ℕ). IsJournalWith f text kept.history kept.marks kept.gate) (sym before.makes)
     (found_journal text _ kept before.disk.file c.in-Ok-Journal.field-0-is
     (of_told _ _ before.disk before.told c.in-Ok-Journal.ensures.file)))
 
@@ -87,19 +87,19 @@ returns-in-Ok-clause-opened g c told is =
     let new = found_new c.args.text.now _ c.in-Ok-New.head told.file c.in-Ok-New.field-0-is
     (of_told _ _ told is c.in-Ok-New.ensures.file) in
     let text = c.args.text.now in
-    subst (λ (m : Marks). Opens told.file text c.new.result.items m) (sym c.fresh.ensures)
-    (subst (λ (h : PlainHistory). Opens told.file text h fresh) (sym c.new.ensures.items)
+    subst (λ (m : Marks). Opens told.file text c.new.result m) (sym c.fresh.ensures)
+    (subst (λ (h : PlainHistory). Opens told.file text h fresh) (sym c.new.ensures)
     (opens_new told.file text new.0))
 
 pub returns-in-Ok-clause-fits : goal.returns-in-Ok-clause-fits
 returns-in-Ok-clause-fits g c =
     let text = c.args.text.now in
-    let none = sym c.new.ensures.items in
-    fits_only _ _ _ text c.new.result.items (ap (λ (m : Marks). m.actions) c.fresh.ensures ∙ ap length none)
+    let none = sym c.new.ensures in
+    fits_only _ _ _ text c.new.result (ap (λ (m : Marks). m.actions) c.fresh.ensures ∙ ap length none)
     c.in-Ok.ensures.settled
     (λ disk told.
     let before = came _ _ _ disk told c.in-Ok.ensures.begun in
-    subst (λ (m : Marks). IsJournalWith disk.file text c.new.result.items m (7 + length text))
+    subst (λ (m : Marks). IsJournalWith disk.file text c.new.result m (7 + length text))
     (sym c.fresh.ensures)
     (subst (λ (w : PlainHistory). IsJournalWith disk.file text w fresh (7 + length text)) none
     (made_anew text c.requires.short disk.file before.makes)))
