@@ -600,7 +600,7 @@ module _ (around : Around) (old new : SinkState) (told : IsSome around.files) (n
   of_job is all ended below wire (how.linted reads end) = of_line end below (well.linted reads)
   of_job is all ended below wire (how.lost_journal reads (inl rose) rests _) = absurd (none.files rose)
   of_job is all ended below wire (how.lost_journal {journal = journal} reads (inr longer) rests _) =
-      absurd (longer_than around.files told journal all.1 237065593 all.3.file all.3.short longer)
+      absurd (longer_than around.files told journal all.1 renewal.most_journal_bytes all.3.file all.3.short longer)
   of_job is all ended below wire (how.unrenewed {journal = journal} {bytes = bytes} {limit = limit} {x = x} why starts reads refuses rests _) =
       absurd (no_renewal_refused x all.0 limit bytes all.1 why (one_form around.files told _ x all.0 starts.reads all.2.reads)
       (one_file around.files told journal bytes all.1 reads.file all.3.file) all.4 refuses)

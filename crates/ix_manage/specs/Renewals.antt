@@ -1,5 +1,5 @@
 -- What `renew` answers, and what it makes of its files.
-use Rattle.std.specs.Prelude.{◌≡◌, ◌≢◌, ◌⊎◌, ℕ, ◌≤◌, ◌^◌, List, [], ◌++◌, length, codes, decimal}
+use Rattle.std.specs.Prelude.{◌≡◌, ◌≢◌, ◌⊎◌, ℕ, ◌≤◌, List, [], ◌++◌, length, codes, decimal}
 use Rattle.std.specs.Prelude.{Option, ⊤}
 use Rattle.ix_values.specs.PlainAction.{Word}
 use Rattle.ix_expr.specs.CanonicalText.{canonical_text}
@@ -18,20 +18,23 @@ use Rattle.ix_manager.specs.Images.{EachPrefixIsWithin}
 use Rattle.ix_manager.specs.Machine.{count_of}
 use Rattle.ix_manager.specs.Starts.{HasText, IsHeavy, IsNoWord}
 use Rattle.ix_renew.specs.Renewal.{IfNewFile, IsAboveMost, IsJournalOf, LeavesNewFile, OfNewFile}
-use Rattle.ix_cli.specs.Words.{Job, Names, trace, replay, serve, work, simplify, bound, follow}
-use Rattle.ix_cli.specs.Words.{lint, why, next, stuck, renew}
+use Rattle.ix_renew.specs.Renewal.{most_counted}
+use Rattle.ix_cli.specs.Words.{Job, Names, renew}
 use Rattle.ix_manage.specs.ActionLines.{line}
 use Rattle.ix_manage.specs.Trace.{ReadsForm}
 
--- the file of this name has these bytes, at most as many as the records of a journal can have up to
--- the first closed gate
+-- the most bytes that the records of a journal can have up to the first closed gate
+abbrev pub most_journal_bytes : ℕ
+most_journal_bytes = 237065593
+
+-- the file of this name has these bytes, and no more than a journal may
 pub record ReadsJournal (files : Option Listing) (name bytes : List ℕ) : Type 0 where
   pub file : HasFile files name bytes
-  pub short : length bytes ≤ 237065593
+  pub short : length bytes ≤ most_journal_bytes
 
 -- the file of this name has more
 abbrev pub HasLongJournal : Option Listing → List ℕ → Type 0
-HasLongJournal files name = HasLonger files name 237065593
+HasLongJournal files name = HasLonger files name most_journal_bytes
 
 -- why the journal of a file isn't renewed for the expression under the limit, as the last line says
 -- it
@@ -73,21 +76,11 @@ IsMade name x carried actions boots disk =
 -- What a renew leaves of its new file, where it opened it: by the form that the expression's file
 -- stands for, and the bytes of its journal's file. The other jobs have no new file.
 abbrev pub OnNewFile : Option Listing → Job → Option Disk → Crashes → Type 0
-OnNewFile files (trace expression actions limit) disk is = ⊤
-OnNewFile files (replay expression journal script limit turns) disk is = ⊤
-OnNewFile files (serve expression journal socket limit turns) disk is = ⊤
-OnNewFile files (work count seed limit) disk is = ⊤
-OnNewFile files (simplify expression) disk is = ⊤
-OnNewFile files (bound expression count) disk is = ⊤
-OnNewFile files (follow expression lines limit) disk is = ⊤
-OnNewFile files (lint expression) disk is = ⊤
-OnNewFile files (why expression actions action limit) disk is = ⊤
-OnNewFile files (next expression actions values limit) disk is = ⊤
-OnNewFile files (stuck expression values limit states) disk is = ⊤
 OnNewFile files (renew expression journal new limit) disk is =
     IfNewFile new (λ opened now. (x : Form) × (bytes : List ℕ)
     × ReadsForm files expression x × ReadsJournal files journal bytes
     × LeavesNewFile x limit bytes opened now is) disk
+OnNewFile files _ disk is = ⊤
 
 -- the journal of a file can be renewed
 pub record CanBeRenewed (x : Form) (limit : ℕ) (file : List ℕ) : Type 0 where
@@ -95,8 +88,8 @@ pub record CanBeRenewed (x : Form) (limit : ℕ) (file : List ℕ) : Type 0 wher
   pub marks : Marks
   pub journal : IsJournalOf x file history marks
   pub within : EachPrefixIsWithin x limit (actions_of history)
-  pub few_actions : count_of (renewed_of marks) history ≤ 2 ^ 63
-  pub few_boots : marks.boots ≤ 2 ^ 63
+  pub few_actions : count_of (renewed_of marks) history ≤ most_counted
+  pub few_boots : marks.boots ≤ most_counted
 
 -- the words name a renew whose journal's file is too long
 abbrev pub NamesLongJournal : List (List ℕ) → Option Listing → Type 0

@@ -1,11 +1,12 @@
 -- What a journal that rests is to a renewal.
-use Rattle.std.proofs.Common.{◌≡◌, ◌⊎◌, inl, inr, ℕ, ◌+◌, ◌<◌, ◌≤◌, ◌^◌, List, [], length, Result, Ok, Err, IfErr, IsErrAnd, refl, sym, ◌∙◌, ap, subst, arith}
+use Rattle.std.proofs.Common.{◌≡◌, ◌⊎◌, inl, inr, ℕ, ◌+◌, ◌<◌, ◌≤◌, ◌^◌, List, [], length, Result, Ok, Err, IfErr, IsErrAnd, All, refl, sym, ◌∙◌, ap, subst, arith}
 use Rattle.std.specs.Prelude.{MatchResult}
 use Rattle.std.proofs.lemmas.List.{length-map}
 use Rattle.ix_expr.specs.CanonicalText.{canonical_text}
 use Rattle.ix_expr.specs.Form.{Form}
 use Rattle.ix_can.specs.TreeOf.{tree_size}
 use Rattle.ix_values.specs.PlainAction.{Word}
+use Rattle.ix_values.specs.Texts.{IsAction}
 use Rattle.ix_engine.specs.Histories.{AreAllowed, IsRefused, StopsAt}
 use Rattle.ix_engine.specs.inside.Engine.{EngineState}
 use Rattle.ix_engine.specs.declared.faults.PrepareFault.{PrepareFault}
@@ -166,13 +167,14 @@ module _ (x : Form) (limit : ℕ) (file : List ℕ) (actions : Word) (marks : Ma
 
 -- what is carried for the engine's history is a renewal of its journal
 pub renewal_of : (x : Form) (limit : ℕ) (file : List ℕ) (engine : EngineState) (count boots : ℕ)
-    → (resting : RestsAs x limit file engine count boots) → (word : Word)
+    → (resting : RestsAs x limit file engine count boots) → (word : Word) → All IsAction word
     → IsCarriedFor engine.form engine.limit engine.history word → IsRenewal x limit file word count boots
-renewal_of x limit file engine count boots resting word carries = record {
+renewal_of x limit file engine count boots resting word texts carries = record {
   history = resting.history;
   marks = resting.marks;
   journal = resting.journal;
   within = each_within x limit (actions_of resting.history) (initial_within x limit resting.small) resting.allowed;
+  texts = texts;
   carries = subst (λ (y : Form). IsCarriedFor y limit (actions_of resting.history) word) resting.form
       (subst (λ l. IsCarriedFor engine.form l (actions_of resting.history) word) resting.most
       (subst (λ (w : Word). IsCarriedFor engine.form engine.limit w word) resting.word carries));

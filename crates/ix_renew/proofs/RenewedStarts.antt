@@ -1,9 +1,7 @@
 -- A renewed journal can be started from, and what starts from it comes later; and one that is renewed twice in a row.
 use Rattle.std.proofs.Common.{◌≡◌, ℕ, ◌+◌, ◌≤◌, List, [], ◌∷◌, length, None, Some, refl, sym, ◌∙◌, ap, subst, arith}
-use Rattle.std.specs.Prelude.{All}
 use Rattle.std.proofs.lemmas.List.{length-map}
 use Rattle.ix_values.specs.PlainAction.{PlainAction, Word}
-use Rattle.ix_values.specs.Texts.{IsAction}
 use Rattle.ix_journal.specs.Entries.{renewed_of}
 use Rattle.ix_journal.specs.Format.{renewed_journal}
 use Rattle.ix_journal.specs.History.{PlainHistory, Spent, actions_of}
@@ -36,7 +34,7 @@ empty_within x limit [] within = within 0
 empty_within x limit (a ∷ w) within = within 0
 
 module _ (x : Form) (limit : ℕ) (file : List ℕ) (carried : Word) (actions boots : ℕ)
-    (is : IsRenewal x limit file carried actions boots) (each : All IsAction carried) where
+    (is : IsRenewal x limit file carried actions boots) where
   abbrev pub image : List ℕ
   image = renewed_journal (canonical_text x) carried actions boots
 
@@ -77,7 +75,7 @@ module _ (x : Form) (limit : ℕ) (file : List ℕ) (carried : Word) (actions bo
         renewal = Some (record { carried = length carried; actions = actions; boots = boots });
       }) gate
   made =
-      renewed_is_a_journal (canonical_text x) carried actions boots is.journal.journal.journal.ready.header.short each many
+      renewed_is_a_journal (canonical_text x) carried actions boots is.journal.journal.journal.ready.header.short is.texts many
       fewer is.few_actions is.few_boots
 
   image_keeps : recovery.Keeps image made.1.entries
@@ -100,12 +98,12 @@ module _ (x : Form) (limit : ℕ) (file : List ℕ) (carried : Word) (actions bo
 
 module _ (x : Form) (limit : ℕ) (file : List ℕ) (s : MachineState) (kept : PlainHistory) (carried : Word) (actions boots : ℕ)
     (may : MayKeep s kept) (recovers : Recovers file kept) (holds : HoldsBoots file s.renewed s.boot)
-    (is : IsRenewal x limit file carried actions boots) (each : All IsAction carried) where
+    (is : IsRenewal x limit file carried actions boots) where
   history : kept ≡ is.history
-  history = one_history file kept is.history recovers (file_recovers x limit file carried actions boots is each)
+  history = one_history file kept is.history recovers (file_recovers x limit file carried actions boots is)
 
   same : (s.renewed ≡ renewed_of is.marks) × (s.boot ≡ is.marks.boots)
-  same = one_number file s.renewed (renewed_of is.marks) s.boot is.marks.boots holds (file_holds x limit file carried actions boots is each)
+  same = one_number file s.renewed (renewed_of is.marks) s.boot is.marks.boots holds (file_holds x limit file carried actions boots is)
 
   counted : actions ≡ count_of s.renewed kept
   counted =
@@ -118,9 +116,9 @@ module _ (x : Form) (limit : ℕ) (file : List ℕ) (s : MachineState) (kept : P
   carries : IsCarriedFor x limit (actions_of kept) carried
   carries = subst (λ (h : PlainHistory). IsCarriedFor x limit (actions_of h) carried) (sym history) is.carries
 
-  state_holds : HoldsBoots (image x limit file carried actions boots is each) (renewed_as s kept carried) s.boot
+  state_holds : HoldsBoots (image x limit file carried actions boots is) (renewed_as s kept carried) s.boot
   state_holds =
-      let it = image_holds x limit file carried actions boots is each in
+      let it = image_holds x limit file carried actions boots is in
       record {
         entries = it.entries;
         keeps = it.keeps;
@@ -129,10 +127,10 @@ module _ (x : Form) (limit : ℕ) (file : List ℕ) (s : MachineState) (kept : P
       }
 
   pub startable : IsStartable (opening_of x limit (without_tickets carried) (renewed_as s kept carried) (s.boot + 1))
-      (image x limit file carried actions boots is each)
+      (image x limit file carried actions boots is)
   startable = record {
-    own = image_own x limit file carried actions boots is each;
-    recovers = image_recovers x limit file carried actions boots is each;
+    own = image_own x limit file carried actions boots is;
+    recovers = image_recovers x limit file carried actions boots is;
     within = subst (EachPrefixIsWithin x limit) (sym (same_actions carried))
         (each_within x limit carried (empty_within x limit (actions_of is.history) is.within) is.carries.allowed);
     boots = s.boot;
@@ -141,19 +139,19 @@ module _ (x : Form) (limit : ℕ) (file : List ℕ) (s : MachineState) (kept : P
     next = refl;
   }
 
-  pub starts_later : (opening : Opening) → IsStartable opening (image x limit file carried actions boots is each)
+  pub starts_later : (opening : Opening) → IsStartable opening (image x limit file carried actions boots is)
       → LaterRenewed x s (start_of opening.history opening.renewed opening.boot)
   starts_later opening starts =
-      let bytes = image x limit file carried actions boots is each in
-      let told = one_history bytes (without_tickets carried) opening.history (image_recovers x limit file carried actions boots is each) starts.recovers in
+      let bytes = image x limit file carried actions boots is in
+      let told = one_history bytes (without_tickets carried) opening.history (image_recovers x limit file carried actions boots is) starts.recovers in
       let said = one_number bytes (renewed_as s kept carried) opening.renewed s.boot starts.boots state_holds starts.holds in
       let boot : s.boot + 1 ≡ opening.boot = ap (λ n. n + 1) said.1 ∙ sym starts.next in
       subst (LaterRenewed x s) (λ i. start_of (told i) (said.0 i) (boot i)) (renews stays may carries (goes_on stays))
 
 renewed_starts_come_later : RenewedStartsComeLater
-renewed_starts_come_later x limit file s kept carried actions boots may recovers holds is each = (
-  startable x limit file s kept carried actions boots may recovers holds is each,
-  starts_later x limit file s kept carried actions boots may recovers holds is each,
+renewed_starts_come_later x limit file s kept carried actions boots may recovers holds is = (
+  startable x limit file s kept carried actions boots may recovers holds is,
+  starts_later x limit file s kept carried actions boots may recovers holds is,
 )
 
 -- what is carried for a word that is carried for a history is carried for this history
@@ -166,8 +164,8 @@ carried_again x limit history word again one two = record {
 }
 
 renewed_twice : RenewedTwice
-renewed_twice x limit file carried again actions boots actions' boots' is each then_is =
-    let bytes = image x limit file carried actions boots is each in
+renewed_twice x limit file carried again actions boots actions' boots' is then_is =
+    let bytes = image x limit file carried actions boots is in
     let history : then_is.history ≡ without_tickets carried =
     one_history bytes then_is.history (without_tickets carried)
     (record {
@@ -175,7 +173,7 @@ renewed_twice x limit file carried again actions boots actions' boots' is each t
       keeps = recovery.ready bytes (canonical_text x) then_is.journal.journal.entries then_is.journal.gate then_is.journal.journal.journal;
       pairs = then_is.journal.journal.pairs;
     })
-    (image_recovers x limit file carried actions boots is each) in
+    (image_recovers x limit file carried actions boots is) in
     let said = one_number bytes (renewed_of then_is.marks) (record { carried = length carried; actions = actions; boots = boots })
     then_is.marks.boots boots
     (record {
@@ -184,11 +182,11 @@ renewed_twice x limit file carried again actions boots actions' boots' is each t
       said = ap renewed_of then_is.journal.journal.marked;
       number = ap (λ (m : Marks). m.boots) then_is.journal.journal.marked;
     })
-    (image_holds x limit file carried actions boots is each) in
+    (image_holds x limit file carried actions boots is) in
     let ahead = ap ahead_of said.0 in
     let long = ap length history in
     let carried_long : length (without_tickets carried) ≡ length carried = length-map carried (λ (a : PlainAction). (None, a)) in
-    let least = fewer x limit file carried actions boots is each in
+    let least = fewer x limit file carried actions boots is in
     let count = then_is.counted in
     let all : actions' ≡ actions = omega (arith, ahead, long, carried_long, least, count) in
     let word : actions_of then_is.history ≡ carried = ap actions_of history ∙ same_actions carried in
@@ -197,6 +195,7 @@ renewed_twice x limit file carried again actions boots actions' boots' is each t
       marks = is.marks;
       journal = is.journal;
       within = is.within;
+      texts = then_is.texts;
       carries = carried_again x limit (actions_of is.history) carried again is.carries
           (subst (λ (w : Word). IsCarriedFor x limit w again) word then_is.carries);
       counted = all ∙ is.counted;

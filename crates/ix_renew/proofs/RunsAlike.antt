@@ -573,23 +573,23 @@ module _ (file : List ℕ) (old new : Opening) (both : StartBeside file old new)
   history_is : old.history ≡ both.renewal.history
   history_is =
       one_history file old.history both.renewal.history both.starts.recovers
-      (file_recovers old.form old.limit file both.carried both.actions both.boots both.renewal both.texts)
+      (file_recovers old.form old.limit file both.carried both.actions both.boots both.renewal)
 
   said : (old.renewed ≡ renewed_of both.renewal.marks) × (both.starts.boots ≡ both.renewal.marks.boots)
   said =
       one_number file old.renewed (renewed_of both.renewal.marks) both.starts.boots both.renewal.marks.boots both.starts.holds
-      (file_holds old.form old.limit file both.carried both.actions both.boots both.renewal both.texts)
+      (file_holds old.form old.limit file both.carried both.actions both.boots both.renewal)
 
   new_history : without_tickets both.carried ≡ new.history
   new_history =
       one_history _ (without_tickets both.carried) new.history
-      (image_recovers old.form old.limit file both.carried both.actions both.boots both.renewal both.texts)
+      (image_recovers old.form old.limit file both.carried both.actions both.boots both.renewal)
       both.starts_anew.recovers
 
   new_said : (stands ≡ new.renewed) × (both.boots ≡ both.starts_anew.boots)
   new_said =
       one_number _ stands new.renewed both.boots both.starts_anew.boots
-      (image_holds old.form old.limit file both.carried both.actions both.boots both.renewal both.texts)
+      (image_holds old.form old.limit file both.carried both.actions both.boots both.renewal)
       both.starts_anew.holds
 
   boots_are : both.boots ≡ both.starts.boots

@@ -1,7 +1,6 @@
 -- The states that come later, also over renewals, and what stays true in them.
-use Rattle.std.specs.Prelude.{◌≡◌, ◌⊎◌, ℕ, ◌+◌, ◌≤◌, List, [], ◌∷◌, None, length, map, All}
+use Rattle.std.specs.Prelude.{◌≡◌, ◌⊎◌, ℕ, ◌+◌, ◌≤◌, List, [], ◌∷◌, None, length, map}
 use Rattle.ix_values.specs.PlainAction.{PlainAction, Word}
-use Rattle.ix_values.specs.Texts.{IsAction}
 use Rattle.ix_values.specs.declared.tickets.Ticket.{Ticket}
 use Rattle.ix_journal.specs.Format.{renewed_journal}
 use Rattle.ix_journal.specs.History.{PlainHistory, actions_of}
@@ -110,7 +109,7 @@ RenewedStartsComeLater =
     (x : Form) (limit : ℕ) (file : List ℕ) (s : MachineState) (kept : PlainHistory)
     (carried : Word) (actions boots : ℕ)
     → MayKeep s kept → Recovers file kept → HoldsBoots file s.renewed s.boot
-    → IsRenewal x limit file carried actions boots → All IsAction carried
+    → IsRenewal x limit file carried actions boots
     → let image = renewed_journal (canonical_text x) carried actions boots in
     let renewed = renewed_as s kept carried in
     IsStartable (opening_of x limit (without_tickets carried) renewed (s.boot + 1)) image
@@ -122,7 +121,7 @@ abbrev pub RenewedTwice : Type 0
 RenewedTwice =
     (x : Form) (limit : ℕ) (file : List ℕ) (carried again : Word)
     (actions boots actions' boots' : ℕ)
-    → IsRenewal x limit file carried actions boots → All IsAction carried
+    → IsRenewal x limit file carried actions boots
     → IsRenewal x limit (renewed_journal (canonical_text x) carried actions boots) again actions'
     boots'
     → IsRenewal x limit file again actions' boots'

@@ -1,6 +1,7 @@
 -- What a renewal makes of a journal that rests, and why it makes nothing.
-use Rattle.std.specs.Prelude.{◌≡◌, ◌≢◌, ◌⊎◌, ℕ, ◌<◌, ◌≤◌, ◌^◌, List, [], Option, None, Some, ⊤}
+use Rattle.std.specs.Prelude.{◌≡◌, ◌≢◌, ◌⊎◌, ℕ, ◌<◌, ◌≤◌, ◌^◌, List, [], Option, None, Some, All, ⊤}
 use Rattle.ix_values.specs.PlainAction.{Word}
+use Rattle.ix_values.specs.Texts.{IsAction}
 use Rattle.ix_journal.specs.Entries.{or_none, renewed_of}
 use Rattle.ix_journal.specs.Format.{renewed_journal}
 use Rattle.ix_journal.specs.History.{PlainHistory, actions_of}
@@ -22,27 +23,32 @@ pub record IsJournalOf (x : Form) (file : List ℕ) (history : PlainHistory) (ma
   pub gate : ℕ
   pub journal : IsJournalWith file (canonical_text x) history marks gate
 
--- its count or its boots are above 2^63
+-- the most actions and the most boots that a journal may stand for
+abbrev pub most_counted : ℕ
+most_counted = 2 ^ 63
+
+-- it has more of the one or of the other
 pub record IsAboveMost (x : Form) (file : List ℕ) : Type 0 where
   pub history : PlainHistory
   pub marks : Marks
   pub journal : IsJournalOf x file history marks
-  pub above : (2 ^ 63 < count_of (renewed_of marks) history) ⊎ (2 ^ 63 < marks.boots)
+  pub above : (most_counted < count_of (renewed_of marks) history) ⊎ (most_counted < marks.boots)
 
--- The word may be carried in place of the history of the journal in this file, each prefix of which
--- is within the limit; it stands for these actions and boots, which are the journal's count and the
--- number of its last boot.
+-- The word, which is of actions, may be carried in place of the history of the journal in this file,
+-- each prefix of which is within the limit; it stands for these actions and boots, which are the
+-- journal's count and the number of its last boot.
 pub record IsRenewal (x : Form) (limit : ℕ) (file : List ℕ) (carried : Word) (actions boots : ℕ)
     : Type 0 where
   pub history : PlainHistory
   pub marks : Marks
   pub journal : IsJournalOf x file history marks
   pub within : EachPrefixIsWithin x limit (actions_of history)
+  pub texts : All IsAction carried
   pub carries : IsCarriedFor x limit (actions_of history) carried
   pub counted : actions ≡ count_of (renewed_of marks) history
   pub booted : boots ≡ marks.boots
-  pub few_actions : actions ≤ 2 ^ 63
-  pub few_boots : boots ≤ 2 ^ 63
+  pub few_actions : actions ≤ most_counted
+  pub few_boots : boots ≤ most_counted
 
 -- the image is a whole renewed journal of the one in this file
 pub record IsRenewed (x : Form) (limit : ℕ) (file image : List ℕ) : Type 0 where

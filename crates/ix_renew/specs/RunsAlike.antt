@@ -1,7 +1,6 @@
 -- Runs from a journal, and runs from the one that a renewal made of it: they are answered alike.
-use Rattle.std.specs.Prelude.{◌≡◌, ℕ, ◌+◌, ◌<◌, ◌≤◌, List, [], ◌∷◌, ◌++◌, All, length}
+use Rattle.std.specs.Prelude.{◌≡◌, ℕ, ◌+◌, ◌<◌, ◌≤◌, List, [], ◌∷◌, ◌++◌, length}
 use Rattle.ix_values.specs.PlainAction.{PlainAction, Word}
-use Rattle.ix_values.specs.Texts.{IsAction}
 use Rattle.ix_values.specs.declared.tickets.Ticket.{Ticket}
 use Rattle.ix_journal.specs.Format.{renewed_journal}
 use Rattle.ix_journal.specs.declared.entries.Renewed.{Renewed}
@@ -29,7 +28,6 @@ pub record StartBeside (file : List ℕ) (old new : Opening) : Type 0 where
   pub actions : ℕ
   pub boots : ℕ
   pub renewal : IsRenewal old.form old.limit file carried actions boots
-  pub texts : All IsAction carried
   pub formed : IsWellFormed old.form
   pub form : new.form ≡ old.form
   pub limit : new.limit ≡ old.limit

@@ -1,7 +1,8 @@
 //! A journal that stands for another one.
 
 ghost use Rattle.std.specs.Prelude.{◌≡◌, ◌≢◌, ◌<◌, ◌≤◌, ◌^◌, [], false, length, Err, IfOk};
-ghost use Rattle.std.specs.Prelude.{IfErr, OnOk};
+ghost use Rattle.std.specs.Prelude.{All, IfErr, OnOk};
+ghost use Rattle.ix_values.specs.Texts.{IsAction};
 ghost use Rattle.ix_step.specs.inside.Limits.{most_size};
 ghost use Rattle.ix_journal.specs.Format.{renewed_journal};
 ghost use Rattle.ix_outside.specs.Counts.{Rose};
@@ -72,6 +73,7 @@ pub fn renew<S: Site>(
     let text = text(alloc, &expression)?;
     let resting = rest(alloc, expression, limit, journal, &text)?;
     let word = carried(alloc, &resting.engine)?;
+    are_actions(&word);
     let renewal = Renewal {
         actions: resting.actions,
         boots: resting.boots,
@@ -79,6 +81,15 @@ pub fn renew<S: Site>(
     };
     make(alloc, site, new, &text, &word, renewal)?;
     Ok(renewal)
+}
+
+/// Each item of a word is an action.
+fn are_actions(word: &[Action])
+    ensures { All IsAction word.now }
+{
+    for action in word {
+        action.name();
+    }
 }
 
 /// Attaches the file of this name, and makes the journal in it.

@@ -1,5 +1,6 @@
-use Rattle.std.proofs.Common.{◌≡◌, inl, inr, [], Err, List, ℕ, length, sym, ◌∙◌, ap, subst}
+use Rattle.std.proofs.Common.{◌≡◌, All, inl, inr, [], Err, List, ℕ, length, sym, ◌∙◌, ap, subst}
 use Rattle.ix_values.specs.PlainAction.{Word}
+use Rattle.ix_values.specs.Texts.{IsAction}
 use Rattle.ix_journal.specs.Format.{renewed_journal}
 use Rattle.ix_renew.specs.Carried.{IsCarriedFor}
 use Rattle.ix_renew.specs.Renewal.{IsRenewal, IsRenewed, OfNewFile}
@@ -53,12 +54,13 @@ returns-in_err-make-clause-leaves g c =
     let file = c.args.journal.now in
     let resting = c.in_ok-resting.resting in
     let engine = resting.engine in
-    let text = c.deref-2.result.now in
-    let text_is = c.deref-2.ensures.value ∙ c.in_ok-text.ensures.value in
-    let word = c.deref-3.result.now in
+    let text = c.deref-3.result.now in
+    let text_is = c.deref-3.ensures.value ∙ c.in_ok-text.ensures.value in
+    let word = c.deref-4.result.now in
     let renewal : IsRenewal x limit file word resting.actions resting.boots =
     renewal_of x limit file engine resting.actions resting.boots c.in_ok-resting.ensures word
-    (subst (λ (w : Word). IsCarriedFor engine.form engine.limit engine.history w) (sym c.deref-3.ensures.value)
+    (subst (All IsAction) (c.deref-2.ensures.value ∙ sym c.deref-4.ensures.value) c.are_actions.ensures)
+    (subst (λ (w : Word). IsCarriedFor engine.form engine.limit engine.history w) (sym c.deref-4.ensures.value)
     c.in_ok-word.ensures.carried) in
     let renewed : IsRenewed x limit file (renewed_journal text word resting.actions resting.boots) =
     record {
@@ -79,12 +81,13 @@ returns-clause-leaves g c =
     let file = c.args.journal.now in
     let resting = c.in_ok-resting.resting in
     let engine = resting.engine in
-    let text = c.deref-2.result.now in
-    let text_is = c.deref-2.ensures.value ∙ c.in_ok-text.ensures.value in
-    let word = c.deref-3.result.now in
+    let text = c.deref-3.result.now in
+    let text_is = c.deref-3.ensures.value ∙ c.in_ok-text.ensures.value in
+    let word = c.deref-4.result.now in
     let renewal : IsRenewal x limit file word resting.actions resting.boots =
     renewal_of x limit file engine resting.actions resting.boots c.in_ok-resting.ensures word
-    (subst (λ (w : Word). IsCarriedFor engine.form engine.limit engine.history w) (sym c.deref-3.ensures.value)
+    (subst (All IsAction) (c.deref-2.ensures.value ∙ sym c.deref-4.ensures.value) c.are_actions.ensures)
+    (subst (λ (w : Word). IsCarriedFor engine.form engine.limit engine.history w) (sym c.deref-4.ensures.value)
     c.in_ok-word.ensures.carried) in
     let renewed : IsRenewed x limit file (renewed_journal text word resting.actions resting.boots) =
     record {
@@ -104,17 +107,18 @@ returns-clause-renewed g c =
     let file = c.args.journal.now in
     let resting = c.in_ok-resting.resting in
     let engine = resting.engine in
-    let text = c.deref-2.result.now in
-    let text_is = c.deref-2.ensures.value ∙ c.in_ok-text.ensures.value in
-    let word = c.deref-3.result.now in
+    let text = c.deref-3.result.now in
+    let text_is = c.deref-3.ensures.value ∙ c.in_ok-text.ensures.value in
+    let word = c.deref-4.result.now in
     let renewal : IsRenewal x limit file word resting.actions resting.boots =
     renewal_of x limit file engine resting.actions resting.boots c.in_ok-resting.ensures word
-    (subst (λ (w : Word). IsCarriedFor engine.form engine.limit engine.history w) (sym c.deref-3.ensures.value)
+    (subst (All IsAction) (c.deref-2.ensures.value ∙ sym c.deref-4.ensures.value) c.are_actions.ensures)
+    (subst (λ (w : Word). IsCarriedFor engine.form engine.limit engine.history w) (sym c.deref-4.ensures.value)
     c.in_ok-word.ensures.carried) in
     record {
       carried = word;
       renewal = renewal;
-      number = c.len.ensures ∙ c.in_ok-word.word.ok.0 ∙ ap (λ (w : Word). length w) (sym c.deref-3.ensures.value);
+      number = c.len.ensures ∙ c.in_ok-word.word.ok.0 ∙ ap (λ (w : Word). length w) (sym c.deref-4.ensures.value);
       made = subst (λ (t : List ℕ). OfNewFile c.args.new.now (λ opened now. (opened.file ≡ [])
           × (now ≡ renewed_journal t word resting.actions resting.boots)) (g.S.Site.state c.make.new.site).disk) text_is
           c.in_ok-make.ensures.made;
