@@ -186,6 +186,27 @@ impl ManagerLink {
         self.manages();
     }
 
+    /// Whether there is a manager. There is none once one could not be started again.
+    pub fn has_manager(&self) -> bool
+        ensures { result ≡ is_some self.now.manager }
+    {
+        self.manager.is_some()
+    }
+
+    /// How many calls failed, and starts again.
+    pub fn faults(&self) -> u64
+        ensures { result ≡ self.now.faults }
+    {
+        self.faults
+    }
+
+    /// The site of the manager, with the file that it keeps.
+    pub fn site(&self) -> &MemorySite
+        ensures { result.now ≡ self.now.site }
+    {
+        &self.site
+    }
+
     /// What the link's manager is to its text, its limit and its site.
     fn manages(&self)
         ensures { IsManagerWhere self.now.text self.now.limit self.now.manager self.now.site }
@@ -203,12 +224,6 @@ impl ManagerLink {
         self.calls = self.calls.saturating_add(1);
         self.line = keep_line(line);
         failing
-    }
-
-    fn has_manager(&self) -> bool
-        ensures { result ≡ is_some self.now.manager }
-    {
-        self.manager.is_some()
     }
 
     /// Passes a request on to the manager, which is kept where it may go on.
