@@ -14,6 +14,7 @@ from .asks import Asks
 from .client import Client
 from .gate import Gate
 from .handing import State, hand_over, is_kept, number_of
+from .held import Held
 from .link import Link
 from .log import Log, quoted
 from .loop import TurnSelector
@@ -55,6 +56,7 @@ class Front:
         self._asks = Asks(self, options.again)
         self._watches = Watches()
         self._recent = Recent()
+        self._held_records = Held(options.records, options.every)
         policy = None if options.policy is None else read_policy(options.policy)
         self._rights = Rights(policy, self._watches, options.lease, options.watches)
         self._held: dict[ClientLine, None] = {}  # lines but asks that came while there was no manager
@@ -487,7 +489,7 @@ class Front:
         return self.metrics.text(Now(
             self.health()[0], self.link.is_up, len(asks), 0.0 if oldest is None else now - oldest, len(self.clients),
             self._unread.bytes, len(self._watches), reservation, self.log.lost, self.log.is_well(), self.log.written.number,
-            self.policy_well, self.options.nodes))
+            self.policy_well, self.options.nodes, self._held_records.found))
 
     def view_text(self) -> str:
         """What people see, as JSON."""
@@ -499,11 +501,13 @@ class Front:
             reservation = Asked(asks.holder.who.key if asks.holder else None, start + asks.since, action, start + asks.until)
         waiting = [Asked(ask.client.who.key, start + ask.came, shown(ask.line, 1)) for ask in islice(asks.waiting(), FIRST)]
         is_there = self.link.is_up
+        # Where nobody tells what the journal's file has, it is taken for one that wasn't renewed.
+        actions, boots = self._held_records.found or ((metrics.history, metrics.boots()) if is_there else (None, None))
         return Seen(
             self.health()[0], self._manager()[1], reservation, waiting, len(asks), self._recent.last(metrics.history, start),
-            {"history": (metrics.history if is_there else None, HISTORY_LIMIT),
+            {"history": (actions, HISTORY_LIMIT),
              "nodes": (metrics.nodes if is_there else None, self.options.nodes),
-             "boots": (metrics.boots() if is_there else None, BOOTS_LIMIT),
+             "boots": (boots, BOOTS_LIMIT),
              "watches": (len(self._watches), WATCHES_LIMIT),
              "clients": (len(self.clients), self.options.clients)}).text(self.options.page_actions)
 

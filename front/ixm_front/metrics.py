@@ -56,6 +56,7 @@ class Now:
     log_number: int
     policy_well: bool
     nodes_limit: int
+    held: tuple[int, int] | None  # the journal's records of actions and of boots
 
 
 class Metrics:
@@ -81,7 +82,8 @@ class Metrics:
         self.began = time.time()
 
     def boots(self) -> int | None:
-        """The starts of a manager on this journal, which a ticket begins with; None where none was granted."""
+        """The starts of a manager, those of before a renewal too, which a ticket begins with; None where none was
+        granted."""
         return number(self.ticket.partition(b"-")[0])
 
     def text(self, now: Now) -> str:
@@ -122,9 +124,12 @@ class Metrics:
             gauge("ixm_complete", "Whether the history is complete.", int(self.is_complete))
             boots = self.boots()
             if boots is not None:
-                gauge("ixm_boots", "Starts of a manager on this journal.", boots)
-        gauge("ixm_history_limit", "How many actions there may be.", HISTORY_LIMIT)
-        gauge("ixm_boots_limit", "How many starts there may be.", BOOTS_LIMIT)
+                gauge("ixm_boots", "Starts of a manager, those of before a renewal too.", boots)
+        if now.held is not None:
+            gauge("ixm_journal_actions", "Actions that the journal's file has.", now.held[0])
+            gauge("ixm_journal_boots", "Starts that the journal's file has.", now.held[1])
+        gauge("ixm_history_limit", "How many actions the journal's file may have.", HISTORY_LIMIT)
+        gauge("ixm_boots_limit", "How many starts it may have.", BOOTS_LIMIT)
         gauge("ixm_nodes_limit", "How large the state may be, as --nodes says.", now.nodes_limit)
         used = resource.getrusage(resource.RUSAGE_SELF)
         page.count("process_cpu_seconds_total", "Processor time of the front.", f"{used.ru_utime + used.ru_stime:.3f}")

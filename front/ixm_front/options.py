@@ -46,6 +46,7 @@ class Options:
     file: str | None
     every: float
     nodes: int
+    records: str | None
     tls: tuple[str, int] | None
     tls_cert: str | None
     tls_key: str | None
@@ -156,6 +157,7 @@ def parser_of() -> argparse.ArgumentParser:
     add("--every", type=seconds, default=10, metavar="SECONDS",
         help="how often the manager is asked for its status, and the file is written")
     add("--nodes", type=counted(1, 1000000), default=100000, metavar="N", help="the manager's own, for the metrics")
+    add("--records", metavar="FILE", help="where `ixm-look` writes how many records the journal has, for the metrics")
     add("--tls", type=address, metavar="ADDRESS:PORT", help="where clients of other machines connect")
     add("--tls-cert", metavar="FILE", help="the certificate that they are shown")
     add("--tls-key", metavar="FILE", help="its key")

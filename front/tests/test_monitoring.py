@@ -91,7 +91,9 @@ class Metrics(Place):
 class Rules(Place):
     def names_told(self) -> set[str]:
         """The names of the metrics that a front tells once it has done everything."""
-        front = self.paged(self.manager().path, "--allow-stop")
+        with open(f"{self.folder}/records", "w", encoding="ascii") as file:
+            file.write("1 1\n")
+        front = self.paged(self.manager().path, "--allow-stop", "--records", f"{self.folder}/records")
         with Client(front.path) as client:
             client.request("ask do(a) 60000")
             text = page(self.folder, "/metrics")

@@ -7,7 +7,7 @@ import os
 import signal
 import subprocess
 
-from .support import IXM, Client, Manager, Place, last_record, page, wait_until
+from .support import HERE, IXM, Client, Manager, Place, last_record, metric, page, wait_until
 from .test_log import audit
 
 OLD = "old-journal"
@@ -88,6 +88,32 @@ class Renewed(Place):
         front.stop()
         front.start()
         wait_until(lambda: self.last_ones() == ["do(b)", "left out"], "both are told")
+
+    def test_the_metrics_tell_what_the_renewed_file_holds(self) -> None:
+        records = f"{self.folder}/kept.records"
+        front = self.paged(self.run_of.path, "--records", records, "--every", "0.1")
+        with Client(front.path) as client:
+            for action in ("do(a)", "do(b)", "do(c)"):
+                self.do(client, action)
+            self.assertIsNone(metric(self.folder, "ixm_journal_actions"))
+            self.look(front.path)
+            wait_until(lambda: metric(self.folder, "ixm_journal_actions") == 3, "what look has written")
+            self.renew(self.run_of)
+            self.do(client, "do(d)")
+            self.look(front.path)
+        with open(records, encoding="ascii") as file:
+            actions, boots = (int(word) for word in file.read().split())
+        # The rules permit each action at any time, so nothing is carried.
+        self.assertEqual((actions, boots), (1, 1))
+        wait_until(lambda: metric(self.folder, "ixm_journal_actions") == 1, "what look has written")
+        self.assertEqual([metric(self.folder, f"ixm_{name}") for name in ("journal_boots", "history_length", "boots")], [1, 4, 2])
+        counts = json.loads(page(self.folder, "/now").partition("\n\n")[2])["counts"]
+        self.assertEqual((counts["history"], counts["boots"]), ([1, 1000000], [1, 1000000]))
+
+    def look(self, socket: str) -> None:
+        """Has `look` write down what the journal holds."""
+        words = ["--front", socket, "--journal", f"{self.folder}/journal", socket, f"{self.folder}/kept", "100000"]
+        subprocess.run([f"{HERE}/../../service/look", *words], stdout=subprocess.DEVNULL, check=True)
 
     def last_ones(self) -> list[str | None]:
         """The names of the last actions that the page has."""
