@@ -1,9 +1,16 @@
-"""What programs of this folder share: the version, and what a journal has by its gates (docs/journal.md)."""
+"""What programs of this folder share: the version, the keys of a journal in etcd (docs/standby.md), and what a journal has by
+its gates (docs/journal.md)."""
 
 from __future__ import annotations
 
+import base64
+import json
 import mmap
 import os
+import urllib.error
+import urllib.request
+from collections.abc import Iterator, Mapping
+from contextlib import contextmanager
 from dataclasses import dataclass
 
 OPEN = 0xA5
@@ -11,6 +18,99 @@ MAGICS = (b"IXJ1", b"IXJ2", b"IXJ3")
 BOOT, RENEWED = b"boot ", b"renewed "
 NINE = ord("9")
 MOST = 1_000_000  # records of actions, and of boots
+ETCD = "etcd:"  # what a journal begins with that is a prefix of keys
+BLOCK = 4096  # bytes of a block
+AT_ONCE = 100  # blocks in a transaction, or in a read
+LIMIT = 10  # seconds for an answer
+
+
+class Fault(Exception):
+    """Why etcd doesn't give what it was asked for."""
+
+
+def code(data: bytes) -> str:
+    return base64.b64encode(data).decode()
+
+
+class Keys:
+    """The keys of one journal."""
+
+    def __init__(self, prefix: str) -> None:
+        self.prefix = prefix
+        self.head = code(f"{prefix}/head".encode())
+        self.members = (os.environ.get("ETCDCTL_ENDPOINTS") or "127.0.0.1:2379").split(",")
+
+    def ask(self, path: str, body: Mapping[str, object]) -> dict[str, object]:
+        """The answer of the first member that answers."""
+        why = ""
+        for member in self.members:
+            place = member if member.startswith("http://") else f"http://{member}"
+            try:
+                request = urllib.request.Request(place + path, json.dumps(body).encode())
+                with urllib.request.urlopen(request, timeout=LIMIT) as reply:
+                    answer = json.load(reply)
+                if isinstance(answer, dict) and "header" in answer:
+                    return answer
+            except urllib.error.HTTPError as error:
+                raise Fault(f"etcd refuses: {error.read().decode(errors='replace').strip()}") from None
+            except (OSError, ValueError) as error:
+                why = f"{error}"
+        raise Fault(f"no member of etcd answers: {why}")
+
+    def block(self, number: int) -> str:
+        return code(f"{self.prefix}/block/{number:020}".encode())
+
+    def values(self, body: Mapping[str, object]) -> tuple[list[tuple[bytes, bytes]], str]:
+        """The keys that were asked for, with their values, and the revision of etcd."""
+        answer = self.ask("/v3/kv/range", body)
+        found, header = answer.get("kvs", []), answer["header"]
+        assert isinstance(found, list) and isinstance(header, dict)
+        return [(base64.b64decode(one["key"]), base64.b64decode(one.get("value", ""))) for one in found], header["revision"]
+
+    def length(self) -> tuple[int, str]:
+        """How many bytes there are, and the revision of etcd."""
+        heads, revision = self.values({"key": self.head})
+        if not heads:
+            raise Fault(f"etcd has no journal under {self.prefix}")
+        words = heads[0][1].split()
+        if len(words) != 3 or not words[2].isdigit():
+            raise Fault(f"{self.prefix}/head is no journal's: {heads[0][1]!r}")
+        return int(words[2]), revision
+
+    def read(self) -> bytes:
+        """All bytes, as they are at one revision."""
+        length, revision = self.length()
+        pieces: list[bytes] = []
+        end, count = code(f"{self.prefix}/block0".encode()), -(-length // BLOCK)
+        while len(pieces) < count:
+            body = {"key": self.block(len(pieces)), "range_end": end, "limit": str(AT_ONCE), "revision": revision}
+            found, _ = self.values(body)
+            for key, value in found:
+                if int(key.rsplit(b"/", 1)[1]) != len(pieces) or len(value) != min(BLOCK, length - BLOCK * len(pieces)):
+                    raise Fault(f"block {len(pieces)} is missing or has another length")
+                pieces.append(value)
+            if not found:
+                raise Fault(f"block {len(pieces)} is missing")
+        return b"".join(pieces)
+
+    def value(self, key: str) -> bytes | None:
+        """What a key has, where it is there."""
+        found, _ = self.values({"key": code(key.encode())})
+        return found[0][1] if found else None
+
+    def put(self, *pairs: tuple[str, bytes]) -> None:
+        """Puts values, while there is no head."""
+        puts = [{"request_put": {"key": key, "value": code(value)}} for key, value in pairs]
+        is_new = {"target": "MOD", "result": "EQUAL", "key": self.head, "mod_revision": "0"}
+        if not self.ask("/v3/kv/txn", {"compare": [is_new], "success": puts}).get("succeeded"):
+            raise Fault(f"etcd has a journal under {self.prefix}")
+
+    def write(self, data: bytes) -> None:
+        """Puts the blocks, and then the head, with which the journal is there."""
+        blocks = [data[at:at + BLOCK] for at in range(0, len(data), BLOCK)]
+        for first in range(0, len(blocks), AT_ONCE):
+            self.put(*((self.block(first + i), block) for i, block in enumerate(blocks[first:first + AT_ONCE])))
+        self.put((self.head, f"0 0 {len(data)}".encode()))
 
 
 @dataclass(frozen=True)
@@ -68,11 +168,28 @@ def count(data: bytes | mmap.mmap) -> Counts:
     return Counts(actions, boots) if said is None else Counts(actions, boots, True, *said)
 
 
-def counts_of(path: str) -> Counts:
-    """Those of a file, which mean something where it begins as a journal does."""
-    if os.path.getsize(path) == 0:
-        return Counts()
-    with open(path, "rb") as file, mmap.mmap(file.fileno(), 0, access=mmap.ACCESS_READ) as data:
+@contextmanager
+def opened(journal: str) -> Iterator[bytes | mmap.mmap]:
+    """The bytes of a journal, which is a file or in etcd."""
+    if journal.startswith(ETCD):
+        yield Keys(journal[len(ETCD):]).read()
+    elif os.path.getsize(journal) == 0:
+        yield b""
+    else:
+        with open(journal, "rb") as file, mmap.mmap(file.fileno(), 0, access=mmap.ACCESS_READ) as data:
+            yield data
+
+
+def length_of(journal: str) -> int:
+    """How many bytes it has."""
+    if journal.startswith(ETCD):
+        return Keys(journal[len(ETCD):]).length()[0]
+    return os.path.getsize(journal)
+
+
+def counts_of(journal: str) -> Counts:
+    """Those of a journal, which mean something where it begins as one does."""
+    with opened(journal) as data:
         return count(data)
 
 
