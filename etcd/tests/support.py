@@ -4,6 +4,7 @@ from __future__ import annotations
 
 import json
 import os
+import signal
 import socket
 import subprocess
 import sys
@@ -22,8 +23,9 @@ LIMIT = 120  # seconds for whatever a busy machine does
 
 def go_alone() -> None:
     """Begins this program again in a network of its own, with names of networks that no other sees. Ends it with 77 where
-    there can't be one."""
+    there can't be one. Told to end, it ends what it began."""
     if ALONE in os.environ:
+        signal.signal(signal.SIGTERM, lambda number, frame: sys.exit(128 + number))
         return
     way = ["unshare", "--net", "--mount", "--propagation", "private"]
     if subprocess.run([*way, "true"]).returncode:
