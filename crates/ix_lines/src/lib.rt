@@ -4,6 +4,7 @@
 //! each line of at most 512 bytes whole, and each longer one as a single notice. Of a text that is
 //! there as a whole, `first_line` gives the first line, `split_word` the first word, `read_number`
 //! the decimal number that it is, and `first_fault` the first line that isn't in a grammar.
+//! `append` and `append_number` put bytes and decimal numbers into a line that is being written.
 #![tactic(auto)]
 
 ghost use Rattle.std.specs.Prelude.{◌≡◌, ◌+◌, ◌-◌, ◌<◌, ◌≤◌, ◌↔◌, ℕ, [], length, take, IsNone};
@@ -11,12 +12,14 @@ ghost use Rattle.std.specs.Prelude.{IfNone, IfSome};
 ghost use Rattle.std.specs.Borrow.{sem};
 ghost use Rattle.ix_lines.specs.Feeding.{unfinished, skipping, completes, holds_after, Feeds};
 
+mod appending;
 pub mod laws;
 mod line_faults;
 mod number;
 mod text_lines;
 mod words;
 
+pub use appending::{append, append_number};
 use arrayvec::ArrayVec;
 pub use line_faults::{LineFault, LineGrammar, first_fault};
 use memchr::memchr;
