@@ -1,14 +1,12 @@
 //! Tickets: what a granted ask is known by, in the run that granted it and behind its end.
 
-ghost use Rattle.std.specs.Prelude.{◌≡◌, ◌+◌, ◌<◌, ◌≤◌, ◌^◌, ◌==◌, [], ◌++◌, MatchOption};
-ghost use Rattle.std.specs.Prelude.{decimal, position};
+ghost use Rattle.std.specs.Prelude.{◌≡◌, ◌≤◌, ◌==◌, [], MatchOption, position};
 ghost use Rattle.arrayvec.specs.ArrayVec.{array_vec_len};
 ghost use Rattle.ix_values.specs.Laws.{TextsTellTicketsApart};
 ghost use Rattle.ix_values.specs.Tickets.{IsTicket, IsTicketText, ticket_text};
 
 use arrayvec::ArrayVec;
-use itoa::Buffer;
-use ix_lines::read_number;
+use ix_lines::{append_number, read_number};
 
 /// What a granted ask is known by.
 #[derive(Clone, Copy, Debug, PartialEq, Eq)]
@@ -50,16 +48,6 @@ fn first_dash(text: &[u8]) -> Option<usize>
     ensures { result ≡ position (λ byte. byte == 45) text.now }
 {
     text.iter().position(|byte| *byte == b'-')
-}
-
-fn append_number(out: &mut ArrayVec<u8, 48>, number: u64)
-    requires { array_vec_len out.old ≤ 28 }
-    ensures items { out.new.items ≡ out.old.items ++ decimal number }
-    ensures len { array_vec_len out.new ≤ array_vec_len out.old + 20 }
-    ensures fits { number < 2 ^ 64 }
-{
-    let mut buffer = Buffer::new();
-    let _ = out.try_extend_from_slice(buffer.format(number).as_bytes());
 }
 
 /// Two tickets with one text are the same ticket.

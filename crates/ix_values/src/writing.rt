@@ -10,6 +10,7 @@ ghost use Rattle.ix_values.specs.Texts.{IsAction};
 use crate::actions::Action;
 use crate::values::Value;
 use arrayvec::ArrayVec;
+use ix_lines::append;
 
 impl Action {
     /// Writes the text of the action, at most 165 bytes, into `out`, which is empty.
@@ -40,15 +41,6 @@ fn write_values(out: &mut ArrayVec<u8, 168>, front: &[Value], last: &Value)
     }
     append(out, last.bytes());
     out.push(b')');
-}
-
-fn append(out: &mut ArrayVec<u8, 168>, bytes: &[u8])
-    requires { array_vec_len out.old + length bytes.now ≤ 168 }
-    ensures { out.new.items ≡ out.old.items ++ bytes.now }
-{
-    for byte in bytes {
-        out.push(*byte);
-    }
 }
 
 /// Two actions with one text are the same action, so a text that is printed

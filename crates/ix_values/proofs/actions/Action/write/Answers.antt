@@ -17,7 +17,7 @@ pub returns-in-len1-up-clause-text : goal.returns-in-len1-up-clause-text
 returns-in-len1-up-clause-text c =
     let values = c.values.result.now in
     let whole = front_and_last values c.last-item.result c.in-len1-up.len_at_least c.last-item.is in
-    let name : c.append.new.out.items ≡ c.args.self.now.name = grind (arith) in
+    let name : c.append.new.line.items ≡ c.args.self.now.name = grind (arith) in
     c.write_values.ensures.text
     ∙ ap (λ n. (opened n (take (length values - 1) values) ++ c.last-item.result) ++ 41 ∷ []) name
     ∙ sym (text_of-push c.args.self.now.name (take (length values - 1) values) c.last-item.result)
