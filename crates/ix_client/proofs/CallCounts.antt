@@ -5,7 +5,7 @@ use Rattle.std.specs.Option.{ForSome}
 use Rattle.std.proofs.lemmas.Bool.{cases_lt}
 use Rattle.ix_can.specs.TreeOf.{tree_size}
 use Rattle.ix_expr.specs.Form.{Form}
-use Rattle.ix_memory.specs.Calls.{one_more}
+use Rattle.ix_outside.specs.Counts.{one_more}
 use Rattle.ix_memory.specs.inside.MemorySiteState.{MemorySiteState, opened_where, state_of, told_disk}
 use Rattle.ix_outside.specs.Counts.{Rose}
 use Rattle.ix_proto.specs.Requests.{PlainRequest}

@@ -1,7 +1,7 @@
 -- What is kept of a manager in a link, and what the link tells then.
 use Rattle.std.proofs.Common.{◌≡◌, ◌⊎◌, inl, inr, ℕ, ◌≤◌, true, List, Option, Some, None, Result, Ok, Err, true≢false, refl, sym, ◌∙◌, subst, arith}
 use Rattle.std.specs.Prelude.{is_some}
-use Rattle.ix_memory.specs.Calls.{one_more}
+use Rattle.ix_outside.specs.Counts.{one_more}
 use Rattle.ix_memory.specs.inside.MemorySiteState.{MemorySiteState}
 use Rattle.ix_outside.specs.Counts.{Rose}
 use Rattle.ix_expr.specs.Form.{Form}

@@ -2,8 +2,7 @@
 use Rattle.std.specs.Prelude.{◌≡◌, ◌⊎◌, ℕ, None, Some, Result, Ok, Err}
 use Rattle.ix_values.specs.PlainAction.{PlainAction}
 use Rattle.ix_expr.specs.Form.{Form}
-use Rattle.ix_memory.specs.Calls.{one_more}
-use Rattle.ix_outside.specs.Counts.{Rose}
+use Rattle.ix_outside.specs.Counts.{one_more, Rose}
 use Rattle.ix_proto.specs.Requests as request
 use Rattle.ix_proto.specs.Requests.{PlainRequest}
 use Rattle.ix_manager.specs.Later.{Later}

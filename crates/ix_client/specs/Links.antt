@@ -4,8 +4,7 @@ use Rattle.std.specs.Prelude.{Result, Ok, Err, ⊤}
 use Rattle.ix_values.specs.declared.tickets.Ticket.{Ticket}
 use Rattle.ix_expr.specs.Form.{Form}
 use Rattle.ix_lines.specs.Words.{words_of}
-use Rattle.ix_memory.specs.Calls.{one_more}
-use Rattle.ix_outside.specs.Counts.{Rose}
+use Rattle.ix_outside.specs.Counts.{one_more, Rose}
 use Rattle.ix_proto.specs.Replies.{IsReply, reply_text}
 use Rattle.ix_proto.specs.Requests as request
 use Rattle.ix_proto.specs.Requests.{PlainRequest, IsRequest, request_words}

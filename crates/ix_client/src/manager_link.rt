@@ -2,8 +2,7 @@
 ghost use Rattle.std.specs.Prelude.{◌≡◌, ◌≤◌, ◌<◌, ◌+◌, ◌-◌, ◌^◌, ◌++◌, [], ◌∷◌, true, false};
 ghost use Rattle.std.specs.Prelude.{◌⊎◌, List, ℕ, length, is_some, IfErr, IfOk, IfSome, IsErr};
 ghost use Rattle.std.specs.Prelude.{OnOk, None, Ok, Some};
-ghost use Rattle.ix_outside.specs.Counts.{Rose};
-ghost use Rattle.ix_memory.specs.Calls.{one_more};
+ghost use Rattle.ix_outside.specs.Counts.{Rose, one_more};
 ghost use Rattle.ix_memory.specs.inside.MemorySiteState.{crashes_of, state_of};
 ghost use Rattle.ix_parse.specs.Faults.{StandsFor};
 ghost use Rattle.ix_proto.specs.Requests.{PlainRequest};

@@ -6,7 +6,7 @@ use Rattle.std.specs.List.{list_all}
 use Rattle.std.proofs.lemmas.Bool.Decides.{nat_tests}
 use Rattle.std.proofs.lemmas.Fmt.{decimal_by_steps, length-decimal-le}
 use Rattle.std.proofs.lemmas.List.Folds.{list_all-append}
-use Rattle.ix_values.specs.Bytes.{is_word_byte}
+use Rattle.ix_lines.specs.Bytes.{is_word_byte}
 use Rattle.ix_values.specs.Texts.{IsValue}
 
 digit : (n : ℕ) → n < 10 → is_word_byte (48 + n) ≡ true

@@ -1,7 +1,7 @@
 //! The actions of asks, and the numbers in them.
 ghost use Rattle.std.specs.Prelude.{◌≡◌, ◌<◌, ◌++◌, ◌∷◌, ℕ, List, decimal, true};
 ghost use Rattle.ix_values.specs.Texts.{IsName};
-ghost use Rattle.ix_values.specs.Bytes.{is_word_byte};
+ghost use Rattle.ix_lines.specs.Bytes.{is_word_byte};
 ghost use Rattle.ix_generate.specs.Workload.{action_on};
 
 use arrayvec::ArrayVec;

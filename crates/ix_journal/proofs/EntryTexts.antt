@@ -12,7 +12,7 @@ use Rattle.ix_lines.proofs.WordLemmas.{is_byte, is_space}
 use Rattle.ix_lines.specs.inside.WordsBehind.{behind_word, HasNoSpace}
 use Rattle.ix_values.proofs.Machine.{and-left, and-right}
 use Rattle.ix_values.proofs.TextsApart.{texts_apart}
-use Rattle.ix_values.specs.Bytes.{is_word_byte}
+use Rattle.ix_lines.specs.Bytes.{is_word_byte}
 use Rattle.ix_values.specs.PlainAction.{PlainAction, text_of, text_of_rest, text_of_values}
 use Rattle.ix_values.specs.Texts.{IsAction, IsValue}
 use Rattle.ix_values.specs.Tickets.{IsTicket, ticket_text}

@@ -3,7 +3,8 @@ use Rattle.std.proofs.Common.{◌≡◌, ℕ, Bool, true, false, cond, eqb, Opti
 use Rattle.std.proofs.lemmas.Bool.Decides.{nat_tests}
 use Rattle.ix_lex.specs.declared.TokenKind.{TokenKind}
 use Rattle.ix_lex.specs.declared.TokenKind.TheVariants.{Open, Close, Comma, Question, Star, Hash, Plus, Bar, Amp, At, Minus}
-use Rattle.ix_lex.specs.WordBytes.{is_blank, is_letter, is_word_byte, sign_of}
+use Rattle.ix_lex.specs.WordBytes.{is_blank, sign_of}
+use Rattle.ix_lines.specs.Bytes.{is_letter, is_word_byte}
 
 pub blank-no_word : (b : ℕ) → is_blank b ≡ true → is_word_byte b ≡ false
 blank-no_word b e = grind (arith, nat_tests)

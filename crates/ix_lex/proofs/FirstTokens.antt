@@ -3,7 +3,8 @@ use Rattle.std.proofs.Common.{◌≡◌, ℕ, suc, ◌+◌, true, List, [], ◌�
 use Rattle.std.specs.List.{prefix_len, take_while}
 use Rattle.std.proofs.lemmas.List.Sums.{prefix_len-le-length}
 use Rattle.ix_lex.specs.declared.TokenKind.TheVariants.{Word, Param}
-use Rattle.ix_lex.specs.WordBytes.{is_letter, is_word_byte, begins}
+use Rattle.ix_lex.specs.WordBytes.{begins}
+use Rattle.ix_lines.specs.Bytes.{is_letter, is_word_byte}
 use Rattle.ix_lex.specs.Lexing.{BeginsWith}
 use Rattle.ix_lex.specs.inside.FirstToken.{FirstToken}
 use Rattle.ix_lex.proofs.ByteClasses.{letter-word}

@@ -2,7 +2,8 @@
 use Rattle.std.proofs.Common.{◌≡◌, ℕ, suc, ◌+◌, Bool, true, false, eqb, List, [], ◌∷◌, ◌++◌, length, Option, Some, None, refl, sym, ap, ◌∙◌, subst, arith, eqb-true}
 use Rattle.ix_lex.specs.declared.TokenKind.{TokenKind}
 use Rattle.ix_lex.specs.declared.TokenKind.TheVariants.{Word, Param}
-use Rattle.ix_lex.specs.WordBytes.{is_blank, is_letter, is_word_byte, sign_of, begins}
+use Rattle.ix_lex.specs.WordBytes.{is_blank, sign_of, begins}
+use Rattle.ix_lines.specs.Bytes.{is_letter, is_word_byte}
 use Rattle.ix_lex.specs.Lexing.{Piece, token, Pieces, BeginsWith, BeginsNothing}
 use Rattle.ix_lex.specs.inside.Items.{grown, alone, with_byte, pieces_of}
 use Rattle.ix_lex.proofs.ByteClasses.{blank-no_word, letter-word, sign-no_other}

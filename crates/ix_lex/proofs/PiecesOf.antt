@@ -3,7 +3,8 @@ use Rattle.std.proofs.Common.{◌≡◌, ℕ, suc, ◌+◌, Bool, true, false, e
 use Rattle.std.specs.List.{list_all}
 use Rattle.ix_lex.specs.declared.TokenKind.{TokenKind}
 use Rattle.ix_lex.specs.declared.TokenKind.TheVariants.{Word, Param}
-use Rattle.ix_lex.specs.WordBytes.{is_blank, is_letter, is_word_byte, sign_of, begins}
+use Rattle.ix_lex.specs.WordBytes.{is_blank, sign_of, begins}
+use Rattle.ix_lines.specs.Bytes.{is_letter, is_word_byte}
 use Rattle.ix_lex.specs.Lexing.{Piece, token, bad_byte, BeginsWith, BeginsNothing}
 use Rattle.ix_lex.specs.inside.Items.{grown, alone, with_byte, pieces_of}
 use Rattle.ix_lex.proofs.ByteClasses.{blank-no_word, blank-no_dollar, sign-no_other}

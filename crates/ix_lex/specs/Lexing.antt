@@ -5,7 +5,8 @@ use Rattle.std.specs.Prelude.{None}
 use Rattle.std.specs.List.{list_all}
 use Rattle.ix_lex.specs.declared.TokenKind.{TokenKind}
 use Rattle.ix_lex.specs.declared.TokenKind.TheVariants.{Word, Param}
-use Rattle.ix_lex.specs.WordBytes.{is_blank, is_letter, is_word_byte, sign_of, begins}
+use Rattle.ix_lex.specs.WordBytes.{is_blank, sign_of, begins}
+use Rattle.ix_lines.specs.Bytes.{is_letter, is_word_byte}
 
 -- a token: its kind, its bytes, and where it starts and ends in the text
 pub record PlainToken : Type 0 where

@@ -1,7 +1,6 @@
 -- The bytes that tokens are made of.
 use Rattle.std.specs.Prelude.{ℕ, Bool, false, List, [], ◌∷◌, Option, Some, None, ◌||◌, ◌==◌}
 use Rattle.std.specs.Prelude.{if◌then◌else◌}
-use Rattle.std.specs.Char.{is_ascii_alphabetic, is_ascii_alphanumeric}
 use Rattle.ix_lex.specs.declared.TokenKind.{TokenKind}
 use Rattle.ix_lex.specs.declared.TokenKind.TheVariants.{Open, Close, Comma, Question, Star, Hash}
 use Rattle.ix_lex.specs.declared.TokenKind.TheVariants.{Plus, Bar, Amp, At, Minus}
@@ -9,14 +8,6 @@ use Rattle.ix_lex.specs.declared.TokenKind.TheVariants.{Plus, Bar, Amp, At, Minu
 -- a line's end or a space: what separates tokens and means nothing else
 abbrev pub is_blank : ℕ → Bool
 is_blank b = (b == 10) || (b == 32)
-
--- a letter of ASCII
-abbrev pub is_letter : ℕ → Bool
-is_letter b = is_ascii_alphabetic b
-
--- a letter, a digit or `_`
-abbrev pub is_word_byte : ℕ → Bool
-is_word_byte b = is_ascii_alphanumeric b || (b == 95)
 
 -- the kind of a sign of one byte
 abbrev pub sign_of : ℕ → Option TokenKind

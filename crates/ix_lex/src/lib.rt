@@ -2,9 +2,12 @@
 #![tactic(auto)]
 
 ghost use Rattle.std.specs.Prelude.{◌≡◌, false, ◌≤◌, ◌∷◌, length, take_while, MatchOption};
-ghost use Rattle.ix_lex.specs.WordBytes.{begins, is_blank, is_letter, is_word_byte, sign_of};
+ghost use Rattle.ix_lex.specs.WordBytes.{begins, is_blank, sign_of};
+ghost use Rattle.ix_lines.specs.Bytes.{is_letter, is_word_byte};
 ghost use Rattle.ix_lex.specs.Lexing.{BeginsNothing};
 ghost use Rattle.ix_lex.specs.inside.FirstToken.{FirstToken};
+
+use ix_lines::is_word_byte;
 
 /// What a token is: a word, a parameter, or one of eleven signs.
 #[derive(Clone, Copy, Debug, PartialEq, Eq, Hash)]
@@ -67,12 +70,6 @@ fn is_blank(byte: u8) -> bool
     ensures { result ≡ is_blank byte }
 {
     byte == b'\n' || byte == b' '
-}
-
-fn is_word_byte(byte: u8) -> bool
-    ensures { result ≡ is_word_byte byte }
-{
-    byte.is_ascii_alphanumeric() || byte == b'_'
 }
 
 fn sign_of(byte: u8) -> Option<TokenKind>

@@ -13,6 +13,7 @@ ghost use Rattle.std.specs.Borrow.{sem};
 ghost use Rattle.ix_lines.specs.Feeding.{unfinished, skipping, completes, holds_after, Feeds};
 
 mod appending;
+mod bytes;
 pub mod laws;
 mod line_faults;
 mod number;
@@ -21,6 +22,7 @@ mod words;
 
 pub use appending::{append, append_number};
 use arrayvec::ArrayVec;
+pub use bytes::is_word_byte;
 pub use line_faults::{LineFault, LineGrammar, first_fault};
 use memchr::memchr;
 pub use number::{NumberAnd, number_and, read_number};

@@ -36,7 +36,8 @@ use Rattle.ix_manager.proofs.SavingLemmas.{saves_join}
 use Rattle.ix_manage.specs.Around.{around_of}
 use Rattle.ix_manage.specs.Ends.{Ended, JobOver, no_wire, served as job_served}
 use Rattle.ix_manage.specs.Journal.{session_of}
-use Rattle.ix_manage.specs.Serve.{ServesWire, ends, with_heard}
+use Rattle.ix_manage.specs.Serve.{ServesWire, ends}
+use Rattle.ix_outside.specs.Contents.{with_heard}
 use Rattle.ix_manage.specs.Site.{OnlyCalls}
 use Rattle.ix_manage.specs.Session.{Session, history_line, lost_history, over}
 use Rattle.ix_manage.specs.Trace.{ReadsForm}

@@ -2,7 +2,7 @@
 use Rattle.std.specs.Prelude.{◌≡◌, ◌⊎◌, ℕ, ◌<◌, List, [], ◌∷◌, ◌++◌, length, Bool, codes}
 use Rattle.std.specs.Prelude.{Option, None, Some}
 use Rattle.ix_journal.specs.Recovery.{HoldsBoots}
-use Rattle.ix_outside.specs.Contents.{GivenEvent, Sends}
+use Rattle.ix_outside.specs.Contents.{with_heard, GivenEvent, Sends}
 use Rattle.ix_outside.specs.Counts.{Counts, Rose}
 use Rattle.ix_outside.specs.Crashes.{Crashes, Left}
 use Rattle.ix_outside.specs.Disk.{Disk, Opened}
@@ -30,10 +30,6 @@ pub data ServeEnds (turns : ℕ) (before after : Counts) (session : Session)
       → LastLine 6 (history_line session.opening)
       (line (codes "refused wire")) status whole part
       → ServeEnds turns before after session status whole part
-
--- with one more name behind those heard
-abbrev pub with_heard : List ℕ → Sends → Sends
-with_heard name sends = record sends { heard = sends.heard ++ name ∷ [] }
 
 -- What a session sent since, on no other socket than this: its replies are the wire of its run, one
 -- send each, and which of them the sends carry. Each image that a crash since the journal was

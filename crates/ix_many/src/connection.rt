@@ -1,7 +1,7 @@
 //! One connection.
 ghost use Rattle.std.specs.Prelude.{◌≡◌, length, IfOk, IfSome};
 ghost use Rattle.mio.specs.Net.{unix_stream_fd};
-ghost use Rattle.ix_many.specs.inside.Passing.{IsPiece};
+ghost use Rattle.ix_outside.specs.Event.{IsPiece};
 
 use crate::backlog::{Backlog, Lost, go_on, send};
 use crate::clock::now;

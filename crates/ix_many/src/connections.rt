@@ -1,6 +1,6 @@
 //! The connections that are open, up to 64 at once, and those that wait to be one.
 ghost use Rattle.std.specs.Prelude.{◌≡◌, ◌<◌, None, length, IfOk, IfSome};
-ghost use Rattle.ix_many.specs.inside.Passing.{IsPiece};
+ghost use Rattle.ix_outside.specs.Event.{IsPiece};
 ghost use Rattle.ix_many.specs.inside.Streams.{ComesOn, IsFree, KeepsStreams, SlotComes};
 
 use crate::clock::now;

@@ -2,7 +2,8 @@
 ghost use Rattle.std.specs.Prelude.{◌≤◌, [], length, take, IfSome, IfNone, IfOk, OnErr};
 ghost use Rattle.std.specs.Io.KnownBytes.{Appends, Consumes};
 ghost use Rattle.ix_outside.specs.Contents.{piece_of};
-ghost use Rattle.ix_many.specs.inside.Passing.{AppendsFront, IsPiece};
+ghost use Rattle.ix_many.specs.inside.Passing.{AppendsFront};
+ghost use Rattle.ix_outside.specs.Event.{IsPiece};
 
 use ix_outside::EventKind;
 use std::io;

@@ -1,7 +1,8 @@
 //! Whose event comes next, and what is sent.
 ghost use Rattle.std.specs.Prelude.{◌≡◌, ◌<◌, length, IfOk, IfSome};
 ghost use Rattle.ix_many.specs.inside.Hold.{ComesByHold, GrantsInTurn};
-ghost use Rattle.ix_many.specs.inside.Passing.{IsOneOf64, IsPiece};
+ghost use Rattle.ix_many.specs.inside.Passing.{IsOneOf64};
+ghost use Rattle.ix_outside.specs.Event.{IsPiece};
 ghost use Rattle.ix_many.specs.inside.Streams.{Comes, ComesInTime, IsFree};
 
 use crate::clock::now;

@@ -5,7 +5,8 @@ use Rattle.ix_outside.specs.Contents.{SentBytes, with_pair, with_gone}
 use Rattle.ix_memory.specs.declared.sent.Pair.{Pair}
 use Rattle.ix_memory.specs.declared.sent.Span.{Span}
 use Rattle.ix_memory.specs.inside.Spans.{text_at, IsWithin, AreWithin}
-use Rattle.ix_memory.specs.inside.SentState.{sent_of, sends_of, AreKept, with_heard}
+use Rattle.ix_memory.specs.inside.SentState.{sent_of, sends_of, AreKept}
+use Rattle.ix_outside.specs.Contents.{with_heard}
 
 -- more bytes behind don't change a text
 pub text_at-more : (bytes more : List ℕ) (span : Span) → IsWithin (length bytes) span

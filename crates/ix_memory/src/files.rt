@@ -3,7 +3,8 @@ ghost use Rattle.std.specs.Prelude.{◌≡◌, ◌≤◌, ◌<◌, ◌↔◌, �
 ghost use Rattle.std.specs.Prelude.{IsTrue, string_bytes, Some, MatchOption, true, ◌⊎◌};
 ghost use Rattle.ix_outside.specs.Files.{HasFile, HasLonger, Lists};
 ghost use Rattle.ix_outside.specs.FilesState.{OnlyFaults};
-ghost use Rattle.ix_memory.specs.Calls.{next_call, one_more};
+ghost use Rattle.ix_memory.specs.Calls.{next_call};
+ghost use Rattle.ix_outside.specs.Counts.{one_more};
 ghost use Rattle.ix_memory.specs.inside.MemoryFilesState.{state_of, FailsToLoad, IsAbsent};
 ghost use Rattle.ix_memory.specs.inside.MemoryFilesState.{listing_of};
 

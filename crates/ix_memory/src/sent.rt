@@ -2,7 +2,8 @@
 ghost use Rattle.std.specs.Prelude.{◌≡◌, ◌≤◌, ◌<◌, ◌+◌, ◌++◌, [], length, slice_get};
 ghost use Rattle.std.specs.Prelude.{vec_len, vec_capacity, IfOk, Some};
 ghost use Rattle.ix_outside.specs.Contents.{with_pair, with_gone};
-ghost use Rattle.ix_memory.specs.inside.SentState.{no_sends, with_heard};
+ghost use Rattle.ix_memory.specs.inside.SentState.{no_sends};
+ghost use Rattle.ix_outside.specs.Contents.{with_heard};
 ghost use Rattle.ix_memory.specs.inside.Spans.{text_at};
 
 use crate::room::put;

@@ -5,7 +5,8 @@ ghost use Rattle.std.specs.Io.KnownBytes.{append_known};
 ghost use Rattle.ix_outside.specs.Counts.{Rose};
 ghost use Rattle.ix_outside.specs.Sink.{AppendsPart};
 ghost use Rattle.ix_outside.specs.SinkState.{OnlyPuts};
-ghost use Rattle.ix_memory.specs.Calls.{next_call, one_more};
+ghost use Rattle.ix_memory.specs.Calls.{next_call};
+ghost use Rattle.ix_outside.specs.Counts.{one_more};
 ghost use Rattle.ix_memory.specs.inside.MemorySinkState.{fails_to_put, state_of};
 
 use crate::calls::Calls;

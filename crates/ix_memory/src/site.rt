@@ -13,7 +13,7 @@ ghost use Rattle.ix_outside.specs.SiteState.{OnlyDisk, OnlyWire, OnlySend};
 ghost use Rattle.ix_memory.specs.inside.NextEvent.{next_event, then_coming};
 ghost use Rattle.ix_memory.specs.Plan.{fails_at, is_full};
 ghost use Rattle.ix_memory.specs.inside.Adding.{with_failing};
-ghost use Rattle.ix_memory.specs.inside.SentState.{with_heard};
+ghost use Rattle.ix_outside.specs.Contents.{with_heard};
 ghost use Rattle.ix_memory.specs.inside.MemorySiteState.{fresh_site, state_of, crashes_of, called};
 ghost use Rattle.ix_memory.specs.inside.MemorySiteState.{wire_failed, disk_failed, send_failed};
 ghost use Rattle.ix_memory.specs.inside.MemorySiteState.{half_sent, half_written, read_into};

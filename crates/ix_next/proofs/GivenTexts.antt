@@ -3,7 +3,7 @@ use Rattle.std.proofs.Common.{◌≡◌, ◌≢◌, ℕ, Bool, true, false, ◌&
 use Rattle.std.specs.Prelude.{All}
 use Rattle.std.specs.List.{list_all}
 use Rattle.std.proofs.lemmas.List.Elements.{All-head, All-tail}
-use Rattle.ix_values.specs.Bytes.{is_word_byte}
+use Rattle.ix_lines.specs.Bytes.{is_word_byte}
 use Rattle.ix_values.specs.Texts.{IsName, IsValue}
 use Rattle.ix_next.specs.Given.{PlainGiven}
 use Rattle.ix_next.specs.Given.{IsGivenText, MayBeName, text_for}

@@ -52,12 +52,13 @@ with_event event bytes told =
     }
 
 -- with one more name behind those heard
+abbrev pub with_heard : List ℕ → Sends → Sends
+with_heard name sends = record sends { heard = sends.heard ++ name ∷ [] }
+
+-- the contents with one more name behind those heard
 abbrev pub with_name : List ℕ → Contents → Contents
 with_name name told =
-    record told {
-      sends = option_map
-          (λ (sends : Sends). record sends { heard = sends.heard ++ name ∷ [] }) told.sends;
-    }
+    record told { sends = option_map (with_heard name) told.sends }
 
 -- with one more pair behind those sent
 abbrev pub with_pair : ℕ → List ℕ → Sends → Sends

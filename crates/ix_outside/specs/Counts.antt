@@ -1,9 +1,13 @@
 -- Counts of faults, each up to 2 ^ 64 - 1.
 use Rattle.std.specs.Prelude.{◌≡◌, ℕ, ◌+◌, ◌-◌, ◌^◌, ◌≤◌, min, Result, Ok, Err}
 
+-- one more; the greatest count is 2 ^ 64 - 1
+abbrev pub one_more : ℕ → ℕ
+one_more count = min (count + 1) (2 ^ 64 - 1)
+
 -- a count rose, or stands at its greatest value
 abbrev pub Rose : ℕ → ℕ → Type 0
-Rose before now = min (before + 1) (2 ^ 64 - 1) ≤ now
+Rose before now = one_more before ≤ now
 
 -- a call that failed is counted, and no other is
 abbrev pub CountsFault : {T E : Type 0} → Result T E → ℕ → ℕ → Type 0

@@ -4,6 +4,12 @@ use Rattle.ix_outside.specs.declared.event.Event.{Event}
 use Rattle.ix_outside.specs.declared.event.EventKind.{EventKind}
 use Rattle.ix_outside.specs.declared.event.EventKind.TheVariants.{Bytes, Closed, End}
 
+-- at least one byte that fits the room, or the connection's end
+abbrev pub IsPiece : ℕ → EventKind → Type 0
+IsPiece room (Bytes count) = (0 < count) × (count ≤ room)
+IsPiece room Closed = ⊤
+IsPiece room End = ⊥
+
 -- bytes are at least one and fit the room; the end has connection 0
 abbrev pub KindFits : ℕ → ℕ → EventKind → Type 0
 KindFits room conn (Bytes n) = (0 < n) × (n ≤ room)

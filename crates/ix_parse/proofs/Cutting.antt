@@ -3,7 +3,8 @@ use Rattle.std.proofs.Common.{◌≡◌, ℕ, suc, ◌+◌, ◌<◌, true, false
 use Rattle.std.specs.List.{list_all}
 use Rattle.ix_lex.specs.declared.TokenKind.{TokenKind}
 use Rattle.ix_lex.specs.declared.TokenKind.TheVariants as kinds
-use Rattle.ix_lex.specs.WordBytes.{is_letter, is_word_byte, sign_of, begins}
+use Rattle.ix_lex.specs.WordBytes.{sign_of, begins}
+use Rattle.ix_lines.specs.Bytes.{is_letter, is_word_byte}
 use Rattle.ix_lex.specs.Lexing.{PlainToken, Piece, token, BeginsWith, Pieces}
 
 -- the token of these bytes at a place

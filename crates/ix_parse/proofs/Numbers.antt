@@ -6,7 +6,7 @@ use Rattle.std.proofs.lemmas.List.Folds.{list_all-append}
 use Rattle.std.proofs.lemmas.Bool.Decides.{nat_tests}
 use Rattle.ix_values.specs.Order.{text_eq}
 use Rattle.ix_values.specs.lemmas.Order.{text_eq-decides}
-use Rattle.ix_lex.specs.WordBytes.{is_word_byte}
+use Rattle.ix_lines.specs.Bytes.{is_word_byte}
 use Rattle.ix_expr.specs.FormFaults.{IsNumber}
 use Rattle.ix_parse.specs.Symbols.{IsNumberWord}
 use Rattle.ix_parse.specs.inside.StackMachine.{number_below, number_of}

@@ -14,7 +14,8 @@ use Rattle.ix_expr.specs.Spelling.{IsArgument, IsAtom, IsSpelled}
 use Rattle.ix_expr.specs.CanonicalText.{binding, enclosed, argument_text, more_arguments_text, arguments_text, operand_text, canonical_text}
 use Rattle.ix_lex.specs.declared.TokenKind.{TokenKind}
 use Rattle.ix_lex.specs.declared.TokenKind.TheVariants as kinds
-use Rattle.ix_lex.specs.WordBytes.{is_letter, is_word_byte, sign_of, begins}
+use Rattle.ix_lex.specs.WordBytes.{sign_of, begins}
+use Rattle.ix_lines.specs.Bytes.{is_letter, is_word_byte}
 use Rattle.ix_lex.specs.Lexing.{PlainToken, token, Pieces}
 use Rattle.ix_parse.specs.declared.signs.Operator.{Operator}
 use Rattle.ix_parse.specs.declared.signs.Operator.TheVariants as operators

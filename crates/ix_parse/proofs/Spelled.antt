@@ -4,7 +4,8 @@ use Rattle.std.specs.List.{list_all}
 use Rattle.ix_values.specs.Texts.{begins_with_letter}
 use Rattle.ix_lex.specs.declared.TokenKind.{TokenKind}
 use Rattle.ix_lex.specs.declared.TokenKind.TheVariants as kinds
-use Rattle.ix_lex.specs.WordBytes.{is_word_byte, sign_of}
+use Rattle.ix_lex.specs.WordBytes.{sign_of}
+use Rattle.ix_lines.specs.Bytes.{is_word_byte}
 use Rattle.ix_lex.specs.Lexing.{PlainToken, Piece, token, bad_byte, BeginsWith, Pieces}
 use Rattle.ix_parse.specs.Symbols.{Symbol, word, param, opening, closing, comma, before, between, symbol_by, symbol_of}
 use Rattle.ix_parse.specs.inside.Configs.{IsReadable}

@@ -1,6 +1,6 @@
 //! The one place where failures are counted.
 ghost use Rattle.std.specs.Prelude.{◌≡◌, ◌≤◌};
-ghost use Rattle.ix_real.specs.inside.Untold.{one_more};
+ghost use Rattle.ix_outside.specs.Counts.{one_more};
 
 /// Counts one failure more, up to 2^64 - 1.
 pub fn count_fault(faults: &mut u64)

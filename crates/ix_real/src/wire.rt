@@ -2,7 +2,7 @@
 ghost use Rattle.std.specs.Prelude.{length};
 ghost use Rattle.std.specs.Io.KnownBytes.{Consumes};
 ghost use Rattle.ix_outside.specs.Contents.{piece_of};
-ghost use Rattle.ix_real.specs.inside.Piece.{IsPiece};
+ghost use Rattle.ix_outside.specs.Event.{IsPiece};
 
 use ix_outside::EventKind;
 use std::io;

@@ -2,7 +2,7 @@
 use Rattle.std.proofs.Common.{◌≡◌, ℕ, zero, suc, ◌+◌, ◌<◌, ◌≤◌, Bool, true, false, cond, List, [], ◌∷◌, ◌++◌, length, take, drop, get_or, refl, sym, ◌∙◌, ap, subst, arith, true≢false, length-take-le, length-drop, take-add}
 use Rattle.std.specs.Prelude.{◌&&◌, Option, Some, None, slice_get, MatchOption}
 use Rattle.std.specs.List.{list_all, prefix_len}
-use Rattle.ix_values.specs.Bytes.{is_word_byte}
+use Rattle.ix_lines.specs.Bytes.{is_word_byte}
 use Rattle.ix_values.specs.inside.FirstWord.{word_length, first_word}
 use Rattle.ix_values.specs.Texts.{IsName, IsValue, begins_with_letter}
 use Rattle.ix_values.proofs.Machine.{letters_are_words}

@@ -5,7 +5,7 @@ use borrow.Author.Tests.{eqb-true}
 use Rattle.std.specs.Prelude.{◌==◌, ◌&&◌, ◌||◌, All}
 use Rattle.std.specs.List.{list_all, flat_map}
 use Rattle.std.proofs.lemmas.List.Elements.{All-head, All-tail}
-use Rattle.ix_values.specs.Bytes.{is_letter, is_word_byte}
+use Rattle.ix_lines.specs.Bytes.{is_letter, is_word_byte}
 use Rattle.ix_values.specs.PlainAction.{PlainAction, text_of, text_of_rest, text_of_values}
 use Rattle.ix_values.specs.inside.FirstWord.{opened}
 use Rattle.ix_values.specs.Texts.{IsName, IsValue, IsAction}

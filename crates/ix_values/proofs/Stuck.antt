@@ -5,7 +5,7 @@ use Rattle.std.specs.Prelude.{Option, Some, None, ◌==◌, IsTrue, IsSomeAnd, A
 use Rattle.std.specs.List.{list_all}
 use Rattle.std.proofs.lemmas.List.{append_cancel_right}
 use Rattle.std.proofs.lemmas.List.Elements.{All-take, All-nil}
-use Rattle.ix_values.specs.Bytes.{is_word_byte}
+use Rattle.ix_lines.specs.Bytes.{is_word_byte}
 use Rattle.ix_values.specs.Faults.{IsActionText, CanGoOn, EndsInLongest, EndsInFourthValue, IsTooLong, IsTooMany, IsFaultCode, IsFault}
 use Rattle.ix_values.specs.PlainAction.{PlainAction, text_of}
 use Rattle.ix_values.specs.inside.ActionOf.{action_of}

@@ -3,7 +3,7 @@ use Rattle.std.proofs.Common.{◌≡◌, ℕ, true, false, List, [], ◌∷◌, 
 use Rattle.std.specs.Prelude.{All}
 use Rattle.std.specs.List.{list_all}
 use Rattle.std.proofs.lemmas.List.Elements.{All-head, All-tail}
-use Rattle.ix_values.specs.Bytes.{is_word_byte}
+use Rattle.ix_lines.specs.Bytes.{is_word_byte}
 use Rattle.ix_values.specs.Laws.{TextsTellActionsApart}
 use Rattle.ix_values.specs.inside.ActionOf.{action_of}
 use Rattle.ix_values.specs.PlainAction.{text_of_rest, text_of_values}

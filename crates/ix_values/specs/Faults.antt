@@ -1,7 +1,7 @@
 -- Why a text isn't an action's: the place and the code.
 use Rattle.std.specs.Prelude.{◌≡◌, ℕ, ◌≤◌, ◌⊎◌, Some, List, [], ◌∷◌, ◌++◌, length, take, slice_get}
 use Rattle.std.specs.Prelude.{IsTrue, IsSomeAnd}
-use Rattle.ix_values.specs.Bytes.{is_word_byte}
+use Rattle.ix_lines.specs.Bytes.{is_word_byte}
 use Rattle.ix_values.specs.PlainAction.{PlainAction, text_of}
 use Rattle.ix_values.specs.Texts.{IsName, IsValue, IsAction}
 

@@ -1,4 +1,3 @@
-pub mod Bytes
 pub mod PlainAction
 pub mod Texts
 pub mod Order

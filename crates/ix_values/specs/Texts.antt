@@ -1,7 +1,7 @@
 -- Which texts are names and values, and which pairs of these are actions.
 use Rattle.std.specs.Prelude.{ℕ, ◌<◌, ◌≤◌, Bool, false, IsTrue, List, [], ◌∷◌, length, All}
 use Rattle.std.specs.List.{list_all}
-use Rattle.ix_values.specs.Bytes.{is_letter, is_word_byte}
+use Rattle.ix_lines.specs.Bytes.{is_letter, is_word_byte}
 use Rattle.ix_values.specs.PlainAction.{PlainAction}
 
 -- the first byte is there, and is a letter

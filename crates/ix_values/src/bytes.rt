@@ -2,17 +2,12 @@
 
 ghost use Rattle.std.specs.Prelude.{◌≡◌, ◌≤◌, ◌↔◌, IsTrue, length};
 ghost use Rattle.std.specs.List.{list_all};
-ghost use Rattle.ix_values.specs.Bytes as spec;
+ghost use Rattle.ix_lines.specs.Bytes as spec;
 ghost use Rattle.ix_values.specs.inside.Padding.{padded};
 ghost use Rattle.ix_values.specs.Texts as texts;
 ghost use Rattle.ix_values.specs.Texts.{IsName, IsValue};
 
-/// Whether `byte` is an ASCII letter, an ASCII digit or `_`.
-pub(crate) fn is_word_byte(byte: u8) -> bool
-    ensures { result ≡ spec.is_word_byte byte }
-{
-    byte.is_ascii_alphanumeric() || byte == b'_'
-}
+use ix_lines::is_word_byte;
 
 fn is_word(text: &[u8]) -> bool
     ensures { result ≡ list_all spec.is_word_byte text.now }

@@ -11,10 +11,11 @@ ghost use Rattle.ix_values.specs.Texts as texts;
 ghost use Rattle.ix_values.specs.Texts.{IsAction, IsName, IsValue};
 
 use crate::actions::Action;
-use crate::bytes::{begins_with_letter, is_word_byte};
+use crate::bytes::begins_with_letter;
 use crate::faults::{ActionFault, Cause, fault};
 use crate::names::Name;
 use crate::values::Value;
+use ix_lines::is_word_byte;
 
 impl Action {
     /// The action whose text is `text`. There is at most one. Where no action has

@@ -3,8 +3,7 @@ use Rattle.std.specs.Prelude.{◌≡◌, ◌⊎◌, ℕ, ◌<◌, false, List, [
 use Rattle.std.specs.Prelude.{Result, IsOk, IsErr, IsSome, is_none, if◌then◌else◌}
 use Rattle.ix_can.specs.TreeOf.{tree_size}
 use Rattle.ix_expr.specs.Form.{Form}
-use Rattle.ix_memory.specs.Calls.{one_more}
-use Rattle.ix_outside.specs.Counts.{Rose}
+use Rattle.ix_outside.specs.Counts.{one_more, Rose}
 use Rattle.ix_parse.specs.Faults.{StandsFor}
 use Rattle.ix_proto.specs.Requests.{PlainRequest}
 use Rattle.ix_manager.specs.Handled.{ManagerState}

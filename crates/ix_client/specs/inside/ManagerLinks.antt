@@ -8,7 +8,7 @@ use Rattle.ix_values.specs.declared.tickets.Ticket.{Ticket}
 use Rattle.ix_journal.specs.History.{PlainHistory, Spent}
 use Rattle.ix_lease.specs.declared.Slot.TheVariants.{Held}
 use Rattle.ix_lines.specs.Feeding.{unfinished}
-use Rattle.ix_memory.specs.Calls.{one_more}
+use Rattle.ix_outside.specs.Counts.{one_more}
 use Rattle.ix_memory.specs.inside.MemorySiteState.{MemorySiteState, crashes_of, state_of}
 use Rattle.ix_parse.specs.Faults.{StandsFor}
 use Rattle.ix_step.specs.inside.Limits.{most_size}

@@ -37,11 +37,15 @@ apart_is (spent ∷ others) is =
 
 granted_is : (boot number : ℕ) (ticket : Ticket) → is_granted boot number (Some ticket) ≡ true → IsGranted boot number ticket
 granted_is boot number ticket is =
-    let both = and_parts (nat_le ticket.boot boot) (not (ticket.boot == boot) || nat_lt ticket.seq number) is in
+    let later = not (ticket.boot == boot) || nat_lt ticket.seq number in
+    let both = and_parts (nat_le ticket.boot boot) later is in
     record {
       earlier = leb-true ticket.boot boot both.0;
-      below = λ same. elim (or_cases (not (ticket.boot == boot)) (nat_lt ticket.seq number) both.1) [
-        | inl other ↦ absurd (both_ways (ticket.boot == boot) (not-true (ticket.boot == boot) other) (eq-eqb ticket.boot boot same))
+      below = λ same.
+        elim (or_cases (not (ticket.boot == boot)) (nat_lt ticket.seq number) both.1) [
+        | inl other ↦
+            let apart = not-true (ticket.boot == boot) other in
+            absurd (both_ways (ticket.boot == boot) apart (eq-eqb ticket.boot boot same))
         | inr below ↦ ltb-true ticket.seq number below
       ];
     }

@@ -1,7 +1,8 @@
 -- A site over etcd as contracts see it.
 use Rattle.std.specs.Prelude.{◌≡◌, Bool, true}
 use Rattle.ix_outside.specs.SiteState.{SiteState}
-use Rattle.ix_real.specs.inside.Untold.{RealSiteState, untold_site, one_more}
+use Rattle.ix_outside.specs.Counts.{one_more}
+use Rattle.ix_real.specs.inside.Untold.{RealSiteState, untold_site}
 
 -- the counts, and whether a file is attached; whether that is one of etcd; and whether it was seen
 -- since the last event that nobody else attached it

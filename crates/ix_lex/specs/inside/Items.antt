@@ -5,7 +5,8 @@ use Rattle.ix_lex.specs.declared.TokenKind.TheVariants.{Word, Param}
 use Rattle.ix_lex.specs.declared.Token.{Token}
 use Rattle.ix_lex.specs.declared.LexFault.{LexFault}
 use Rattle.ix_lex.specs.declared.Tokens.{Tokens}
-use Rattle.ix_lex.specs.WordBytes.{is_blank, is_letter, is_word_byte, sign_of, begins}
+use Rattle.ix_lex.specs.WordBytes.{is_blank, sign_of, begins}
+use Rattle.ix_lines.specs.Bytes.{is_letter, is_word_byte}
 use Rattle.ix_lex.specs.Lexing.{PlainToken, Piece, token, bad_byte}
 
 -- a byte put in front of the token that begins next

@@ -21,7 +21,8 @@ use Rattle.ix_manager.specs.inside.Serving.{ServesSince}
 use Rattle.ix_manager.specs.inside.Saving.{SavesRun}
 use Rattle.ix_manage.specs.ActionLines.{line}
 use Rattle.ix_manage.specs.Puts.{LastLine}
-use Rattle.ix_manage.specs.Serve.{ServeEnds, with_heard}
+use Rattle.ix_manage.specs.Serve.{ServeEnds}
+use Rattle.ix_outside.specs.Contents.{with_heard}
 use Rattle.ix_manage.specs.Session.{IsNoEnd, IsOver, Session, Takes, history_line}
 use Rattle.ix_manage.specs.Site.{OnlyCalls}
 use Rattle.ix_manage.specs.declared.early_end.EarlyEnd.{EarlyEnd}

@@ -2,14 +2,8 @@
 use Rattle.std.specs.Prelude.{ℕ, ◌<◌, ◌≤◌, List, ⊤, Option}
 use Rattle.std.specs.Io.KnownBytes.{Appends}
 use Rattle.ix_outside.specs.Sink.{IsFront}
+use Rattle.ix_outside.specs.Event.{IsPiece}
 use Rattle.ix_outside.specs.declared.event.EventKind.{EventKind}
-use Rattle.ix_outside.specs.declared.event.EventKind.TheVariants.{Bytes, Closed, End}
-
--- at least one byte that fits the room, or the connection's end
-abbrev pub IsPiece : ℕ → EventKind → Type 0
-IsPiece room (Bytes count) = (0 < count) × (count ≤ room)
-IsPiece room Closed = ⊤
-IsPiece room End = ⊥
 
 -- a piece on a connection from 0 to 63
 abbrev pub IsOneOf64 : ℕ → ℕ × EventKind → Type 0

@@ -3,7 +3,7 @@ use Rattle.std.specs.Prelude.{◌≡◌, ℕ, ◌<◌, [], Option, None, Some, R
 use Rattle.ix_outside.specs.SiteState.{SiteState}
 use Rattle.ix_outside.specs.declared.event.Event.{Event}
 use Rattle.ix_real.specs.inside.Untold.{RealSiteState, untold_site}
-use Rattle.ix_many.specs.inside.Passing.{IsPiece}
+use Rattle.ix_outside.specs.Event.{IsPiece}
 use Rattle.ix_many.specs.inside.Streams.{ComesOnly, IsFree, KeepsStreams, Streams, WireState}
 
 -- the counts, whether a file is attached, and which stream has which number

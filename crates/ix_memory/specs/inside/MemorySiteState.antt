@@ -3,13 +3,12 @@ use Rattle.std.specs.Prelude.{ℕ, ◌+◌, ◌/◌, nat_le, if◌then◌else◌
 use Rattle.std.specs.Prelude.{List, [], ◌∷◌, ◌++◌, length, take, drop, max}
 use Rattle.std.specs.Prelude.{Option, None, Some}
 use Rattle.ix_outside.specs.Contents.{GivenEvent, SentBytes, Sends, Contents, with_gone}
-use Rattle.ix_outside.specs.Counts.{Counts}
+use Rattle.ix_outside.specs.Counts.{Counts, one_more}
 use Rattle.ix_outside.specs.Crashes.{Crashes}
 use Rattle.ix_outside.specs.Disk.{Disk, Opened}
 use Rattle.ix_outside.specs.Loans.{free}
 use Rattle.ix_outside.specs.SiteState.{SiteState}
 use Rattle.ix_outside.specs.inside.NothingTold.{nothing_told}
-use Rattle.ix_memory.specs.Calls.{one_more}
 use Rattle.ix_memory.specs.PlanState.{PlanState, fresh_plan}
 use Rattle.ix_memory.specs.Plan.{plan_after}
 use Rattle.ix_memory.specs.inside.SentState.{no_sends}

@@ -31,7 +31,3 @@ pub record AreKept (count : ℕ) (pairs : List Pair) (heard : List Span) (name :
   pub of_pairs : AreWithin count (map (λ (pair : Pair). pair.span) pairs)
   pub of_heard : AreWithin count heard
   pub of_name : IsWithin count name
-
--- with one more name behind those heard
-abbrev pub with_heard : List ℕ → Sends → Sends
-with_heard name sends = record sends { heard = sends.heard ++ name ∷ [] }

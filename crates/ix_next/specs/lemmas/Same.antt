@@ -6,7 +6,7 @@ use Rattle.std.specs.Cmp.{partial_equiv_from_equiv, nat_eq_equiv}
 use Rattle.std.specs.Cmp.Lexicographic.{lists_equiv, pointwise}
 use Rattle.std.proofs.lemmas.Bool.{eqb-true}
 use Rattle.ix_values.specs.Order.{text_eq}
-use Rattle.ix_values.specs.lemmas.Order.{text_eq-decides}
+use Rattle.ix_values.specs.lemmas.Order.{text_eq-decides, both_true}
 use Rattle.ix_next.specs.declared.term.Term.{Term}
 use Rattle.ix_next.specs.declared.term.Term.TheVariants.{Known, New}
 use Rattle.ix_next.specs.Candidates.{PlainCandidate, candidate_of, term_eq, candidate_eq}
@@ -45,10 +45,6 @@ candidate_eq-equiv = and_equiv (on_equiv (λ c. c.name) texts)
 
 pub candidate_eq-partial : IsPartialEquivalence candidate_eq
 candidate_eq-partial = partial_equiv_from_equiv candidate_eq-equiv
-
-both_true : (a b : Bool) → (a && b) ≡ true → (a ≡ true) × (b ≡ true)
-both_true true b h = (refl, h)
-both_true false b h = cc
 
 tells_terms : (s t : List Term) → pointwise term_eq s t ≡ true → s ≡ t
 tells_terms [] [] h = refl

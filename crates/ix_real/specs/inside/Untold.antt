@@ -1,6 +1,6 @@
 -- What proofs know of the real devices: their counts, and whether a file is attached.
-use Rattle.std.specs.Prelude.{ℕ, ◌+◌, ◌-◌, ◌^◌, min, Bool, None}
-use Rattle.ix_outside.specs.Counts.{Counts}
+use Rattle.std.specs.Prelude.{ℕ, Bool, None}
+use Rattle.ix_outside.specs.Counts.{Counts, one_more}
 use Rattle.ix_outside.specs.FilesState.{FilesState}
 use Rattle.ix_outside.specs.Loans.{free}
 use Rattle.ix_outside.specs.SinkState.{SinkState}
@@ -30,10 +30,6 @@ untold_site site = record {
   disk = None;
   held = free;
 }
-
--- one more, up to the greatest count
-abbrev pub one_more : ℕ → ℕ
-one_more count = min (count + 1) (2 ^ 64 - 1)
 
 -- the count of a disk, and whether a file is attached
 pub record DiskState : Type 0 where

@@ -1,7 +1,7 @@
 -- The words of the reader's own functions.
 use Rattle.std.specs.Prelude.{ℕ, Option, Some, None, ◌==◌, List, [], ◌∷◌, ◌++◌, take, if◌then◌else◌}
 use Rattle.std.specs.List.{prefix_len, flat_map}
-use Rattle.ix_values.specs.Bytes.{is_word_byte}
+use Rattle.ix_lines.specs.Bytes.{is_word_byte}
 
 -- how many word bytes the text begins with, at most 32 of them
 abbrev pub word_length : List ℕ → ℕ

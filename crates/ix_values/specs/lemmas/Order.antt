@@ -1,5 +1,5 @@
 -- The laws of the comparisons of texts and of actions.
-use Rattle.std.specs.Prelude.{◌≡◌, ℕ, true, List, refl}
+use Rattle.std.specs.Prelude.{◌≡◌, ℕ, Bool, true, false, ◌&&◌, List, refl}
 use Rattle.std.specs.declared.cmp.Ordering.{Ordering}
 use Rattle.std.specs.declared.cmp.Ordering.TheVariants.{Less, Equal, Greater}
 use Rattle.std.specs.Cmp.{IsEquivalence, IsPartialEquivalence, IsTotalOrder, IsPartialOrder, and_equiv, on_equiv, nat_eq_equiv, partial_equiv_from_equiv, partial_order_from_total, partial_order_from_own_ties, both_tied, then_total, on_total, nat_cmp_total}
@@ -11,6 +11,11 @@ use Rattle.ix_values.specs.PlainAction.{PlainAction}
 use Rattle.ix_values.specs.inside.ActionOf.{action_of}
 use Rattle.ix_values.specs.Order.{text_eq, text_cmp}
 use Rattle.ix_values.specs.inside.ActionOrder.{action_eq, action_cmp}
+
+-- both parts of a true `&&` are true
+pub both_true : (a b : Bool) → (a && b) ≡ true → (a ≡ true) × (b ≡ true)
+both_true true b h = (refl, h)
+both_true false b h = cc
 
 -- texts compare as equal only where they are the same
 pub text_cmp-same : (x y : List ℕ) → text_cmp x y ≡ Equal → x ≡ y

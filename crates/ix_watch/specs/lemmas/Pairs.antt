@@ -5,7 +5,7 @@ use Rattle.std.specs.Cmp.Lexicographic.{lists_equiv}
 use Rattle.std.specs.Ordering.{on, eq_of_both}
 use Rattle.ix_values.specs.Order.{text_eq}
 use Rattle.ix_values.specs.inside.ActionOrder.{action_eq}
-use Rattle.ix_values.specs.lemmas.Order.{action_eq-equiv, text_eq-decides, action_eq-decides}
+use Rattle.ix_values.specs.lemmas.Order.{both_true, action_eq-equiv, text_eq-decides, action_eq-decides}
 use Rattle.ix_watch.specs.declared.pairs.Pair.{Pair}
 
 -- the names and the actions are equal
@@ -23,10 +23,6 @@ pair_eq-partial = partial_equiv_from_equiv pair_eq-equiv
 -- what is hashed of a pair: the name, the action's name and its values
 abbrev pub hash_input_of : Pair → List (List ℕ)
 hash_input_of pair = pair.name ∷ pair.action.name ∷ pair.action.values
-
-both_true : (a b : Bool) → (a && b) ≡ true → (a ≡ true) × (b ≡ true)
-both_true true b h = (refl, h)
-both_true false b h = cc
 
 -- pairs are equal exactly where they are the same
 pub pair_eq-decides : (x y : Pair) → pair_eq x y ≡ true → (x.name ≡ y.name) × (x.action ≡ y.action)

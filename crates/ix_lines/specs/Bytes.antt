@@ -1,4 +1,4 @@
--- The bytes that names and values are made of, all of them ASCII.
+-- The bytes that words are made of, all of them ASCII.
 use Rattle.std.specs.Prelude.{ℕ, Bool, ◌||◌, ◌==◌}
 use Rattle.std.specs.Char.{is_ascii_alphabetic, is_ascii_alphanumeric}
 
