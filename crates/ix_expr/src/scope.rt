@@ -82,15 +82,5 @@ impl Scope<'_> {
 fn names_parameter(atom: &Atom, parameter: &Name) -> bool
     ensures { result ≡ faults.names_parameter parameter.now atom.now }
 {
-    atom.args().iter().any(|arg| is_parameter(arg, parameter))
-}
-
-/// Whether the argument is the parameter.
-pub(crate) fn is_parameter(arg: &Arg, parameter: &Name) -> bool
-    ensures { result ≡ faults.is_parameter parameter.now arg.now }
-{
-    match arg {
-        Arg::Fixed(_) => false,
-        Arg::Param(name) => parameter == name,
-    }
+    atom.args().iter().any(|arg| arg.is_parameter(parameter))
 }

@@ -9,7 +9,6 @@ ghost use Rattle.ix_expr.specs.Sees.{AtomSees, Sees};
 use crate::arg::Arg;
 use crate::atom::Atom;
 use crate::expr::Expr;
-use crate::scope::is_parameter;
 use ix_values::{Action, Name, Value};
 
 /// Whether some atom of the expression, with the action's name and as many arguments as it has
@@ -47,5 +46,5 @@ fn has_pair(args: &[Arg], values: &[Value], parameter: &Name, value: &Value) -> 
 {
     args.iter()
         .zip(values)
-        .any(|(arg, own)| is_parameter(arg, parameter) && own == value)
+        .any(|(arg, own)| arg.is_parameter(parameter) && own == value)
 }
