@@ -1,6 +1,6 @@
 //! The printer of actions.
 
-ghost use Rattle.std.specs.Prelude.{◌≡◌, ◌+◌, ◌<◌, ◌≤◌, [], ◌∷◌, ◌++◌, length};
+ghost use Rattle.std.specs.Prelude.{◌≡◌, ◌<◌, ◌≤◌, [], ◌∷◌, ◌++◌, length};
 ghost use Rattle.arrayvec.specs.ArrayVec.{array_vec_len};
 ghost use Rattle.ix_values.specs.Laws.{TextsTellActionsApart};
 ghost use Rattle.ix_values.specs.PlainAction.{text_of};
