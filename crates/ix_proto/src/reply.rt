@@ -12,7 +12,7 @@ ghost use Rattle.ix_proto.specs.Replies as spec;
 ghost use Rattle.ix_proto.specs.inside.ReplyTexts.{CanBeTold};
 
 use arrayvec::ArrayVec;
-use itoa::Buffer;
+use ix_lines::{append, append_number};
 use ix_values::{Action, Ticket};
 
 /// What became of a ticket.
@@ -279,24 +279,6 @@ fn complete_or_partial(complete: bool) -> &'static [u8]
     ensures short { length result.now ≤ 8 }
 {
     if complete { b"complete" } else { b"partial" }
-}
-
-fn append(out: &mut ArrayVec<u8, 256>, bytes: &[u8])
-    requires { array_vec_len out.old + length bytes.now ≤ 256 }
-    ensures items { out.new.items ≡ out.old.items ++ bytes.now }
-    ensures len { array_vec_len out.new ≡ array_vec_len out.old + length bytes.now }
-{
-    let _ = out.try_extend_from_slice(bytes);
-}
-
-fn append_number(out: &mut ArrayVec<u8, 256>, number: u64)
-    requires { array_vec_len out.old ≤ 236 }
-    ensures items { out.new.items ≡ out.old.items ++ decimal number }
-    ensures len { array_vec_len out.new ≤ array_vec_len out.old + 20 }
-    ensures fits { number < 2 ^ 64 }
-{
-    let mut buffer = Buffer::new();
-    append(out, buffer.format(number).as_bytes());
 }
 
 fn append_action(out: &mut ArrayVec<u8, 256>, action: &Action)
