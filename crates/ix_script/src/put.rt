@@ -1,5 +1,5 @@
 //! The text of a send, put into a sink.
-ghost use Rattle.std.specs.Prelude.{◌≡◌, ◌<◌, ◌≤◌, ◌+◌, ◌++◌, [], ◌∷◌, length, decimal, OnOk};
+ghost use Rattle.std.specs.Prelude.{◌≡◌, ◌<◌, ◌++◌, [], ◌∷◌, length, decimal, OnOk};
 ghost use Rattle.std.specs.Prelude.{OnErr, IfSome, IfNone};
 ghost use Rattle.std.specs.Io.KnownBytes.{append_known};
 ghost use Rattle.ix_outside.specs.Contents.{send_text};
@@ -8,7 +8,7 @@ ghost use Rattle.ix_outside.specs.Sink.{AppendsPart};
 ghost use Rattle.ix_outside.specs.SinkState.{OnlyPuts};
 
 use arrayvec::ArrayVec;
-use itoa::Buffer;
+use ix_lines::{append, append_number};
 use ix_outside::{Failed, Sink};
 
 /// The longest text of a send that goes out in one put: a connection, a space,
@@ -35,15 +35,12 @@ fn short_text(conn: u8, bytes: &[u8]) -> Option<ArrayVec<u8, ROOM>>
     ensures short { IfSome result (λ text. text.items ≡ send_text conn bytes.now) }
     ensures long { IfNone result (ROOM < length (send_text conn bytes.now)) }
 {
-    let mut number = Buffer::new();
-    let digits = number.format(conn).as_bytes();
-    let mut text: ArrayVec<u8, ROOM> = ArrayVec::new();
-    if digits.len() >= ROOM || bytes.len() >= ROOM - digits.len() {
+    let mut text = ArrayVec::new();
+    append(&mut text, front_text(conn).as_slice());
+    if bytes.len() > text.remaining_capacity() {
         return None;
     }
-    let _ = text.try_extend_from_slice(digits);
-    let _ = text.try_push(b' ');
-    let _ = text.try_extend_from_slice(bytes);
+    append(&mut text, bytes);
     Some(text)
 }
 
@@ -63,12 +60,12 @@ fn put_long<K: Sink>(sink: &mut K, conn: u8, bytes: &[u8]) -> Result<(), Failed>
     }
 }
 
-fn front_text(conn: u8) -> ArrayVec<u8, 4>
+/// What stands in front of the bytes.
+fn front_text(conn: u8) -> ArrayVec<u8, 24>
     ensures { result.items ≡ decimal conn ++ 32 ∷ [] }
 {
-    let mut number = Buffer::new();
     let mut text = ArrayVec::new();
-    let _ = text.try_extend_from_slice(number.format(conn).as_bytes());
-    let _ = text.try_push(b' ');
+    append_number(&mut text, u64::from(conn));
+    text.push(b' ');
     text
 }
