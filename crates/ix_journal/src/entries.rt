@@ -117,15 +117,14 @@ impl Marks {
         self.boots - self.renewed().boots < MOST_BOOTS
     }
 
-    /// What the records leave with this one behind them, or None where it may not stand there.
-    pub(crate) fn followed_by(&self, entry: &Entry) -> Option<Marks>
-        requires { self.now.actions + 1 < 2 ^ 64 }
-        ensures { MatchOption result
-            (¬ MayFollow self.now entry.now)
-            (λ marks. MayFollow self.now entry.now × (marks ≡ behind self.now entry.now)) }
+    /// What the records leave with this one behind them, which may stand there.
+    pub fn passed(&self, entry: &Entry) -> Marks
+        requires few { self.now.actions + 1 < 2 ^ 64 }
+        requires follows { MayFollow self.now entry.now }
+        ensures { result ≡ behind self.now entry.now }
     {
         match entry {
-            Entry::Renewed { actions, boots } if self.can_renew(*actions) => Some(Marks {
+            Entry::Renewed { actions, boots } => Marks {
                 actions: self.actions,
                 boots: *boots,
                 seq: 0,
@@ -134,24 +133,47 @@ impl Marks {
                     actions: *actions,
                     boots: *boots,
                 }),
-            }),
-            Entry::Renewed { .. } => None,
-            Entry::Boot(number) if self.is_next(*number) => Some(Marks {
+            },
+            Entry::Boot(number) => Marks {
                 boots: *number,
                 seq: 0,
                 ..*self
-            }),
-            Entry::Boot(_) => None,
-            Entry::Spent { ticket, .. } if self.can_spend(ticket) => Some(Marks {
+            },
+            Entry::Spent { ticket, .. } => Marks {
                 actions: self.actions + 1,
                 seq: ticket.seq,
                 ..*self
-            }),
-            Entry::Spent { .. } => None,
-            Entry::Plain(_) => Some(Marks {
+            },
+            Entry::Plain(_) => Marks {
                 actions: self.actions + 1,
                 ..*self
-            }),
+            },
+        }
+    }
+
+    /// What the records leave with this one behind them, or None where it may not stand there.
+    pub(crate) fn followed_by(&self, entry: &Entry) -> Option<Marks>
+        requires { self.now.actions + 1 < 2 ^ 64 }
+        ensures { MatchOption result
+            (¬ MayFollow self.now entry.now)
+            (λ marks. MayFollow self.now entry.now × (marks ≡ behind self.now entry.now)) }
+    {
+        if self.may_pass(entry) {
+            Some(self.passed(entry))
+        } else {
+            None
+        }
+    }
+
+    /// Whether this record may stand behind the others.
+    fn may_pass(&self, entry: &Entry) -> bool
+        ensures { IsTrue result ↔ MayFollow self.now entry.now }
+    {
+        match entry {
+            Entry::Renewed { actions, .. } => self.can_renew(*actions),
+            Entry::Boot(number) => self.is_next(*number),
+            Entry::Spent { ticket, .. } => self.can_spend(ticket),
+            Entry::Plain(_) => true,
         }
     }
 

@@ -12,7 +12,7 @@ ghost use Rattle.ix_journal.specs.Format.{header, open_records, record_of, renew
 ghost use Rattle.ix_journal.specs.declared.entries.Entry.TheVariants as entry;
 ghost use Rattle.ix_journal.specs.inside.Writing.{CanBeWritten, digit_of, entry_of};
 
-use crate::{CLOSED, MAGIC, OPEN, RENEWED_MAGIC};
+use crate::{CLOSED, Entry, MAGIC, OPEN, RENEWED_MAGIC};
 use arrayvec::ArrayVec;
 use byteorder::{BigEndian, ByteOrder};
 use itoa::Buffer;
@@ -40,6 +40,26 @@ pub enum Record<'a> {
     Spent { ticket: Ticket, action: &'a Action },
     /// The action was confirmed, and no ticket of it is kept.
     Plain(&'a Action),
+}
+
+impl Record<'_> {
+    /// What the record says, with an action of its own.
+    pub fn entry(&self) -> Entry
+        ensures { result ≡ entry_of self.now }
+    {
+        match self {
+            Record::Renewed { actions, boots } => Entry::Renewed {
+                actions: *actions,
+                boots: *boots,
+            },
+            Record::Boot(number) => Entry::Boot(*number),
+            Record::Spent { ticket, action } => Entry::Spent {
+                ticket: *ticket,
+                action: **action,
+            },
+            Record::Plain(action) => Entry::Plain(**action),
+        }
+    }
 }
 
 /// Writes into `out`, which is empty, what stands behind the gate of an appended record: the
