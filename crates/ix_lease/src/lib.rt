@@ -1,7 +1,7 @@
 //! The one reservation: a slot that is free, or held by a ticket up to a deadline.
 #![tactic(auto)]
 
-ghost use Rattle.std.specs.Prelude.{◌≡◌, ◌+◌, ◌-◌, ◌^◌, ◌↔◌, min, IsTrue};
+ghost use Rattle.std.specs.Prelude.{◌≡◌, ◌+◌, ◌-◌, ◌^◌, ◌↔◌, min, IsTrue, IfSome, IfNone};
 
 use ix_values::{Action, Ticket};
 
@@ -36,16 +36,34 @@ pub fn deadline_of(moment: u64, lease: u32) -> u64
 }
 
 impl Slot {
-    ghost use Rattle.ix_lease.specs.Slots.{IsOpenAt};
-    ghost use Rattle.ix_lease.specs.inside.Takes.{Takes};
+    ghost use Rattle.ix_lease.specs.Slots.{IsOpenAt, HasTicket};
+    ghost use Rattle.ix_lease.specs.inside.Takes.{IsOpenUntil, Takes};
+
+    /// The deadline of a slot that is open at the moment: held, and the moment is below it.
+    pub fn open_until(&self, moment: u64) -> Option<u64>
+        ensures up_to { IfSome result (λ deadline. IsOpenUntil self.now moment deadline) }
+        ensures none { IfNone result (¬ IsOpenAt self.now moment) }
+    {
+        match self {
+            Slot::Held { deadline, .. } if moment < *deadline => Some(*deadline),
+            Slot::Held { .. } | Slot::Free => None,
+        }
+    }
 
     /// Whether the slot is held, and the moment is below its deadline.
     pub fn is_open_at(&self, moment: u64) -> bool
         ensures { IsTrue result ↔ IsOpenAt self.now moment }
     {
+        self.open_until(moment).is_some()
+    }
+
+    /// Whether the slot is held with this ticket, and is open at the moment.
+    pub fn is_open_with(&self, moment: u64, ticket: &Ticket) -> bool
+        ensures { IsTrue result ↔ IsOpenAt self.now moment × HasTicket self.now ticket.now }
+    {
         match self {
             Slot::Free => false,
-            Slot::Held { deadline, .. } => moment < *deadline,
+            Slot::Held { ticket: held, .. } => held == ticket && self.is_open_at(moment),
         }
     }
 
