@@ -11,6 +11,7 @@ use crate::records::Records;
 use crate::{MOST_TEXT, OPEN};
 use arrayvec::ArrayVec;
 use byteorder::{BigEndian, ByteOrder};
+use ix_lines::append;
 use std::marker::Model;
 
 /// The most bytes that a Slide keeps.
@@ -87,7 +88,7 @@ impl Slide {
         let room = SLIDE_ROOM - (self.buffer.len() - self.start);
         let count = piece.len().min(room);
         self.start = make_room(&mut self.buffer, self.start, count);
-        let _ = self.buffer.try_extend_from_slice(&piece[..count]);
+        append(&mut self.buffer, &piece[..count]);
         count
     }
 

@@ -7,7 +7,7 @@ ghost use Rattle.byteorder.specs.Endian.{big_bytes};
 ghost use Rattle.ix_values.specs.PlainAction.{text_of};
 ghost use Rattle.ix_values.specs.Texts.{IsAction};
 ghost use Rattle.ix_values.specs.Tickets.{IsTicket, ticket_text};
-ghost use Rattle.ix_journal.specs.Entries.{IsEntry, entry_text};
+ghost use Rattle.ix_journal.specs.Entries.{IsEntry};
 ghost use Rattle.ix_journal.specs.Format.{header, open_records, record_of, renewed_records};
 ghost use Rattle.ix_journal.specs.declared.entries.Entry.TheVariants as entry;
 ghost use Rattle.ix_journal.specs.inside.Writing.{CanBeWritten, digit_of, entry_of};
@@ -15,7 +15,7 @@ ghost use Rattle.ix_journal.specs.inside.Writing.{CanBeWritten, digit_of, entry_
 use crate::{CLOSED, Entry, MAGIC, OPEN, RENEWED_MAGIC};
 use arrayvec::ArrayVec;
 use byteorder::{BigEndian, ByteOrder};
-use itoa::Buffer;
+use ix_lines::{append, append_number};
 use ix_values::{Action, Ticket};
 use std::alloc::{AllocError, Global};
 
@@ -90,8 +90,8 @@ fn write_record(entry: &Record<'_>, out: &mut ArrayVec<u8, 256>)
         Record::Spent { ticket, action } => write_spent(ticket, action, &mut text),
         Record::Plain(action) => write_action(action, &mut text),
     }
-    let _ = out.try_extend_from_slice(&length_bytes(text.len() as u16));
-    let _ = out.try_extend_from_slice(text.as_slice());
+    append(out, &length_bytes(text.len() as u16));
+    append(out, text.as_slice());
 }
 
 fn write_renewed(actions: u64, boots: u64, out: &mut ArrayVec<u8, 256>)
@@ -99,12 +99,10 @@ fn write_renewed(actions: u64, boots: u64, out: &mut ArrayVec<u8, 256>)
     ensures text { out.new.items ≡ codes "renewed " ++ decimal actions ++ 32 ∷ decimal boots }
     ensures short { array_vec_len out.new ≤ 207 }
 {
-    let mut buffer = Buffer::new();
-    let _ = out.try_extend_from_slice(b"renewed ");
-    let _ = out.try_extend_from_slice(buffer.format(actions).as_bytes());
+    append(out, b"renewed ");
+    append_number(out, actions);
     out.push(b' ');
-    let mut buffer = Buffer::new();
-    let _ = out.try_extend_from_slice(buffer.format(boots).as_bytes());
+    append_number(out, boots);
 }
 
 fn write_boot(number: u64, out: &mut ArrayVec<u8, 256>)
@@ -113,9 +111,8 @@ fn write_boot(number: u64, out: &mut ArrayVec<u8, 256>)
     ensures short { array_vec_len out.new ≤ 207 }
     ensures valid { number < 2 ^ 64 }
 {
-    let mut buffer = Buffer::new();
-    let _ = out.try_extend_from_slice(b"boot ");
-    let _ = out.try_extend_from_slice(buffer.format(number).as_bytes());
+    append(out, b"boot ");
+    append_number(out, number);
 }
 
 fn write_spent(ticket: &Ticket, action: &Action, out: &mut ArrayVec<u8, 256>)
@@ -127,7 +124,7 @@ fn write_spent(ticket: &Ticket, action: &Action, out: &mut ArrayVec<u8, 256>)
 {
     let mut text: ArrayVec<u8, 48> = ArrayVec::new();
     ticket.write(&mut text);
-    let _ = out.try_extend_from_slice(text.as_slice());
+    append(out, text.as_slice());
     out.push(b' ');
     write_action(action, out);
 }
@@ -141,7 +138,7 @@ fn write_action(action: &Action, out: &mut ArrayVec<u8, 256>)
 {
     let mut text = ArrayVec::new();
     action.write(&mut text);
-    let _ = out.try_extend_from_slice(text.as_slice());
+    append(out, text.as_slice());
 }
 
 /// What stands behind the head gate of a journal without records: the header, which is the magic,
