@@ -1,13 +1,13 @@
 //! The engine.
 
 ghost use Rattle.std.specs.Prelude.{◌≡◌, ◌<◌, ◌≤◌, ◌↔◌, ℕ, [], ◌∷◌, ◌++◌, length};
-ghost use Rattle.std.specs.Prelude.{IsTrue, IfOk, IfErr, OnOk};
+ghost use Rattle.std.specs.Prelude.{IsTrue, IfOk, IfErr, OnOk, OnErr};
 ghost use Rattle.ix_expr.specs.Meaning.{IsComplete};
 ghost use Rattle.ix_tree.specs.Size.{size_of};
 ghost use Rattle.ix_can.specs.TreeOf.{tree_of, tree_size};
 ghost use Rattle.ix_step.specs.inside.Limits.{most_size};
 ghost use Rattle.ix_engine.specs.inside.Engine.{Allows, Permits, Follows, extended};
-ghost use Rattle.ix_engine.specs.Histories.{AreAllowed, StopsAt};
+ghost use Rattle.ix_engine.specs.Histories.{AreAllowed, IsRefused, StopsAt};
 
 use crate::extending::{MOST_ACTIONS, Rules, extend};
 use crate::{Next, PrepareFault, ResumeFault};
@@ -203,6 +203,8 @@ impl Engine {
             × Permits self.now action.now
             × (length self.now.history < 1000000)
             × (self.now.limit < tree_size self.now.form (extended self.now action.now)) }
+        ensures refused { IfErr result
+            (λ why. IsRefused self.now.form self.now.limit self.now.history action.now why) }
     {
         let expr = self.expression.expr();
         let actions = self.history.len();
@@ -243,6 +245,23 @@ impl Engine {
         let pushed = self.history.push(action);
         prove!(pushed.is_ok());
         self.tree = tree;
+    }
+
+    /// Extends the history by an allowed action: `prepare`, `reserve_one` and `commit` in one call.
+    /// Any other is refused as by `prepare`, and then nothing changes.
+    pub fn take(&mut self, alloc: Global, action: &Action) -> Result<(), PrepareFault>
+        ensures taken { OnOk result (self.new.history ≡ extended self.old action.now) }
+        ensures allowed { OnOk result (Allows self.old action.now) }
+        ensures refused { IfErr result
+            (λ why. IsRefused self.old.form self.old.limit self.old.history action.now why) }
+        ensures kept { OnErr result (self.new.history ≡ self.old.history) }
+        ensures form { self.new.form ≡ self.old.form }
+        ensures limit { self.new.limit ≡ self.old.limit }
+    {
+        let next = self.prepare(alloc, action)?;
+        self.reserve_one()?;
+        self.commit(next);
+        Ok(())
     }
 
     /// Whether `prepare` would give the action, were there memory enough.

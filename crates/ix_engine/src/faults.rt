@@ -1,5 +1,10 @@
 //! Why an action isn't prepared, and why a list of actions isn't taken as a history.
 
+ghost use Rattle.std.specs.Prelude.{◌≡◌};
+ghost use Rattle.ix_engine.specs.declared.faults.PrepareFault.TheVariants as fault;
+
+use std::alloc::AllocError;
+
 /// Why an action isn't prepared. The first that applies is told.
 #[derive(Clone, Copy, Debug, PartialEq, Eq)]
 pub enum PrepareFault {
@@ -11,6 +16,14 @@ pub enum PrepareFault {
     Over { limit: usize },
     /// Memory ran out.
     Memory,
+}
+
+impl From<AllocError> for PrepareFault {
+    ghost from_gives = { λ _ why. why ≡ fault.Memory };
+
+    fn from(_: AllocError) -> PrepareFault {
+        PrepareFault::Memory
+    }
 }
 
 /// Why a list of actions isn't taken as a history: the number, counted from 1, of the first action
