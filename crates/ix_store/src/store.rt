@@ -255,44 +255,10 @@ impl Store {
         write_through(site, gate + 1, bytes.as_slice())?;
         // The record is on the disk before the gate in front of it is opened.
         write_through(site, gate, &[OPEN])?;
-        let marks = passed(&self.marks, written);
+        let marks = self.marks.passed(&written.entry());
         self.gate = gate + bytes.len() as u64;
         self.marks = marks;
         self.failed = false;
         Ok(())
-    }
-}
-
-/// What the records leave with this one behind them.
-fn passed(marks: &Marks, written: &Record<'_>) -> Marks
-    requires few { AreNotMany (behind marks.now (entry_of written.now)) }
-    requires follows { MayFollow marks.now (entry_of written.now) }
-    ensures { result ≡ behind marks.now (entry_of written.now) }
-{
-    match written {
-        Record::Renewed { actions, boots } => Marks {
-            actions: marks.actions,
-            boots: *boots,
-            seq: 0,
-            renewal: Some(Renewed {
-                carried: marks.actions,
-                actions: *actions,
-                boots: *boots,
-            }),
-        },
-        Record::Boot(number) => Marks {
-            boots: *number,
-            seq: 0,
-            ..*marks
-        },
-        Record::Spent { ticket, .. } => Marks {
-            actions: marks.actions + 1,
-            seq: ticket.seq,
-            ..*marks
-        },
-        Record::Plain(_) => Marks {
-            actions: marks.actions + 1,
-            ..*marks
-        },
     }
 }

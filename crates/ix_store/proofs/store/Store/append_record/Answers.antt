@@ -1,5 +1,6 @@
 use Rattle.std.proofs.Common.{ℕ, ◌+◌, ◌∷◌, [], ◌∙◌, ap, arith, length, subst, sym}
 use Rattle.std.proofs.lemmas.List.{length-append}
+use Rattle.ix_journal.specs.Entries.{behind}
 use Rattle.ix_journal.specs.Format.{farthest_gate, record_of}
 use Rattle.ix_journal.specs.inside.Counting.{AreNotMany, AreSound}
 use Rattle.ix_journal.specs.inside.Writing.{entry_of}
@@ -80,7 +81,8 @@ returns-clause-appended g c text history fits =
     (c.as_slice.ensures.value ∙ c.record_bytes.ensures.bytes) done.written done.settled
     (g.S.Site.state second.new.site) (g.S.Site.crashes second.new.site)
     c.in_ok-write_through-2.ensures.written c.in_ok-write_through-2.ensures.settled
-    _ (ap (λ (n : ℕ). c.args.self.now.gate + n) long) c.passed-marks.ensures
+    _ (ap (λ (n : ℕ). c.args.self.now.gate + n) long)
+    (c.passed-marks.ensures ∙ ap (behind c.args.self.now.marks) c.entry.ensures)
 
 pub invariant_of-self-2 : goal.invariant_of-self-2
 invariant_of-self-2 g c =
@@ -93,7 +95,7 @@ invariant_of-self-2 g c =
     let few = c.requires.few in
     let most = entry_near old.marks entry sound valid c.requires.follows (omega (arith, few.1)) in
     let sound_behind = sound-behind old.marks entry sound valid c.requires.follows in
-    let marked = c.passed-marks.ensures in
+    let marked = c.passed-marks.ensures ∙ ap (behind old.marks) c.entry.ensures in
     record {
       near = omega (
         arith,
