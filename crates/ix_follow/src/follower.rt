@@ -188,24 +188,12 @@ impl Follower {
         ensures form { self.new.form ≡ self.old.form }
         ensures limit { self.new.limit ≡ self.old.limit }
     {
-        let next = match self.engine.prepare(alloc, action) {
-            Ok(next) => next,
-            Err(PrepareFault::NotPartial) => return Err(FollowFault::NotPartial { number }),
-            Err(PrepareFault::Full) => return Err(FollowFault::Full { number }),
-            Err(PrepareFault::Over { limit }) => return Err(FollowFault::Over { number, limit }),
-            Err(PrepareFault::Memory) => {
-                // Memory runs out only for what may come next, in a history with room.
-                prove!(self.engine.may(action));
-                prove!(self.engine.history().len() <= MOST_ACTIONS);
-                return Err(FollowFault::Memory);
-            }
-        };
-        match self.engine.reserve_one() {
-            Ok(()) => {
-                self.engine.commit(next);
-                Ok(Fed::Taken(number))
-            }
-            Err(_) => Err(FollowFault::Memory),
+        match self.engine.take(alloc, action) {
+            Ok(()) => Ok(Fed::Taken(number)),
+            Err(PrepareFault::NotPartial) => Err(FollowFault::NotPartial { number }),
+            Err(PrepareFault::Full) => Err(FollowFault::Full { number }),
+            Err(PrepareFault::Over { limit }) => Err(FollowFault::Over { number, limit }),
+            Err(PrepareFault::Memory) => Err(FollowFault::Memory),
         }
     }
 }
