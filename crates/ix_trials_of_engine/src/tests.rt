@@ -43,17 +43,13 @@ fn actions(alloc: Global, texts: &str) -> Result<Vec<Action>, Fail> {
     Ok(actions)
 }
 
-// Asks for an action and confirms it where it is granted: `y`, `n` where it is not partial, `l`
+// Asks for an action, which is taken where it is allowed: `y`, `n` where it is not partial, `l`
 // where it is too large, and `?` where `may` or `permitted` says something else.
 fn ask(alloc: Global, engine: &mut Engine, action: &Action) -> Result<u8, Fail> {
     let may = engine.may(action);
     let permitted = engine.permitted(alloc, action)?;
-    match engine.prepare(alloc, action) {
-        Ok(next) => {
-            engine.reserve_one()?;
-            engine.commit(next);
-            Ok(if may && permitted { b'y' } else { b'?' })
-        }
+    match engine.take(alloc, action) {
+        Ok(()) => Ok(if may && permitted { b'y' } else { b'?' }),
         Err(PrepareFault::NotPartial) => Ok(if may || permitted { b'?' } else { b'n' }),
         Err(PrepareFault::Over { .. }) => Ok(if may && !permitted { b'l' } else { b'?' }),
         Err(_) => Err("full, or no memory".into()),
