@@ -2,7 +2,6 @@
 
 ghost use Rattle.std.specs.Prelude.{◌≡◌, ◌<◌, length};
 ghost use Rattle.std.specs.List.{list_all};
-ghost use Rattle.ix_expr.specs.FormFaults.{is_parameter};
 ghost use Rattle.ix_expr.specs.inside.FormOf.{form_of};
 ghost use Rattle.ix_bound.specs.Keys.{are_alike, has_key, is_at, is_keyed, keeps_key};
 ghost use Rattle.ix_bound.specs.Names.{atoms};
@@ -10,21 +9,11 @@ ghost use Rattle.ix_bound.specs.Names.{atoms};
 use ix_expr::{Arg, Atom, Expr};
 use ix_values::Name;
 
-/// Whether the argument is the parameter.
-fn is_parameter(parameter: &Name, arg: &Arg) -> bool
-    ensures { result ≡ is_parameter parameter.now arg.now }
-{
-    match arg {
-        Arg::Fixed(_) => false,
-        Arg::Param(name) => parameter == name,
-    }
-}
-
 /// Whether the argument in this place is the parameter.
 fn is_at(parameter: &Name, place: usize, args: &[Arg]) -> bool
     ensures { result ≡ is_at parameter.now place args.now }
 {
-    place < args.len() && is_parameter(parameter, &args[place])
+    place < args.len() && args[place].is_parameter(parameter)
 }
 
 /// Whether the two atoms match actions of one name and one number of values.

@@ -6,23 +6,13 @@ ghost use Rattle.ix_expr.specs.inside.FormOf.{form_of};
 ghost use Rattle.ix_lint.specs.Names as spec;
 
 use crate::finding::FindingKind;
-use ix_expr::{Arg, Atom, Expr};
+use ix_expr::{Atom, Expr};
 use ix_values::Name;
-
-/// Whether the argument is the parameter.
-fn is_parameter(arg: &Arg, parameter: &Name) -> bool
-    ensures { result ≡ faults.is_parameter parameter.now arg.now }
-{
-    match arg {
-        Arg::Fixed(_) => false,
-        Arg::Param(name) => parameter == name,
-    }
-}
 
 fn atom_names(parameter: &Name, atom: &Atom) -> bool
     ensures { result ≡ faults.names_parameter parameter.now atom.now }
 {
-    atom.args().iter().any(|arg| is_parameter(arg, parameter))
+    atom.args().iter().any(|arg| arg.is_parameter(parameter))
 }
 
 /// Whether some atom of the expression names the parameter.

@@ -5,7 +5,7 @@ ghost use Rattle.ix_expr.specs.FormFaults as faults;
 ghost use Rattle.ix_expr.specs.inside.FormOf.{form_of};
 ghost use Rattle.ix_simplify.specs.Names as spec;
 
-use ix_expr::{Arg, Atom, Expr};
+use ix_expr::{Atom, Expr};
 use ix_values::Name;
 
 /// Whether some atom of the expression names the parameter. One below a quantifier that binds the
@@ -31,15 +31,5 @@ pub(crate) fn names(expr: &Expr, parameter: &Name) -> bool
 fn atom_names(atom: &Atom, parameter: &Name) -> bool
     ensures { result ≡ faults.names_parameter parameter.now atom.now }
 {
-    atom.args().iter().any(|arg| is_parameter(arg, parameter))
-}
-
-/// Whether the argument is the parameter.
-fn is_parameter(arg: &Arg, parameter: &Name) -> bool
-    ensures { result ≡ faults.is_parameter parameter.now arg.now }
-{
-    match arg {
-        Arg::Fixed(_) => false,
-        Arg::Param(name) => parameter == name,
-    }
+    atom.args().iter().any(|arg| arg.is_parameter(parameter))
 }
