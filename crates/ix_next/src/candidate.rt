@@ -9,7 +9,7 @@ ghost use Rattle.ix_next.specs.lemmas.Same.{hash_input_of, hash_input_of-respect
 
 use crate::term::Term;
 use arrayvec::ArrayVec;
-use itoa::Buffer;
+use ix_lines::{append, append_number};
 use ix_values::Name;
 use std::hash::{Hash, Hasher};
 use std::marker::Model;
@@ -162,17 +162,7 @@ fn write_term(out: &mut ArrayVec<u8, 168>, term: &Term)
         Term::Known(value) => append(out, value.bytes()),
         Term::New(number) => {
             out.push(b'$');
-            let mut digits = Buffer::new();
-            append(out, digits.format(*number).as_bytes());
+            append_number(out, u64::from(*number));
         }
-    }
-}
-
-fn append(out: &mut ArrayVec<u8, 168>, bytes: &[u8])
-    requires { array_vec_len out.old + length bytes.now ≤ 168 }
-    ensures { out.new.items ≡ out.old.items ++ bytes.now }
-{
-    for byte in bytes {
-        out.push(*byte);
     }
 }

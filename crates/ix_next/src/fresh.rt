@@ -7,7 +7,7 @@ ghost use Rattle.ix_next.specs.inside.Fresh as spec;
 
 use crate::given::Given;
 use arrayvec::ArrayVec;
-use itoa::Buffer;
+use ix_lines::{append, append_number};
 use ix_values::{Action, Value};
 
 /// Where the values stand that aren't new.
@@ -50,20 +50,10 @@ fn new_value(known: Known, prefix: &ArrayVec<u8, 24>, taken: &[Value]) -> Option
 
 /// The value that is the prefix with the number behind it, if that isn't too long.
 fn numbered(prefix: &ArrayVec<u8, 24>, number: u32) -> Option<Value> {
-    let mut text: ArrayVec<u8, 32> = ArrayVec::new();
+    let mut text: ArrayVec<u8, 48> = ArrayVec::new();
     append(&mut text, prefix.as_slice());
-    let mut digits = Buffer::new();
-    append(&mut text, digits.format(number).as_bytes());
+    append_number(&mut text, u64::from(number));
     Value::read(text.as_slice())
-}
-
-/// Puts as many of the bytes behind the text as have room.
-fn append(text: &mut ArrayVec<u8, 32>, bytes: &[u8]) {
-    for byte in bytes {
-        if !text.is_full() {
-            text.push(*byte);
-        }
-    }
 }
 
 /// Whether the value stands in the history, among the fixed values, or among those given.
