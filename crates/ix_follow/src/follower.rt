@@ -12,9 +12,9 @@ ghost use Rattle.ix_follow.specs.Following.{Feeds, IsNext, Leaves, Meets};
 
 use crate::{Fed, FollowFault};
 use arrayvec::ArrayVec;
-use itoa::Buffer;
 use ix_engine::{Engine, PrepareFault};
 use ix_expr::Expression;
+use ix_lines::{append, append_number};
 use ix_proto::Reply;
 use ix_step::BuildFault;
 use ix_values::Action;
@@ -94,10 +94,9 @@ impl Follower {
         ensures { out.new.items
             ≡ codes "log " ++ decimal (length self.now.history + 1) ++ 10 ∷ [] }
     {
-        let mut buffer = Buffer::new();
         let number = self.engine.history().len() + 1;
-        let _ = out.try_extend_from_slice(b"log ");
-        let _ = out.try_extend_from_slice(buffer.format(number).as_bytes());
+        append(out, b"log ");
+        append_number(out, number as u64);
         out.push(b'\n');
     }
 
