@@ -62,11 +62,11 @@ outcome_is ticket line valid is = record {
   ended = is;
 }
 
--- an ask, as it was put together
-pub ask_is : (a : PlainAction) (lease : ℕ) (line begun more : List ℕ) → IsAction a → IsLease lease
-    → begun ≡ codes "ask" ++ 32 ∷ [] → more ≡ begun ++ text_of a ++ 32 ∷ [] → line ≡ more ++ decimal lease ++ 10 ∷ []
+-- an ask
+pub ask_is : (a : PlainAction) (lease : ℕ) (line : List ℕ) → IsAction a → IsLease lease
+    → line ≡ (((codes "ask " ++ text_of a) ++ 32 ∷ []) ++ decimal lease) ++ 10 ∷ []
     → IsLineOf (ask a lease) line
-ask_is a lease line begun more valid short is then ends = record {
+ask_is a lease line valid short is = record {
   kind = tt;
   valid = (valid, short);
   bytes = codes "ask" ++ 32 ∷ (text_of a ++ 32 ∷ decimal lease);
@@ -74,5 +74,5 @@ ask_is a lease line begun more valid short is then ends = record {
       first_of_words (codes "ask") (text_of a ++ 32 ∷ decimal lease) refl
       ∙ ap (λ ws. codes "ask" ∷ ws)
       (two_words (text_of a) (decimal lease) (action-plain a valid) (decimal-plain lease (omega (arith, short.high))));
-  ended = rw (ends, then, is) (simp append_assoc);
+  ended = rw is (simp append_assoc);
 }

@@ -1,11 +1,11 @@
 //! How a run of the program ends: its status and its line.
-ghost use Rattle.std.specs.Prelude.{◌≡◌, ◌+◌, ◌≤◌, [], ◌++◌, length, codes, decimal};
+ghost use Rattle.std.specs.Prelude.{◌≡◌, ◌≤◌, [], ◌++◌, length, decimal};
 ghost use Rattle.arrayvec.specs.ArrayVec.{array_vec_len};
 ghost use Rattle.ix_values.specs.Tickets.{ticket_text};
 ghost use Rattle.ix_client.specs.Endings.{line_of, status_of};
 
 use arrayvec::ArrayVec;
-use itoa::Buffer;
+use ix_lines::{append, append_number};
 use ix_values::Ticket;
 
 /// How a run of the program ends.
@@ -78,9 +78,8 @@ fn write_number(out: &mut ArrayVec<u8, 64>, word: &[u8], number: u64)
     ensures text { out.new.items ≡ word.now ++ decimal number }
     ensures short { array_vec_len out.new ≤ 36 }
 {
-    let mut buffer = Buffer::new();
     append(out, word);
-    append(out, buffer.format(number).as_bytes());
+    append_number(out, number);
 }
 
 fn write_ticket(out: &mut ArrayVec<u8, 64>, word: &[u8], ticket: Ticket)
@@ -93,12 +92,4 @@ fn write_ticket(out: &mut ArrayVec<u8, 64>, word: &[u8], ticket: Ticket)
     ticket.write(&mut text);
     append(out, word);
     append(out, text.as_slice());
-}
-
-fn append(out: &mut ArrayVec<u8, 64>, bytes: &[u8])
-    requires { array_vec_len out.old + length bytes.now ≤ 64 }
-    ensures items { out.new.items ≡ out.old.items ++ bytes.now }
-    ensures len { array_vec_len out.new ≡ array_vec_len out.old + length bytes.now }
-{
-    let _ = out.try_extend_from_slice(bytes);
 }

@@ -1,14 +1,12 @@
 //! The lines of the requests that a client makes, each with the byte 10 that ends it.
-ghost use Rattle.std.specs.Prelude.{◌≡◌, ◌+◌, ◌≤◌, [], ◌∷◌, ◌++◌, length, decimal};
-ghost use Rattle.arrayvec.specs.ArrayVec.{array_vec_len};
-ghost use Rattle.ix_values.specs.PlainAction.{text_of};
+ghost use Rattle.std.specs.Prelude.{◌≡◌, ◌≤◌, [], ◌∷◌, ◌++◌, length};
 ghost use Rattle.ix_values.specs.Tickets.{IsTicket, ticket_text};
 ghost use Rattle.ix_proto.specs.Requests.{IsLease};
 ghost use Rattle.ix_proto.specs.Requests as request;
 ghost use Rattle.ix_client.specs.Links.{IsCall, IsLineOf};
 
 use arrayvec::ArrayVec;
-use itoa::Buffer;
+use ix_lines::{append, append_number};
 use ix_values::{Action, Ticket};
 
 /// A line is at most 180 bytes long.
@@ -29,11 +27,12 @@ pub(crate) fn ask_line(action: &Action, lease: u32) -> Line
 {
     let mut text = ArrayVec::<u8, 168>::new();
     action.write(&mut text);
-    let mut buffer = Buffer::new();
     let mut line = Line::new();
-    append_word(&mut line, b"ask");
-    append_word(&mut line, text.as_slice());
-    append_last(&mut line, buffer.format(lease).as_bytes());
+    append(&mut line, b"ask ");
+    append(&mut line, text.as_slice());
+    line.push(b' ');
+    append_number(&mut line, u64::from(lease));
+    line.push(b'\n');
     line
 }
 
@@ -63,26 +62,9 @@ fn ticket_line(verb: &[u8], ticket: Ticket) -> Line
     let mut text = ArrayVec::<u8, 48>::new();
     ticket.write(&mut text);
     let mut line = Line::new();
-    append_word(&mut line, verb);
-    append_last(&mut line, text.as_slice());
-    line
-}
-
-/// A word in front of others.
-fn append_word(line: &mut Line, word: &[u8])
-    requires { array_vec_len line.old + length word.now ≤ 255 }
-    ensures items { line.new.items ≡ line.old.items ++ word.now ++ 32 ∷ [] }
-    ensures len { array_vec_len line.new ≡ array_vec_len line.old + length word.now + 1 }
-{
-    let _ = line.try_extend_from_slice(word);
+    append(&mut line, verb);
     line.push(b' ');
-}
-
-/// The last word.
-fn append_last(line: &mut Line, word: &[u8])
-    requires { array_vec_len line.old + length word.now ≤ 255 }
-    ensures { line.new.items ≡ line.old.items ++ word.now ++ 10 ∷ [] }
-{
-    let _ = line.try_extend_from_slice(word);
+    append(&mut line, text.as_slice());
     line.push(b'\n');
+    line
 }

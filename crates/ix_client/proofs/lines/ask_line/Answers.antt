@@ -4,5 +4,4 @@ use Rattle.ix_client.proofs.lines.ask_line.Goals as goal
 
 pub returns : goal.returns
 returns c =
-    ask_is c.args.action.now c.args.lease c.append_last.new.line.items c.append_word.new.line.items c.append_word-2.new.line.items
-    c.write.ensures.valid c.requires (search rules) (search rules) (search rules)
+    ask_is c.args.action.now c.args.lease c.push-2.new.self.items c.write.ensures.valid c.requires (search rules)
