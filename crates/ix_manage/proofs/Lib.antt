@@ -15,7 +15,6 @@ pub mod ServeEnding
 pub mod Fronts
 pub mod Examinations
 pub mod Working
-pub mod ShortLines
 pub mod WorkEnding
 pub mod Causes
 pub mod Unhindered

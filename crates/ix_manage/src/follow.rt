@@ -12,12 +12,11 @@ ghost use Rattle.ix_manage.specs.inside.Leaves.{LeavesOutput};
 use crate::early_end::EarlyEnd;
 use crate::job::FollowWords;
 use crate::load::load_lines;
-use crate::refusal::{Refusal, append};
+use crate::refusal::Refusal;
 use crate::start::start_follower;
 use arrayvec::ArrayVec;
-use itoa::Buffer;
 use ix_follow::{Fed, FollowFault, Follower};
-use ix_lines::first_line;
+use ix_lines::{append, append_number, first_line};
 use ix_outside::{Files, Sink};
 use std::alloc::Global;
 
@@ -91,15 +90,15 @@ fn fed_line(answer: Fed) -> ArrayVec<u8, 64>
         Fed::LeftOut => append(&mut line, b"left out"),
         Fed::Early(number) => {
             append(&mut line, b"early ");
-            append(&mut line, Buffer::new().format(number).as_bytes());
+            append_number(&mut line, number);
         }
         Fed::Old(number) => {
             append(&mut line, b"old ");
-            append(&mut line, Buffer::new().format(number).as_bytes());
+            append_number(&mut line, number);
         }
         Fed::Taken(number) => {
             append(&mut line, b"taken ");
-            append(&mut line, Buffer::new().format(number).as_bytes());
+            append_number(&mut line, number);
         }
     }
     append(&mut line, b"\n");

@@ -2,9 +2,8 @@
 ghost use Rattle.std.specs.Prelude.{◌≡◌};
 ghost use Rattle.ix_manage.specs.Session as spec;
 
-use crate::refusal::append;
 use arrayvec::ArrayVec;
-use itoa::Buffer;
+use ix_lines::{append, append_number};
 
 /// Says how many actions were confirmed.
 pub(crate) fn history_line(count: u64) -> ArrayVec<u8, 64>
@@ -12,7 +11,7 @@ pub(crate) fn history_line(count: u64) -> ArrayVec<u8, 64>
 {
     let mut line = ArrayVec::new();
     append(&mut line, b"history ");
-    append(&mut line, Buffer::new().format(count).as_bytes());
+    append_number(&mut line, count);
     append(&mut line, b"\n");
     line
 }

@@ -1,13 +1,12 @@
 //! Why a run ends before it has its answer.
-ghost use Rattle.std.specs.Prelude.{◌≡◌, ◌+◌, ◌≤◌, [], ◌∷◌, ◌++◌, codes, length};
-ghost use Rattle.arrayvec.specs.ArrayVec.{array_vec_len};
+ghost use Rattle.std.specs.Prelude.{◌≡◌, ◌≤◌, [], length};
 ghost use Rattle.ix_manage.specs.Journal.{journal_line};
 ghost use Rattle.ix_manage.specs.Trace.{fault_line, large_line};
 ghost use Rattle.ix_manage.specs.declared.refusal.Refusal.TheVariants.{Memory};
 ghost use Rattle.ix_manage.specs.inside.Refusal.{journal_words, lost_line};
 
 use arrayvec::ArrayVec;
-use itoa::Buffer;
+use ix_lines::{append, append_number};
 use std::alloc::{AllocError, AllocFailed};
 
 /// A file that the words name.
@@ -157,9 +156,9 @@ fn append_fault(line: &mut ArrayVec<u8, 64>, file: &[u8], code: u8, at: usize)
     append(line, b"refused ");
     append(line, file);
     append(line, b" ");
-    append(line, Buffer::new().format(code).as_bytes());
+    append_number(line, u64::from(code));
     append(line, b" at ");
-    append(line, Buffer::new().format(at).as_bytes());
+    append_number(line, at as u64);
     append(line, b"\n");
 }
 
@@ -178,7 +177,7 @@ fn append_large(line: &mut ArrayVec<u8, 64>, limit: usize)
     ensures { line.new.items ≡ large_line limit }
 {
     append(line, b"refused expression 14 large ");
-    append(line, Buffer::new().format(limit).as_bytes());
+    append_number(line, limit as u64);
     append(line, b"\n");
 }
 
@@ -191,30 +190,21 @@ fn append_journal(line: &mut ArrayVec<u8, 64>, why: JournalRefusal)
         JournalRefusal::Foreign => append(line, b"foreign"),
         JournalRefusal::Damaged { at } => {
             append(line, b"damaged ");
-            append(line, Buffer::new().format(at).as_bytes());
+            append_number(line, at as u64);
         }
         JournalRefusal::Many => append(line, b"many"),
         JournalRefusal::Unopened => append(line, b"unopened"),
         JournalRefusal::There => append(line, b"there"),
         JournalRefusal::Word { number } => {
             append(line, b"word ");
-            append(line, Buffer::new().format(number).as_bytes());
+            append_number(line, number);
         }
         JournalRefusal::Heavy { number, limit } => {
             append(line, b"large ");
-            append(line, Buffer::new().format(number).as_bytes());
+            append_number(line, number);
             append(line, b" ");
-            append(line, Buffer::new().format(limit).as_bytes());
+            append_number(line, limit as u64);
         }
     }
     append(line, b"\n");
-}
-
-pub(crate) fn append<const N: usize>(line: &mut ArrayVec<u8, N>, bytes: &[u8])
-    requires { array_vec_len line.old + length bytes.now ≤ N }
-    ensures { line.new.items ≡ line.old.items ++ bytes.now }
-{
-    for byte in bytes {
-        line.push(*byte);
-    }
 }

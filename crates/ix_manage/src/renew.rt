@@ -13,9 +13,9 @@ ghost use Rattle.ix_manage.specs.inside.Renewing.{renewal_end};
 use crate::early_end::EarlyEnd;
 use crate::job::RenewWords;
 use crate::load::{load_expression, load_journal};
-use crate::refusal::{JournalRefusal, Refusal, append};
+use crate::refusal::{JournalRefusal, Refusal};
 use arrayvec::ArrayVec;
-use itoa::Buffer;
+use ix_lines::{append, append_number};
 use ix_outside::{Files, Sink, Site};
 use ix_renew::{Renewal, RenewalFault};
 use std::alloc::Global;
@@ -53,11 +53,11 @@ fn renewed_line(renewal: Renewal) -> ArrayVec<u8, 96>
 {
     let mut line = ArrayVec::new();
     append(&mut line, b"renewed ");
-    append(&mut line, Buffer::new().format(renewal.actions).as_bytes());
+    append_number(&mut line, renewal.actions);
     append(&mut line, b" ");
-    append(&mut line, Buffer::new().format(renewal.boots).as_bytes());
+    append_number(&mut line, renewal.boots);
     append(&mut line, b" carried ");
-    append(&mut line, Buffer::new().format(renewal.carried).as_bytes());
+    append_number(&mut line, renewal.carried as u64);
     append(&mut line, b"\n");
     line
 }

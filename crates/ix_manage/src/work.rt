@@ -3,16 +3,15 @@ ghost use Rattle.std.specs.Prelude.{◌≡◌, ◌≤◌, [], IfOk};
 ghost use Rattle.ix_cli.specs.Commands.{most_asks, most_nodes};
 ghost use Rattle.ix_outside.specs.SinkState.{OnlyPuts};
 ghost use Rattle.ix_manage.specs.inside.Leaves.{LeavesOutput};
-ghost use Rattle.ix_manage.specs.inside.Working.{AsksNext, IsBounded, Sums, WorkEnds};
+ghost use Rattle.ix_manage.specs.inside.Working.{AsksNext, Sums, WorkEnds};
 
 use crate::early_end::EarlyEnd;
 use crate::job::WorkWords;
-use crate::refusal::append;
 use crate::start::start_workload;
 use arrayvec::ArrayVec;
-use itoa::Buffer;
 use ix_engine::{Engine, PrepareFault};
 use ix_generate::Workload;
+use ix_lines::{append, append_number};
 use ix_outside::Sink;
 use std::alloc::{AllocError, Global};
 
@@ -27,21 +26,19 @@ struct Summary {
 
 impl Summary {
     ghost use Rattle.ix_manage.specs.Work.{work_line};
-    ghost use Rattle.ix_manage.specs.inside.Working.{IsBounded};
 
-    fn line(self) -> ArrayVec<u8, 64>
-        requires { IsBounded self }
+    fn line(self) -> ArrayVec<u8, 128>
         ensures { result.items ≡ work_line self.asked self.granted self.refused self.nodes }
     {
         let mut line = ArrayVec::new();
         append(&mut line, b"asked ");
-        append(&mut line, Buffer::new().format(self.asked).as_bytes());
+        append_number(&mut line, self.asked);
         append(&mut line, b" granted ");
-        append(&mut line, Buffer::new().format(self.granted).as_bytes());
+        append_number(&mut line, self.granted);
         append(&mut line, b" refused ");
-        append(&mut line, Buffer::new().format(self.refused).as_bytes());
+        append_number(&mut line, self.refused);
         append(&mut line, b" nodes ");
-        append(&mut line, Buffer::new().format(self.nodes).as_bytes());
+        append_number(&mut line, self.nodes as u64);
         append(&mut line, b"\n");
         line
     }
@@ -64,13 +61,11 @@ pub(crate) fn work<K: Sink>(alloc: Global, names: WorkWords, out: &mut K) -> Res
 
 /// Makes the asks, of an engine whose history is empty.
 fn ask_all(alloc: Global, engine: &mut Engine, names: WorkWords) -> Result<Summary, AllocError>
-    requires most { names.limit ≤ most_nodes }
     requires count { names.count ≤ most_asks }
     requires limit { engine.old.limit ≡ names.limit }
     requires empty { engine.old.history ≡ [] }
 
-    ensures sums { IfOk result (Sums engine.old.form names) }
-    ensures bounded { IfOk result IsBounded }
+    ensures { IfOk result (Sums engine.old.form names) }
 {
     let mut workload = Workload::new(names.seed);
     let mut granted = 0;

@@ -1,7 +1,6 @@
 -- A work as far as it went.
-use Rattle.std.specs.Prelude.{◌≡◌, ◌≤◌, ℕ, Bool, true, false, List, length, Option}
+use Rattle.std.specs.Prelude.{◌≡◌, ℕ, Bool, true, false, List, length, Option}
 use Rattle.ix_values.specs.PlainAction.{Word}
-use Rattle.ix_cli.specs.Commands.{most_asks, most_nodes}
 use Rattle.ix_expr.specs.Form.{Form}
 use Rattle.ix_can.specs.TreeOf.{tree_size}
 use Rattle.ix_engine.specs.inside.Engine.{Allows, EngineState, extended}
@@ -37,13 +36,6 @@ pub record HasAsked (x : Form) (limit seed count granted refused : ℕ) (history
   pub history_is : history ≡ history_of asks
   pub runs : Runs seed asks workload
   pub drawn_so_far : workload.generator ≡ generator_behind seed count
-
--- no count of a summary is above the most asks of a work, nor its Size above the greatest limit
-pub record IsBounded (summary : Summary) : Type 0 where
-  pub asked : summary.asked ≤ most_asks
-  pub granted : summary.granted ≤ most_asks
-  pub refused : summary.refused ≤ most_asks
-  pub nodes : summary.nodes ≤ most_nodes
 
 -- these are the numbers of all asks of a work
 pub record Sums (x : Form) (names : WorkWords) (summary : Summary) : Type 0 where

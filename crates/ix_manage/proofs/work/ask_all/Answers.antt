@@ -42,15 +42,3 @@ loop-ask-preserved c =
       c.ask_next.ensures.form ∙ at.1,
       c.ask_next.ensures.limit ∙ at.2,
     )
-
-pub returns-clause-bounded : goal.returns-clause-bounded
-returns-clause-bounded c =
-    let at = c.loop-ask.invariant in
-    let all = all_counted at.0.asked in
-    let granted = at.0.granted_is in
-    let same : c.loop-ask.engine.limit ≡ c.args.names.limit = at.2 ∙ c.requires.limit in record {
-      asked = c.requires.count;
-      granted = omega (arith, all, granted, c.requires.count);
-      refused = omega (arith, all, c.requires.count);
-      nodes = omega (arith, c.nodes.ensures.within, same, c.requires.most);
-    }

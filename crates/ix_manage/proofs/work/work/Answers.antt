@@ -31,7 +31,7 @@ returns-in_err-put-clause-leaves g c =
     ends_early _ _ _ c.from_residual-in_err-put.result Output c.from_residual-in_err-put.ensures.1
     (ended_cut (g.K.Sink.state c.args.out.now) (g.K.Sink.state c.put.new.self) [] line None
     (work_ends c.args.names engine.form c.in_ok-summary.summary start.stands start.small
-    c.in_ok-summary.ensures.sums line (c.deref.ensures.0 ∙ c.line.ensures) 10 [] line lost)
+    c.in_ok-summary.ensures line (c.deref.ensures.0 ∙ c.line.ensures) 10 [] line lost)
     (subst (λ known. AppendsPart known line (g.K.Sink.state c.put.new.self).written)
     (append_nothing (g.K.Sink.state c.args.out.now).written) c.in_err-put.ensures.part)
     c.in_err-put.ensures.failed)
@@ -44,5 +44,5 @@ returns-clause-leaves g c =
     let start = c.in_ok-engine.ensures in
     ended_whole (g.K.Sink.state c.args.out.now) (g.K.Sink.state c.put.new.self) line None
     (work_ends c.args.names engine.form c.in_ok-summary.summary start.stands start.small
-    c.in_ok-summary.ensures.sums line (c.deref.ensures.0 ∙ c.line.ensures) 0 line [] put)
+    c.in_ok-summary.ensures line (c.deref.ensures.0 ∙ c.line.ensures) 0 line [] put)
     c.in_ok-put.ensures.whole
