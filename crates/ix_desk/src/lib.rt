@@ -1,6 +1,6 @@
 //! What is told to the author of an expression, as lines.
 //!
-//! Its tests are in `ix_trials_of_managers`, commands/lints.rt and commands/desks.rt.
+//! Its tests are in `ix_trials_of_commands`.
 #![tactic(auto)]
 
 mod bound;

@@ -16,7 +16,6 @@ mod follows;
 mod menus;
 mod refusals;
 mod stuck;
-mod trees;
 
 fn expression(alloc: Global, text: &str) -> Result<Expression, Fail> {
     match read(alloc, text.as_bytes()) {

@@ -1,5 +1,4 @@
-//! The tests of `ix_manager`, of `ix_manage` and of `ix_client`. A crate with tests is proved
-//! twice: so these stand in a crate of their own, which has nothing else.
+//! The tests of `ix_manager`.
 #![tactic(auto)]
 
 #[cfg(test)]

@@ -1,6 +1,372 @@
-//! A manager, the commands over it and clients, on devices in memory.
+//! Events through a manager over a site in memory, with answers worked out by hand.
 
-mod clients;
-mod commands;
-mod events;
-mod kept;
+ghost use Rattle.std.specs.Prelude.{◌≡◌, ◌≤◌, true, IfOk, OnSome};
+ghost use Rattle.ix_manager.specs.inside.OverSite.{FitsSite};
+ghost use Rattle.ix_step.specs.inside.Limits.{most_size};
+
+use ix_expr::{Atom, Expr, Expression, has_numbers};
+use ix_manager::{Go, Manager, StartFault, Stop};
+use ix_memory::MemorySite;
+use ix_outside::{Event, EventKind, Site};
+use ix_values::Name;
+use std::alloc::{AllocError, Global};
+use std::test::Fail;
+
+// The journal of the first version of `a - b` with the action `a`.
+const OF_A: &[u8] = b"\xA5IXJ1\x00\x05a - b\xA5\x00\x01a\x00";
+
+// The same behind a start.
+const OF_A_BOOTED: &[u8] = b"\xA5IXJ1\x00\x05a - b\xA5\x00\x01a\xA5\x00\x06boot 1\x00";
+
+// One of `a - b` without records.
+const EMPTY: &[u8] = b"\xA5IXJ1\x00\x05a - b\x00";
+
+// The same behind a start in which `a` was confirmed.
+const BOOTED_OF_A: &[u8] = b"\xA5IXJ1\x00\x05a - b\xA5\x00\x06boot 1\xA5\x00\x051-1 a\x00";
+
+// A connection, a moment, and bytes that come then in one piece. Without bytes the connection is
+// closed.
+type Coming<'a> = (u8, u64, &'a [u8]);
+
+// Of each send its connection, a space and its bytes.
+fn sent_by(alloc: Global, site: &MemorySite) -> Result<Vec<u8>, Fail> {
+    let mut sent = Vec::new(alloc);
+    for index in 0..site.sent_len() {
+        let (conn, bytes) = site.sent_at(index);
+        let conn = format!(in alloc; "{conn} ")?;
+        sent.extend_from_slice(conn.as_bytes())?;
+        sent.extend_from_slice(bytes)?;
+    }
+    Ok(sent)
+}
+
+fn atom(text: &[u8]) -> Result<Expr, Fail> {
+    let name = Name::read(text).ok_or("not a name")?;
+    Ok(Expr::Atom(Atom::new(name, &[]).ok_or("not an atom")?))
+}
+
+fn boxed(alloc: Global, expr: Expr) -> Result<Box<Expr>, Fail> {
+    Ok(Box::new(alloc, expr).map_err(|_| AllocError)?)
+}
+
+// `a - b`.
+fn expression(alloc: Global) -> Result<Expression, Fail> {
+    formed(Expr::Seq(boxed(alloc, atom(b"a")?)?, boxed(alloc, atom(b"b")?)?))
+}
+
+fn formed(expr: Expr) -> Result<Expression, Fail> {
+    if !has_numbers(&expr) {
+        return Err("a number isn't 2 to 64".into());
+    }
+    Ok(Expression::new(expr).map_err(|_| "not well formed")?)
+}
+
+// Hands an event to the manager. None where the disk failed.
+fn hand_over<S: Site>(
+    alloc: Global,
+    manager: &mut Manager,
+    site: &mut S,
+    coming: Coming<'_>,
+) -> Result<Option<Go>, Fail>
+    requires attached { (S.state site.old).attached ≡ true }
+    requires fits { FitsSite manager.old (S.state site.old) (S.crashes site.old) }
+    ensures attached { IfOk result (λ _. (S.state site.new).attached ≡ true) }
+    ensures fits { IfOk result (λ went. OnSome went
+        (FitsSite manager.new (S.state site.new) (S.crashes site.new))) }
+{
+    let (conn, moment, bytes) = coming;
+    if manager.ended() || manager.tickets() > 1000 || conn > 63 || bytes.len() > 4096 {
+        return Err("no event for the manager".into());
+    }
+    let kind = if bytes.is_empty() {
+        EventKind::Closed
+    } else {
+        EventKind::Bytes(bytes.len())
+    };
+    let event = Event { conn, moment, kind };
+    match manager.handle(alloc, event, bytes, site) {
+        Ok(go) => Ok(Some(go)),
+        Err(Stop::Disk) => Ok(None),
+    }
+}
+
+// Hands over events up to one in which the disk fails, and says how the last one went.
+fn hand_all<S: Site>(
+    alloc: Global,
+    manager: &mut Manager,
+    site: &mut S,
+    events: &[Coming<'_>],
+) -> Result<Option<Go>, Fail>
+    requires attached { (S.state site.old).attached ≡ true }
+    requires fits { FitsSite manager.old (S.state site.old) (S.crashes site.old) }
+{
+    let mut last = Go::More;
+    for coming in events {
+        match hand_over(alloc, manager, site, *coming)? {
+            Some(go) => last = go,
+            None => return Ok(None),
+        }
+    }
+    Ok(Some(last))
+}
+
+// What was sent, how many actions were confirmed, how the last event went, and the file.
+#[derive(Drop)]
+struct Played {
+    text: Vec<u8>,
+    confirmed: usize,
+    went: Option<Go>,
+    file: Vec<u8>,
+}
+
+// Plays events of `a - b` over a site with this file whose calls of these numbers fail.
+fn play(alloc: Global, file: &[u8], fail: &[u64], events: &[Coming<'_>]) -> Result<Played, Fail> {
+    play_of(alloc, expression(alloc)?, file, fail, events)
+}
+
+// The same of any expression.
+fn play_of(
+    alloc: Global,
+    expression: Expression,
+    file: &[u8],
+    fail: &[u64],
+    events: &[Coming<'_>],
+) -> Result<Played, Fail> {
+    let mut site = site_with(alloc, file, fail)?;
+    let (confirmed, went) = start_and_hand(alloc, &mut site, expression, events)?;
+    played_at(alloc, &site, confirmed, went)
+}
+
+// What is seen of a run at its site.
+fn played_at(
+    alloc: Global,
+    site: &MemorySite,
+    confirmed: usize,
+    went: Option<Go>,
+) -> Result<Played, Fail> {
+    let text = sent_by(alloc, site)?;
+    let file = site.image().to_vec(alloc)?;
+    Ok(Played {
+        text,
+        confirmed,
+        went,
+        file,
+    })
+}
+
+// A site with this file, attached, whose calls of these numbers fail.
+fn site_with(alloc: Global, file: &[u8], fail: &[u64]) -> Result<MemorySite, Fail>
+    ensures { IfOk result (λ site. site.attached ≡ true) }
+{
+    let fail = fail.to_vec(alloc)?;
+    let file = file.to_vec(alloc)?;
+    let mut site = MemorySite::new(alloc, file, Vec::new(alloc), 8192, fail, None)?;
+    if site.attach("journal").is_err() {
+        return Err("not attached".into());
+    }
+    Ok(site)
+}
+
+// Starts a manager on the site and hands the events over: how many actions were confirmed, and how
+// the last event went.
+fn start_and_hand<S: Site>(
+    alloc: Global,
+    site: &mut S,
+    expression: Expression,
+    events: &[Coming<'_>],
+) -> Result<(usize, Option<Go>), Fail>
+    requires attached { (S.state site.old).attached ≡ true }
+{
+    let Ok(mut manager) = Manager::start(alloc, site, expression, 100) else {
+        return Err("not started".into());
+    };
+    let went = hand_all(alloc, &mut manager, site, events)?;
+    Ok((manager.history().len(), went))
+}
+
+// The calls that fail, what comes, what is sent, how many actions are confirmed, and how it ends.
+const EVENTS: [(&[u64], &[Coming<'static>], &[u8], usize, Go); 4] = [
+    (
+        &[],
+        &[
+            (0, 10, b"ask a 5"),
+            (1, 10, b"status\nmay b\nma"),
+            (0, 11, b"0\n"),
+            (0, 12, b""),
+            (1, 60, b"y b\nconfirm 1-1\nlog 1\n"),
+        ],
+        b"1 status partial 0 nodes 2\n1 no\n0 granted 1-1\n1 no\n1 confirmed 1\n1 entry 1 a\n",
+        1,
+        Go::More,
+    ),
+    (
+        &[],
+        &[
+            (0, 10, b"ask a 50\n"),
+            (0, 60, b"confirm 1-1\n"),
+            (0, 61, b"confirm 1-2\n"),
+        ],
+        b"0 granted 1-1\n0 refused 31 expired\n0 refused 30 no such ticket\n",
+        0,
+        Go::More,
+    ),
+    (
+        &[10],
+        &[
+            (0, 1, b"may a\nmay a\nmay a\n"),
+            (1, 1, b"may b\n"),
+            (0, 2, b""),
+            (0, 3, b"may a\n"),
+        ],
+        b"0 yes\n0 ye1 no\n0 yes\n",
+        0,
+        Go::More,
+    ),
+    (
+        &[],
+        &[(2, 1, b"stop\nmay a\n")],
+        b"2 stopping\n",
+        0,
+        Go::Stopped,
+    ),
+];
+
+#[test]
+fn events_of_several_connections(rt: HostRuntime) -> Result<(), Fail> {
+    for (fail, events, text, confirmed, go) in EVENTS {
+        let played = play(rt.alloc(), EMPTY, fail, events)?;
+        assert!(rt; played.text.as_slice() == text, "what {text:?} sends");
+        assert_eq!(rt; played.confirmed, confirmed, "{text:?}");
+        assert_eq!(rt; played.went, Some(go), "{text:?}");
+    }
+    Ok(())
+}
+
+#[test]
+fn confirms_are_in_the_journal(rt: HostRuntime) -> Result<(), Fail> {
+    // The file, the calls that fail, what comes, what is sent, and the file then. Calls 0 to 4
+    // attach and read a journal, 5 to 8 append the boot, 9 sends `granted`, and 10 to 13 append:
+    // 13 is the second sync.
+    let confirm: &[Coming<'_>] = &[(0, 1, b"ask a 50\nconfirm 1-1\nstatus\n")];
+    let cases: [(&[u8], &[u64], &[Coming<'_>], &[u8], &[u8]); 3] = [
+        (
+            OF_A,
+            &[],
+            &[(0, 5, b"status\nlog 1\nlog 2\n")],
+            b"0 status partial 1 nodes 3\n0 entry 1 a\n0 refused 42 no such entry\n",
+            OF_A_BOOTED,
+        ),
+        (
+            EMPTY,
+            &[],
+            confirm,
+            b"0 granted 1-1\n0 confirmed 1\n0 status partial 1 nodes 3\n",
+            BOOTED_OF_A,
+        ),
+        (
+            EMPTY,
+            &[13],
+            confirm,
+            b"0 granted 1-1\n0 refused 91 disk\n",
+            BOOTED_OF_A,
+        ),
+    ];
+    for (file, fail, events, text, then) in cases {
+        let played = play(rt.alloc(), file, fail, events)?;
+        assert!(rt; played.text.as_slice() == text, "what {text:?} sends");
+        assert!(rt; played.file.as_slice() == then, "the file behind {text:?}");
+        assert_eq!(rt; played.went.is_none(), !fail.is_empty(), "{text:?}");
+    }
+    Ok(())
+}
+
+// The same bytes on each connection, at moment 1.
+fn add_pieces<'a>(events: &mut Vec<Coming<'a>>, bytes: &'a [u8]) -> Result<(), AllocError> {
+    for conn in 0..64 {
+        events.push((conn, 1, bytes)).map_err(|_| AllocError)?;
+    }
+    Ok(())
+}
+
+// A line that is sent on each connection, as `sent_by` has it.
+fn add_lines(alloc: Global, text: &mut Vec<u8>, line: &str) -> Result<(), AllocError> {
+    for conn in 0..64 {
+        let line = format!(in alloc; "{conn} {line}\n")?;
+        text.extend_from_slice(line.as_bytes())?;
+    }
+    Ok(())
+}
+
+#[test]
+fn a_long_line_is_refused_once_and_an_unfinished_one_is_dropped(
+    rt: HostRuntime,
+) -> Result<(), Fail> {
+    let alloc = rt.alloc();
+    let mut long = vec![in alloc; b'x'; 601]?;
+    long[600] = b'\n';
+    let mut events = Vec::new(alloc);
+    add_pieces(&mut events, &long)?;
+    add_pieces(&mut events, &long[..300])?;
+    add_pieces(&mut events, b"")?;
+    add_pieces(&mut events, b"may a\n")?;
+    let mut text = Vec::new(alloc);
+    add_lines(alloc, &mut text, "refused 10 line too long")?;
+    add_lines(alloc, &mut text, "yes")?;
+    let played = play_of(alloc, formed(atom(b"a")?)?, b"", &[], &events)?;
+    assert!(rt; played.text == text);
+    Ok(())
+}
+
+// What a start answered: a word or the other text that is kept, and a number.
+#[derive(Drop)]
+struct Told {
+    text: Vec<u8>,
+    number: u64,
+}
+
+fn make_told(alloc: Global, text: &[u8], number: u64) -> Result<Told, Fail> {
+    let text = text.to_vec(alloc)?;
+    Ok(Told { text, number })
+}
+
+// What starting from a file under a limit answers.
+fn start_from(alloc: Global, file: &[u8], limit: usize) -> Result<Told, Fail>
+    requires least { 1 ≤ limit }
+    requires most { limit ≤ most_size }
+{
+    let expression = expression(alloc)?;
+    let mut site = site_with(alloc, file, &[])?;
+    match Manager::start(alloc, &mut site, expression, limit) {
+        Ok(manager) => make_told(alloc, b"started", manager.history().len() as u64),
+        Err(StartFault::Large { limit }) => make_told(alloc, b"large", limit as u64),
+        Err(StartFault::Disk) => make_told(alloc, b"disk", 0),
+        Err(StartFault::Foreign) => make_told(alloc, b"foreign", 0),
+        Err(StartFault::Other { kept }) => make_told(alloc, &kept, 0),
+        Err(StartFault::Damaged { at }) => make_told(alloc, b"damaged", at as u64),
+        Err(StartFault::Many) => make_told(alloc, b"many", 0),
+        Err(StartFault::Word { number }) => make_told(alloc, b"word", number),
+        Err(StartFault::Heavy { number, .. }) => make_told(alloc, b"heavy", number),
+        Err(StartFault::Memory) => Err("no memory".into()),
+    }
+}
+
+#[test]
+fn files_that_are_started_from_or_not(rt: HostRuntime) -> Result<(), Fail> {
+    let cases: [(&[u8], usize, &[u8], u64); 9] = [
+        (b"", 1, b"large", 1),
+        (b"", 2, b"started", 0),
+        (OF_A, 3, b"started", 1),
+        (b"\x5A", 100, b"started", 0),
+        (b"#!/bin/sh", 100, b"foreign", 0),
+        (b"\xA5IXJ1\x00\x05a - c\x00", 100, b"a - c", 0),
+        (b"\xA5IXJ1\x00\x05a - b\xA5\x00\x01a", 100, b"damaged", 13),
+        (b"\xA5IXJ1\x00\x05a - b\xA5\x00\x01b\x00", 100, b"word", 1),
+        (OF_A, 2, b"heavy", 1),
+    ];
+    for (file, limit, text, number) in cases {
+        let told = start_from(rt.alloc(), file, limit)?;
+        assert!(rt; told.text.as_slice() == text, "{text:?}");
+        assert_eq!(rt; told.number, number, "{text:?}");
+    }
+    Ok(())
+}

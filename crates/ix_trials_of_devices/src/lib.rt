@@ -1,0 +1,5 @@
+//! The tests of devices in memory, `ix_memory`.
+#![tactic(auto)]
+
+#[cfg(test)]
+mod tests;

@@ -1,0 +1,4 @@
+//! Journals and slides over them.
+
+mod journals;
+mod slides;

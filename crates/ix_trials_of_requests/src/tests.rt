@@ -1,0 +1,4 @@
+//! Requests, replies and watches.
+
+mod protocol;
+mod watches;

@@ -1,0 +1,7 @@
+//! Texts that are read and written.
+
+mod actions;
+mod expressions;
+mod forms;
+mod lines;
+mod printed;
