@@ -7,88 +7,89 @@ use ix_outside::{DiskFailed, Event, EventKind, Files, LoadFault, Sink, Site};
 use std::alloc::{AllocError, Global};
 use std::test::Fail;
 
-// What loads from the file `a` of three bytes, of which the calls of these numbers are to fail,
-// answered: the length of what was loaded.
-fn loads(
-    alloc: Global,
-    fail: &[u64],
-    calls: &[(&str, usize)],
-) -> Result<Vec<Result<usize, LoadFault>>, AllocError> {
+// The file `a` of three bytes, of which the loads of these numbers are to fail.
+fn files(alloc: Global, fail: &[u64]) -> Result<MemoryFiles, AllocError> {
     let mut name = String::new(alloc);
     name.push_str("a")?;
     let mut listing = Vec::new(alloc);
     listing
         .push((name, b"xyz".to_vec(alloc)?))
         .map_err(|_| AllocError)?;
-    let mut files = MemoryFiles::new(listing, fail.to_vec(alloc)?);
-    let mut seen = Vec::new(alloc);
-    for (name, limit) in calls {
-        let loaded = files.load(alloc, name, *limit);
-        let answer = match loaded {
-            Ok(bytes) => Ok(bytes.len()),
-            Err(fault) => Err(fault),
-        };
-        seen.push(answer).map_err(|_| AllocError)?;
-    }
-    Ok(seen)
+    Ok(MemoryFiles::new(listing, fail.to_vec(alloc)?))
 }
+
+// The length of what a load answered.
+fn load(
+    alloc: Global,
+    files: &mut MemoryFiles,
+    name: &str,
+    limit: usize,
+) -> Result<usize, LoadFault> {
+    match files.load(alloc, name, limit) {
+        Ok(bytes) => Ok(bytes.len()),
+        Err(fault) => Err(fault),
+    }
+}
+
+// What three loads answered, of which those of these numbers are to fail.
+fn loads(alloc: Global, fail: &[u64]) -> Result<[Result<usize, LoadFault>; 3], AllocError> {
+    let mut files = files(alloc, fail)?;
+    Ok([
+        load(alloc, &mut files, "a", 3),
+        load(alloc, &mut files, "b", 3),
+        load(alloc, &mut files, "a", 2),
+    ])
+}
+
+const FAILED: Result<usize, LoadFault> = Err(LoadFault::Failed);
+
+const TOO_LONG: Result<usize, LoadFault> = Err(LoadFault::TooLong);
+
+const LOADS: &[(&[u64], [Result<usize, LoadFault>; 3])] = &[
+    (&[], [Ok(3), FAILED, TOO_LONG]),
+    (&[0], [FAILED, FAILED, TOO_LONG]),
+    (&[2], [Ok(3), FAILED, FAILED]),
+    (&[7, 1], [Ok(3), FAILED, TOO_LONG]),
+];
 
 #[test]
 fn loads_fail_where_they_are_told(rt: HostRuntime) -> Result<(), Fail> {
-    let alloc = rt.alloc();
-    let calls = [("a", 3), ("b", 3), ("a", 2)];
-    let failed = Err(LoadFault::Failed);
-    let too_long = Err(LoadFault::TooLong);
-    let cases: [(&[u64], [Result<usize, LoadFault>; 3]); 4] = [
-        (&[], [Ok(3), failed, too_long]),
-        (&[0], [failed, failed, too_long]),
-        (&[2], [Ok(3), failed, failed]),
-        (&[7, 1], [Ok(3), failed, too_long]),
-    ];
-    for (fail, answers) in cases {
-        let seen = loads(alloc, fail, &calls)?;
-        assert!(rt; seen.as_slice() == answers.as_slice(), "{answers:?}");
+    for (fail, answers) in LOADS {
+        let seen = loads(rt.alloc(), fail)?;
+        assert!(rt; seen == *answers, "{answers:?}");
     }
     Ok(())
 }
 
-// Which of the puts a sink of this room took, and its bytes then.
-#[derive(Drop)]
-struct Taken {
-    answers: Vec<bool>,
-    bytes: Vec<u8>,
+// Which of three puts a sink of this room took, of which the calls of these numbers are to fail,
+// and whether it has these bytes then.
+fn puts(
+    alloc: Global,
+    room: usize,
+    fail: &[u64],
+    bytes: &[u8],
+) -> Result<([bool; 3], bool), AllocError> {
+    let mut sink = MemorySink::new(alloc, room, fail.to_vec(alloc)?)?;
+    let answers = [
+        sink.put(b"ab").is_ok(),
+        sink.put(b"cd").is_ok(),
+        sink.put(b"e").is_ok(),
+    ];
+    Ok((answers, sink.bytes() == bytes))
 }
 
-fn puts(alloc: Global, room: usize, fail: &[u64], pieces: &[&[u8]]) -> Result<Taken, AllocError> {
-    let mut sink = MemorySink::new(alloc, room, fail.to_vec(alloc)?)?;
-    let mut answers = Vec::new(alloc);
-    for piece in pieces {
-        let taken = sink.put(piece).is_ok();
-        answers.push(taken).map_err(|_| AllocError)?;
-    }
-    Ok(Taken {
-        answers,
-        bytes: sink.bytes().to_vec(alloc)?,
-    })
-}
+const PUTS: &[(usize, &[u64], [bool; 3], &[u8])] = &[
+    (5, &[], [true, true, true], b"abcde"),
+    (4, &[], [true, true, false], b"abcd"),
+    (3, &[], [true, false, true], b"abe"),
+    (5, &[0], [false, true, true], b"cde"),
+];
 
 #[test]
 fn puts_fail_where_they_are_told_and_beyond_the_room(rt: HostRuntime) -> Result<(), Fail> {
-    let alloc = rt.alloc();
-    let pieces: [&[u8]; 3] = [b"ab", b"cd", b"e"];
-    let cases: [(usize, &[u64], [bool; 3], &[u8]); 4] = [
-        (5, &[], [true, true, true], b"abcde"),
-        (4, &[], [true, true, false], b"abcd"),
-        (3, &[], [true, false, true], b"abe"),
-        (5, &[0], [false, true, true], b"cde"),
-    ];
-    for (room, fail, answers, bytes) in cases {
-        let taken = puts(alloc, room, fail, &pieces)?;
-        assert!(rt;
-            taken.answers.as_slice() == answers.as_slice(),
-            "room {room}"
-        );
-        assert!(rt; taken.bytes.as_slice() == bytes, "room {room}");
+    for (room, fail, answers, bytes) in PUTS {
+        let seen = puts(rt.alloc(), *room, fail, bytes)?;
+        assert!(rt; seen == (*answers, true), "room {room}");
     }
     Ok(())
 }
@@ -149,170 +150,167 @@ fn take_events(
     Ok(())
 }
 
-#[test]
-fn a_long_piece_comes_as_several_events(rt: HostRuntime) -> Result<(), Fail> {
-    let alloc = rt.alloc();
-    let expected = [
-        (3, 7, EventKind::Bytes(4), b'0'),
-        (3, 7, EventKind::Bytes(4), b'4'),
-        (64, 0, EventKind::End, 0),
-        (3, 7, EventKind::Bytes(2), b'8'),
-        (3, 5, EventKind::Closed, 0),
-        (0, 5, EventKind::End, 0),
-        (0, 5, EventKind::End, 0),
-    ];
+// What comes to a site whose third call fails, with so many events.
+fn events(alloc: Global, count: usize) -> Result<Vec<(Event, u8)>, AllocError> {
     let mut seen = Vec::new(alloc);
     let mut site = site(alloc, 1000, &[2], None)?;
-    take_events(&mut site, expected.len(), &mut seen)?;
-    for ((event, byte), (conn, moment, kind, first)) in seen.iter().zip(expected) {
-        let wanted = Event { conn, moment, kind };
-        assert!(rt; *event == wanted && *byte == first, "{event:?}");
+    take_events(&mut site, count, &mut seen)?;
+    Ok(seen)
+}
+
+const EVENTS: &[(u8, u64, EventKind, u8)] = &[
+    (3, 7, EventKind::Bytes(4), b'0'),
+    (3, 7, EventKind::Bytes(4), b'4'),
+    (64, 0, EventKind::End, 0),
+    (3, 7, EventKind::Bytes(2), b'8'),
+    (3, 5, EventKind::Closed, 0),
+    (0, 5, EventKind::End, 0),
+    (0, 5, EventKind::End, 0),
+];
+
+#[test]
+fn a_long_piece_comes_as_several_events(rt: HostRuntime) -> Result<(), Fail> {
+    let seen = events(rt.alloc(), EVENTS.len())?;
+    for ((event, byte), (conn, moment, kind, first)) in seen.iter().zip(EVENTS) {
+        let wanted = Event {
+            conn: *conn,
+            moment: *moment,
+            kind: *kind,
+        };
+        assert!(rt; *event == wanted && byte == first, "{event:?}");
     }
     Ok(())
 }
 
-// Which of three sends of five bytes on connection 9 a site took, how many bytes it then has of
-// each, and how many calls it counts.
-#[derive(Drop)]
-struct Sending {
-    answers: Vec<bool>,
-    lengths: Vec<usize>,
-    calls: u64,
+// Which of three sends of five bytes on connection 9 a site took.
+fn send_thrice(site: &mut MemorySite) -> [bool; 3] {
+    [
+        site.send(9, b"hello").is_ok(),
+        site.send(9, b"hello").is_ok(),
+        site.send(9, b"hello").is_ok(),
+    ]
 }
 
-fn send_thrice(site: &mut MemorySite, answers: &mut Vec<bool>) -> Result<(), AllocError> {
-    for _ in 0..3 {
-        let sent = site.send(9, b"hello").is_ok();
-        answers.push(sent).map_err(|_| AllocError)?;
+// Whether a site has sent pieces of these lengths.
+fn has_sent(site: &MemorySite, lengths: &[usize]) -> bool {
+    let mut are_same = site.sent_len() == lengths.len();
+    for (index, length) in lengths.iter().enumerate() {
+        are_same = are_same && index < site.sent_len() && site.sent_at(index).1.len() == *length;
     }
-    Ok(())
+    are_same
 }
 
-fn sent_lengths(site: &MemorySite, lengths: &mut Vec<usize>) -> Result<(), AllocError> {
-    for index in 0..site.sent_len() {
-        let (_, bytes) = site.sent_at(index);
-        lengths.push(bytes.len()).map_err(|_| AllocError)?;
-    }
-    Ok(())
-}
-
+// Which of these sends a site of this room took, of which the calls of these numbers and those from
+// the fuse on are to fail, whether it then has so many bytes of each, and how many calls it counts.
 fn sends(
     alloc: Global,
     room: usize,
     fail: &[u64],
     fuse: Option<u64>,
-) -> Result<Sending, AllocError> {
+    lengths: &[usize],
+) -> Result<([bool; 3], bool, u64), AllocError> {
     let mut site = site(alloc, room, fail, fuse)?;
-    let mut answers = Vec::new(alloc);
-    let mut lengths = Vec::new(alloc);
-    send_thrice(&mut site, &mut answers)?;
-    sent_lengths(&site, &mut lengths)?;
-    Ok(Sending {
-        answers,
-        lengths,
-        calls: site.calls(),
-    })
+    let answers = send_thrice(&mut site);
+    Ok((answers, has_sent(&site, lengths), site.calls()))
 }
+
+const SENDS: &[(usize, &[u64], Option<u64>, [bool; 3], &[usize])] = &[
+    (63, &[], None, [true, true, true], &[5, 5, 5]),
+    (62, &[], None, [true, true, false], &[5, 5]),
+    (63, &[1], None, [true, false, true], &[5, 2, 5]),
+    (63, &[], Some(1), [true, false, false], &[5, 2, 2]),
+    (20, &[0], None, [false, false, false], &[]),
+];
 
 #[test]
 fn sends_fail_where_they_are_told_and_beyond_the_room(rt: HostRuntime) -> Result<(), Fail> {
-    let alloc = rt.alloc();
-    let cases: [(usize, &[u64], Option<u64>, [bool; 3], &[usize]); 5] = [
-        (63, &[], None, [true, true, true], &[5, 5, 5]),
-        (62, &[], None, [true, true, false], &[5, 5]),
-        (63, &[1], None, [true, false, true], &[5, 2, 5]),
-        (63, &[], Some(1), [true, false, false], &[5, 2, 2]),
-        (20, &[0], None, [false, false, false], &[]),
-    ];
-    for (room, fail, fuse, answers, lengths) in cases {
-        let sending = sends(alloc, room, fail, fuse)?;
-        assert!(rt;
-            sending.answers.as_slice() == answers.as_slice(),
-            "room {room}"
-        );
-        assert!(rt; sending.lengths.as_slice() == lengths, "room {room}");
-        assert_eq!(rt; sending.calls, 3, "room {room}");
+    for (room, fail, fuse, answers, lengths) in SENDS {
+        let seen = sends(rt.alloc(), *room, fail, *fuse, lengths)?;
+        assert!(rt; seen == (*answers, true, 3), "room {room}");
     }
     Ok(())
 }
 
-// Which calls of the disk a site took, the file after each of them, and what was read behind them.
-#[derive(Drop)]
+// Which calls of the disk a site took, whether the file was as wanted after each of them, and what
+// was read behind them.
+#[derive(Clone, Copy)]
 struct Disk {
     took: [bool; 6],
-    images: Vec<Vec<u8>>,
+    are_images: bool,
     read: usize,
     front: [u8; 4],
 }
 
-fn note(alloc: Global, site: &MemorySite, images: &mut Vec<Vec<u8>>) -> Result<(), AllocError> {
-    images
-        .push(site.image().to_vec(alloc)?)
-        .map_err(|_| AllocError)
+// Whether a site's file is the image of this number.
+fn is_image(site: &MemorySite, images: &[&[u8]], number: usize) -> bool {
+    match images.get(number) {
+        Some(image) => *image == site.image(),
+        None => false,
+    }
 }
 
-fn use_disk(alloc: Global, site: &mut MemorySite) -> Result<Disk, AllocError>
+// The images are those wanted after each call, or none where the file isn't attached.
+fn use_disk(site: &mut MemorySite, images: &[&[u8]]) -> Disk
     requires { site.old.attached ≡ false }
 {
-    let mut took = [false; 6];
-    let mut images = Vec::new(alloc);
-    let mut read = 0;
     let mut front = [0; 4];
-    if site.attach("journal").is_ok() {
-        took[0] = true;
-        note(alloc, site, &mut images)?;
-        took[1] = site.write_at(0, b"abcd").is_ok();
-        note(alloc, site, &mut images)?;
-        took[2] = site.write_at(2, b"vwxyz").is_ok();
-        note(alloc, site, &mut images)?;
-        took[3] = site.write_at(9, b"far").is_ok();
-        note(alloc, site, &mut images)?;
-        took[4] = site.cut(4).is_ok();
-        note(alloc, site, &mut images)?;
-        took[5] = site.sync().is_ok();
-        note(alloc, site, &mut images)?;
-        read = site.read_at(1, &mut front).unwrap_or(0);
+    if site.attach("journal").is_err() {
+        return Disk {
+            took: [false; 6],
+            are_images: images.is_empty(),
+            read: 0,
+            front,
+        };
     }
-    Ok(Disk {
-        took,
-        images,
+    let first = is_image(site, images, 0);
+    let written = (site.write_at(0, b"abcd").is_ok(), is_image(site, images, 1));
+    let longer = (
+        site.write_at(2, b"vwxyz").is_ok(),
+        is_image(site, images, 2),
+    );
+    let far = (site.write_at(9, b"far").is_ok(), is_image(site, images, 3));
+    let cut = (site.cut(4).is_ok(), is_image(site, images, 4));
+    let synced = (site.sync().is_ok(), is_image(site, images, 5));
+    let read = site.read_at(1, &mut front).unwrap_or(0);
+    Disk {
+        took: [true, written.0, longer.0, far.0, cut.0, synced.0],
+        are_images: first && written.1 && longer.1 && far.1 && cut.1 && synced.1,
         read,
         front,
-    })
+    }
 }
 
-fn disk_of(alloc: Global, fail: &[u64]) -> Result<Disk, AllocError> {
+fn disk_of(alloc: Global, fail: &[u64], images: &[&[u8]]) -> Result<Disk, AllocError> {
     let mut site = site(alloc, 1000, fail, None)?;
-    use_disk(alloc, &mut site)
+    Ok(use_disk(&mut site, images))
 }
+
+// Whether what was read behind the calls is the file's bytes from 1 to 3.
+fn has_read(seen: &Disk) -> bool {
+    let count = if seen.took[0] { 3 } else { 0 };
+    seen.read == count && (count == 0 || seen.front.starts_with(b"bvw"))
+}
+
+const WHOLE: &[&[u8]] = &[b"", b"abcd", b"abvwxyz", b"abvwxyz", b"abvw", b"abvw"];
+
+const FRONT: &[&[u8]] = &[b"", b"ab", b"abvwxyz", b"abvwxyz", b"abvw", b"abvw"];
+
+const HALVES: &[&[u8]] = &[b"", b"ab", b"abvw", b"abvw", b"abvw", b"abvw"];
+
+const DISKS: &[(&[u64], [bool; 6], &[&[u8]])] = &[
+    (&[], [true, true, true, false, true, true], WHOLE),
+    (&[1], [true, false, true, false, true, true], FRONT),
+    (&[1, 2, 4], [true, false, false, false, false, true], HALVES),
+    (&[5], [true, true, true, false, true, false], WHOLE),
+    (&[0], [false; 6], &[]),
+];
 
 #[test]
 fn the_disk_holds_what_was_written(rt: HostRuntime) -> Result<(), Fail> {
-    let alloc = rt.alloc();
-    let whole: [&[u8]; 6] = [b"", b"abcd", b"abvwxyz", b"abvwxyz", b"abvw", b"abvw"];
-    let front: [&[u8]; 6] = [b"", b"ab", b"abvwxyz", b"abvwxyz", b"abvw", b"abvw"];
-    let halves: [&[u8]; 6] = [b"", b"ab", b"abvw", b"abvw", b"abvw", b"abvw"];
-    let cases: [(&[u64], [bool; 6], &[&[u8]]); 5] = [
-        (&[], [true, true, true, false, true, true], &whole),
-        (&[1], [true, false, true, false, true, true], &front),
-        (
-            &[1, 2, 4],
-            [true, false, false, false, false, true],
-            &halves,
-        ),
-        (&[5], [true, true, true, false, true, false], &whole),
-        (&[0], [false; 6], &[]),
-    ];
-    for (fail, took, images) in cases {
-        let seen = disk_of(alloc, fail)?;
-        assert!(rt; seen.took == took, "{fail:?}");
-        assert!(rt; seen.images.len() == images.len(), "{fail:?}");
-        for (image, expected) in seen.images.iter().zip(images) {
-            assert!(rt; image.as_slice() == *expected, "{fail:?}");
-        }
-        let count = if took[0] { 3 } else { 0 };
-        assert!(rt; seen.read == count, "{fail:?}");
-        assert!(rt; count == 0 || seen.front.starts_with(b"bvw"), "{fail:?}");
+    for (fail, took, images) in DISKS {
+        let seen = disk_of(rt.alloc(), fail, images)?;
+        assert!(rt; seen.took == *took && seen.are_images, "{fail:?}");
+        assert!(rt; has_read(&seen), "{fail:?}");
     }
     Ok(())
 }
@@ -327,11 +325,14 @@ fn keep<S: Site>(site: &mut S, bytes: &[u8]) -> Result<(), DiskFailed>
     site.sync()
 }
 
+// Whether a site's file, where that is done, is these bytes.
+fn is_kept(alloc: Global, bytes: &[u8]) -> Result<bool, AllocError> {
+    let mut site = site(alloc, 1000, &[], None)?;
+    Ok(keep(&mut site, bytes).is_ok() && site.image() == bytes)
+}
+
 #[test]
 fn a_synced_write_stays(rt: HostRuntime) -> Result<(), Fail> {
-    let alloc = rt.alloc();
-    let mut site = site(alloc, 1000, &[], None)?;
-    assert!(rt; keep(&mut site, b"abc").is_ok());
-    assert!(rt; site.image() == b"abc".as_slice());
+    assert!(rt; is_kept(rt.alloc(), b"abc")?);
     Ok(())
 }
