@@ -1,5 +1,8 @@
 //! Journals that are longer than one piece.
+ghost use Rattle.std.specs.Prelude.{◌≡◌, true, IfOk};
+
 use super::stores::{site_with, start_at};
+use ix_memory::MemorySite;
 use ix_store::Store;
 use std::alloc::Global;
 use std::test::Fail;
@@ -23,15 +26,28 @@ fn long_journal(alloc: Global, thousands: usize) -> Result<Vec<u8>, Fail> {
     Ok(file)
 }
 
-#[test]
-fn a_long_journal_is_read_in_pieces(rt: HostRuntime) -> Result<(), Fail> {
-    let file = long_journal(rt.alloc(), 20)?;
-    let mut site = site_with(rt.alloc(), &file, &[])?;
-    let Ok((_, history)) = Store::start(rt.alloc(), &mut site, b"*a") else {
+// A site with such a journal.
+fn long_site(alloc: Global, thousands: usize) -> Result<MemorySite, Fail>
+    ensures { IfOk result (λ site. site.attached ≡ true) }
+{
+    let file = long_journal(alloc, thousands)?;
+    site_with(alloc, &file, &[])
+}
+
+// How many records a start on such a journal finds, and how long its longest read is.
+fn start_long(alloc: Global, thousands: usize) -> Result<(usize, usize), Fail> {
+    let mut site = long_site(alloc, thousands)?;
+    let Ok((_, history)) = Store::start(alloc, &mut site, b"*a") else {
         return Err("not opened".into());
     };
-    assert_eq!(rt; history.len(), 20_000);
-    assert!(rt; site.longest_read() <= 4096, "{}", site.longest_read());
+    Ok((history.len(), site.longest_read()))
+}
+
+#[test]
+fn a_long_journal_is_read_in_pieces(rt: HostRuntime) -> Result<(), Fail> {
+    let (count, longest) = start_long(rt.alloc(), 20)?;
+    assert_eq!(rt; count, 20_000);
+    assert!(rt; longest <= 4096, "{longest}");
     Ok(())
 }
 
@@ -60,14 +76,19 @@ fn a_piece_that_is_not_read_is_a_fault_of_the_disk(rt: HostRuntime) -> Result<()
     Ok(())
 }
 
+// What a start on such a journal answers, and how many calls it makes.
+fn start_far(alloc: Global, thousands: usize) -> Result<(&'static str, u64), Fail> {
+    let mut site = long_site(alloc, thousands)?;
+    let word = start_at(alloc, &mut site, b"*a")?.word;
+    Ok((word, site.calls()))
+}
+
 #[test]
 fn nothing_is_read_behind_a_million_records(rt: HostRuntime) -> Result<(), Fail> {
     // The record behind a million stands in one of the first 979 pieces, which give at least 4,092
     // bytes each. There are some hundred pieces more.
-    let file = long_journal(rt.alloc(), 1_100)?;
-    let mut site = site_with(rt.alloc(), &file, &[])?;
-    let told = start_at(rt.alloc(), &mut site, b"*a")?;
-    assert_eq!(rt; told.word, "many");
-    assert!(rt; site.calls() <= 5 + 979, "{}", site.calls());
+    let (word, calls) = start_far(rt.alloc(), 1_100)?;
+    assert_eq!(rt; word, "many");
+    assert!(rt; calls <= 5 + 979, "{calls}");
     Ok(())
 }
