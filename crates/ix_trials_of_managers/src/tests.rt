@@ -231,15 +231,45 @@ const EVENTS: [(&[u64], &[Coming<'static>], &[u8], usize, Go); 4] = [
     ),
 ];
 
+// Whether these events of `a - b` without records, where these calls fail, have this sent; how many
+// actions they confirm, and how the last one goes.
+fn play_new(
+    alloc: Global,
+    fail: &[u64],
+    events: &[Coming<'_>],
+    text: &[u8],
+) -> Result<(bool, usize, Option<Go>), Fail> {
+    let played = play(alloc, EMPTY, fail, events)?;
+    Ok((
+        played.text.as_slice() == text,
+        played.confirmed,
+        played.went,
+    ))
+}
+
 #[test]
 fn events_of_several_connections(rt: HostRuntime) -> Result<(), Fail> {
     for (fail, events, text, confirmed, go) in EVENTS {
-        let played = play(rt.alloc(), EMPTY, fail, events)?;
-        assert!(rt; played.text.as_slice() == text, "what {text:?} sends");
-        assert_eq!(rt; played.confirmed, confirmed, "{text:?}");
-        assert_eq!(rt; played.went, Some(go), "{text:?}");
+        let seen = play_new(rt.alloc(), fail, events, text)?;
+        assert_eq!(rt; seen, (true, confirmed, Some(go)), "{text:?}");
     }
     Ok(())
+}
+
+// Whether these events of `a - b` over this file, where these calls fail, have this sent, whether
+// they leave this file, and whether the disk fails at the last one.
+fn play_over(
+    alloc: Global,
+    file: &[u8],
+    fail: &[u64],
+    events: &[Coming<'_>],
+    text: &[u8],
+    then: &[u8],
+) -> Result<(bool, bool, bool), Fail> {
+    let played = play(alloc, file, fail, events)?;
+    let is_sent = played.text.as_slice() == text;
+    let is_left = played.file.as_slice() == then;
+    Ok((is_sent, is_left, played.went.is_none()))
 }
 
 #[test]
@@ -272,10 +302,8 @@ fn confirms_are_in_the_journal(rt: HostRuntime) -> Result<(), Fail> {
         ),
     ];
     for (file, fail, events, text, then) in cases {
-        let played = play(rt.alloc(), file, fail, events)?;
-        assert!(rt; played.text.as_slice() == text, "what {text:?} sends");
-        assert!(rt; played.file.as_slice() == then, "the file behind {text:?}");
-        assert_eq!(rt; played.went.is_none(), !fail.is_empty(), "{text:?}");
+        let seen = play_over(rt.alloc(), file, fail, events, text, then)?;
+        assert_eq!(rt; seen, (true, true, !fail.is_empty()), "{text:?}");
     }
     Ok(())
 }
@@ -297,23 +325,43 @@ fn add_lines(alloc: Global, text: &mut Vec<u8>, line: &str) -> Result<(), AllocE
     Ok(())
 }
 
+// On each connection a line that is too long, the front of one, its end, and a whole one.
+fn long_pieces<'a>(
+    alloc: Global,
+    long: &'a [u8],
+    front: &'a [u8],
+) -> Result<Vec<Coming<'a>>, AllocError> {
+    let mut events = Vec::new(alloc);
+    add_pieces(&mut events, long)?;
+    add_pieces(&mut events, front)?;
+    add_pieces(&mut events, b"")?;
+    add_pieces(&mut events, b"may a\n")?;
+    Ok(events)
+}
+
+// What is sent then.
+fn long_text(alloc: Global) -> Result<Vec<u8>, AllocError> {
+    let mut text = Vec::new(alloc);
+    add_lines(alloc, &mut text, "refused 10 line too long")?;
+    add_lines(alloc, &mut text, "yes")?;
+    Ok(text)
+}
+
+// Whether these events of `a` have this sent.
+fn sends(alloc: Global, events: &[Coming<'_>], text: &[u8]) -> Result<bool, Fail> {
+    let played = play_of(alloc, formed(atom(b"a")?)?, b"", &[], events)?;
+    Ok(played.text.as_slice() == text)
+}
+
 #[test]
 fn a_long_line_is_refused_once_and_an_unfinished_one_is_dropped(
     rt: HostRuntime,
 ) -> Result<(), Fail> {
-    let alloc = rt.alloc();
-    let mut long = vec![in alloc; b'x'; 601]?;
+    let mut long = vec![in rt.alloc(); b'x'; 601]?;
     long[600] = b'\n';
-    let mut events = Vec::new(alloc);
-    add_pieces(&mut events, &long)?;
-    add_pieces(&mut events, &long[..300])?;
-    add_pieces(&mut events, b"")?;
-    add_pieces(&mut events, b"may a\n")?;
-    let mut text = Vec::new(alloc);
-    add_lines(alloc, &mut text, "refused 10 line too long")?;
-    add_lines(alloc, &mut text, "yes")?;
-    let played = play_of(alloc, formed(atom(b"a")?)?, b"", &[], &events)?;
-    assert!(rt; played.text == text);
+    let events = long_pieces(rt.alloc(), &long, &long[..300])?;
+    let text = long_text(rt.alloc())?;
+    assert!(rt; sends(rt.alloc(), &events, &text)?);
     Ok(())
 }
 
