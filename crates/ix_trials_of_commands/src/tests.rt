@@ -27,11 +27,7 @@ fn words_of(alloc: Global, words: &[&str]) -> Result<Vec<String>, Fail> {
 }
 
 // The files `expression` and `actions`; the second is the script of a replay.
-fn files_of(
-    alloc: Global,
-    expression: &[u8],
-    actions: &[u8],
-) -> Result<MemoryFiles, Fail> {
+fn files_of(alloc: Global, expression: &[u8], actions: &[u8]) -> Result<MemoryFiles, Fail> {
     let mut files = Vec::new(alloc);
     for (name, bytes) in [("expression", expression), ("actions", actions)] {
         let file = (String::from_str(alloc, name)?, bytes.to_vec(alloc)?);
@@ -103,7 +99,33 @@ fn run_on(
 
 const TRACE: [&str; 3] = ["trace", "expression", "actions"];
 
-// Compares what is put, and the status, with what is wanted.
+// Whether a run of `words` where the expression and the actions are these texts, and where the put
+// of this number fails, ends with this status and puts these bytes.
+fn puts_until(
+    alloc: Global,
+    words: &[&str],
+    texts: [&[u8]; 2],
+    failing: Option<u64>,
+    status: u8,
+    bytes: &[u8],
+) -> Result<bool, Fail> {
+    let got = run_on(alloc, words, texts[0], texts[1], failing)?;
+    Ok(got.status == status && got.bytes.as_slice() == bytes)
+}
+
+// The same where no put fails.
+fn puts(
+    alloc: Global,
+    words: &[&str],
+    expression: &[u8],
+    actions: &[u8],
+    status: u8,
+    bytes: &[u8],
+) -> Result<bool, Fail> {
+    puts_until(alloc, words, [expression, actions], None, status, bytes)
+}
+
+// The same of a trace.
 fn check(
     alloc: Global,
     expression: &[u8],
@@ -111,8 +133,7 @@ fn check(
     status: u8,
     bytes: &[u8],
 ) -> Result<bool, Fail> {
-    let got = run_on(alloc, &TRACE, expression, actions, None)?;
-    Ok(got.status == status && got.bytes.as_slice() == bytes)
+    puts(alloc, &TRACE, expression, actions, status, bytes)
 }
 
 // Each patient has one examination at a time, and each examination one patient.

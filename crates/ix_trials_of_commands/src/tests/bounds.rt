@@ -43,9 +43,8 @@ const BOUNDS: [(&[u8], &str, u8, &[u8]); 10] = [
 fn bounds_are_put(rt: HostRuntime) -> Result<(), Fail> {
     for (expression, count, status, bytes) in BOUNDS {
         let words = ["bound", "expression", count];
-        let got = run_on(rt.alloc(), &words, expression, b"", None)?;
-        assert_eq!(rt; got.status, status);
-        assert!(rt; got.bytes.as_slice() == bytes, "what {expression:?} puts");
+        let same = puts(rt.alloc(), &words, expression, b"", status, bytes)?;
+        assert!(rt; same, "what {expression:?} puts");
     }
     Ok(())
 }

@@ -45,9 +45,8 @@ const FOLLOWS: [(&[&str], &[u8], &[u8], u8, &[u8]); 6] = [
 #[test]
 fn follows_are_put(rt: HostRuntime) -> Result<(), Fail> {
     for (words, expression, lines, status, bytes) in FOLLOWS {
-        let got = run_on(rt.alloc(), words, expression, lines, None)?;
-        assert_eq!(rt; got.status, status);
-        assert!(rt; got.bytes.as_slice() == bytes, "what {words:?} puts");
+        let same = puts(rt.alloc(), words, expression, lines, status, bytes)?;
+        assert!(rt; same, "what {words:?} puts");
     }
     Ok(())
 }
@@ -58,8 +57,8 @@ const MOST_LINES: usize = 67_108_864;
 #[test]
 fn longer_lines_are_refused(rt: HostRuntime) -> Result<(), Fail> {
     let lines = vec![in rt.alloc(); b'x'; MOST_LINES + 1]?;
-    let got = run_on(rt.alloc(), &FOLLOW, b"a", &lines, None)?;
-    assert_eq!(rt; got.status, 3);
-    assert!(rt; got.bytes.as_slice() == b"refused lines 7 at 67108864\n".as_slice());
+    let bytes: &[u8] = b"refused lines 7 at 67108864\n";
+    let same = puts(rt.alloc(), &FOLLOW, b"a", &lines, 3, bytes)?;
+    assert!(rt; same);
     Ok(())
 }

@@ -25,9 +25,8 @@ fn findings_are_put(rt: HostRuntime) -> Result<(), Fail> {
     ];
     for (expression, status, bytes) in cases {
         let words = ["lint", "expression"];
-        let got = run_on(rt.alloc(), &words, expression, b"", None)?;
-        assert_eq!(rt; got.status, status);
-        assert!(rt; got.bytes.as_slice() == bytes, "what {expression:?} puts");
+        let same = puts(rt.alloc(), &words, expression, b"", status, bytes)?;
+        assert!(rt; same, "what {expression:?} puts");
     }
     Ok(())
 }

@@ -55,9 +55,8 @@ partial
 fn menus_are_put(rt: HostRuntime) -> Result<(), Fail> {
     for (expression, actions, [one, two], bytes) in MENUS {
         let words = ["next", "expression", "actions", one, two];
-        let got = run_on(rt.alloc(), &words, expression, actions, None)?;
-        assert_eq!(rt; got.status, 0);
-        assert!(rt; got.bytes.as_slice() == bytes, "what {one} and {two} put");
+        let same = puts(rt.alloc(), &words, expression, actions, 0, bytes)?;
+        assert!(rt; same, "what {one} and {two} put");
     }
     Ok(())
 }
@@ -74,9 +73,8 @@ const REFUSALS: [(&[u8], &[u8], &str, u8, &[u8]); 4] = [
 fn next_is_refused(rt: HostRuntime) -> Result<(), Fail> {
     for (expression, actions, value, status, bytes) in REFUSALS {
         let words = ["next", "expression", "actions", value];
-        let got = run_on(rt.alloc(), &words, expression, actions, None)?;
-        assert_eq!(rt; got.status, status);
-        assert!(rt; got.bytes.as_slice() == bytes, "what {value} puts");
+        let same = puts(rt.alloc(), &words, expression, actions, status, bytes)?;
+        assert!(rt; same, "what {value} puts");
     }
     Ok(())
 }

@@ -47,9 +47,8 @@ at 57 $x=ct: *any $p (call($p,$x) - perform($p,$x))
 fn reasons_are_put(rt: HostRuntime) -> Result<(), Fail> {
     for (expression, actions, action, bytes) in REASONS {
         let words = ["why", "expression", "actions", action];
-        let got = run_on(rt.alloc(), &words, expression, actions, None)?;
-        assert_eq!(rt; got.status, 0);
-        assert!(rt; got.bytes.as_slice() == bytes, "why {action}");
+        let same = puts(rt.alloc(), &words, expression, actions, 0, bytes)?;
+        assert!(rt; same, "why {action}");
     }
     Ok(())
 }
@@ -96,12 +95,8 @@ const REFUSALS: [(&[u8], &[u8], &str, &str, u8, &[u8]); 6] = [
 fn why_is_refused_in_its_order(rt: HostRuntime) -> Result<(), Fail> {
     for (expression, actions, action, nodes, status, bytes) in REFUSALS {
         let words = ["why", "--nodes", nodes, "expression", "actions", action];
-        let got = run_on(rt.alloc(), &words, expression, actions, None)?;
-        assert_eq!(rt; got.status, status);
-        assert!(rt;
-            got.bytes.as_slice() == bytes,
-            "why {action} of {actions:?}"
-        );
+        let same = puts(rt.alloc(), &words, expression, actions, status, bytes)?;
+        assert!(rt; same, "why {action} of {actions:?}");
     }
     Ok(())
 }

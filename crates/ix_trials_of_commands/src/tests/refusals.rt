@@ -1,6 +1,12 @@
 //! Why a run ends before it has its answer.
 use super::*;
 
+// Whether a run of other words is refused, and puts what begins so.
+fn refuses(alloc: Global, words: &[&str], front: &[u8]) -> Result<bool, Fail> {
+    let got = run_on(alloc, words, b"a", b"a", None)?;
+    Ok(got.status == 2 && got.bytes.as_slice().starts_with(front))
+}
+
 #[test]
 fn other_words_are_refused(rt: HostRuntime) -> Result<(), Fail> {
     let alloc = rt.alloc();
@@ -25,12 +31,7 @@ fn other_words_are_refused(rt: HostRuntime) -> Result<(), Fail> {
         (&["work", "5", "1", "--nodes", "0"], b"error: "),
     ];
     for (words, front) in cases {
-        let got = run_on(alloc, words, b"a", b"a", None)?;
-        assert_eq!(rt; got.status, 2);
-        assert!(rt;
-            got.bytes.as_slice().starts_with(front),
-            "what {words:?} puts"
-        );
+        assert!(rt; refuses(alloc, words, front)?, "what {words:?} puts");
     }
     Ok(())
 }
@@ -101,9 +102,9 @@ fn runs_without_an_answer_end(rt: HostRuntime) -> Result<(), Fail> {
         (&TRACE, Some(1), 10, b"yes\nyes\n"),
     ];
     for (words, failing, status, bytes) in cases {
-        let got = run_on(alloc, words, b"a - b", b"a\nb", failing)?;
-        assert_eq!(rt; got.status, status);
-        assert!(rt; got.bytes.as_slice() == bytes, "what {words:?} puts");
+        let texts: [&[u8]; 2] = [b"a - b", b"a\nb"];
+        let same = puts_until(alloc, words, texts, failing, status, bytes)?;
+        assert!(rt; same, "what {words:?} puts");
     }
     Ok(())
 }

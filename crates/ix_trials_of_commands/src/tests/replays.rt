@@ -5,19 +5,6 @@ use super::*;
 
 const REPLAY: [&str; 4] = ["replay", "expression", "-", "actions"];
 
-// Compares what a replay puts, and its status, with what is wanted.
-fn check_replay(
-    alloc: Global,
-    words: &[&str],
-    expression: &[u8],
-    script: &[u8],
-    status: u8,
-    bytes: &[u8],
-) -> Result<bool, Fail> {
-    let got = run_on(alloc, words, expression, script, None)?;
-    Ok(got.status == status && got.bytes.as_slice() == bytes)
-}
-
 // Each patient has one examination at a time.
 const PATIENTS: &[u8] = b"all $p *(any $x (call($p,$x) - perform($p,$x)))";
 
@@ -91,7 +78,7 @@ const REQUESTS: [(&[u8], &[u8], &[u8]); 11] = [
 #[test]
 fn requests_are_answered(rt: HostRuntime) -> Result<(), Fail> {
     for (expression, script, bytes) in REQUESTS {
-        let same = check_replay(rt.alloc(), &REPLAY, expression, script, 0, bytes)?;
+        let same = puts(rt.alloc(), &REPLAY, expression, script, 0, bytes)?;
         assert!(rt; same, "what {script:?} puts");
     }
     Ok(())
@@ -154,7 +141,7 @@ const REPLAYS: [(&[&str], &[u8], &[u8], u8, &[u8]); 6] = [
 #[test]
 fn replays_end(rt: HostRuntime) -> Result<(), Fail> {
     for (words, expression, script, status, bytes) in REPLAYS {
-        let same = check_replay(rt.alloc(), words, expression, script, status, bytes)?;
+        let same = puts(rt.alloc(), words, expression, script, status, bytes)?;
         assert!(rt; same, "what {words:?} puts");
     }
     Ok(())
@@ -169,7 +156,7 @@ fn what_has_a_fault_is_not_replayed(rt: HostRuntime) -> Result<(), Fail> {
         (b"a -", b"1 64 may a", b"refused expression 4 at 3\n"),
     ];
     for (expression, script, bytes) in cases {
-        let same = check_replay(rt.alloc(), &REPLAY, expression, script, 3, bytes)?;
+        let same = puts(rt.alloc(), &REPLAY, expression, script, 3, bytes)?;
         assert!(rt; same, "what {script:?} puts");
     }
     Ok(())
@@ -180,18 +167,9 @@ fn failed_puts_end_replays(rt: HostRuntime) -> Result<(), Fail> {
     let alloc = rt.alloc();
     let cases: [(u64, &[u8]); 3] = [(0, b""), (1, b"history 0\n"), (2, b"history 0\n0 yes\n")];
     for (failing, bytes) in cases {
-        let got = run_on(
-            alloc,
-            &REPLAY,
-            b"a",
-            b"1 0 may a\n2 0 may a\n3 0 may a",
-            Some(failing),
-        )?;
-        assert_eq!(rt; got.status, 10);
-        assert!(rt;
-            got.bytes.as_slice() == bytes,
-            "what is put before {failing:?}"
-        );
+        let texts: [&[u8]; 2] = [b"a", b"1 0 may a\n2 0 may a\n3 0 may a"];
+        let same = puts_until(alloc, &REPLAY, texts, Some(failing), 10, bytes)?;
+        assert!(rt; same, "what is put where put {failing} fails");
     }
     Ok(())
 }
@@ -209,7 +187,7 @@ fn long_lines_are_refused_once(rt: HostRuntime) -> Result<(), Fail> {
         script.push(b'x')?;
     }
     script.extend_from_slice(b"\n1 0 may a\n")?;
-    let same = check_replay(
+    let same = puts(
         alloc,
         &REPLAY,
         b"a - b",
@@ -236,7 +214,7 @@ fn watches_fill_up(rt: HostRuntime) -> Result<(), Fail> {
     }
     script.extend_from_slice(b"1 0 watch w0 a\n")?;
     wanted.extend_from_slice(b"0 refused 40 watches full\n0 watching yes\n")?;
-    let same = check_replay(alloc, &REPLAY, b"a", &script, 0, &wanted)?;
+    let same = puts(alloc, &REPLAY, b"a", &script, 0, &wanted)?;
     assert!(rt; same);
     Ok(())
 }
@@ -278,7 +256,7 @@ fn a_day_is_granted(rt: HostRuntime) -> Result<(), Fail> {
     }
     script.extend_from_slice(b"1 0 status\n")?;
     wanted.extend_from_slice(b"0 status complete 800 nodes 5\n")?;
-    let same = check_replay(alloc, &REPLAY, BOTH, &script, 0, &wanted)?;
+    let same = puts(alloc, &REPLAY, BOTH, &script, 0, &wanted)?;
     assert!(rt; same);
     Ok(())
 }

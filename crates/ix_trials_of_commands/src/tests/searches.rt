@@ -37,9 +37,8 @@ never again at 17: c
             "expression",
             "actions",
         ];
-        let got = run_on(rt.alloc(), &words, expression, b"u\nv", None)?;
-        assert_eq!(rt; got.status, 0);
-        assert!(rt; got.bytes.as_slice() == bytes, "what {expression:?} puts");
+        let same = puts(rt.alloc(), &words, expression, b"u\nv", 0, bytes)?;
+        assert!(rt; same, "what {expression:?} puts");
     }
     Ok(())
 }
@@ -65,9 +64,8 @@ p=40\n";
     ];
     for (expression, values, bytes) in cases {
         let words = ["stuck", "expression", "actions"];
-        let got = run_on(rt.alloc(), &words, expression, values, None)?;
-        assert_eq!(rt; got.status, 3);
-        assert!(rt; got.bytes.as_slice() == bytes, "what {values:?} puts");
+        let same = puts(rt.alloc(), &words, expression, values, 3, bytes)?;
+        assert!(rt; same, "what {values:?} puts");
     }
     Ok(())
 }

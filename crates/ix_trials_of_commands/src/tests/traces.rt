@@ -28,8 +28,7 @@ fn check_under(
     bytes: &[u8],
 ) -> Result<bool, Fail> {
     let words = ["trace", "--nodes", limit, "expression", "actions"];
-    let got = run_on(alloc, &words, expression, actions, None)?;
-    Ok(got.status == status && got.bytes.as_slice() == bytes)
+    puts(alloc, &words, expression, actions, status, bytes)
 }
 
 const OPERATORS: [(&[u8], &[u8], &[u8]); 11] = [
@@ -189,6 +188,28 @@ fn repeated(alloc: Global, line: &[u8], count: usize) -> Result<Vec<u8>, Fail> {
     Ok(text)
 }
 
+// Whether a trace of `*a` and these actions, where the put of this number fails, ends with this
+// status and puts so many times `yes` and then this.
+fn puts_of(
+    alloc: Global,
+    actions: &[u8],
+    failing: Option<u64>,
+    status: u8,
+    wanted: (usize, &[u8]),
+) -> Result<bool, Fail> {
+    let mut bytes = repeated(alloc, b"yes\n", wanted.0)?;
+    bytes.extend_from_slice(wanted.1)?;
+    let expression: &[u8] = b"*a";
+    puts_until(
+        alloc,
+        &TRACE,
+        [expression, actions],
+        failing,
+        status,
+        &bytes,
+    )
+}
+
 // A put takes at most 4096 bytes, so that the first one has the answers to 1024 actions.
 #[test]
 fn answers_longer_than_a_put_are_whole(rt: HostRuntime) -> Result<(), Fail> {
@@ -201,14 +222,8 @@ fn answers_longer_than_a_put_are_whole(rt: HostRuntime) -> Result<(), Fail> {
         (Some(2), 10, 1100, b""),
     ];
     for (failing, status, answers, last) in cases {
-        let mut bytes = repeated(alloc, b"yes\n", answers)?;
-        bytes.extend_from_slice(last)?;
-        let got = run_on(alloc, &TRACE, b"*a", &actions, failing)?;
-        assert_eq!(rt; got.status, status);
-        assert!(rt;
-            got.bytes.as_slice() == bytes.as_slice(),
-            "what is put where put {failing:?} fails"
-        );
+        let same = puts_of(alloc, &actions, failing, status, (answers, last))?;
+        assert!(rt; same, "what is put where put {failing:?} fails");
     }
     Ok(())
 }

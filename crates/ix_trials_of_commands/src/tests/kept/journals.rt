@@ -193,14 +193,19 @@ fn journals_of_runs_that_are_cut_short_are_kept(rt: HostRuntime) -> Result<(), F
     Ok(())
 }
 
-#[test]
-fn a_new_journal_has_the_canonical_text(rt: HostRuntime) -> Result<(), Fail> {
+// What a replay of BOTH puts, and the journal that it makes.
+fn replay_both(alloc: Global) -> Result<(Ended, Vec<u8>), Fail> {
     let before = Before {
         journal: b"",
         call: None,
         put: None,
     };
-    let (ended, journal) = run_from(rt.alloc(), &REPLAY, BOTH, b"", before)?;
+    run_from(alloc, &REPLAY, BOTH, b"", before)
+}
+
+#[test]
+fn a_new_journal_has_the_canonical_text(rt: HostRuntime) -> Result<(), Fail> {
+    let (ended, journal) = replay_both(rt.alloc())?;
     assert!(rt; ended.bytes.as_slice() == b"history 0\n".as_slice());
     assert_eq!(rt; journal.len(), 110);
     assert!(rt; journal.as_slice().starts_with(b"\xA5IXJ2\x00\x5D"));

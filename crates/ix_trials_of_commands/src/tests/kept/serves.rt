@@ -111,6 +111,29 @@ fn serve_well(
     serve_over(alloc, expression, outside)
 }
 
+// Whether a serve ended with this status, and put, sent and left these bytes.
+fn has_ended(served: &Served, status: u8, wanted: [&[u8]; 3]) -> bool {
+    served.status == status
+        && served.put.as_slice() == wanted[0]
+        && served.sent.as_slice() == wanted[1]
+        && served.journal.as_slice() == wanted[2]
+}
+
+// Whether a serve without a journal ends well, finds no action, and sends these bytes.
+fn sends(
+    alloc: Global,
+    expression: &[u8],
+    coming: &[Coming<'_>],
+    sent: &[u8],
+) -> Result<bool, Fail> {
+    let served = serve_well(alloc, expression, b"", coming)?;
+    Ok(
+        served.status == 0
+            && served.put.as_slice() == b"history 0\n".as_slice()
+            && served.sent.as_slice() == sent,
+    )
+}
+
 #[test]
 fn two_connections_are_served(rt: HostRuntime) -> Result<(), Fail> {
     let cases: [(&[u8], &[Coming<'_>], &[u8]); 2] = [
@@ -140,12 +163,22 @@ fn two_connections_are_served(rt: HostRuntime) -> Result<(), Fail> {
         ),
     ];
     for (expression, coming, sent) in cases {
-        let served = serve_well(rt.alloc(), expression, b"", coming)?;
-        assert_eq!(rt; served.status, 0);
-        assert!(rt; served.put.as_slice() == b"history 0\n".as_slice());
-        assert!(rt; served.sent.as_slice() == sent, "for {expression:?}");
+        let are_sent = sends(rt.alloc(), expression, coming, sent)?;
+        assert!(rt; are_sent, "for {expression:?}");
     }
     Ok(())
+}
+
+// Whether a serve from this journal ends well, and puts, sends and leaves these bytes.
+fn goes_on(
+    alloc: Global,
+    expression: &[u8],
+    journal: &[u8],
+    coming: &[Coming<'_>],
+    wanted: [&[u8]; 3],
+) -> Result<bool, Fail> {
+    let served = serve_well(alloc, expression, journal, coming)?;
+    Ok(has_ended(&served, 0, wanted))
 }
 
 #[test]
@@ -178,11 +211,8 @@ fn serves_go_on_from_their_journals(rt: HostRuntime) -> Result<(), Fail> {
         ),
     ];
     for (expression, journal, coming, put, sent, left) in cases {
-        let served = serve_well(rt.alloc(), expression, journal, coming)?;
-        assert_eq!(rt; served.status, 0);
-        assert!(rt; served.put.as_slice() == put, "over {journal:?}");
-        assert!(rt; served.sent.as_slice() == sent, "over {journal:?}");
-        assert!(rt; served.journal.as_slice() == left, "over {journal:?}");
+        let is_so = goes_on(rt.alloc(), expression, journal, coming, [put, sent, left])?;
+        assert!(rt; is_so, "over {journal:?}");
     }
     Ok(())
 }
@@ -211,6 +241,13 @@ fn serve_a(alloc: Global, call: Option<u64>, fuse: Option<u64>) -> Result<Served
     serve_over(alloc, b"a - b", outside)
 }
 
+// Whether that serve, where the call of this number fails, ends with this status, and puts, sends
+// and leaves these bytes.
+fn ends_without(alloc: Global, call: u64, status: u8, wanted: [&[u8]; 3]) -> Result<bool, Fail> {
+    let served = serve_a(alloc, Some(call), None)?;
+    Ok(has_ended(&served, status, wanted))
+}
+
 #[test]
 fn failed_calls_end_serves_but_for_sends(rt: HostRuntime) -> Result<(), Fail> {
     // Calls 0 to 8 attach the journal and make it, 9 to 12 append the boot, 13 listens, 14 and 16
@@ -228,11 +265,8 @@ fn failed_calls_end_serves_but_for_sends(rt: HostRuntime) -> Result<(), Fail> {
         ),
     ];
     for (call, status, put, sent, journal) in cases {
-        let served = serve_a(rt.alloc(), Some(call), None)?;
-        assert_eq!(rt; served.status, status, "call {call}");
-        assert!(rt; served.put.as_slice() == put, "call {call}");
-        assert!(rt; served.sent.as_slice() == sent, "call {call}");
-        assert!(rt; served.journal.as_slice() == journal, "call {call}");
+        let is_so = ends_without(rt.alloc(), call, status, [put, sent, journal])?;
+        assert!(rt; is_so, "call {call}");
     }
     Ok(())
 }
@@ -248,11 +282,20 @@ fn status_without(call: u64) -> u8 {
     }
 }
 
+// How that serve ends where the call of this number fails.
+fn status_where(alloc: Global, call: u64) -> Result<u8, Fail> {
+    let served = serve_a(alloc, Some(call), None)?;
+    Ok(served.status)
+}
+
 #[test]
 fn each_call_of_a_serve_fails_in_turn(rt: HostRuntime) -> Result<(), Fail> {
     for call in 0..24 {
-        let served = serve_a(rt.alloc(), Some(call), None)?;
-        assert_eq!(rt; served.status, status_without(call), "call {call}");
+        assert_eq!(rt;
+            status_where(rt.alloc(), call)?,
+            status_without(call),
+            "call {call}"
+        );
     }
     Ok(())
 }
@@ -276,34 +319,37 @@ fn is_kept(
     Ok(put == lines[1] || (put == lines[0] && !acknowledged))
 }
 
+// Whether that serve, where all calls from this one on fail, leaves what it acknowledged, and
+// whether it ends well.
+fn keeps(alloc: Global, fuse: u64) -> Result<(bool, bool), Fail> {
+    let served = serve_a(alloc, None, Some(fuse))?;
+    let lines: [&[u8]; 2] = [b"history 0\n", b"history 1\n"];
+    let kept = is_kept(alloc, &served, lines, b"0 granted 1-1\n0 c")?;
+    Ok((kept, served.status == 0))
+}
+
 #[test]
 fn what_was_acknowledged_is_kept(rt: HostRuntime) -> Result<(), Fail> {
     for fuse in 0..24 {
-        let served = serve_a(rt.alloc(), None, Some(fuse))?;
-        let kept = is_kept(
-            rt.alloc(),
-            &served,
-            [b"history 0\n", b"history 1\n"],
-            b"0 granted 1-1\n0 c",
-        )?;
-        assert!(rt; kept, "fuse {fuse}");
-        assert_eq!(rt; served.status == 0, fuse == 23, "fuse {fuse}");
+        let seen = keeps(rt.alloc(), fuse)?;
+        assert_eq!(rt; seen, (true, fuse == 23), "fuse {fuse}");
     }
     Ok(())
+}
+
+// The same of the serve over RENEWED_NONE.
+fn keeps_renewed(alloc: Global, fuse: u64) -> Result<(bool, bool), Fail> {
+    let served = serve_renewed(alloc, fuse)?;
+    let lines: [&[u8]; 2] = [b"history 2\n", b"history 3\n"];
+    let kept = is_kept(alloc, &served, lines, b"0 granted 2-1\n0 c")?;
+    Ok((kept, served.status == 0))
 }
 
 #[test]
 fn what_was_acknowledged_behind_a_renewal_is_kept(rt: HostRuntime) -> Result<(), Fail> {
     for fuse in 0..21 {
-        let served = serve_renewed(rt.alloc(), fuse)?;
-        let kept = is_kept(
-            rt.alloc(),
-            &served,
-            [b"history 2\n", b"history 3\n"],
-            b"0 granted 2-1\n0 c",
-        )?;
-        assert!(rt; kept, "fuse {fuse}");
-        assert_eq!(rt; served.status == 0, fuse == 20, "fuse {fuse}");
+        let seen = keeps_renewed(rt.alloc(), fuse)?;
+        assert_eq!(rt; seen, (true, fuse == 20), "fuse {fuse}");
     }
     Ok(())
 }
