@@ -83,22 +83,38 @@ fn one_value(alloc: Global, value: Value) -> Result<Knot, AllocError> {
     Knot::new(alloc, Node::Any(common, Entries::of(alloc, entries)?))
 }
 
+// The size of a knot, if there was memory for it.
+fn size(knot: Result<Knot, AllocError>) -> Result<usize, AllocError> {
+    Ok(knot?.size())
+}
+
 #[test]
 fn sizes(rt: HostRuntime) -> Result<(), Fail> {
     let alloc = rt.alloc();
     let value = Value::read(b"u").ok_or("not a value")?;
-    assert_eq!(rt; none_begun(alloc)?.size(), 2);
-    assert_eq!(rt; one_begun(alloc)?.size(), 5);
-    assert_eq!(rt; two_begun(alloc)?.size(), 8);
-    assert_eq!(rt; two_sides(alloc)?.size(), 13);
-    assert_eq!(rt; no_value(alloc)?.size(), 4);
-    assert_eq!(rt; one_value(alloc, value)?.size(), 6);
+    assert_eq!(rt; size(none_begun(alloc))?, 2);
+    assert_eq!(rt; size(one_begun(alloc))?, 5);
+    assert_eq!(rt; size(two_begun(alloc))?, 8);
+    assert_eq!(rt; size(two_sides(alloc))?, 13);
+    assert_eq!(rt; size(no_value(alloc))?, 4);
+    assert_eq!(rt; size(one_value(alloc, value))?, 6);
     Ok(())
 }
 
-// Whether a share of this knot is equal to it.
-fn is_shared(knot: &Knot) -> Result<bool, AllocError> {
-    Ok(knot.share()? == *knot)
+// Whether a share of this knot, if there was memory for it, is equal to it.
+fn is_shared(knot: Result<Knot, AllocError>) -> Result<bool, AllocError> {
+    let knot = knot?;
+    Ok(knot.share()? == knot)
+}
+
+// Whether what was built again is equal.
+fn is_built_again(alloc: Global, value: Value) -> Result<bool, AllocError> {
+    Ok(one_value(alloc, value)? == one_value(alloc, value)?)
+}
+
+// Whether a composition stands before a quantifier.
+fn is_before_quantifier(alloc: Global, value: Value) -> Result<bool, AllocError> {
+    Ok(two_sides(alloc)? < one_value(alloc, value)?)
 }
 
 // A share is equal to what it comes from, and so is what was built again.
@@ -106,20 +122,28 @@ fn is_shared(knot: &Knot) -> Result<bool, AllocError> {
 fn shares(rt: HostRuntime) -> Result<(), Fail> {
     let alloc = rt.alloc();
     let value = Value::read(b"u").ok_or("not a value")?;
-    assert!(rt; is_shared(&one_value(alloc, value)?)?);
-    assert!(rt; is_shared(&two_sides(alloc)?)?);
-    assert!(rt; one_value(alloc, value)? == one_value(alloc, value)?);
-    assert!(rt; two_sides(alloc)? < one_value(alloc, value)?);
+    assert!(rt; is_shared(one_value(alloc, value))?);
+    assert!(rt; is_shared(two_sides(alloc))?);
+    assert!(rt; is_built_again(alloc, value)?);
+    assert!(rt; is_before_quantifier(alloc, value)?);
     Ok(())
 }
 
-// A copy of a tree is equal to it, and Dead alone is dead.
+// Whether a copy of a tree is equal to it, and how large and whether dead the tree is.
+fn copied(alloc: Global) -> Result<(bool, usize, bool), AllocError> {
+    let tree = Tree::of(two_sides(alloc)?);
+    Ok((tree.copy(alloc)? == tree, tree.size(), tree.is_dead()))
+}
+
+// Whether Dead alone is dead.
+fn is_dead_dead(alloc: Global) -> Result<bool, AllocError> {
+    Ok(Tree::of(Knot::new(alloc, Node::Dead)?).is_dead())
+}
+
 #[test]
 fn copies(rt: HostRuntime) -> Result<(), Fail> {
-    let tree = Tree::of(two_sides(rt.alloc())?);
-    assert!(rt; tree.copy(rt.alloc())? == tree);
-    assert!(rt; tree.size() == 13 && !tree.is_dead());
-    assert!(rt; Tree::of(Knot::new(rt.alloc(), Node::Dead)?).is_dead());
+    assert_eq!(rt; copied(rt.alloc())?, (true, 13, false));
+    assert!(rt; is_dead_dead(rt.alloc())?);
     Ok(())
 }
 
@@ -155,10 +179,8 @@ fn shared_entries(rt: HostRuntime) -> Result<(), Fail> {
     Ok(())
 }
 
-// A list of 1,000,000 trees is no deeper than one.
-#[test]
-fn wide(rt: HostRuntime) -> Result<(), Fail> {
-    let alloc = rt.alloc();
+// Whether a share of a list of 1,000,000 trees, which is no deeper than one, is equal to it.
+fn is_wide_shared(alloc: Global) -> Result<bool, AllocError> {
     let start = Knot::new(alloc, Node::Start)?;
     let mut items = Vec::new(alloc);
     for _i in 0..999_999_usize {
@@ -166,21 +188,28 @@ fn wide(rt: HostRuntime) -> Result<(), Fail> {
     }
     let bag = Bag { items };
     let items = share_knots(alloc, &bag.items)?;
-    assert!(rt; Bag { items } == bag);
+    Ok(Bag { items } == bag)
+}
+
+#[test]
+fn wide(rt: HostRuntime) -> Result<(), Fail> {
+    assert!(rt; is_wide_shared(rt.alloc())?);
     Ok(())
 }
 
-// A list goes behind the knots that stand there, in the room that there is.
-#[test]
-fn appended(rt: HostRuntime) -> Result<(), Fail> {
-    let alloc = rt.alloc();
+// Whether a list goes behind the knots that stand there, in the room that there is.
+fn is_appended(alloc: Global) -> Result<bool, AllocError> {
     let first = Knot::new(alloc, Node::Start)?;
     let second = two_sides(alloc)?;
     let mut items = Vec::with_capacity(alloc, 3)?;
     items.push_reserved(second.share()?);
     let items = with_shared(items, &[first.share()?, second.share()?])?;
-    assert!(rt; items.len() == 3);
-    assert!(rt; items[0] == second && items[1] == first && items[2] == second);
+    Ok(items.len() == 3 && items[0] == second && items[1] == first && items[2] == second)
+}
+
+#[test]
+fn appended(rt: HostRuntime) -> Result<(), Fail> {
+    assert!(rt; is_appended(rt.alloc())?);
     Ok(())
 }
 
@@ -197,24 +226,25 @@ fn deep(rt: HostRuntime) -> Result<(), Fail> {
     Ok(())
 }
 
-// A list stands before a longer one that begins alike.
-#[test]
-fn order_of_lists(rt: HostRuntime) -> Result<(), Fail> {
-    let alloc = rt.alloc();
+// Whether a list stands before a longer one that begins alike.
+fn is_before_longer(alloc: Global) -> Result<bool, AllocError> {
     let mut short = Vec::new(alloc);
     short.push(Knot::new(alloc, Node::Start)?)?;
     let below = Knot::new(alloc, Node::Star(false, short))?;
     let mut long = Vec::new(alloc);
     long.push(Knot::new(alloc, Node::Start)?)?;
     long.push(Knot::new(alloc, Node::Dead)?)?;
-    assert!(rt; below < Knot::new(alloc, Node::Star(false, long))?);
+    Ok(below < Knot::new(alloc, Node::Star(false, long))?)
+}
+
+#[test]
+fn order_of_lists(rt: HostRuntime) -> Result<(), Fail> {
+    assert!(rt; is_before_longer(rt.alloc())?);
     Ok(())
 }
 
-// Pairs go by their first parts first.
-#[test]
-fn order_of_pairs(rt: HostRuntime) -> Result<(), Fail> {
-    let alloc = rt.alloc();
+// Whether pairs go by their first parts first.
+fn is_early_first(alloc: Global) -> Result<bool, AllocError> {
     let early = Pair {
         first: Knot::new(alloc, Node::Start)?,
         second: Knot::new(alloc, Node::Done)?,
@@ -223,6 +253,11 @@ fn order_of_pairs(rt: HostRuntime) -> Result<(), Fail> {
         first: Knot::new(alloc, Node::Done)?,
         second: Knot::new(alloc, Node::Start)?,
     };
-    assert!(rt; early < late);
+    Ok(early < late)
+}
+
+#[test]
+fn order_of_pairs(rt: HostRuntime) -> Result<(), Fail> {
+    assert!(rt; is_early_first(rt.alloc())?);
     Ok(())
 }
