@@ -12,7 +12,7 @@
 | `asks` | the line in which asks wait for the reservation |
 | `watches` | what is watched, so that it can be watched again by the next run, and whose it is |
 | `policy` | who may do what |
-| `places`, `unread` | how many connections there may be, and how much of replies that nobody reads |
+| `places`, `pace`, `unread` | how many connections and asks there may be, and how much of replies that nobody reads |
 | `front` | how they go together |
 | `log`, `records`, `gate`, `audit` | who asked what: how it is written, what, what waits for it, and whether it is all |
 | `metrics`, `pages` | the counts, and where they can be read |

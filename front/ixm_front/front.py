@@ -58,7 +58,7 @@ class Front:
         self._recent = Recent()
         self._held_records = Held(options.records, options.every)
         policy = None if options.policy is None else read_policy(options.policy)
-        self._rights = Rights(policy, self._watches, options.lease, options.watches)
+        self._rights = Rights(policy, self._watches, options.lease, options.watches, options.asks)
         self._held: dict[ClientLine, None] = {}  # lines but asks that came while there was no manager
         self._asks_status = False
         self._cut_off: list[ClientLine] = []  # confirms and cancels whose replies were lost with a connection

@@ -7,7 +7,7 @@ import ipaddress
 from collections.abc import Callable
 from dataclasses import dataclass
 
-from .protocol import LONGEST
+from .protocol import LONGEST, MOST_ASKS
 from .version import version
 
 
@@ -23,6 +23,7 @@ class Options:
     again: int
     lease: int
     watches: int
+    asks: int
     cancel_unspent: bool
     clients: int
     user: int | None
@@ -131,6 +132,7 @@ def parser_of() -> argparse.ArgumentParser:
         help="after how long the first ask in the line is tried again at the latest")
     add("--lease", type=counted(1, LONGEST), default=LONGEST, metavar="MILLIS", help="the longest lease")
     add("--watches", type=counted(0, 4096), default=1024, metavar="N", help="watches at most of one user")
+    add("--asks", type=counted(1, MOST_ASKS), default=MOST_ASKS, metavar="N", help="asks at most of one user in any second")
     add("--cancel-unspent", action="store_true", help="cancel a grant whose connection closes before it is spent")
     add("--clients", type=counted(1, 100000), default=1000, metavar="N", help="clients at most")
     add("--user", type=counted(1, 100000), metavar="N", help="clients at most of one user, nine tenths of all")

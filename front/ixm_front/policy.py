@@ -5,16 +5,21 @@ from __future__ import annotations
 import grp
 import pwd
 import re
+import time
 from collections import OrderedDict
 from dataclasses import dataclass
+from time import monotonic
 from typing import Protocol
 
 from . import protocol
 from .client import Client
-from .protocol import ACTION_AT, LONGEST, REQUESTS, SPENDING, number, word
+from .pace import Pace
+from .protocol import ACTION_AT, LONGEST, MOST_ASKS, REQUESTS, SPENDING, number, word
 from .who import Who
 
 WHO = ("user", "group", "cert", "anybody")
+LIMITS = {"lease": range(LONGEST + 1), "watches": range(4097), "asks": range(1, MOST_ASKS + 1)}  # the numbers of a line
+MILLI = 0.001  # seconds: a reply names whole milliseconds, so that whoever waits for that one isn't too early
 TICKETS = 1000  # of which it is remembered who got them: the manager has one open at a time
 PATTERN = re.compile(r"([A-Za-z][A-Za-z0-9_]{0,31})(?:\((\$?[A-Za-z0-9_]{1,32}(?:,\$?[A-Za-z0-9_]{1,32}){0,3})\))?")
 
@@ -33,6 +38,7 @@ class Permission:
     actions: re.Pattern[bytes]
     lease: int  # milliseconds at most
     watches: int | None  # at most; none: as for everybody
+    asks: int | None  # the same, within a second
 
     def is_for(self, who: Who) -> bool:
         """Whether the line speaks of them."""
@@ -79,28 +85,28 @@ def one_of(kind: str, name: str) -> int | str:
 
 
 def clauses_of(words: list[str]) -> dict[str, list[str]]:
-    """The words behind each of the four key words."""
+    """The words behind each of the key words."""
     clauses: dict[str, list[str]] = {}
     for each in words:
-        if each in ("requests", "actions", "lease", "watches"):
+        if each in ("requests", "actions", *LIMITS):
             if each in clauses:
                 raise PolicyFault(f"`{each}` stands there twice")
             clauses[each] = []
         elif not clauses:
-            raise PolicyFault(f"{each} in place of `requests`, `actions`, `lease` or `watches`")
+            raise PolicyFault(f"{each} in place of `requests`, `actions`, `lease`, `watches` or `asks`")
         else:
             clauses[list(clauses)[-1]].append(each)
     return clauses
 
 
-def limit_of(clauses: dict[str, list[str]], key: str, most: int) -> int | None:
+def limit_of(clauses: dict[str, list[str]], key: str) -> int | None:
     """The number behind a key word, none where that isn't there."""
     if key not in clauses:
         return None
-    words = clauses[key]
+    words, bounds = clauses[key], LIMITS[key]
     value = number(words[0].encode()) if len(words) == 1 else None
-    if value is None or value > most:
-        raise PolicyFault(f"`{key}` wants one number of at most {most}")
+    if value is None or value not in bounds:
+        raise PolicyFault(f"`{key}` wants one number from {bounds[0]} to {bounds[-1]}")
     return value
 
 
@@ -125,9 +131,9 @@ def permission_of(line: str) -> Permission:
     if requests & ACTION_AT.keys() and not actions:
         raise PolicyFault("`actions` is wanted: patterns, or *")
     pattern = re.compile("|".join(map(pattern_of, actions)).encode() or b"(?!)")
-    lease = limit_of(clauses, "lease", LONGEST)
+    lease = limit_of(clauses, "lease")
     return Permission(kind, one, requests, pattern, LONGEST if lease is None else lease,
-                      limit_of(clauses, "watches", 4096))
+                      limit_of(clauses, "watches"), limit_of(clauses, "asks"))
 
 
 def read_policy(path: str) -> Policy:
@@ -173,11 +179,13 @@ class Rights:
     """Decides what is refused before the manager hears of it: by the limits for everybody, and by the policy where
     there is one."""
 
-    def __init__(self, policy: Policy | None, names: Names, lease: int, watches: int) -> None:
+    def __init__(self, policy: Policy | None, names: Names, lease: int, watches: int, asks: int) -> None:
         self.policy = policy
         self.names = names
         self.lease = lease
         self.watches = watches
+        self.asks = asks
+        self._pace = Pace()
         self._tickets: OrderedDict[bytes, str] = OrderedDict()  # whose they are
 
     def granted(self, ticket: bytes, who: Who) -> None:
@@ -200,14 +208,15 @@ class Rights:
         """How a line is refused here; none where the manager decides."""
         permissions: tuple[Permission, ...] | None = None
         if self.policy is None:
-            if verb in SPENDING or (verb == b"ask" and self.lease == LONGEST):
+            if verb in SPENDING or (verb == b"ask" and self.lease == LONGEST and self.asks == MOST_ASKS):
                 return None  # as most are
         elif verb in REQUESTS:
             permissions = tuple(each for each in self._of(client, self.policy) if verb in each.requests)
             if not permissions:
                 return Refusal(protocol.NO_SUCH_WORD, "request")
         if verb in ACTION_AT:
-            return self._of_action(client, verb, line.split(b" "), permissions)
+            refused = self._of_action(client, verb, line.split(b" "), permissions)
+            return self._of_pace(client, permissions) if refused is None and verb == b"ask" else refused
         if permissions is not None:
             return self._of_name(client, verb, line)
         return None
@@ -238,6 +247,15 @@ class Rights:
         if verb == b"may":
             return None
         return self._of_watch(client, verb, words[1], action, permissions)
+
+    def _of_pace(self, client: Client, permissions: tuple[Permission, ...] | None) -> Refusal | None:
+        """Of an ask that nothing else refuses: a user has the largest number that a line says by which it may ask."""
+        most = self.asks
+        if permissions is not None:
+            most = max(most if each.asks is None else each.asks for each in permissions)
+        now = monotonic()
+        until = self._pace.refused_until(client.who.key, most, now) if most < MOST_ASKS else None
+        return None if until is None else Refusal(protocol.busy(time.time() + until - now + MILLI), "asks")
 
     def _of_watch(self, client: Client, verb: bytes, name: bytes, action: bytes,
                   permissions: tuple[Permission, ...] | None) -> Refusal | None:

@@ -42,6 +42,7 @@ CANCELLED = b"cancelled "
 ENTRY = b"entry "
 
 LONGEST = 86400000  # milliseconds of a lease and of a wait
+MOST_ASKS = 100000  # in a second, which is no limit: no front takes as many
 
 
 def word(text: bytes, place: int) -> bytes:

@@ -126,11 +126,12 @@ group 12399 requests status
         self.assertEqual(self.of(12388).request("status"), "refused 11 word")
 
     def test_it_is_read_again_and_a_bad_file_changes_nothing(self) -> None:
-        self.write(f"user {USER} requests status\nuser {USER} asks everything\n")
+        self.write(f"user {USER} requests status\nuser {USER} wants everything\n")
         self.read_again("policy not read")
         found = records(self.folder, lambda found: True)
         why = next(it["why"] for it in found if it.get("event") == "policy not read")
-        self.assertEqual(why, f"{self.folder}/policy:2: asks in place of `requests`, `actions`, `lease` or `watches`")
+        self.assertEqual(why, f"{self.folder}/policy:2: wants in place of `requests`, `actions`, `lease`, `watches` or "
+                              "`asks`")
         self.assertEqual(metric(self.folder, "ixm_front_policy_well"), 0)
         ticket = self.other.request("ask do(a) 1000").split()[1]
         self.assertEqual(self.other.request(f"cancel {ticket}"), f"cancelled {ticket}")
