@@ -4,6 +4,7 @@ The program is $IXM, and else this repository's ixm, or the installed one where 
 """
 
 import os
+import resource
 import shutil
 import signal
 import socket
@@ -11,11 +12,13 @@ import subprocess
 import sys
 import tempfile
 import threading
+import time
 from collections.abc import Callable
 from pathlib import Path
 
 HERE = Path(__file__).resolve().parent
 GUARD = HERE.parent / "guard"
+FRONT = next(it for it in (HERE.parent / "front", HERE.parent.parent / "front") if it.is_dir())
 REPOSITORY_IXM = HERE.parent.parent / "ixm"
 FOUND = str(REPOSITORY_IXM) if REPOSITORY_IXM.is_file() else shutil.which("ixm") or "ixm"
 IXM = os.path.abspath(os.environ.get("IXM", FOUND))
@@ -73,29 +76,14 @@ def guard(journal: Path, kept: Path | None = None) -> str:
     return ended.stderr.strip() if ended.returncode else ""
 
 
-class Manager:
-    """A manager on a journal, and one connection to it. What it began with is `history`."""
+class Engine:
+    """A connection to a manager or its front, over which actions are brought about."""
 
-    def __init__(self, rules: Path, journal: Path) -> None:
-        path = journal.with_name("socket")
-        path.unlink(missing_ok=True)
-        self.process = subprocess.Popen([IXM, "serve", rules, journal, path], stdout=subprocess.PIPE, text=True)
-        assert self.process.stdout is not None
-        self.put = self.process.stdout
-        first = self.put.readline().split()
-        if first[:1] != ["history"]:
-            raise Wrong(f"a start on {journal.name} put {' '.join(first)}, status {self.process.wait()}")
-        self.history = int(first[1])
+    def __init__(self, path: Path) -> None:
         self.socket = socket.socket(socket.AF_UNIX)
         self.socket.settimeout(LIMIT)
         self.socket.connect(str(path))
         self.replies = self.socket.makefile("r", newline="\n")
-
-    def __enter__(self) -> "Manager":
-        return self
-
-    def __exit__(self, *_: object) -> None:
-        self.kill()
 
     def request(self, line: str) -> str:
         """The reply to a request."""
@@ -118,18 +106,73 @@ class Manager:
         """Brings an action about, and gives its number."""
         return self.confirm(self.ask(action))
 
+    def leave(self) -> None:
+        """Closes the connection."""
+        self.replies.close()
+        self.socket.close()
+
+
+class Manager(Engine):
+    """A manager on a journal, and one connection to it. What it began with is `history`."""
+
+    def __init__(self, rules: Path, journal: Path) -> None:
+        self.path = journal.with_name("socket")
+        self.path.unlink(missing_ok=True)
+        # A write that passes a limit fails, and doesn't end it, since it isn't given the signals of before Python.
+        self.process = subprocess.Popen([IXM, "serve", rules, journal, self.path], stdout=subprocess.PIPE, text=True,
+                                        restore_signals=False)
+        assert self.process.stdout is not None
+        self.put = self.process.stdout
+        first = self.put.readline().split()
+        if first[:1] != ["history"]:
+            raise Wrong(f"a start on {journal.name} put {' '.join(first)}, status {self.process.wait()}")
+        self.history = int(first[1])
+        super().__init__(self.path)
+
+    def __enter__(self) -> "Manager":
+        return self
+
+    def __exit__(self, *_: object) -> None:
+        self.kill()
+
     def wait(self) -> int:
         """The status with which it ends by itself."""
         return self.process.wait(LIMIT)
+
+    def lose_disk(self) -> None:
+        """From now on no file takes a byte of it."""
+        resource.prlimit(self.process.pid, resource.RLIMIT_FSIZE, (0, 0))
 
     def kill(self) -> None:
         """Ends it as a loss of power would."""
         if self.process.poll() is None:
             self.process.send_signal(signal.SIGKILL)
         self.process.wait()
-        self.replies.close()
-        self.socket.close()
+        self.leave()
         self.put.close()
+
+
+class Front(Engine):
+    """A front before a manager, whose one connection it takes over, and a connection to it. Its log goes on in `log`."""
+
+    def __init__(self, manager: Manager, folder: Path) -> None:
+        manager.leave()
+        path, self.log = folder / "front", folder / "front.log"
+        self.process = subprocess.Popen([FRONT / "ixm-front", manager.path, path, "--log", self.log])
+        until = time.monotonic() + LIMIT
+        while not path.exists():
+            check(self.process.poll() is None and time.monotonic() < until, "the front doesn't start")
+            time.sleep(0.01)
+        super().__init__(path)
+
+    def __enter__(self) -> "Front":
+        return self
+
+    def __exit__(self, *_: object) -> None:
+        """Ends it when its log is written."""
+        self.leave()
+        self.process.terminate()
+        check(self.process.wait(LIMIT) == 0, "the front didn't end with 0")
 
 
 class Writer(threading.Thread):
