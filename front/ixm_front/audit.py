@@ -161,6 +161,28 @@ def told(entry: Entry, evidence: Evidence) -> tuple[str, list[str]]:
     return f"{name}: asked by {who(asked)}, confirmed by {who(confirmed)}", []
 
 
+def report(history: History, evidence: Evidence, is_brief: bool) -> bool:
+    """Puts what is told of each action, in brief only what is missing, and what the log tells besides. Gives whether all is
+    well."""
+    whole, entries = 0, history.entries
+    for entry in entries:
+        line, missing = told(entry, evidence)
+        whole += not missing
+        for each in missing or ([] if is_brief else [line]):
+            print(each)
+    there = {(entry.ticket, entry.number) for entry in entries}
+    foreign = [f"confirmed {number} by ticket {ticket}: not in the journal"
+               for ticket, number in evidence.confirmed if number > history.left_out and (ticket, number) not in there]
+    for each in (*foreign, *evidence.faults):
+        print(each)
+    chain = "whose chain is whole" if not evidence.faults else f"whose chain has {len(evidence.faults)} faults"
+    how_many = "all" if whole == len(entries) else f"{whole} of them"
+    if history.left_out:
+        print(f"left out are the first {history.left_out} actions: --old names the journal that has them")
+    print(f"{len(entries)} actions: {how_many} asked for and confirmed by the log, {chain}")
+    return whole == len(entries) and not foreign and not evidence.faults
+
+
 def main() -> int:
     """0 where the log tells all of the journal and nothing else, 1 where something is missing, 2 where a file can't be
     read."""
@@ -179,22 +201,4 @@ def main() -> int:
     except (OSError, NoJournal) as error:
         print(f"audit: {error}", file=sys.stderr)
         return 2
-    evidence, entries, faults, whole = reader.evidence, history.entries, 0, 0
-    for entry in entries:
-        line, missing = told(entry, evidence)
-        whole += not missing
-        faults += len(missing)
-        for each in missing if missing else [] if words.missing else [line]:
-            print(each)
-    there = {(entry.ticket, entry.number) for entry in entries}
-    foreign = [f"confirmed {number} by ticket {ticket}: not in the journal"
-               for ticket, number in evidence.confirmed if number > history.left_out and (ticket, number) not in there]
-    for each in (*foreign, *evidence.faults):
-        print(each)
-    faults += len(foreign) + len(evidence.faults)
-    chain = "whose chain is whole" if not evidence.faults else f"whose chain has {len(evidence.faults)} faults"
-    how_many = "all" if whole == len(entries) else f"{whole} of them"
-    if history.left_out:
-        print(f"left out are the first {history.left_out} actions: --old names the journal that has them")
-    print(f"{len(entries)} actions: {how_many} asked for and confirmed by the log, {chain}")
-    return 1 if faults else 0
+    return 0 if report(history, reader.evidence, words.missing) else 1

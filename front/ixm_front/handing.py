@@ -41,19 +41,24 @@ def number_of(sock: socket.socket) -> str:
     return str(os.fstat(sock.fileno()).st_ino)
 
 
+def place_of_systemd() -> str:
+    """Where systemd listens; empty where it doesn't."""
+    path = os.environ.get("NOTIFY_SOCKET", "")
+    return "\0" + path[1:] if path.startswith("@") else path
+
+
 def send(text: str, files: list[int]) -> None:
     """Tells systemd this, with open files."""
-    path = os.environ["NOTIFY_SOCKET"]
     with socket.socket(socket.AF_UNIX, socket.SOCK_DGRAM) as sock:
         sock.settimeout(PATIENCE)
-        sock.connect("\0" + path[1:] if path.startswith("@") else path)
+        sock.connect(place_of_systemd())
         rights = [(socket.SOL_SOCKET, socket.SCM_RIGHTS, array.array("i", files))] if files else []
         sock.sendmsg([text.encode()], rights)
 
 
 def is_kept() -> bool:
     """Whether systemd may keep what is handed over."""
-    return bool(os.environ.get("NOTIFY_SOCKET"))
+    return bool(place_of_systemd())
 
 
 def hand_over(socks: list[socket.socket], state: State) -> None:

@@ -6,7 +6,7 @@ from __future__ import annotations
 import asyncio
 import select
 import selectors
-from collections.abc import Callable, Mapping
+from collections.abc import Callable, Coroutine, Mapping
 from operator import itemgetter
 from time import monotonic
 from typing import Any
@@ -135,6 +135,35 @@ class TurnSelector(selectors.BaseSelector):
         """Waits for nothing any more."""
         self._epoll.close()
         self._keys.clear()
+
+
+class Services:
+    """Tasks that each serve one connection, and whose faults cost that one alone."""
+
+    def __init__(self, loop: asyncio.AbstractEventLoop) -> None:
+        self.loop = loop
+        self.on_fault: Callable[[BaseException], None] = lambda fault: None
+        self._tasks: set[asyncio.Task[None]] = set()
+
+    def __len__(self) -> int:
+        return len(self._tasks)
+
+    def begin(self, way: Coroutine[Any, Any, None]) -> None:
+        """Begins one."""
+        task = self.loop.create_task(way)
+        self._tasks.add(task)
+        task.add_done_callback(self._is_done)
+
+    def cancel(self) -> None:
+        """Ends all of them."""
+        for task in self._tasks:
+            task.cancel()
+
+    def _is_done(self, task: asyncio.Task[None]) -> None:
+        self._tasks.discard(task)
+        fault = None if task.cancelled() else task.exception()
+        if fault is not None:
+            self.on_fault(fault)
 
 
 def new_loop() -> tuple[asyncio.SelectorEventLoop, TurnSelector]:

@@ -72,7 +72,7 @@ class Program:
         loop.set_exception_handler(self.handle)
         self.log.on_fault = lambda fault: self.from_thread(self.fail, fault)
         self.log.on_opened = lambda why: self.from_thread(self.log_opened, why)
-        self.pages.on_fault = self.pass_over
+        self.pages.readers.on_fault = self.pass_over
         self.pages.refused = self.refuse_reader
 
     # Faults
@@ -118,7 +118,7 @@ class Program:
         if options.tls_cert and options.tls_key and options.tls_ca:
             files = Files(options.tls_cert, options.tls_key, options.tls_ca, options.tls_crl)
             self.guests = Guests(self.loop, files, options.silent_time, self.front.welcome, self.refuse_guest)
-            self.guests.on_fault = self.pass_over
+            self.guests.connections.on_fault = self.pass_over
             sockets = handed["tls"] + ([tcp_socket(options.tls)] if options.tls else [])
             self.doors += [Door(sock, self.loop, self.guests.take) for sock in sockets]
         self.doors += [Door(sock, self.loop, self.pages.take) for sock in handed["page"]]

@@ -10,6 +10,8 @@ from dataclasses import dataclass
 from .protocol import LONGEST, MOST_ASKS
 from .version import version
 
+Add = Callable[..., argparse.Action]  # takes one option into a parser
+
 
 @dataclass(frozen=True)
 class Options:
@@ -117,14 +119,8 @@ def page(text: str) -> str:
     return text
 
 
-def parser_of() -> argparse.ArgumentParser:
-    """What the command line may say."""
-    parser = argparse.ArgumentParser(
-        prog="ixm-front", description="Many clients at once, in front of a manager's socket.", allow_abbrev=False)
-    parser.add_argument("--version", action="version", version=f"ixm-front {version()}")
-    parser.add_argument("manager", metavar="MANAGER_SOCKET")
-    parser.add_argument("socket", metavar="FRONT_SOCKET", nargs="?", help="not wanted where systemd hands it over")
-    add = parser.add_argument
+def add_places(add: Add) -> None:
+    """Where it listens, how long asks wait, and what a user may have."""
     add("--mode", type=mode, metavar="MODE", help="the mode of that socket's file, in octal")
     add("--group", metavar="GROUP", help="its group")
     add("--wait", type=counted(0, LONGEST), default=60000, metavar="MILLIS", help="how long an ask may wait")
@@ -138,6 +134,10 @@ def parser_of() -> argparse.ArgumentParser:
     add("--user", type=counted(1, 100000), metavar="N", help="clients at most of one user, nine tenths of all")
     add("--each", type=counted(1, 100000), default=500, metavar="N", help="clients at most of one process")
     add("--kept", type=counted(0, 100000), metavar="N", help="places that are kept for users that have none, a fiftieth")
+
+
+def add_bounds(add: Add) -> None:
+    """What is held of a client, and for how long."""
     add("--unread", type=counted(1024, 1 << 20), default=4096, metavar="BYTES", help="held of a client at most")
     add("--unread-all", type=counted(1 << 20, 1 << 34), default=1 << 26, metavar="BYTES",
         help="replies that are held for all clients together at most")
@@ -145,6 +145,10 @@ def parser_of() -> argparse.ArgumentParser:
     add("--read-time", type=seconds, default=30, metavar="SECONDS", help="in which a client has to read its replies")
     add("--idle-time", type=seconds, default=900, metavar="SECONDS", help="in which a client has to send something")
     add("--manager-time", type=seconds, default=60, metavar="SECONDS", help="in which the manager has to answer")
+
+
+def add_records(add: Add) -> None:
+    """Who may do what, and what is told of it."""
     add("--allow-stop", action="store_true", help="let a client's `stop` through")
     add("--policy", metavar="FILE", help="who may do what; without it all may do everything")
     add("--log", default="-", metavar="FILE", help="where the log is written, - for standard output")
@@ -160,6 +164,10 @@ def parser_of() -> argparse.ArgumentParser:
         help="how often the manager is asked for its status, and the file is written")
     add("--nodes", type=counted(1, 1000000), default=100000, metavar="N", help="the manager's own, for the metrics")
     add("--records", metavar="FILE", help="where `ixm-look` writes how many records the journal has, for the metrics")
+
+
+def add_network(add: Add) -> None:
+    """Clients of other machines."""
     add("--tls", type=address, metavar="ADDRESS:PORT", help="where clients of other machines connect")
     add("--tls-cert", metavar="FILE", help="the certificate that they are shown")
     add("--tls-key", metavar="FILE", help="its key")
@@ -167,6 +175,17 @@ def parser_of() -> argparse.ArgumentParser:
     add("--tls-crl", metavar="FILE", help="which of these are revoked")
     add("--silent-time", type=seconds, default=30, metavar="SECONDS",
         help="behind which a client of the network that gives no sign is gone")
+
+
+def parser_of() -> argparse.ArgumentParser:
+    """What the command line may say."""
+    parser = argparse.ArgumentParser(
+        prog="ixm-front", description="Many clients at once, in front of a manager's socket.", allow_abbrev=False)
+    parser.add_argument("--version", action="version", version=f"ixm-front {version()}")
+    parser.add_argument("manager", metavar="MANAGER_SOCKET")
+    parser.add_argument("socket", metavar="FRONT_SOCKET", nargs="?", help="not wanted where systemd hands it over")
+    for add_some in (add_places, add_bounds, add_records, add_network):
+        add_some(parser.add_argument)
     return parser
 
 

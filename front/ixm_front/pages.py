@@ -9,6 +9,7 @@ import socket
 from collections.abc import Callable
 from dataclasses import dataclass
 
+from .loop import Services
 from .view import screen, screen_policy
 
 LONGEST = 5.0  # seconds that a reader of a page may take
@@ -56,21 +57,18 @@ class Pages:
         self.metrics = metrics
         self.health = health
         self.view = view
-        self.on_fault: Callable[[BaseException], None] = lambda fault: None  # one that cost a reader its page
         self.refused: Callable[[socket.socket], None] = lambda sock: None  # a reader there were too many for
-        self._readers: set[asyncio.Task[None]] = set()
+        self.readers = Services(loop)
         screen_policy()  # is read now, since later no open file may be free
 
     def take(self, sock: socket.socket) -> None:
         """Answers whoever has connected, or closes the connection where there are too many."""
-        if len(self._readers) >= READERS:
+        if len(self.readers) >= READERS:
             self.refused(sock)
             sock.close()
             return
         sock.setblocking(False)
-        task = self.loop.create_task(self._serve(sock))
-        self._readers.add(task)
-        task.add_done_callback(self._is_done)
+        self.readers.begin(self._serve(sock))
 
     def write(self, path: str) -> bool:
         """Writes the metrics to a file, which is always whole. False where it couldn't be written."""
@@ -101,12 +99,6 @@ class Pages:
             is_well, text = self.health()
             return Reply("200 OK" if is_well else "503 Service Unavailable", text)
         return Reply("404 Not Found", NAMES)
-
-    def _is_done(self, task: asyncio.Task[None]) -> None:
-        self._readers.discard(task)
-        fault = None if task.cancelled() else task.exception()
-        if fault is not None:
-            self.on_fault(fault)
 
     async def _serve(self, sock: socket.socket) -> None:
         try:

@@ -5,7 +5,7 @@ from __future__ import annotations
 import os
 import socket
 
-from .handing import CLIENT, STATE, State, taken_over
+from .handing import CLIENT, STATE, State, place_of_systemd, taken_over
 
 FIRST_HANDED = 3  # the number of the first open file that is handed over
 NAMES = ("front", "page", "tls", CLIENT)
@@ -42,13 +42,12 @@ def watchdog_seconds() -> float | None:
 
 def notify(*lines: str) -> None:
     """Tells systemd these lines, where it listens."""
-    path = os.environ.get("NOTIFY_SOCKET", "")
-    if not path:
+    place = place_of_systemd()
+    if not place:
         return
-    address = "\0" + path[1:] if path.startswith("@") else path
     try:
         with socket.socket(socket.AF_UNIX, socket.SOCK_DGRAM) as sock:
             sock.setblocking(False)
-            sock.sendto("\n".join(lines).encode(), address)
+            sock.sendto("\n".join(lines).encode(), place)
     except OSError:
         pass

@@ -15,6 +15,7 @@ from collections.abc import Callable
 from dataclasses import dataclass
 from typing import Any
 
+from .loop import Services
 from .who import Who
 
 HANDSHAKE = 10.0  # seconds in which a handshake has to be done
@@ -73,11 +74,10 @@ class Guests:
         self.silent = silent  # seconds after which a client of whom the network tells nothing is gone
         self.taken = taken
         self.refused = refused  # is told why and from where
-        self.on_fault: Callable[[BaseException], None] = lambda fault: None
+        self.connections = Services(loop)
         self._context = files.context()
         self._judges = files.judges()
         self._handshakes = 0
-        self._tasks: set[asyncio.Task[None]] = set()
 
     def read_again(self) -> bool:
         """Reads the files again. Where they say otherwise who may connect, all are cut off, and show themselves again;
@@ -90,8 +90,7 @@ class Guests:
 
     def close(self) -> None:
         """Cuts all of them off."""
-        for task in self._tasks:
-            task.cancel()
+        self.connections.cancel()
 
     def take(self, sock: socket.socket) -> None:
         """Takes a connection."""
@@ -101,15 +100,7 @@ class Guests:
             return
         sock.setblocking(False)
         ask_for_signs(sock, self.silent)
-        task = self.loop.create_task(self._serve(sock))
-        self._tasks.add(task)
-        task.add_done_callback(self._is_done)
-
-    def _is_done(self, task: asyncio.Task[None]) -> None:
-        self._tasks.discard(task)
-        fault = None if task.cancelled() else task.exception()
-        if fault is not None:
-            self.on_fault(fault)
+        self.connections.begin(self._serve(sock))
 
     async def _serve(self, sock: socket.socket) -> None:
         address = address_of(sock)
@@ -131,7 +122,10 @@ class Guests:
             else:
                 self.refused("no name in the certificate", address)
         finally:
-            writer.transport.abort() if writer.transport.is_closing() else writer.close()
+            if writer.transport.is_closing():
+                writer.transport.abort()
+            else:
+                writer.close()
 
     async def _shake_hands(self, sock: socket.socket) -> tuple[asyncio.StreamReader, asyncio.StreamWriter]:
         reader = asyncio.StreamReader(limit=PIECE, loop=self.loop)
