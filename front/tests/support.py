@@ -290,3 +290,11 @@ class Place(unittest.TestCase):
         client = Client(path)
         self.addCleanup(client.close)
         return client
+
+
+class Managed(Place):
+    """The same, with a manager that runs."""
+
+    def setUp(self) -> None:
+        super().setUp()
+        self.run_of = self.manager()

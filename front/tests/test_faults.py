@@ -10,7 +10,7 @@ import socket
 import subprocess
 import time
 
-from .support import HERE, TIMEOUT, Client, Front, Place, listens, metric, page, read_records, records, wait_until
+from .support import HERE, TIMEOUT, Client, Front, Managed, Place, listens, metric, page, read_records, records, wait_until
 
 # Each task of its own and each call that comes from outside, with what raises there.
 ENDING = ("link.Link._connect", "front.Front.sweep", "front.Front.ask_status", "pages.Pages.write", "front.Front.take",
@@ -18,7 +18,7 @@ ENDING = ("link.Link._connect", "front.Front.sweep", "front.Front.ask_status", "
           "asks.Asks._look", "main.Program.look_at_names", "main.notify", "front.Front.read_policy", "log.LogFile.open_again")
 
 
-class Faults(Place):
+class Faults(Managed):
     def faulty(self, name: str, fault: str, *options: str) -> Front:
         """A front in which this function raises as soon as the file `now` is there."""
         front = Front(self.folder, self.run_of.path, "--page", f"{self.folder}/page", "--every", "0.2", *options)
@@ -27,10 +27,6 @@ class Faults(Place):
         front.stderr = subprocess.DEVNULL
         self.addCleanup(front.stop, signal.SIGKILL)
         return front.start()
-
-    def setUp(self) -> None:
-        super().setUp()
-        self.run_of = self.manager()
 
     def work(self, front: Front) -> None:
         """Has all parts of a front do something, until it ends."""

@@ -9,7 +9,7 @@ import signal
 import subprocess
 import time
 
-from .support import AUDIT, Client, Front, Manager, Place, last_record, metric, page, read_records, records, wait_until
+from .support import AUDIT, Client, Front, Managed, Manager, Place, last_record, metric, page, read_records, records, wait_until
 
 
 def audit(*words: str) -> tuple[int, list[str]]:
@@ -18,11 +18,7 @@ def audit(*words: str) -> tuple[int, list[str]]:
     return ran.returncode, ran.stdout.split("\n")[:-1]
 
 
-class Logged(Place):
-    def setUp(self) -> None:
-        super().setUp()
-        self.run_of = self.manager()
-
+class Logged(Managed):
     def logged(self) -> str:
         return f"{self.folder}/log"
 

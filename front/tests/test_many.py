@@ -13,7 +13,7 @@ from multiprocessing.connection import Connection
 from typing import Any
 
 from .replayed import check_run
-from .support import Client, Place, wait_until
+from .support import Client, Managed, wait_until
 from .tap import Tap
 
 ENGINES = 200
@@ -48,11 +48,7 @@ def engine(number: int, path: str, begin: Moment, end: Moment, pipe: Connection)
     pipe.close()
 
 
-class Many(Place):
-    def setUp(self) -> None:
-        super().setUp()
-        self.run_of = self.manager()
-
+class Many(Managed):
     def engines(self, path: str, seconds: float, meanwhile: Callable[[float], None] = lambda end: None) -> list[Told]:
         """What the engines were answered and sent, each for itself."""
         fork = multiprocessing.get_context("fork")

@@ -7,17 +7,13 @@ import os
 import signal
 import subprocess
 
-from .support import HERE, IXM, Client, Manager, Place, last_record, metric, page, wait_until
+from .support import HERE, IXM, Client, Managed, Manager, last_record, metric, page, wait_until
 from .test_log import audit
 
 OLD = "old-journal"
 
 
-class Renewed(Place):
-    def setUp(self) -> None:
-        super().setUp()
-        self.run_of = self.manager()
-
+class Renewed(Managed):
     def renew(self, manager: Manager) -> None:
         """Ends the manager, renews its journal, and starts it on the new one."""
         manager.kill()
