@@ -2,9 +2,9 @@
 
 ghost use Rattle.std.specs.Prelude.{◌≡◌, ◌+◌, ◌<◌, ◌^◌, ◌∷◌, ◌++◌, [], IfOk, OnOk, length};
 ghost use Rattle.ix_expr.specs.inside.FormOf.{form_of};
-ghost use Rattle.ix_bound.specs.Refusals.{code_of, codes_of, refused_among, refused_nodes};
+ghost use Rattle.ix_bound.specs.Refusals.{refusal_code, codes_of, refused_among, refused_nodes};
 
-use crate::walk::code_of;
+use crate::walk::refusal_code;
 use ix_expr::{Expr, Expression};
 use std::alloc::{AllocError, Global};
 
@@ -20,9 +20,9 @@ pub struct RefusedNode {
 /// Puts the node, if it is refused, behind those that are there.
 fn look(found: &mut Vec<RefusedNode>, expr: &Expr, node: usize) -> Result<(), AllocError>
     ensures { OnOk result (found.new.items
-        ≡ found.old.items ++ refused_among node (code_of (form_of expr.now) ∷ [])) }
+        ≡ found.old.items ++ refused_among node (refusal_code (form_of expr.now) ∷ [])) }
 {
-    if let Some(code) = code_of(expr) {
+    if let Some(code) = refusal_code(expr) {
         found.push(RefusedNode { code, node })?;
     }
     Ok(())

@@ -2,7 +2,7 @@
 
 ghost use Rattle.std.specs.Prelude.{◌≡◌, ◌+◌, ◌<◌, ◌^◌, length};
 ghost use Rattle.ix_expr.specs.inside.FormOf.{form_of};
-ghost use Rattle.ix_bound.specs.Refusals.{code_of, codes_of};
+ghost use Rattle.ix_bound.specs.Refusals.{refusal_code, codes_of};
 ghost use Rattle.ix_bound.specs.inside.Walked.{WalksTo};
 
 use crate::heads::is_headed;
@@ -19,8 +19,8 @@ pub(crate) enum Walked {
 }
 
 /// Why the node itself is refused, if it is.
-pub(crate) fn code_of(expr: &Expr) -> Option<u8>
-    ensures { result ≡ code_of (form_of expr.now) }
+pub(crate) fn refusal_code(expr: &Expr) -> Option<u8>
+    ensures { result ≡ refusal_code (form_of expr.now) }
 {
     match expr {
         Expr::Seq(y, z) | Expr::Par(y, z) => if share_a_name(y, z) { Some(51) } else { None },
@@ -41,7 +41,7 @@ pub(crate) fn walk(expr: &Expr, node: usize) -> Walked
     requires { node + length (codes_of (form_of expr.now)) < 2 ^ 64 }
     ensures { WalksTo (codes_of (form_of expr.now)) node result }
 {
-    if let Some(code) = code_of(expr) {
+    if let Some(code) = refusal_code(expr) {
         return Walked::Refused { code, node };
     }
     match expr {

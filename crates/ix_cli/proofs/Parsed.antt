@@ -21,7 +21,7 @@ use Rattle.clap.specs.declared.parser.matches.ArgMatches.{ArgMatches}
 use Rattle.clap.proofs.WalkLemmas.{both, first_value-rows, one_text-rows}
 use Rattle.clap.proofs.SimpleLemmas.{ready_simple, simple_groups}
 use Rattle.clap.proofs.FaultLemmas.{free_args}
-use Rattle.ix_cli.specs.inside.Matches.{IsPlainCommand, Matches, takes_one}
+use Rattle.ix_cli.specs.inside.Matches.{IsPlainCommand, MatchesWords, takes_one}
 use Rattle.ix_cli.proofs.Rules.{TakesOne, one_place, rule_at, takes_one-is}
 use Rattle.ix_cli.proofs.Entries.{IsOne, number_found, text_found}
 
@@ -104,7 +104,7 @@ module _ (c : Command) (words : List Text) (m : ArgMatches) (plain : IsPlainComm
         (subst (λ (r : Rule). takes_one r ≡ true) (sym here ∙ at.3) one) in
         (at.0, one_at c plain k at.0 at.1 at.2 takes, at.3)
 
-    pub parsed_matches : Matches (app_of c) words m
+    pub parsed_matches : MatchesWords (app_of c) words m
     parsed_matches = record {
       taken = taken;
       rows = rows_same;

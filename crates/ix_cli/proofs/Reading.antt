@@ -6,9 +6,9 @@ use Rattle.clap.specs.Words.{App, Row, Rule, Text, all_of, first_of, found_of, o
 use Rattle.clap.specs.declared.builder.value_parser.ValueParser.TheVariants as parser
 use Rattle.clap.specs.declared.parser.matches.ArgMatches.{ArgMatches}
 use Rattle.ix_cli.specs.Words.{Says, SaysAll, SaysNumber}
-use Rattle.ix_cli.specs.inside.Matches.{HasNumber, Matches, takes_one}
+use Rattle.ix_cli.specs.inside.Matches.{HasNumber, MatchesWords, takes_one}
 
-module _ {command : App} {words : List Text} {m : ArgMatches} (made : Matches command words m) where
+module _ {command : App} {words : List Text} {m : ArgMatches} (made : MatchesWords command words m) where
   pub says_text : (name : Text) {text : Text} → first_of name (rows_of (found_of m)) ≡ Some text
       → Says command words name text
   says_text name {text = text} first =
@@ -43,6 +43,6 @@ module _ {command : App} {words : List Text} {m : ArgMatches} (made : Matches co
           }
 
 -- the same of a command that is another's equal
-pub matches_as : {a b : App} {words : List Text} {m : ArgMatches} → a ≡ b → Matches a words m
-    → Matches b words m
-matches_as {words = words} {m = m} same made = subst (λ (app : App). Matches app words m) same made
+pub matches_as : {a b : App} {words : List Text} {m : ArgMatches} → a ≡ b → MatchesWords a words m
+    → MatchesWords b words m
+matches_as {words = words} {m = m} same made = subst (λ (app : App). MatchesWords app words m) same made

@@ -3,7 +3,7 @@ ghost use Rattle.std.specs.Prelude.{◌≡◌, ℕ, List, Some, IfOk, map, strin
 ghost use Rattle.std.specs.Prelude.{MatchResult, [], unwrap_or};
 ghost use Rattle.std.specs.Str.Parse.{digits_value, without_leading_plus};
 ghost use Rattle.clap.specs.Words.{all_of, app_of, first_of, fault_of, found_of, one_of, rows_of};
-ghost use Rattle.ix_cli.specs.inside.Matches.{HasNumber, IsPlainCommand, Matches, Blames};
+ghost use Rattle.ix_cli.specs.inside.Matches.{HasNumber, IsPlainCommand, MatchesWords, Blames};
 
 use crate::fault::{WordsFault, refused};
 use clap::error::ErrorKind;
@@ -18,7 +18,7 @@ pub(crate) fn parse<'a>(
 ) -> Result<ArgMatches<'a>, WordsFault>
     requires { IsPlainCommand (app_of command) }
     ensures { MatchResult result
-        (Matches (app_of command.entry) (map string_bytes words.entry.now))
+        (MatchesWords (app_of command.entry) (map string_bytes words.entry.now))
         (Blames (app_of command.entry) (map string_bytes words.entry.now)) }
 {
     match command.try_get_matches_from(words) {

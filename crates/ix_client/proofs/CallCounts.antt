@@ -20,7 +20,7 @@ use Rattle.ix_client.specs.declared.link.LinkFailed.{LinkFailed}
 use Rattle.ix_client.specs.declared.manager_link.Passed.TheVariants.{Answered}
 use Rattle.ix_client.specs.inside.ManagerCalls.{CallsManager, CountsCall, CountsNone, FailsToStart}
 use Rattle.ix_client.specs.inside.ManagerLinks.{IsManagerWhere, ManagerLinkState, call_noted, told_at, told_by, told_of}
-use Rattle.ix_client.specs.inside.Passing.{Keeps, StartedFrom}
+use Rattle.ix_client.specs.inside.Passing.{KeepsAsked, StartedFrom}
 
 -- a start that failed, by what the manager's says of it
 module _ (limit : ℕ) (x : Form) (site : MemorySiteState) (result : Result ManagerState StartFault) (told : site.told ≡ true)
@@ -71,7 +71,7 @@ failed_counts asked result line old new failed rose balks = record {
 
 -- a manager that answered is kept
 pub answered_kept : (asked : PlainRequest) (kept : Option ManagerState) (line : List ℕ) (m : ManagerState) (after : MemorySiteState)
-    → Keeps asked Answered kept line m after → IsSome kept
+    → KeepsAsked asked Answered kept line m after → IsSome kept
 answered_kept asked (Some n) line m after keeps = refl
 answered_kept asked None line m after keeps = absurd keeps
 

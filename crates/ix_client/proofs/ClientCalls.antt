@@ -2,7 +2,7 @@
 use Rattle.std.proofs.Common.{◌≡◌, ℕ, ◌+◌, ◌*◌, List, Result, Ok, Err, sym, subst, arith}
 use Rattle.ix_values.specs.PlainAction.{PlainAction}
 use Rattle.ix_proto.specs.Requests.{PlainRequest}
-use Rattle.ix_client.specs.Client.{GoesOnBehind, GoesOnFrom, Runs, Serves, TakesTurn, TakesTurns, again, another, bad_words, comes_to, done, ends, left_out, never, none_left, serves, unsure, usage}
+use Rattle.ix_client.specs.Client.{GoesOnBehind, GoesOnAfter, Runs, Serves, TakesTurn, TakesTurns, again, another, bad_words, comes_to, done, ends, left_out, never, none_left, serves, unsure, usage}
 use Rattle.ix_client.specs.Grant.{Grant}
 use Rattle.ix_client.specs.Grants.{Heard}
 use Rattle.ix_client.specs.Hearing.{Hears}
@@ -39,7 +39,7 @@ turns_calls {g = g} {s = s} {u = u} (another {n = n} {back = back} {t = t} turn 
     let rest = turns_calls turns in
     omega (arith, two, rest)
 
-from_calls : (first : Turned) (how : Ended) (s u : LinkState) → GoesOnFrom first how s u → CallsAtMost 16 s u
+from_calls : (first : Turned) (how : Ended) (s u : LinkState) → GoesOnAfter first how s u → CallsAtMost 16 s u
 from_calls (turned.Over over) how s u goes = no_call 16 s u goes.1
 from_calls (turned.Unsure g) how s u turns = turns_calls turns
 

@@ -5,7 +5,7 @@ use Rattle.ix_values.specs.PlainAction.{PlainAction}
 use Rattle.ix_values.specs.declared.tickets.Ticket.{Ticket}
 use Rattle.ix_outside.specs.Counts.{Rose}
 use Rattle.ix_outside.specs.SinkState.{SinkState}
-use Rattle.ix_client.specs.Client.{ClientEnds, GoesOnBehind, GoesOnFrom, NamesAsk, Runs, Serves, TakesTurn, TakesTurns, again, another, bad_words, comes_to, done, ends, ends_with, left_out, never, none_left, serves, unsure, usage}
+use Rattle.ix_client.specs.Client.{ClientEnds, GoesOnBehind, GoesOnAfter, NamesAsk, Runs, Serves, TakesTurn, TakesTurns, again, another, bad_words, comes_to, done, ends, ends_with, left_out, never, none_left, serves, unsure, usage}
 use Rattle.ix_client.specs.Rising.{RoseBy}
 use Rattle.ix_client.specs.Endings.{PutsLine, part, status_of, whole}
 use Rattle.ix_client.specs.Grant.{Grant}
@@ -123,7 +123,7 @@ turns_rose {g = g} {s = s} {u = u} ticket (another {n = n} {back = back} {t = t}
 
 -- behind the first confirm
 
-from_counts : (first : Turned) (how : Ended) (s u : LinkState) → GoesOnFrom first how s u → NoFewer s u
+from_counts : (first : Turned) (how : Ended) (s u : LinkState) → GoesOnAfter first how s u → NoFewer s u
 from_counts (turned.Over over) how s u goes = same_counts s u goes.1
 from_counts (turned.Unsure g) how s u turns = turns_counts turns
 
@@ -133,7 +133,7 @@ behind_counts (Err why) how s u (is, same) = same_counts s u same
 
 -- a run that ended with never, or unsure, or blames the link
 
-never_from : (g : Grant) (confirmed : Confirm) (s t u : LinkState) → Confirms g confirmed s t → GoesOnFrom (comes_to confirmed) ended.Never t u → EitherRose s u
+never_from : (g : Grant) (confirmed : Confirm) (s t u : LinkState) → Confirms g confirmed s t → GoesOnAfter (comes_to confirmed) ended.Never t u → EitherRose s u
 never_from g (confirm.Done number) s t u confirms goes = absurd (let no_end : ended.Never ≡ ended.Done number = goes.0 in cc)
 never_from g confirm.Expired s t u confirms goes =
     either_later s t u (inr (odd_answers_have_a_cause.expired s t g (inl confirms))) (same_counts t u goes.1)
@@ -141,14 +141,14 @@ never_from g (confirm.Unsure back) s t u confirms turns =
     either_later s t u (odd_answers_have_a_cause.unsure s t g back (inl confirms)) (turns_counts turns)
 
 left_out_from : (g : Grant) (ticket : Ticket) (confirmed : Confirm) (s t u : LinkState) → Confirms g confirmed s t
-    → GoesOnFrom (comes_to confirmed) (ended.LeftOut ticket) t u → EitherRose s u
+    → GoesOnAfter (comes_to confirmed) (ended.LeftOut ticket) t u → EitherRose s u
 left_out_from g ticket (confirm.Done number) s t u confirms goes = absurd (let no_end : ended.LeftOut ticket ≡ ended.Done number = goes.0 in cc)
 left_out_from g ticket confirm.Expired s t u confirms goes = absurd (let no_end : ended.LeftOut ticket ≡ ended.Never = goes.0 in cc)
 left_out_from g ticket (confirm.Unsure back) s t u confirms turns =
     either_later s t u (odd_answers_have_a_cause.unsure s t g back (inl confirms)) (turns_counts turns)
 
 unsure_from : (g : Grant) (ticket : Ticket) (confirmed : Confirm) (s t u : LinkState) → Confirms g confirmed s t
-    → GoesOnFrom (comes_to confirmed) (ended.Unsure ticket) t u → RoseBy 9 s u
+    → GoesOnAfter (comes_to confirmed) (ended.Unsure ticket) t u → RoseBy 9 s u
 unsure_from g ticket (confirm.Done number) s t u confirms goes = absurd (let no_end : ended.Unsure ticket ≡ ended.Done number = goes.0 in cc)
 unsure_from g ticket confirm.Expired s t u confirms goes = absurd (let no_end : ended.Unsure ticket ≡ ended.Never = goes.0 in cc)
 unsure_from g ticket (confirm.Unsure back) s t u confirms turns =
@@ -215,7 +215,7 @@ of_turns none_left = tt
 of_turns {g = g} {how = how} {s = s} {u = u} (ends turn) = of_turn g how s u turn
 of_turns (another turn turns) = of_turns turns
 
-of_from : (confirmed : Confirm) (how : Ended) (s u : LinkState) → GoesOnFrom (comes_to confirmed) how s u → IsOfAsk how
+of_from : (confirmed : Confirm) (how : Ended) (s u : LinkState) → GoesOnAfter (comes_to confirmed) how s u → IsOfAsk how
 of_from (confirm.Done number) how s u goes = subst IsOfAsk (sym goes.0) tt
 of_from confirm.Expired how s u goes = subst IsOfAsk (sym goes.0) tt
 of_from (confirm.Unsure g) how s u turns = of_turns turns
@@ -255,13 +255,13 @@ grant_turns none_left = tt
 grant_turns {g = g} {how = how} {s = s} {u = u} (ends turn) = grant_turn g how s u turn
 grant_turns (another turn turns) = grant_turns turns
 
-pub grant_from : (confirmed : Confirm) (how : Ended) (s u : LinkState) → GoesOnFrom (comes_to confirmed) how s u → IsOfGrant how
+pub grant_from : (confirmed : Confirm) (how : Ended) (s u : LinkState) → GoesOnAfter (comes_to confirmed) how s u → IsOfGrant how
 grant_from (confirm.Done number) how s u goes = subst IsOfGrant (sym goes.0) tt
 grant_from confirm.Expired how s u goes = subst IsOfGrant (sym goes.0) tt
 grant_from (confirm.Unsure g) how s u turns = grant_turns turns
 
 grant_cause : (a : PlainAction) (lease : ℕ) (g : Grant) (confirmed : Confirm) (how : Ended) (s t v u : LinkState)
-    → Asks a lease (Ok g) s t → Confirms g confirmed t v → GoesOnFrom (comes_to confirmed) how v u → IsOfGrant how → EndCause how s u
+    → Asks a lease (Ok g) s t → Confirms g confirmed t v → GoesOnAfter (comes_to confirmed) how v u → IsOfGrant how → EndCause how s u
 grant_cause a lease g confirmed (ended.Done number) s t v u asks confirms goes of = tt
 grant_cause a lease g confirmed ended.Never s t v u asks confirms goes of =
     either_earlier s t u asks.hears.counts (never_from g confirmed t v u confirms goes)

@@ -7,16 +7,16 @@ use Rattle.ix_proto.specs.Replies.{IsReply, TextsTellRepliesApart, reply_text}
 use Rattle.ix_proto.specs.Requests.{PlainRequest}
 use Rattle.ix_proto.specs.declared.reply.Reply.{Reply}
 use Rattle.ix_proto.specs.declared.request.Request.{Request}
-use Rattle.ix_proto.specs.inside.Lends.{Lends, Reads}
+use Rattle.ix_proto.specs.inside.Lends.{LendsRequest, Reads}
 use Rattle.ix_client.specs.Links.{IsLineOf, IsLineWith}
 use Rattle.ix_client.proofs.RequestsApart.{requests_apart}
 
 -- the request that was read of a request's line lends its texts
 pub lends_asked : TextsTellTicketsApart → (asked : PlainRequest) (line words : List ℕ) (last : ℕ) (request : Request) → IsLineOf asked line
-    → line ≡ words ++ last ∷ [] → Reads (words_of words) request → Lends request asked
+    → line ≡ words ++ last ∷ [] → Reads (words_of words) request → LendsRequest request asked
 lends_asked apart asked line words last request of is reads =
     let same : of.bytes ≡ words = (same_from_push of.bytes words 10 last (sym of.ended ∙ is)).0 in
-    subst (Lends request) (sym (requests_apart apart asked reads.plain of.kind of.valid reads.valid (sym of.words ∙ ap words_of same ∙ reads.same)))
+    subst (LendsRequest request) (sym (requests_apart apart asked reads.plain of.kind of.valid reads.valid (sym of.words ∙ ap words_of same ∙ reads.same)))
     reads.lends
 
 -- what holds of a line's reply holds of the reply that was read

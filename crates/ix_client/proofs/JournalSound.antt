@@ -28,8 +28,8 @@ use Rattle.ix_manager.specs.Machine.{IsAbsent, MachineState, count}
 use Rattle.ix_manager.specs.inside.OverSite.{FitsSite, TicketsGoOn}
 use Rattle.ix_manager.proofs.SlotLemmas.{some_ticket}
 use Rattle.ix_client.specs.Grants.{same_ticket}
-use Rattle.ix_client.specs.Sound.{AreApart, IsSound, pairs_of, reserved}
-use Rattle.ix_client.specs.inside.ManagerLinks.{are_apart, is_absent, is_granted, is_of, is_sound}
+use Rattle.ix_client.specs.Sound.{AreApart, IsSound, all_pairs, reserved}
+use Rattle.ix_client.specs.inside.ManagerLinks.{are_apart, is_absent, is_granted, names_ticket, is_sound}
 
 none_some : {P : Type 0} (ticket : Ticket) → None ≡ Some ticket → P
 none_some ticket is = absurd (let no : None ≡ Some ticket = is in cc)
@@ -146,7 +146,7 @@ granted_in boot number marks (entry.Spent spent a ∷ entries) order is below =
 
 -- what the records of a journal tell of a state whose tickets go on behind them
 sound_with : (s : MachineState) (entries : List Entry) (pairs : PlainHistory) → InOrder fresh entries
-    → journal.pairs_of entries ≡ pairs → pairs_of s ≡ pairs → 0 < s.boot → 0 < s.number
+    → journal.pairs_of entries ≡ pairs → all_pairs s ≡ pairs → 0 < s.boot → 0 < s.number
     → (marks_of entries).boots ≡ s.boot → (marks_of entries).seq < s.number → IsSound s
 sound_with s entries pairs order tells is boot number boots seq = record {
   boot = boot;
@@ -227,7 +227,7 @@ fits_few m site fits told =
 absent_test : (ticket : Ticket) (others : PlainHistory) → IsAbsent ticket others → is_absent (Some ticket) others ≡ true
 absent_test ticket [] is = refl
 absent_test ticket (spent ∷ others) is =
-    and_from (not (is_of ticket spent.0)) (is_absent (Some ticket) others) (other spent.0 (Each-head is)) (absent_test ticket others (Each-tail is))
+    and_from (not (names_ticket ticket spent.0)) (is_absent (Some ticket) others) (other spent.0 (Each-head is)) (absent_test ticket others (Each-tail is))
   where
     no : (u : Ticket) (b : Bool) → same_ticket ticket u ≡ b → (Some u ≢ Some ticket) → not b ≡ true
     no u false is isnt = refl
@@ -237,7 +237,7 @@ absent_test ticket (spent ∷ others) is =
         let seqs = eqb-true ticket.seq u.seq both.1 in
         absurd (isnt (λ i. Some (record { boot = sym boots i; seq = sym seqs i })))
 
-    other : (o : Option Ticket) → o ≢ Some ticket → not (is_of ticket o) ≡ true
+    other : (o : Option Ticket) → o ≢ Some ticket → not (names_ticket ticket o) ≡ true
     other None isnt = refl
     other (Some u) isnt = no u (same_ticket ticket u) refl isnt
 
@@ -277,7 +277,7 @@ all_test boot number (spent ∷ others) is =
 pub sound_test : (s : MachineState) → IsSound s → is_sound s ≡ true
 sound_test s is =
     and_from (nat_lt 0 s.boot && nat_lt 0 s.number)
-    (are_apart (pairs_of s) && list_all (λ (spent : Spent). is_granted s.boot s.number spent.0) (pairs_of s))
+    (are_apart (all_pairs s) && list_all (λ (spent : Spent). is_granted s.boot s.number spent.0) (all_pairs s))
     (and_from (nat_lt 0 s.boot) (nat_lt 0 s.number) (lt-ltb 0 s.boot is.boot) (lt-ltb 0 s.number is.number))
-    (and_from (are_apart (pairs_of s)) (list_all (λ (spent : Spent). is_granted s.boot s.number spent.0) (pairs_of s))
-    (apart_test (pairs_of s) is.apart) (all_test s.boot s.number (pairs_of s) is.granted))
+    (and_from (are_apart (all_pairs s)) (list_all (λ (spent : Spent). is_granted s.boot s.number spent.0) (all_pairs s))
+    (apart_test (all_pairs s) is.apart) (all_test s.boot s.number (all_pairs s) is.granted))

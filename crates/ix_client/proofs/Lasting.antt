@@ -17,8 +17,8 @@ use Rattle.ix_manager.proofs.Changing.{Changes, item_changes, step_changes, keep
 use Rattle.ix_manager.proofs.SlotLemmas.{some_ticket}
 use Rattle.ix_manager.proofs.TicketLemmas.{HoldsReserved, later_number, next_absent, next_boot}
 use Rattle.ix_client.specs.Grant.{Grant}
-use Rattle.ix_client.specs.Laws.{AgreesWith, SoundStatesLast, StandingGrantsLast, Stands}
-use Rattle.ix_client.specs.Sound.{AreApart, IsSound, pairs_of, reserved}
+use Rattle.ix_client.specs.Laws.{AgreesWith, SoundStatesLast, StandingGrantsLast, StandsGranted}
+use Rattle.ix_client.specs.Sound.{AreApart, IsSound, all_pairs, reserved}
 
 -- the pair of the next ticket
 abbrev pub next_pair : ℕ → ℕ → PlainAction → Spent
@@ -33,7 +33,7 @@ pub record IsLasting (P : ℕ → ℕ → PlainHistory → Type 0) : Type 0 wher
 
 module _ (P : ℕ → ℕ → PlainHistory → Type 0) (lasting : IsLasting P) where
   abbrev pub Of : MachineState → Type 0
-  Of s = P s.boot s.number (pairs_of s)
+  Of s = P s.boot s.number (all_pairs s)
 
   same : (boot boot' number number' : ℕ) (history history' : PlainHistory) (slot slot' : Slot)
       → boot' ≡ boot → number' ≡ number → history' ≡ history → slot' ≡ slot
@@ -133,10 +133,10 @@ sound_lasts = record {
   };
 }
 
-are_sound : (s : MachineState) → IsSound s → AreSound s.boot s.number (pairs_of s)
+are_sound : (s : MachineState) → IsSound s → AreSound s.boot s.number (all_pairs s)
 are_sound s is = record { some_boot = is.boot; some_number = is.number; apart = is.apart; granted = is.granted }
 
-is_sound : (s : MachineState) → AreSound s.boot s.number (pairs_of s) → IsSound s
+is_sound : (s : MachineState) → AreSound s.boot s.number (all_pairs s) → IsSound s
 is_sound s are = record { boot = are.some_boot; number = are.some_number; apart = are.apart; granted = are.granted }
 
 pub step_sound : {x : Form} {limit : ℕ} {s u : MachineState} {asked : PlainRequest} {replies : List Reply} → Step x limit s asked replies u → IsSound s → IsSound u
@@ -151,7 +151,7 @@ sound_states_last = (λ x limit s u asked replies step is. step_sound step is, �
 -- the reserved ticket of a sound state was granted, and isn't kept
 pub sound_holds : (s : MachineState) → IsSound s → HoldsReserved s
 sound_holds s is ticket a deadline held =
-    let pairs : pairs_of s ≡ s.history ++ (Some ticket, a) ∷ [] = ap (λ (v : Slot). s.history ++ reserved v) held in
+    let pairs : all_pairs s ≡ s.history ++ (Some ticket, a) ∷ [] = ap (λ (v : Slot). s.history ++ reserved v) held in
     let granted = subst (Each (WasGranted s.boot s.number)) pairs is.granted in
     record {
       granted = Each-head (Each-right s.history ((Some ticket, a) ∷ []) granted) ticket refl;
@@ -191,16 +191,16 @@ standing_lasts g = record {
   };
 }
 
-are_standing : (g : Grant) (s : MachineState) → Stands g s → AreStanding g s.boot s.number (pairs_of s)
+are_standing : (g : Grant) (s : MachineState) → StandsGranted g s → AreStanding g s.boot s.number (all_pairs s)
 are_standing g s is = record { granted = is.granted; agrees = is.agrees }
 
-is_standing : (g : Grant) (s u : MachineState) → Stands g s → AreStanding g u.boot u.number (pairs_of u) → Stands g u
+is_standing : (g : Grant) (s u : MachineState) → StandsGranted g s → AreStanding g u.boot u.number (all_pairs u) → StandsGranted g u
 is_standing g s u is are = record { boot = is.boot; number = is.number; granted = are.granted; agrees = are.agrees }
 
-pub step_stands : {x : Form} {limit : ℕ} {s u : MachineState} {asked : PlainRequest} {replies : List Reply} (g : Grant) → Step x limit s asked replies u → Stands g s → Stands g u
+pub step_stands : {x : Form} {limit : ℕ} {s u : MachineState} {asked : PlainRequest} {replies : List Reply} (g : Grant) → Step x limit s asked replies u → StandsGranted g s → StandsGranted g u
 step_stands {s = s} {u = u} g step is = is_standing g s u is (step_last (AreStanding g) (standing_lasts g) step (are_standing g s is))
 
-pub later_stands : {x : Form} {s later : MachineState} (g : Grant) → Later x s later → Stands g s → Stands g later
+pub later_stands : {x : Form} {s later : MachineState} (g : Grant) → Later x s later → StandsGranted g s → StandsGranted g later
 later_stands {s = s} {later = later} g rest is =
     is_standing g s later is (later_last (AreStanding g) (standing_lasts g) rest (are_standing g s is))
 

@@ -14,7 +14,7 @@ use Rattle.ix_manager.specs.Machine.{MachineState}
 use Rattle.ix_manager.proofs.LaterLemmas.{later_join}
 use Rattle.ix_client.specs.Links.{Answers, Calls, Fails, GivesLine, IsExpected, IsLineWith, TellsBy, failed}
 use Rattle.ix_client.specs.inside.ManagerLinks.{IsManagerOf, IsManagerWhere, ManagerLinkState, link_state, call_noted, told_of}
-use Rattle.ix_client.specs.inside.Passing.{AnswersOver, ExchangesOver, Keeps, StartedFrom, StartsAgain, TellsDisk}
+use Rattle.ix_client.specs.inside.Passing.{AnswersOver, ExchangesOver, KeepsAsked, StartedFrom, StartsAgain, TellsDisk}
 use Rattle.ix_client.specs.declared.link.LinkFailed.{LinkFailed}
 use Rattle.ix_client.specs.declared.manager_link.Passed.{Passed}
 use Rattle.ix_client.specs.declared.manager_link.Passed.TheVariants.{Answered, Ended, Lost}
@@ -27,7 +27,7 @@ none_manages text limit kept site is = subst (λ o. IsManagerWhere text limit o 
 
 -- a manager that is kept is of the same text and limit
 pub kept_manages : (text : List ℕ) (limit : ℕ) (m : ManagerState) (before after : MemorySiteState) (asked : PlainRequest) (passed : Passed)
-    (kept : Option ManagerState) (line : List ℕ) → IsManagerOf text limit m before → Keeps asked passed kept line m after → IsManagerWhere text limit kept after
+    (kept : Option ManagerState) (line : List ℕ) → IsManagerOf text limit m before → KeepsAsked asked passed kept line m after → IsManagerWhere text limit kept after
 kept_manages text limit m before after asked Answered (Some new) line manages is = record {
   stands = subst (StandsFor text) (sym is.form) manages.stands;
   limit_is = is.limit ∙ manages.limit_is;
@@ -51,7 +51,7 @@ answered_again asked line m n after is told = λ limit history renewed boot star
 
 -- what starts from the file of the site comes later than the manager's state, however a request went
 kept_again : (asked : PlainRequest) (passed : Passed) (kept : Option ManagerState) (line : List ℕ) (m : ManagerState) (after : MemorySiteState)
-    → Keeps asked passed kept line m after → after.told ≡ true → StartsAgain m.form m.machine after.image
+    → KeepsAsked asked passed kept line m after → after.told ≡ true → StartsAgain m.form m.machine after.image
 kept_again asked Answered (Some n) line m after keeps told = answered_again asked line m n after keeps told
 kept_again asked Answered None line m after keeps told = absurd keeps
 kept_again asked Ended kept line m after keeps told = keeps.2 told
@@ -96,7 +96,7 @@ module _ (one : TextsStandForOneExpression) (asked : PlainRequest) (passed : Pas
       C x most s u = IsLineWith (λ first. Answers asked first x most s u) line
 
       tells : mid.site.told ≡ true → TellsDisk asked line
-      tells is = let keeps : Keeps asked Ended mid.manager line m mid.site = subst (λ p. Keeps asked p mid.manager line m mid.site) ended over.keeps in keeps.1 is
+      tells is = let keeps : KeepsAsked asked Ended mid.manager line m mid.site = subst (λ p. KeepsAsked asked p mid.manager line m mid.site) ended over.keeps in keeps.1 is
 
       comes : (u : MachineState) → mid.site.told ≡ true → Later m.form m.machine u → C m.form m.limit m.machine u
       comes u is later =
@@ -110,7 +110,7 @@ module _ (one : TextsStandForOneExpression) (asked : PlainRequest) (passed : Pas
 -- the manager answered, and goes on
 goes_on : (asked : PlainRequest) (kept : Option ManagerState) (line : List ℕ) (m : ManagerState) (old new : ManagerLinkState) (after : MemorySiteState)
     → old.manager ≡ Some m → IsManagerOf old.text old.limit m old.site → (after.told ≡ true → old.site.told ≡ true)
-    → Keeps asked Answered kept line m after → new.manager ≡ kept → new.site ≡ after
+    → KeepsAsked asked Answered kept line m after → new.manager ≡ kept → new.site ≡ after
     → TellsBy (λ x limit s u. IsLineWith (λ told. Answers asked told x limit s u) line) (told_of old.manager old.site) (told_of new.manager new.site)
 goes_on asked (Some n) line m old new after there manages still keeps manager site =
     subst (λ o. TellsBy C (told_of o old.site) (told_of new.manager new.site)) (sym there)
@@ -129,7 +129,7 @@ answers_line asked passed line m old mid new answered there over manager site ex
   expected = expected;
   told =
       goes_on asked mid.manager line m old new mid.site there over.manages over.told
-      (subst (λ p. Keeps asked p mid.manager line m mid.site) answered over.keeps) manager site;
+      (subst (λ p. KeepsAsked asked p mid.manager line m mid.site) answered over.keeps) manager site;
 }
 
 -- what was expected of the reply, or counted

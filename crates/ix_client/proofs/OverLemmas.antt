@@ -39,7 +39,7 @@ use Rattle.ix_manager.specs.inside.Acknowledging.{SendsMore}
 use Rattle.ix_manager.specs.inside.OverSite.{FitsSite, HandlesOver, ending_after}
 use Rattle.ix_manager.proofs.LaterLemmas.{starts_come_later}
 use Rattle.ix_client.specs.Links.{IsLineOf, stepped}
-use Rattle.ix_client.specs.inside.ManagerLinks.{IsOver}
+use Rattle.ix_client.specs.inside.ManagerLinks.{IsRunEnded}
 use Rattle.ix_client.specs.inside.Passing.{AnswersOver, EndsInLine, IsShortLine, StartsAgain, TellsDisk}
 use Rattle.ix_client.proofs.CallLines.{one_line}
 use Rattle.ix_client.proofs.CallSteps as steps
@@ -112,7 +112,7 @@ same_line : (bytes others : List ℕ) → bytes ++ 10 ∷ [] ≡ others ++ 10 �
 same_line bytes others same = append_cancel_right bytes others (10 ∷ []) same
 
 module _ (apart : TextsTellTicketsApart) (asked : PlainRequest) (bytes all : List ℕ) (of_line : IsWholeLine asked bytes all)
-    (m new : ManagerState) (before after : MemorySiteState) (over : IsOver m before) where
+    (m new : ManagerState) (before after : MemorySiteState) (over : IsRunEnded m before) where
   words : words_of bytes ≡ request_words asked
   words =
       let of = of_line.of in

@@ -9,12 +9,12 @@ use Rattle.ix_proto.specs.declared.reply.Reply.TheVariants as reply
 use Rattle.ix_manager.specs.Later.{Later, stays, rises, answered, restarts}
 use Rattle.ix_manager.specs.Machine.{MachineState}
 use Rattle.ix_manager.proofs.Changing.{Changes, item_changes, keeps, empties, grants, stores}
-use Rattle.ix_client.specs.Client.{GoesOnFrom, TakesTurn, TakesTurns, again, another, comes_to, done, ends, ends_with, left_out, never, none_left, unsure}
-use Rattle.ix_client.specs.ClientLaws.{DoneRunsArePermanent, IsFresh}
+use Rattle.ix_client.specs.Client.{GoesOnAfter, TakesTurn, TakesTurns, again, another, comes_to, done, ends, ends_with, left_out, never, none_left, unsure}
+use Rattle.ix_client.specs.ClientLaws.{DoneRunsArePermanent, IsNewTicket}
 use Rattle.ix_client.specs.Grant.{Grant}
 use Rattle.ix_client.specs.Grants.{Heard, asked_by}
 use Rattle.ix_client.specs.Hearing.{ComesOf, Confirms, Hears}
-use Rattle.ix_client.specs.Laws.{IsPairOf, IsToldOver, Stands}
+use Rattle.ix_client.specs.Laws.{IsPairOf, IsToldOver, StandsGranted}
 use Rattle.ix_client.specs.Sound.{IsSound}
 use Rattle.ix_client.specs.Links.{LinkState, TellsBy, Told, failed, stepped}
 use Rattle.ix_client.specs.declared.ended.Ended.{Ended}
@@ -60,7 +60,7 @@ record Knows (g : Grant) (s : LinkState) : Type 0 where
   pub told : Told
   pub is : s.told ≡ Some told
   pub sound : IsSound told.machine
-  pub stands : Stands g told.machine
+  pub stands : StandsGranted g told.machine
 
 over_from : (g : Grant) (s u : LinkState) (after : Told) (knows : Knows g s) → u.told ≡ Some after → IsToldOver s u knows.told after
 over_from g s u after knows is = record { before_is = knows.is; after_is = is; sound = knows.sound }
@@ -175,12 +175,12 @@ later_no_fewer {s = s} {later = later} (restarts {kept = kept} may rest) = elim 
   | inr same ↦ let boot = same.0 in inl (omega (arith, boot))
 ]
 
-fresh_ticket : (s between : MachineState) (ticket : Ticket) → ticket.boot ≡ between.boot → ticket.seq ≡ between.number → AreNoFewer s between → IsFresh s ticket
+fresh_ticket : (s between : MachineState) (ticket : Ticket) → ticket.boot ≡ between.boot → ticket.seq ≡ between.number → AreNoFewer s between → IsNewTicket s ticket
 fresh_ticket s between ticket boot seq (inl up) = inl (omega (arith, boot, up))
 fresh_ticket s between ticket boot seq (inr same) = let number = same.1 in inr (boot ∙ same.0, omega (arith, seq, number))
 
 asked_fresh : (a : PlainAction) (lease : ℕ) (g : Grant) (heard : Heard) (x : Form) (limit : ℕ) (s u : MachineState) → Ok g ≡ asked_by a heard
-    → ComesOf (request.ask a lease) heard x limit s u → IsFresh s g.ticket × (g.action ≡ a)
+    → ComesOf (request.ask a lease) heard x limit s u → IsNewTicket s g.ticket × (g.action ≡ a)
 asked_fresh a lease g (Ok (Some (reply.Granted ticket))) x limit s u is (stepped {between = between} later step) =
     let facts = step_facts step in
     let reserves : Reserves between u a ticket = facts.told in
@@ -199,12 +199,12 @@ asked_fresh a lease g _ x limit s u is comes = absurd cc
 
 -- a run that ended with `done`
 
-from_before : (first : Turned) (how : Ended) (s u : LinkState) (after : Told) → GoesOnFrom first how s u → u.told ≡ Some after → (before : Told) × (s.told ≡ Some before)
+from_before : (first : Turned) (how : Ended) (s u : LinkState) (after : Told) → GoesOnAfter first how s u → u.told ≡ Some after → (before : Told) × (s.told ≡ Some before)
 from_before (turned.Over over) how s u after goes told = (after, subst (λ (v : LinkState). v.told ≡ Some after) goes.1 told)
 from_before (turned.Unsure g) how s u after turns told = turns_before after turns told
 
 from_done : (g : Grant) (confirmed : Confirm) (number : ℕ) (s t u : LinkState) (after : Told) (later : MachineState) → Confirms g confirmed s t
-    → GoesOnFrom (comes_to confirmed) (ended.Done number) t u → u.told ≡ Some after → Knows g s → Later after.form after.machine later
+    → GoesOnAfter (comes_to confirmed) (ended.Done number) t u → u.told ≡ Some after → Knows g s → Later after.form after.machine later
     → IsPairOf later number (Some g.ticket, g.action)
 from_done g (confirm.Done other) number s t u after later confirms goes told knows rest =
     confirm_done g (confirm.Done other) number s t after later confirms (ap (λ (v : Ended). turned.Over v) goes.0)

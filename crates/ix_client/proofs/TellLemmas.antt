@@ -9,7 +9,7 @@ use Rattle.ix_manager.specs.Handled.{ManagerState}
 use Rattle.ix_manager.specs.Later.{Later}
 use Rattle.ix_manager.specs.Machine.{MachineState}
 use Rattle.ix_client.specs.Links.{Answers, GoesOn, IsLineWith, TellsBy, Told}
-use Rattle.ix_client.specs.inside.ManagerLinks.{IsManagerOf, IsOver, is_sound, told_by, told_of, told_where}
+use Rattle.ix_client.specs.inside.ManagerLinks.{IsManagerOf, IsRunEnded, is_sound, told_by, told_of, told_where}
 use Rattle.ix_manager.specs.Images.{IsStartable}
 use Rattle.ix_manager.specs.Runs.{opening_of}
 use Rattle.ix_client.specs.inside.Passing.{AnswersOver, StartedFrom, StartsAgain}
@@ -20,7 +20,7 @@ tells_none C None = refl
 tells_none C (Some told) = tt
 
 -- a manager over a site that tells its contents is told
-pub is_told : (m : ManagerState) (site : MemorySiteState) → IsOver m site → site.told ≡ true → told_of (Some m) site ≡ Some (told_by m)
+pub is_told : (m : ManagerState) (site : MemorySiteState) → IsRunEnded m site → site.told ≡ true → told_of (Some m) site ≡ Some (told_by m)
 is_told m site over told =
     ap (λ t. told_where t (told_by m)) (and_from site.told (is_sound m.machine) told (sound_test m.machine (fits_sound m site over.fits told)))
 
@@ -28,7 +28,7 @@ not_told : (m : ManagerState) (site : MemorySiteState) → site.told ≡ false �
 not_told m site untold = ap (λ t. told_where (t && is_sound m.machine) (told_by m)) untold
 
 -- the manager behind is told as it goes on
-both_told : (C : Form → ℕ → MachineState → MachineState → Type 0) (m n : ManagerState) (before after : MemorySiteState) → IsOver m before → IsOver n after
+both_told : (C : Form → ℕ → MachineState → MachineState → Type 0) (m n : ManagerState) (before after : MemorySiteState) → IsRunEnded m before → IsRunEnded n after
     → (after.told ≡ true → before.told ≡ true) → n.form ≡ m.form → n.limit ≡ m.limit
     → (after.told ≡ true → C m.form m.limit m.machine n.machine) → TellsBy C (told_of (Some m) before) (told_of (Some n) after)
 both_told C m n before after over also still form limit comes = by after.told refl
@@ -41,7 +41,7 @@ both_told C m n before after over also still form limit comes = by after.told re
     by false untold = subst (λ o. TellsBy C (told_of (Some m) before) o) (sym (not_told n after untold)) (tells_none C (told_of (Some m) before))
 
 -- it answered
-pub answered_tells : (asked : PlainRequest) (line : List ℕ) (m n : ManagerState) (before after : MemorySiteState) → IsOver m before
+pub answered_tells : (asked : PlainRequest) (line : List ℕ) (m n : ManagerState) (before after : MemorySiteState) → IsRunEnded m before
     → (after.told ≡ true → before.told ≡ true) → AnswersOver asked line m n after
     → TellsBy (λ x limit s u. IsLineWith (λ told. Answers asked told x limit s u) line) (told_of (Some m) before) (told_of (Some n) after)
 answered_tells asked line m n before after over still is =

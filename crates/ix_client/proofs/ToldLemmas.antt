@@ -24,9 +24,9 @@ use Rattle.ix_manager.proofs.TicketLemmas.{later_over, next_absent, over_begins}
 use Rattle.ix_client.specs.Grant.{Grant}
 use Rattle.ix_client.specs.Grants.{Heard, asked_by, cancelled_by, confirmed_by, is_refusal_of_ask, refused_by, same_ticket, settled_by}
 use Rattle.ix_client.specs.Hearing.{ComesOf, HasCause, Hears}
-use Rattle.ix_client.specs.Laws.{AgreesWith, DoneIsPermanent, GrantsStand, IsHeardRefusal, IsPairOf, IsToldOver, NeverIsPermanent, Stands, UnsureHasACause}
+use Rattle.ix_client.specs.Laws.{AgreesWith, DoneIsPermanent, GrantsStand, IsHeardRefusal, IsPairOf, IsToldOver, NeverIsPermanent, StandsGranted, UnsureHasACause}
 use Rattle.ix_client.specs.Links.{Answers, GoesOn, LinkState, TellsBy, Told, failed, stepped}
-use Rattle.ix_client.specs.Sound.{IsSound, pairs_of, reserved}
+use Rattle.ix_client.specs.Sound.{IsSound, all_pairs, reserved}
 use Rattle.ix_client.specs.declared.grants.AskFault.{AskFault}
 use Rattle.ix_client.specs.declared.grants.AskFault.TheVariants as fault
 use Rattle.ix_client.specs.declared.grants.Cancel.TheVariants as cancel
@@ -63,7 +63,7 @@ confirmed_no_disk number is = absurd cc
 -- standing
 
 pub stands_behind : (asked : PlainRequest) (heard : Heard) (x : Form) (limit : ℕ) (s u : MachineState) (g : Grant)
-    → ComesOf asked heard x limit s u → Stands g s → Stands g u
+    → ComesOf asked heard x limit s u → StandsGranted g s → StandsGranted g u
 stands_behind asked (Err fault) x limit s u g later stands = later_stands g later stands
 stands_behind asked (Ok None) x limit s u g no_reply stands = absurd no_reply
 stands_behind asked (Ok (Some first)) x limit s u g (stepped later step) stands = step_stands g step (later_stands g later stands)
@@ -71,7 +71,7 @@ stands_behind asked (Ok (Some first)) x limit s u g (failed is_confirm is_disk l
 
 -- the grant of the next ticket
 granted_stands : (s u : MachineState) (a : PlainAction) (ticket : Ticket) → IsSound s → Reserves s u a ticket
-    → Stands (record { ticket = ticket; action = a }) u
+    → StandsGranted (record { ticket = ticket; action = a }) u
 granted_stands s u a ticket sound reserves =
     let boots : ticket.boot ≡ s.boot = ap (λ (t : Ticket). t.boot) reserves.ticket_is in
     let seqs : ticket.seq ≡ s.number = ap (λ (t : Ticket). t.seq) reserves.ticket_is in
@@ -79,7 +79,7 @@ granted_stands s u a ticket sound reserves =
     let number = reserves.number in
     let first = sound.boot in
     let second = sound.number in
-    let pairs : pairs_of u ≡ s.history ++ (Some ticket, a) ∷ [] =
+    let pairs : all_pairs u ≡ s.history ++ (Some ticket, a) ∷ [] =
     ap (λ (v : Slot). u.history ++ reserved v) reserves.slot ∙ ap (λ (h : PlainHistory). h ++ (Some ticket, a) ∷ []) reserves.history in
     let absent : IsAbsent ticket s.history =
     subst (λ (t : Ticket). IsAbsent t s.history) (sym reserves.ticket_is)
@@ -96,11 +96,11 @@ granted_stands s u a ticket sound reserves =
     }
 
 asked_stands : (a : PlainAction) (lease : ℕ) (g : Grant) (heard : Heard) (x : Form) (limit : ℕ) (s u : MachineState) → IsSound s
-    → Ok g ≡ asked_by a heard → ComesOf (request.ask a lease) heard x limit s u → Stands g u
+    → Ok g ≡ asked_by a heard → ComesOf (request.ask a lease) heard x limit s u → StandsGranted g u
 asked_stands a lease g (Ok (Some (reply.Granted ticket))) x limit s u sound is (stepped {between = between} later step) =
     let made : g ≡ record { ticket = ticket; action = a } = same_grant is in
     let facts = step_facts step in
-    subst (λ (v : Grant). Stands v u) (sym made) (granted_stands between u a ticket (later_sound later sound) facts.told)
+    subst (λ (v : Grant). StandsGranted v u) (sym made) (granted_stands between u a ticket (later_sound later sound) facts.told)
   where
     same_grant : {v w : Grant} → let left : Result Grant AskFault = Ok v in left ≡ Ok w → v ≡ w
     same_grant e = cc
@@ -171,8 +171,8 @@ grants_stand old new before after over = (
   ],
 )
   where
-    both : {g back : Grant} → back ≡ g → Stands g after.machine → (back ≡ g) × Stands back after.machine
-    both same stands = (same, subst (λ (v : Grant). Stands v after.machine) (sym same) stands)
+    both : {g back : Grant} → back ≡ g → StandsGranted g after.machine → (back ≡ g) × StandsGranted back after.machine
+    both same stands = (same, subst (λ (v : Grant). StandsGranted v after.machine) (sym same) stands)
 
 -- done
 
@@ -188,18 +188,18 @@ pair_stays {u = u} {later = later} {spent = spent} rest is =
     }
 
 -- a pair of a standing ticket has its action
-stored_action : (g : Grant) (s : MachineState) (a : PlainAction) (deadline : ℕ) → Stands g s → s.slot ≡ Held g.ticket a deadline → a ≡ g.action
+stored_action : (g : Grant) (s : MachineState) (a : PlainAction) (deadline : ℕ) → StandsGranted g s → s.slot ≡ Held g.ticket a deadline → a ≡ g.action
 stored_action g s a deadline stands held =
-    let pairs : pairs_of s ≡ s.history ++ (Some g.ticket, a) ∷ [] = ap (λ (v : Slot). s.history ++ reserved v) held in
+    let pairs : all_pairs s ≡ s.history ++ (Some g.ticket, a) ∷ [] = ap (λ (v : Slot). s.history ++ reserved v) held in
     Each-head (Each-right s.history ((Some g.ticket, a) ∷ []) (subst (Each (AgreesWith g)) pairs stands.agrees)) refl
 
-kept_action : (g : Grant) (s : MachineState) (a : PlainAction) (before behind : PlainHistory) → Stands g s
+kept_action : (g : Grant) (s : MachineState) (a : PlainAction) (before behind : PlainHistory) → StandsGranted g s
     → s.history ≡ before ++ (Some g.ticket, a) ∷ behind → a ≡ g.action
 kept_action g s a before behind stands split =
     let kept = Each-left s.history (reserved s.slot) stands.agrees in
     Each-head (Each-right before ((Some g.ticket, a) ∷ behind) (subst (Each (AgreesWith g)) split kept)) refl
 
-stored_pair : (g : Grant) (s u : MachineState) (number : ℕ) → Stands g s → StoresPair s u g.ticket number → IsPairOf u number (Some g.ticket, g.action)
+stored_pair : (g : Grant) (s u : MachineState) (number : ℕ) → StandsGranted g s → StoresPair s u g.ticket number → IsPairOf u number (Some g.ticket, g.action)
 stored_pair g s u number stands stores = record {
   before = s.history;
   behind = [];
@@ -207,7 +207,7 @@ stored_pair g s u number stands stores = record {
   place = let at = stores.place in omega (arith, at, ap ahead_of stores.renewed);
 }
 
-kept_pair : (g : Grant) (s u : MachineState) (number : ℕ) → Stands g s → KeepsPair s u g.ticket number → IsPairOf u number (Some g.ticket, g.action)
+kept_pair : (g : Grant) (s u : MachineState) (number : ℕ) → StandsGranted g s → KeepsPair s u g.ticket number → IsPairOf u number (Some g.ticket, g.action)
 kept_pair g s u number stands keeps = record {
   before = keeps.before;
   behind = keeps.behind;
@@ -217,7 +217,7 @@ kept_pair g s u number stands keeps = record {
   place = let at = keeps.place in omega (arith, at, ap ahead_of keeps.renewed);
 }
 
-done_confirm : (g : Grant) (number : ℕ) (heard : Heard) (x : Form) (limit : ℕ) (s u : MachineState) → Stands g s
+done_confirm : (g : Grant) (number : ℕ) (heard : Heard) (x : Form) (limit : ℕ) (s u : MachineState) → StandsGranted g s
     → confirm.Done number ≡ confirmed_by g heard → ComesOf (request.confirm g.ticket) heard x limit s u → IsPairOf u number (Some g.ticket, g.action)
 done_confirm g number (Ok (Some (reply.Confirmed told))) x limit s u stands is (stepped {between = between} later step) =
     let facts = step_facts step in
@@ -234,7 +234,7 @@ done_confirm g number (Ok (Some (reply.Refused code other))) x limit s u stands 
     ]
 done_confirm g number _ x limit s u stands is comes = absurd cc
 
-done_settle : (g : Grant) (number : ℕ) (heard : Heard) (x : Form) (limit : ℕ) (s u : MachineState) → Stands g s
+done_settle : (g : Grant) (number : ℕ) (heard : Heard) (x : Form) (limit : ℕ) (s u : MachineState) → StandsGranted g s
     → settle.Done number ≡ settled_by g heard → ComesOf (request.outcome g.ticket) heard x limit s u → IsPairOf u number (Some g.ticket, g.action)
 done_settle g number (Ok (Some (reply.Outcome (became.Confirmed told)))) x limit s u stands is (stepped {between = between} later step) =
     let facts = step_facts step in
@@ -371,14 +371,14 @@ never_is_permanent old new before after g later over by rest = elim by [
 
 -- unsure
 
-ungranted_no_standing : (g : Grant) (s : MachineState) → Stands g s → IsUngranted s.boot s.number g.ticket → ⊥
+ungranted_no_standing : (g : Grant) (s : MachineState) → StandsGranted g s → IsUngranted s.boot s.number g.ticket → ⊥
 ungranted_no_standing g s stands (inl none) = let some = stands.boot in omega (arith, some, none)
 ungranted_no_standing g s stands (inr (inl none)) = let some = stands.number in omega (arith, some, none)
 ungranted_no_standing g s stands (inr (inr (inl later))) = let earlier = stands.granted.earlier in omega (arith, earlier, later)
 ungranted_no_standing g s stands (inr (inr (inr above))) =
     let same = above.0 in let least = above.1 in let below = stands.granted.below same in omega (arith, least, below)
 
-settled_unsure : (g back : Grant) (heard : Heard) (x : Form) (limit : ℕ) (s u : MachineState) (old new : LinkState) → Stands g s
+settled_unsure : (g back : Grant) (heard : Heard) (x : Form) (limit : ℕ) (s u : MachineState) (old new : LinkState) → StandsGranted g s
     → settle.Unsure back ≡ settled_by g heard → HasCause (request.outcome g.ticket) heard old new
     → ComesOf (request.outcome g.ticket) heard x limit s u → Rose old.faults new.faults
 settled_unsure g back (Err fault) x limit s u old new stands is cause comes = cause

@@ -7,7 +7,7 @@ use Rattle.ix_outside.specs.SinkState.{SinkState}
 use Rattle.ix_proto.specs.Requests.{IsLease}
 use Rattle.ix_client.specs.Endings.{PutsLine}
 use Rattle.ix_client.specs.Grant.{Grant}
-use Rattle.ix_client.specs.Hearing.{Asks, Confirms, Settles}
+use Rattle.ix_client.specs.Hearing.{Asks, Confirms, SettlesBy}
 use Rattle.ix_client.specs.Links.{LinkState}
 use Rattle.ix_client.specs.declared.ended.Ended.{Ended}
 use Rattle.ix_client.specs.declared.ended.Ended.TheVariants as ended
@@ -34,15 +34,15 @@ comes_to (confirm.Unsure g) = turned.Unsure g
 
 -- a turn: the grant is settled; and where its reservation is still open, it is confirmed again
 pub data TakesTurn (g : Grant) (how : Turned) (s u : LinkState) : Type 0 where
-  done : (number : ℕ) → Settles g (settle.Done number) s u → how ≡ turned.Over (ended.Done number)
+  done : (number : ℕ) → SettlesBy g (settle.Done number) s u → how ≡ turned.Over (ended.Done number)
       → TakesTurn g how s u
-  never : Settles g settle.Never s u → how ≡ turned.Over ended.Never → TakesTurn g how s u
-  left_out : Settles g settle.LeftOut s u → how ≡ turned.Over (ended.LeftOut g.ticket)
+  never : SettlesBy g settle.Never s u → how ≡ turned.Over ended.Never → TakesTurn g how s u
+  left_out : SettlesBy g settle.LeftOut s u → how ≡ turned.Over (ended.LeftOut g.ticket)
       → TakesTurn g how s u
   again : (back : Grant) (confirmed : Confirm) (t : LinkState)
-      → Settles g (settle.Open back) s t → Confirms back confirmed t u → how ≡ comes_to confirmed
+      → SettlesBy g (settle.Open back) s t → Confirms back confirmed t u → how ≡ comes_to confirmed
       → TakesTurn g how s u
-  unsure : (back : Grant) → Settles g (settle.Unsure back) s u → how ≡ turned.Unsure back
+  unsure : (back : Grant) → SettlesBy g (settle.Unsure back) s u → how ≡ turned.Unsure back
       → TakesTurn g how s u
 
 -- at most so many turns with a grant that is unsure, and how they end
@@ -55,9 +55,9 @@ pub data TakesTurns : ℕ → Grant → Ended → LinkState → LinkState → Ty
       → TakesTurns (suc n) g how s u
 
 -- what is left to do behind a confirm, where it left the grant unsure: at most 8 turns
-abbrev pub GoesOnFrom : Turned → Ended → LinkState → LinkState → Type 0
-GoesOnFrom (turned.Over over) how s u = (how ≡ over) × (u ≡ s)
-GoesOnFrom (turned.Unsure g) how s u = TakesTurns 8 g how s u
+abbrev pub GoesOnAfter : Turned → Ended → LinkState → LinkState → Type 0
+GoesOnAfter (turned.Over over) how s u = (how ≡ over) × (u ≡ s)
+GoesOnAfter (turned.Unsure g) how s u = TakesTurns 8 g how s u
 
 -- how a run ends where its ask wasn't granted
 abbrev pub ends_with : AskFault → Ended
@@ -70,7 +70,7 @@ ends_with fault.Link = ended.NoLink
 abbrev pub GoesOnBehind : Result Grant AskFault → Ended → LinkState → LinkState → Type 0
 GoesOnBehind (Ok g) how s u =
     (confirmed : Confirm) × (t : LinkState) × Confirms g confirmed s t
-    × GoesOnFrom (comes_to confirmed) how t u
+    × GoesOnAfter (comes_to confirmed) how t u
 GoesOnBehind (Err why) how s u = (how ≡ ends_with why) × (u ≡ s)
 
 -- the run of an ask

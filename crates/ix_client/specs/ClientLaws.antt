@@ -17,8 +17,8 @@ use Rattle.ix_client.specs.Links.{LinkState, Told}
 use Rattle.ix_client.specs.declared.ended.Ended.TheVariants as ended
 
 -- no ask was granted the ticket before this state
-abbrev pub IsFresh : MachineState → Ticket → Type 0
-IsFresh s ticket =
+abbrev pub IsNewTicket : MachineState → Ticket → Type 0
+IsNewTicket s ticket =
     (s.boot < ticket.boot) ⊎ ((ticket.boot ≡ s.boot) × (s.number ≤ ticket.seq))
 
 -- the pair of this number, in every later history too, is the action with a ticket that was granted
@@ -26,7 +26,7 @@ IsFresh s ticket =
 abbrev pub IsDoneIn : Told → Told → PlainAction → ℕ → Type 0
 IsDoneIn before after a number =
     (later : MachineState) → Later after.form after.machine later
-    → (ticket : Ticket) × IsFresh before.machine ticket
+    → (ticket : Ticket) × IsNewTicket before.machine ticket
     × IsPairOf later number (Some ticket, a)
 
 -- an ask of the action is refused so, unless memory runs out

@@ -51,5 +51,5 @@ Confirms g = GoesBy (request.confirm g.ticket) (confirmed_by g)
 abbrev pub Cancels : Grant → Cancel → LinkState → LinkState → Type 0
 Cancels g = GoesBy (request.cancel g.ticket) (cancelled_by g)
 
-abbrev pub Settles : Grant → Settle → LinkState → LinkState → Type 0
-Settles g = GoesBy (request.outcome g.ticket) (settled_by g)
+abbrev pub SettlesBy : Grant → Settle → LinkState → LinkState → Type 0
+SettlesBy g = GoesBy (request.outcome g.ticket) (settled_by g)

@@ -15,10 +15,10 @@ use Rattle.ix_manager.specs.Later.{Later}
 use Rattle.ix_manager.specs.Machine.{IsAbsent, MachineState, Step, ahead_of}
 use Rattle.ix_client.specs.Grant.{Grant}
 use Rattle.ix_client.specs.Grants.{Heard, asked_by}
-use Rattle.ix_client.specs.Hearing.{Asks, Cancels, Confirms, Settles}
+use Rattle.ix_client.specs.Hearing.{Asks, Cancels, Confirms, SettlesBy}
 use Rattle.ix_client.specs.Links.{LinkState, Told}
 use Rattle.ix_client.specs.Rising.{EitherRose}
-use Rattle.ix_client.specs.Sound.{IsSound, pairs_of}
+use Rattle.ix_client.specs.Sound.{IsSound, all_pairs}
 use Rattle.ix_client.specs.declared.grants.AskFault.{AskFault}
 use Rattle.ix_client.specs.declared.grants.AskFault.TheVariants as fault
 use Rattle.ix_client.specs.declared.grants.Cancel.TheVariants as cancel
@@ -31,11 +31,11 @@ AgreesWith g spent = spent.0 ≡ Some g.ticket → spent.1 ≡ g.action
 
 -- A grant stands in a state: its ticket was granted, and wherever the ticket is, in the history or
 -- the reservation, it is with the grant's action.
-pub record Stands (g : Grant) (s : MachineState) : Type 0 where
+pub record StandsGranted (g : Grant) (s : MachineState) : Type 0 where
   pub boot : 0 < g.ticket.boot
   pub number : 0 < g.ticket.seq
   pub granted : IsGranted s.boot s.number g.ticket
-  pub agrees : Each (AgreesWith g) (pairs_of s)
+  pub agrees : Each (AgreesWith g) (all_pairs s)
 
 -- over a link that tells its manager before a call and behind it
 pub record IsToldOver (old new : LinkState) (before after : Told) : Type 0 where
@@ -54,9 +54,9 @@ SoundStatesLast =
 abbrev pub StandingGrantsLast : Type 0
 StandingGrantsLast =
     ((x : Form) (limit : ℕ) (s u : MachineState) (asked : PlainRequest) (replies : List Reply)
-    (g : Grant) → Step x limit s asked replies u → Stands g s → Stands g u)
-    × ((x : Form) (s later : MachineState) (g : Grant) → Later x s later → Stands g s
-    → Stands g later)
+    (g : Grant) → Step x limit s asked replies u → StandsGranted g s → StandsGranted g u)
+    × ((x : Form) (s later : MachineState) (g : Grant) → Later x s later → StandsGranted g s
+    → StandsGranted g later)
 
 -- a grant that an ask gives stands; and behind a confirm, a cancel or a settling a grant that stood
 -- still does, so one that is handed back does: it is the same grant
@@ -64,11 +64,11 @@ abbrev pub GrantsStand : Type 0
 GrantsStand =
     (old new : LinkState) (before after : Told) → IsToldOver old new before after
     → ((a : PlainAction) (lease : ℕ) (g : Grant) → Asks a lease (Ok g) old new
-    → Stands g after.machine)
-    × ((g back : Grant) → Stands g before.machine
+    → StandsGranted g after.machine)
+    × ((g back : Grant) → StandsGranted g before.machine
     → Confirms g (confirm.Unsure back) old new ⊎ Cancels g (cancel.Unsure back) old new
-    ⊎ Settles g (settle.Unsure back) old new ⊎ Settles g (settle.Open back) old new
-    → (back ≡ g) × Stands back after.machine)
+    ⊎ SettlesBy g (settle.Unsure back) old new ⊎ SettlesBy g (settle.Open back) old new
+    → (back ≡ g) × StandsGranted back after.machine)
 
 -- the state's confirmed pair of this number, counted from 1
 pub record IsPairOf (s : MachineState) (number : ℕ) (spent : Spent) : Type 0 where
@@ -81,15 +81,15 @@ pub record IsPairOf (s : MachineState) (number : ℕ) (spent : Spent) : Type 0 w
 abbrev pub DoneIsPermanent : Type 0
 DoneIsPermanent =
     (old new : LinkState) (before after : Told) (g : Grant) (number : ℕ) (later : MachineState)
-    → IsToldOver old new before after → Stands g before.machine
-    → Confirms g (confirm.Done number) old new ⊎ Settles g (settle.Done number) old new
+    → IsToldOver old new before after → StandsGranted g before.machine
+    → Confirms g (confirm.Done number) old new ⊎ SettlesBy g (settle.Done number) old new
     → Later after.form after.machine later
     → IsPairOf later number (Some g.ticket, g.action)
 
 -- the answer tells that the grant's ticket is over
 abbrev pub TellsNever : Grant → LinkState → LinkState → Type 0
 TellsNever g old new =
-    Settles g settle.Never old new ⊎ Confirms g confirm.Expired old new
+    SettlesBy g settle.Never old new ⊎ Confirms g confirm.Expired old new
     ⊎ Cancels g cancel.Expired old new ⊎ Cancels g cancel.Done old new
 
 -- a ticket that was told to be over is in no later history
@@ -104,7 +104,7 @@ NeverIsPermanent =
 pub record OddAnswersHaveACause : Type 0 where
   pub unsure : (old new : LinkState) (g back : Grant)
       → Confirms g (confirm.Unsure back) old new ⊎ Cancels g (cancel.Unsure back) old new
-      ⊎ Settles g (settle.Unsure back) old new
+      ⊎ SettlesBy g (settle.Unsure back) old new
       → EitherRose old new
   pub expired : (old new : LinkState) (g : Grant)
       → Confirms g confirm.Expired old new ⊎ Cancels g cancel.Expired old new
@@ -125,8 +125,8 @@ IsHeardRefusal heard = (code : ℕ) × (number : ℕ) × (heard ≡ Ok (Some (re
 -- an odd line: its answer is that of its step, unless the call failed.
 pub record UnsureHasACause : Type 0 where
   pub settled : (old new : LinkState) (before after : Told) (g back : Grant)
-      → IsToldOver old new before after → Stands g before.machine
-      → Settles g (settle.Unsure back) old new → Rose old.faults new.faults
+      → IsToldOver old new before after → StandsGranted g before.machine
+      → SettlesBy g (settle.Unsure back) old new → Rose old.faults new.faults
   pub confirmed : (old new : LinkState) (before after : Told) (g back : Grant)
       → IsToldOver old new before after
       → (confirms : Confirms g (confirm.Unsure back) old new)

@@ -15,8 +15,8 @@ reserved Free = []
 reserved (Held ticket a deadline) = (Some ticket, a) ∷ []
 
 -- the pairs of the history, and behind them that of the reservation
-abbrev pub pairs_of : MachineState → PlainHistory
-pairs_of s = s.history ++ reserved s.slot
+abbrev pub all_pairs : MachineState → PlainHistory
+all_pairs s = s.history ++ reserved s.slot
 
 -- no ticket stands in two pairs
 abbrev pub AreApart : PlainHistory → Type 0
@@ -29,8 +29,8 @@ AreApart (spent ∷ others) =
 pub record IsSound (s : MachineState) : Type 0 where
   pub boot : 0 < s.boot
   pub number : 0 < s.number
-  pub apart : AreApart (pairs_of s)
-  pub granted : Each (WasGranted s.boot s.number) (pairs_of s)
+  pub apart : AreApart (all_pairs s)
+  pub granted : Each (WasGranted s.boot s.number) (all_pairs s)
 
 abbrev pub IsSoundWhereTold : Option Told → Type 0
 IsSoundWhereTold None = ⊤

@@ -3,7 +3,7 @@ ghost use Rattle.std.specs.Prelude.{◌≡◌};
 ghost use Rattle.ix_proto.specs.Requests.{IsLease};
 ghost use Rattle.ix_client.specs.Grants.{asked_by, cancelled_by, confirmed_by, refused_by};
 ghost use Rattle.ix_client.specs.Grants.{settled_by};
-ghost use Rattle.ix_client.specs.Hearing.{Asks, Cancels, Confirms, Settles};
+ghost use Rattle.ix_client.specs.Hearing.{Asks, Cancels, Confirms, SettlesBy};
 
 use crate::exchange::exchange;
 use crate::grants::{AskFault, Cancel, Confirm, Granted, Pending, Settle};
@@ -58,7 +58,7 @@ pub fn cancel<L: Link>(link: &mut L, granted: Granted) -> Cancel
 /// the journal was renewed, or its reservation is still open and the grant is handed back as
 /// granted. After any other line, and after a failed call, it is handed back as it was.
 pub fn settle<L: Link>(link: &mut L, pending: Pending) -> Settle
-    ensures { Settles pending result (L.state link.old) (L.state link.new) }
+    ensures { SettlesBy pending result (L.state link.old) (L.state link.new) }
 {
     let line = outcome_line(pending.ticket);
     settled(pending, exchange(link, line.as_slice()))

@@ -1,7 +1,7 @@
 //! Which replies to a request are expected.
 ghost use Rattle.std.specs.Prelude.{◌≡◌, true};
 ghost use Rattle.ix_proto.specs.Requests.{PlainRequest};
-ghost use Rattle.ix_proto.specs.inside.Lends.{Lends};
+ghost use Rattle.ix_proto.specs.inside.Lends.{LendsRequest};
 ghost use Rattle.ix_client.specs.Links.{IsExpected, IsLineOf, IsLineWith};
 
 use crate::calls::LEFT_OUT;
@@ -35,9 +35,9 @@ pub fn is_expected(line: &[u8], reply: &[u8]) -> bool
 
 /// Whether the reply is an expected one to the request.
 fn answers(request: Request<'_>, told: &Reply) -> bool
-    ensures only { result ≡ true → (asked : PlainRequest) → Lends request.entry asked
+    ensures only { result ≡ true → (asked : PlainRequest) → LendsRequest request.entry asked
         → IsExpected asked told.now }
-    ensures all { (asked : PlainRequest) → Lends request.entry asked
+    ensures all { (asked : PlainRequest) → LendsRequest request.entry asked
         → IsExpected asked told.now → result ≡ true }
 {
     match (request, told) {

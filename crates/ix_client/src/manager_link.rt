@@ -15,9 +15,9 @@ ghost use Rattle.ix_manager.specs.Handled.{ManagerState};
 ghost use Rattle.ix_client.specs.Links.{MakesCall};
 ghost use Rattle.ix_client.specs.inside.ManagerCalls.{CallsManager, CountsCall, CountsNone};
 ghost use Rattle.ix_client.specs.inside.ManagerCalls.{FailsToStart, MakesNone};
-ghost use Rattle.ix_client.specs.inside.ManagerLinks.{IsManagerWhere, IsOver, NotesStay};
+ghost use Rattle.ix_client.specs.inside.ManagerLinks.{IsManagerWhere, IsRunEnded, NotesStay};
 ghost use Rattle.ix_client.specs.inside.ManagerLinks.{link_state, call_noted, told_at, told_by};
-ghost use Rattle.ix_client.specs.inside.Passing.{EndsInLine, ExchangesOver, IsShortLine, Keeps};
+ghost use Rattle.ix_client.specs.inside.Passing.{EndsInLine, ExchangesOver, IsShortLine, KeepsAsked};
 ghost use Rattle.ix_client.specs.inside.Passing.{StartedFrom};
 ghost use Rattle.ix_client.specs.inside.Starting.{TellsStarted};
 ghost use Rattle.ix_client.specs.lemmas.SoundTold.{told_is_sound};
@@ -440,11 +440,11 @@ fn pass(
     requires line { IsCall line.now }
     requires limit { manager.limit ≤ most_size }
     requires attached { site.old.attached ≡ true }
-    requires over { IsOver manager site.old }
+    requires over { IsRunEnded manager site.old }
     ensures attached { site.new.attached ≡ true }
     ensures told { site.new.told ≡ true → site.old.told ≡ true }
     ensures keeps { (asked : PlainRequest) → IsLineOf asked line.now
-        → Keeps asked result.1 result.0 out.new.items manager site.new }
+        → KeepsAsked asked result.1 result.0 out.new.items manager site.new }
 {
     texts_tell_tickets_apart();
     if manager.ended() || manager.tickets() >= MOST_TICKETS || !is_one_line(line) {

@@ -1,5 +1,5 @@
 //! The turns of a run whose confirm left it unsure.
-ghost use Rattle.ix_client.specs.Client.{GoesOnFrom, TakesTurn, TakesTurns, comes_to};
+ghost use Rattle.ix_client.specs.Client.{GoesOnAfter, TakesTurn, TakesTurns, comes_to};
 ghost use Rattle.std.specs.Prelude.{◌≡◌};
 
 use crate::calls::{confirm, settle};
@@ -31,7 +31,7 @@ pub(crate) fn after_confirm(confirmed: Confirm) -> Turned
 
 /// Goes on from a confirm: where it left the grant unsure, with at most 8 turns.
 pub(crate) fn go_on<L: Link>(link: &mut L, first: Turned) -> Ended
-    ensures { GoesOnFrom first result (L.state link.old) (L.state link.new) }
+    ensures { GoesOnAfter first result (L.state link.old) (L.state link.new) }
 {
     match first {
         Turned::Over(ended) => ended,

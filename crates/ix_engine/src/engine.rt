@@ -6,7 +6,7 @@ ghost use Rattle.ix_expr.specs.Meaning.{IsComplete};
 ghost use Rattle.ix_tree.specs.Size.{size_of};
 ghost use Rattle.ix_can.specs.TreeOf.{tree_of, tree_size};
 ghost use Rattle.ix_step.specs.inside.Limits.{most_size};
-ghost use Rattle.ix_engine.specs.inside.Engine.{Allows, Permits, Follows, extended};
+ghost use Rattle.ix_engine.specs.inside.Engine.{Allows, Permits, IsTreeAfter, extended_by};
 ghost use Rattle.ix_engine.specs.Histories.{AreAllowed, IsRefused, StopsAt};
 
 use crate::extending::{MOST_ACTIONS, Rules, extend};
@@ -191,7 +191,7 @@ impl Engine {
     /// the history has 1,000,000 actions, `Over` exactly where the Size of the extended history's
     /// tree is above the limit, and want of memory.
     pub fn prepare(&self, _alloc: Global, action: &Action) -> Result<Next, PrepareFault>
-        ensures follows { IfOk result (λ next. Follows self.now next.action next.tree) }
+        ensures follows { IfOk result (λ next. IsTreeAfter self.now next.action next.tree) }
         ensures action { IfOk result (λ next. next.action ≡ action.now) }
         ensures permitted { OnOk result (Allows self.now action.now) }
         ensures not_partial { (result ≡ Err PrepareFault.NotPartial)
@@ -202,7 +202,7 @@ impl Engine {
             → (l ≡ self.now.limit)
             × Permits self.now action.now
             × (length self.now.history < 1000000)
-            × (self.now.limit < tree_size self.now.form (extended self.now action.now)) }
+            × (self.now.limit < tree_size self.now.form (extended_by self.now action.now)) }
         ensures refused { IfErr result
             (λ why. IsRefused self.now.form self.now.limit self.now.history action.now why) }
     {
@@ -235,9 +235,9 @@ impl Engine {
 
     /// Extends the history by a prepared action. Takes no memory.
     pub fn commit(&mut self, next: Next)
-        requires follows { Follows self.old next.action next.tree }
+        requires follows { IsTreeAfter self.old next.action next.tree }
         requires spare { 1 ≤ self.old.spare }
-        ensures history { self.new.history ≡ extended self.old next.action }
+        ensures history { self.new.history ≡ extended_by self.old next.action }
         ensures form { self.new.form ≡ self.old.form }
         ensures limit { self.new.limit ≡ self.old.limit }
     {
@@ -250,7 +250,7 @@ impl Engine {
     /// Extends the history by an allowed action: `prepare`, `reserve_one` and `commit` in one call.
     /// Any other is refused as by `prepare`, and then nothing changes.
     pub fn take(&mut self, alloc: Global, action: &Action) -> Result<(), PrepareFault>
-        ensures taken { OnOk result (self.new.history ≡ extended self.old action.now) }
+        ensures taken { OnOk result (self.new.history ≡ extended_by self.old action.now) }
         ensures allowed { OnOk result (Allows self.old action.now) }
         ensures refused { IfErr result
             (λ why. IsRefused self.old.form self.old.limit self.old.history action.now why) }

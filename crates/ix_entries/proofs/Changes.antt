@@ -13,7 +13,7 @@ use Rattle.std.proofs.lemmas.Cmp.{eq_by_cmp_equiv}
 use Rattle.std.proofs.lemmas.Map.{lookup-remove_entry}
 use Rattle.std.proofs.lemmas.Map.Keys.{IsDistinct-from_sorted}
 use Rattle.std.proofs.lemmas.Map.Views.{All-map-remove_entry, All-values-insert_entry}
-use Rattle.ix_entries.specs.inside.Entries.{KeysAscend, IsProper, item_at, with_entry}
+use Rattle.ix_entries.specs.inside.Entries.{KeysAscend, AreProperEntries, item_at, with_entry}
 use Rattle.ix_entries.proofs.Places.{turned}
 
 all_above : {K : Type 0} {cmp : K → K → Ordering} → IsTotalOrder cmp → (key x : K) (ks : List K) → cmp key x ≡ Less → AllByRecursion (λ y. cmp x y ≡ Less) ks → AllByRecursion (λ y. cmp key y ≡ Less) ks
@@ -61,10 +61,10 @@ module _ {K T : Type 0} {cmp : K → K → Ordering} (o : IsTotalOrder cmp) wher
       by_test rest false = (keys-remove_entry (λ y. cmp e.0 y ≡ Less) test es h.0, rest)
 
   -- proper entries are proper after the change
-  pub IsProper-with_entry : (eq : T → T → Bool) (common : T) (entries : List (K × T)) (key : K) (item : T) → IsProper cmp eq common entries → IsProper cmp eq common (with_entry cmp eq common entries key item)
+  pub IsProper-with_entry : (eq : T → T → Bool) (common : T) (entries : List (K × T)) (key : K) (item : T) → AreProperEntries cmp eq common entries → AreProperEntries cmp eq common (with_entry cmp eq common entries key item)
   IsProper-with_entry eq common entries key item h = by_test (eq item common) refl
     where
-      by_test : (b : Bool) → eq item common ≡ b → IsProper cmp eq common (cond b (remove_entry (is_at (cmp key)) entries) (insert_entry cmp entries key item))
+      by_test : (b : Bool) → eq item common ≡ b → AreProperEntries cmp eq common (cond b (remove_entry (is_at (cmp key)) entries) (insert_entry cmp entries key item))
       by_test true e = record {
         ascending = KeysAscend-remove_entry (is_at (cmp key)) entries h.ascending;
         differing = All-map-remove_entry (is_at (cmp key)) (λ (e : K × T). e.1) (λ x. eq x common ≡ false) entries h.differing;
@@ -114,15 +114,15 @@ module _ {K T : Type 0} {cmp : K → K → Ordering} (o : IsTotalOrder cmp) wher
 
   -- what follows where a list of entries is another with one change
   pub record Changed (eq : T → T → Bool) (common : T) (old : List (K × T)) (key : K) (item : T) (new : List (K × T)) : Type 0 where
-    pub proper : IsProper cmp eq common new
+    pub proper : AreProperEntries cmp eq common new
     pub itself : item_at cmp new common key ≡ cond (eq item common) common item
     pub others : (other : K) → is_eq (cmp key other) ≡ false → item_at cmp new common other ≡ item_at cmp old common other
 
-  pub changed : (eq : T → T → Bool) (common : T) (old : List (K × T)) (key : K) (item : T) (new : List (K × T)) → IsProper cmp eq common old → new ≡ with_entry cmp eq common old key item → Changed eq common old key item new
+  pub changed : (eq : T → T → Bool) (common : T) (old : List (K × T)) (key : K) (item : T) (new : List (K × T)) → AreProperEntries cmp eq common old → new ≡ with_entry cmp eq common old key item → Changed eq common old key item new
   changed eq common old key item new h e =
       let same = (eq_by_cmp_equiv o).refl key in
       record {
-        proper = subst (IsProper cmp eq common) (sym e) (IsProper-with_entry eq common old key item h);
+        proper = subst (AreProperEntries cmp eq common) (sym e) (IsProper-with_entry eq common old key item h);
         itself = ap (λ l. item_at cmp l common key) e ∙ item_at-with_entry eq common old key key item h.ascending ∙ ap (λ b. cond b (cond (eq item common) common item) (item_at cmp old common key)) same;
         others = λ other ne. ap (λ l. item_at cmp l common other) e ∙ item_at-with_entry eq common old key other item h.ascending ∙ ap (λ b. cond b (cond (eq item common) common item) (item_at cmp old common other)) ne;
       }

@@ -7,7 +7,7 @@ ghost use Rattle.std.specs.BTreeMap.{is_at, insert_entry};
 ghost use Rattle.std.specs.List.Sorted.{IsBinarySearchResult, IsSearchInRange};
 ghost use Rattle.std.specs.Map.{remove_entry};
 ghost use Rattle.std.specs.Ordering.{is_eq};
-ghost use Rattle.ix_entries.specs.inside.Entries.{KeysAscend, IsProper, item_at, with_entry};
+ghost use Rattle.ix_entries.specs.inside.Entries.{KeysAscend, AreProperEntries, item_at, with_entry};
 
 use std::alloc::AllocError;
 use std::cmp::Ordering;
@@ -32,10 +32,10 @@ pub fn put<K: Ord + Drop, T: Eq + Drop>(
     key: K,
     item: T,
 ) -> Result<(), AllocError>
-    requires { IsProper K.cmp T.eq common.now entries.old.items }
+    requires { AreProperEntries K.cmp T.eq common.now entries.old.items }
     ensures list { OnOk result
         (entries.new.items ≡ with_entry K.cmp T.eq common.now entries.old.items key item) }
-    ensures proper { IsProper K.cmp T.eq common.now entries.new.items }
+    ensures proper { AreProperEntries K.cmp T.eq common.now entries.new.items }
     ensures item { OnOk result
         (item_at K.cmp entries.new.items common.now key
         ≡ (if T.eq item common.now then common.now else item)) }

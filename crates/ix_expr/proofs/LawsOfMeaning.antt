@@ -1,7 +1,7 @@
 -- The laws of meaning, one clause for each form.
 use Rattle.std.proofs.Common.{◌≡◌, ◌≢◌, ◌⊎◌, ◌↔◌, inl, inr, ℕ, Bool, true, false, cond, List, [], ◌∷◌, ◌++◌, Option, Some, None, append-nil, refl, sym, subst, true≢false}
 use Rattle.ix_words.specs.Each.{Each, no_item, item, Member, here, there}
-use Rattle.ix_words.specs.Words.{Gives}
+use Rattle.ix_words.specs.Words.{GivesEach}
 use Rattle.ix_words.proofs.Each.{Each-left, Each-same, Each-weaker, Each-both, Each-anything}
 use Rattle.ix_words.proofs.Canon.{Member-same}
 use Rattle.ix_words.proofs.Words.{Joined-leads, Split-leads, Numbered-leads, Shared-leads, Owned-leads, Projected-leads, Joined-front, Repeated-front, Split-closed, Numbered-closed, Shared-closed, Owned-closed, Projected-closed, Joined-gives, Repeated-gives, Split-gives, Numbered-gives, Shared-gives, Owned-gives, Joined-empty, Repeated-empty, Split-empty, Numbered-empty, Shared-empty, Owned-empty, Projected-empty}
@@ -282,7 +282,7 @@ outside-same x e p v w g =
 
 -- owners among the values of their actions
 
-complete-values : (p : List ℕ) (y : Form) (e : Environment) → EachAtomNames p y → (v : List ℕ) → Gives (λ a. Member v a.values) (IsComplete y (bind p (Some v) e))
+complete-values : (p : List ℕ) (y : Form) (e : Environment) → EachAtomNames p y → (v : List ℕ) → GivesEach (λ a. Member v a.values) (IsComplete y (bind p (Some v) e))
 complete-values p y e n v u c = owner-value p y e u v n (complete-partial y (bind p (Some v) e) u c)
 
 own-value : (v : List ℕ) → text_eq v v ≡ true

@@ -3,7 +3,7 @@ use Rattle.std.proofs.Common.{◌≡◌, ℕ, zero, suc, ◌+◌, ◌<◌, List,
 use Rattle.std.specs.Prelude.{slice_get, IsSomeAnd}
 use Rattle.std.proofs.lemmas.Option.{same_Some}
 use Rattle.ix_expr.specs.declared.expression.FormFault.{FormFault}
-use Rattle.ix_expr.specs.FormFaults.{Node, fault_at, HaveNoFault, IsFirstFault}
+use Rattle.ix_expr.specs.FormFaults.{Node, fault_at, HaveNoFault, IsFirstNodeFault}
 use Rattle.ix_expr.specs.inside.Walk.{FreeFrom, free_end, free_node, FaultFrom, fault_here, fault_later, Passed, Walked}
 
 -- the fault that is made of a code and the number of the first node
@@ -83,7 +83,7 @@ found {n} {code} {number} (fault_later {node = x} {nodes = xs} none rest) =
         let e : suc n + k ≡ n + suc k = omega arith in subst (λ i. fault_at i node ≡ None) e (earlier k node (omega arith) is)
 
 -- a fault that a walk from 0 has found is the first
-pub found-IsFirstFault : (nodes : List Node) (code number : ℕ) → FaultFrom 0 nodes code number → IsFirstFault nodes code number
+pub found-IsFirstFault : (nodes : List Node) (code number : ℕ) → FaultFrom 0 nodes code number → IsFirstNodeFault nodes code number
 found-IsFirstFault nodes code number fault =
     let first = found fault in
     let is : number ≡ first.place = first.counted ∙ zero-add first.place in
@@ -110,7 +110,7 @@ free-parts n (x ∷ xs) ys (free_node none rest) =
     (free_node none parts.0, subst (λ k. FreeFrom k ys) e parts.1)
 
 -- a list with a first fault isn't free of faults
-pub fault-not-free : (nodes : List Node) (code number : ℕ) → IsFirstFault nodes code number → HaveNoFault nodes → ⊥
+pub fault-not-free : (nodes : List Node) (code number : ℕ) → IsFirstNodeFault nodes code number → HaveNoFault nodes → ⊥
 fault-not-free nodes code number fault none = at (slice_get nodes number) refl fault.here
   where
     at : (o : Option Node) → slice_get nodes number ≡ o → IsSomeAnd o (λ node. fault_at number node ≡ Some code) → ⊥

@@ -123,7 +123,7 @@ pub record HaveNoFault (nodes : List Node) : Type 0 where
   pub none : (k : ℕ) (node : Node) → slice_get nodes k ≡ Some node → fault_at k node ≡ None
 
 -- the node with this number is there and has the fault of this code, and no node before it has one
-pub record IsFirstFault (nodes : List Node) (code number : ℕ) : Type 0 where
+pub record IsFirstNodeFault (nodes : List Node) (code number : ℕ) : Type 0 where
   pub here : IsSomeAnd (slice_get nodes number) (λ node. fault_at number node ≡ Some code)
   pub before : (k : ℕ) (node : Node) → k < number → slice_get nodes k ≡ Some node
       → fault_at k node ≡ None
@@ -133,8 +133,8 @@ abbrev pub nodes_of : Form → List Node
 nodes_of x = nodes_below 1 [] x
 
 -- a number that may stand behind `times`
-abbrev pub IsNumber : ℕ → Type 0
-IsNumber n = (2 ≤ n) × (n ≤ 64)
+abbrev pub IsTimesNumber : ℕ → Type 0
+IsTimesNumber n = (2 ≤ n) × (n ≤ 64)
 
 -- each number behind a `times` of the expression may stand there
 abbrev pub HasNumbers : Form → Type 0
@@ -151,7 +151,7 @@ HasNumbers (any p y) = HasNumbers y
 HasNumbers (every p y) = HasNumbers y
 HasNumbers (sync p y) = HasNumbers y
 HasNumbers (all p y) = HasNumbers y
-HasNumbers (times n y) = IsNumber n × HasNumbers y
+HasNumbers (times n y) = IsTimesNumber n × HasNumbers y
 
 -- the expression is well formed: no node of it has a fault, and each number may stand where it does
 pub record IsWellFormed (x : Form) : Type 0 where
@@ -161,7 +161,7 @@ pub record IsWellFormed (x : Form) : Type 0 where
 -- the first form fault of the expression, by its code and the number of its node in pre-order from
 -- 0
 abbrev pub IsFirstFormFault : Form → ℕ → ℕ → Type 0
-IsFirstFormFault x code number = IsFirstFault (nodes_of x) code number
+IsFirstFormFault x code number = IsFirstNodeFault (nodes_of x) code number
 
 -- the parameters of an environment, as quantifiers around an expression that isn't whole
 abbrev pub binders_of : Environment → List Binder

@@ -1,7 +1,7 @@
 //! The numbers behind `times`.
 
 ghost use Rattle.std.specs.Prelude.{◌↔◌, IsTrue};
-ghost use Rattle.ix_expr.specs.FormFaults.{HasNumbers, IsNumber};
+ghost use Rattle.ix_expr.specs.FormFaults.{HasNumbers, IsTimesNumber};
 ghost use Rattle.ix_expr.specs.inside.FormOf.{form_of};
 
 use crate::expr::Expr;
@@ -27,7 +27,7 @@ pub fn has_numbers(expr: &Expr) -> bool
 
 /// Whether so many may be wanted side by side.
 fn may_be_wanted(number: u8) -> bool
-    ensures { IsTrue result ↔ IsNumber number }
+    ensures { IsTrue result ↔ IsTimesNumber number }
 {
     2 <= number && number <= 64
 }

@@ -7,7 +7,7 @@ ghost use Rattle.ix_expr.specs.FormFaults.{fault_at, first_code, nodes_below};
 ghost use Rattle.ix_expr.specs.inside.FormOf.{form_of};
 ghost use Rattle.ix_expr.specs.inside.Scope.{binders};
 ghost use Rattle.ix_expr.specs.Spelling.{IsAtom, IsSpelled};
-ghost use Rattle.ix_expr.specs.inside.Walk.{code_of, Walked};
+ghost use Rattle.ix_expr.specs.inside.Walk.{walk_code, Walked};
 ghost use Rattle.ix_expr.specs.inside.Walk.{atom_node, quantifier_node, operator_node};
 
 use crate::atom::Atom;
@@ -35,7 +35,7 @@ enum Cause {
 
 impl Cause {
     fn code(self) -> u8
-        ensures { result ≡ code_of self }
+        ensures { result ≡ walk_code self }
     {
         match self {
             Cause::Unbound => 5,
@@ -50,7 +50,7 @@ impl Cause {
 
 /// The fault of this cause at the node of this number.
 fn fault_of(cause: Cause, node: usize) -> FormFault
-    ensures { result ≡ record { code = code_of cause; node = node } }
+    ensures { result ≡ record { code = walk_code cause; node = node } }
 {
     FormFault {
         code: cause.code(),
@@ -159,7 +159,7 @@ fn visit_atom(atom: &Atom, depth: usize, scope: &Scope, number: usize) -> Result
 fn operator_fault(depth: usize, number: usize) -> Option<Cause>
     requires shallow { depth ≤ 257 }
     requires few { number ≤ 512 }
-    ensures value { option_map code_of result
+    ensures value { option_map walk_code result
         ≡ first_code ((8, number == 512) ∷ (9, depth == 257) ∷ []) }
     ensures within { IfNone result ((depth < 257) × (number < 512)) }
 {
@@ -175,7 +175,7 @@ fn operator_fault(depth: usize, number: usize) -> Option<Cause>
 fn quantifier_fault(parameter: &Name, depth: usize, scope: &Scope, number: usize) -> Option<Cause>
     requires shallow { depth ≤ 257 }
     requires few { number ≤ 512 }
-    ensures value { option_map code_of result
+    ensures value { option_map walk_code result
         ≡ fault_at number (quantifier_node depth (binders scope.now) parameter.now) }
     ensures within { IfNone result ((depth < 257) × (number < 512)) }
 {
@@ -195,7 +195,7 @@ fn quantifier_fault(parameter: &Name, depth: usize, scope: &Scope, number: usize
 fn atom_fault(atom: &Atom, depth: usize, scope: &Scope, number: usize) -> Option<Cause>
     requires shallow { depth ≤ 257 }
     requires few { number ≤ 512 }
-    ensures value { option_map code_of result
+    ensures value { option_map walk_code result
         ≡ fault_at number (atom_node depth (binders scope.now) atom.now) }
     ensures within { IfNone result ((depth < 257) × (number < 512)) }
     ensures valid { IsAtom atom.now }

@@ -5,17 +5,17 @@ use Rattle.ix_proto.specs.Replies.{IsReply, reply_text}
 use Rattle.ix_proto.specs.declared.reply.Reply.{Reply}
 use Rattle.ix_proto.specs.declared.reply.Reply.TheVariants.{Entry, Refused}
 use Rattle.ix_proto.proofs.RepliesApart.{entry_apart, refusal_apart}
-use Rattle.ix_follow.specs.Following.{IsEntry, IsLeftOut}
+use Rattle.ix_follow.specs.Following.{IsEntryLine, IsLeftOut}
 
 -- a line tells one entry
-pub same_entry : (line : List ℕ) (n m : ℕ) (a b : PlainAction) → IsEntry line n a → IsEntry line m b → n ≡ m
+pub same_entry : (line : List ℕ) (n m : ℕ) (a b : PlainAction) → IsEntryLine line n a → IsEntryLine line m b → n ≡ m
 same_entry line n m a b e f =
     let same : Entry n a ≡ Entry m b = entry_apart n a (Entry m b) e.entry f.entry (e.text ∙ sym f.text) in
     cc
 
 -- and none where it is the text of a reply that is no entry
 pub no_entry_told : (r : Reply) (line : List ℕ) → IsReply r → reply_text r ≡ line → ((n : ℕ) (a : PlainAction) → 1 ≤ n → r ≢ Entry n a)
-    → (n : ℕ) (a : PlainAction) → IsEntry line n a → ⊥
+    → (n : ℕ) (a : PlainAction) → IsEntryLine line n a → ⊥
 no_entry_told r line valid text apart n a is =
     apart n a is.from_one (sym (entry_apart n a r is.entry valid (is.text ∙ sym text)))
 
@@ -28,7 +28,7 @@ pub is_refusal : IsReply (Refused 33 0)
 is_refusal = (omega arith, omega arith, record { listed = refl; zero_else = λ e. refl })
 
 -- and no entry
-pub left_out_is_none : (line : List ℕ) (n : ℕ) (a : PlainAction) → IsLeftOut line → IsEntry line n a → ⊥
+pub left_out_is_none : (line : List ℕ) (n : ℕ) (a : PlainAction) → IsLeftOut line → IsEntryLine line n a → ⊥
 left_out_is_none line n a told is =
     let same : Entry n a ≡ Refused 33 0 = entry_apart n a (Refused 33 0) is.entry is_refusal (is.text ∙ told) in
     cc

@@ -10,7 +10,7 @@ use Rattle.ix_follow.specs.declared.answers.Fed.{Fed}
 use Rattle.ix_follow.specs.declared.answers.Fed.TheVariants.{Other, LeftOut, Early, Old, Taken}
 use Rattle.ix_follow.specs.declared.answers.FollowFault.{FollowFault}
 use Rattle.ix_follow.specs.declared.answers.FollowFault.TheVariants.{Differs, NotPartial, Full, Over, Memory}
-use Rattle.ix_follow.specs.Following.{IsEntry, HasAt, IsNext, Meets, Leaves, Feeds, no_entry, left_out, entry}
+use Rattle.ix_follow.specs.Following.{IsEntryLine, HasAt, IsNextNumber, Meets, LeavesFollowed, FollowsLine, no_entry, left_out, entry}
 use Rattle.ix_follow.specs.Laws.{FeedsAll, none, more, IsManaged, TellsOf, IsPrefix, HasInOrder, all, here, later}
 use Rattle.ix_follow.proofs.Entries.{same_entry, left_out_is_none}
 use Rattle.ix_follow.proofs.Prefixes.{get_prefix, behind_begins}
@@ -31,7 +31,7 @@ stays history whole answer next prefix fine same = record {
 
 module _ (x : Form) (limit most : ℕ) (whole : Word) (room : most ≤ limit) (managed : IsManaged x most whole) where
   -- the whole goes on with its action of the next number
-  goes_on : (history behind : Word) (n : ℕ) (a : PlainAction) → whole ≡ history ++ behind → IsNext history n → HasAt whole n a
+  goes_on : (history behind : Word) (n : ℕ) (a : PlainAction) → whole ≡ history ++ behind → IsNextNumber history n → HasAt whole n a
       → (rest : Word) × (whole ≡ history ++ a ∷ rest)
   goes_on history behind n a parts next has =
       let place : n - 1 ≡ length history = omega arith in
@@ -41,7 +41,7 @@ module _ (x : Form) (limit most : ℕ) (whole : Word) (room : most ≤ limit) (m
 
   -- an entry of the whole
   meets : (history next : Word) (n : ℕ) (a : PlainAction) (answer : Result Fed FollowFault) → IsPrefix history whole → HasAt whole n a
-      → Meets x limit history n a answer → Leaves history a answer next → Goes history whole answer next
+      → Meets x limit history n a answer → LeavesFollowed history a answer next → Goes history whole answer next
   meets history next n a (Ok Other) prefix has met leaves = absurd met
   meets history next n a (Ok LeftOut) prefix has met leaves = absurd met
   meets history next n a (Ok (Early m)) prefix has met leaves = stays history whole _ next prefix tt leaves
@@ -72,7 +72,7 @@ module _ (x : Form) (limit most : ℕ) (whole : Word) (room : most ≤ limit) (m
 
   -- a line that tells of the whole
   goes : (history : Word) (line : List ℕ) (answer : Result Fed FollowFault) (next : Word) → IsPrefix history whole → TellsOf whole line
-      → Feeds x limit history line answer next → Goes history whole answer next
+      → FollowsLine x limit history line answer next → Goes history whole answer next
   goes history line answer next prefix tells (no_entry none_told here_told answer_is same) =
       stays history whole answer next prefix (subst (λ (r : Result Fed FollowFault). IfErr r (λ fault. fault ≡ Memory)) (sym answer_is) tt) same
   goes history line answer next prefix tells (left_out told answer_is same) =
@@ -91,7 +91,7 @@ module _ (x : Form) (limit most : ℕ) (whole : Word) (room : most ≤ limit) (m
 
   -- an entry that is the next one at most is had behind it
   has_then : (history next : Word) (n m : ℕ) (a b : PlainAction) (answer : Result Fed FollowFault) → n ≡ m → n ≤ length history + 1
-      → IfErr answer (λ fault. fault ≡ Memory) → answer ≢ Err Memory → Meets x limit history m b answer → 1 ≤ m → Leaves history b answer next
+      → IfErr answer (λ fault. fault ≡ Memory) → answer ≢ Err Memory → Meets x limit history m b answer → 1 ≤ m → LeavesFollowed history b answer next
       → n ≤ length next
   has_then history next n m a b (Ok Other) same wanted fine enough met one leaves = absurd met
   has_then history next n m a b (Ok LeftOut) same wanted fine enough met one leaves = absurd met
@@ -107,8 +107,8 @@ module _ (x : Form) (limit most : ℕ) (whole : Word) (room : most ≤ limit) (m
       absurd (enough (ap (λ (f : FollowFault). Err f) fine))
 
   catches_one : (history : Word) (line : List ℕ) (answer : Result Fed FollowFault) (next : Word) (n : ℕ) (a : PlainAction)
-      → IsEntry line n a → n ≤ length history + 1 → IfErr answer (λ fault. fault ≡ Memory) → answer ≢ Err Memory
-      → Feeds x limit history line answer next → n ≤ length next
+      → IsEntryLine line n a → n ≤ length history + 1 → IfErr answer (λ fault. fault ≡ Memory) → answer ≢ Err Memory
+      → FollowsLine x limit history line answer next → n ≤ length next
   catches_one history line answer next n a is wanted fine enough (no_entry none_told here_told answer_is same) = absurd (none_told n a is)
   catches_one history line answer next n a is wanted fine enough (left_out told answer_is same) = absurd (left_out_is_none line n a told is)
   catches_one history line answer next n a is wanted fine enough (entry {number = m} {a = b} told met leaves) =

@@ -14,7 +14,7 @@ use Rattle.ix_follow.specs.declared.answers.FollowFault.TheVariants.{Differs, No
 use Rattle.ix_follow.specs.declared.answers.FollowFault.TheVariants.{Over, Memory}
 
 -- the line is the text of an entry with this number, from 1, and this action
-pub record IsEntry (line : List ℕ) (number : ℕ) (a : PlainAction) : Type 0 where
+pub record IsEntryLine (line : List ℕ) (number : ℕ) (a : PlainAction) : Type 0 where
   pub entry : IsReply (Entry number a)
   pub from_one : 1 ≤ number
   pub text : reply_text (Entry number a) ≡ line
@@ -28,8 +28,8 @@ abbrev pub HasAt : Word → ℕ → PlainAction → Type 0
 HasAt history number a = slice_get history (number - 1) ≡ Some a
 
 -- the number is the next one of the history
-abbrev pub IsNext : Word → ℕ → Type 0
-IsNext history number = number ≡ length history + 1
+abbrev pub IsNextNumber : Word → ℕ → Type 0
+IsNextNumber history number = number ≡ length history + 1
 
 -- What is answered to the entry of this number and this action, for an expression and a limit of
 -- Size, by a follower with this history. Memory may run out only where the entry is the next one,
@@ -39,32 +39,32 @@ Meets x limit history n a (Ok Other) = ⊥
 Meets x limit history n a (Ok LeftOut) = ⊥
 Meets x limit history n a (Ok (Early m)) = (m ≡ n) × (length history + 1 < n)
 Meets x limit history n a (Ok (Old m)) = (m ≡ n) × HasAt history n a
-Meets x limit history n a (Ok (Taken m)) = (m ≡ n) × IsNext history n × IsAllowed x limit history a
+Meets x limit history n a (Ok (Taken m)) = (m ≡ n) × IsNextNumber history n × IsAllowed x limit history a
 Meets x limit history n a (Err (Differs m)) =
     (m ≡ n) × ((kept : PlainAction) × HasAt history n kept × (kept ≢ a))
 Meets x limit history n a (Err (NotPartial m)) =
-    (m ≡ n) × IsNext history n × ¬ IsPermitted x history a
+    (m ≡ n) × IsNextNumber history n × ¬ IsPermitted x history a
 Meets x limit history n a (Err (Full m)) =
-    (m ≡ n) × IsNext history n × IsPermitted x history a × (length history ≡ 1000000)
+    (m ≡ n) × IsNextNumber history n × IsPermitted x history a × (length history ≡ 1000000)
 Meets x limit history n a (Err (Over m most)) =
-    (m ≡ n) × (most ≡ limit) × IsNext history n × IsPermitted x history a
+    (m ≡ n) × (most ≡ limit) × IsNextNumber history n × IsPermitted x history a
     × (length history < 1000000) × (limit < tree_size x (history ++ a ∷ []))
 Meets x limit history n a (Err Memory) =
-    IsNext history n × IsPermitted x history a × (length history < 1000000)
+    IsNextNumber history n × IsPermitted x history a × (length history < 1000000)
 
 -- the history behind the answer: a taken action is appended, and nothing else changes
-abbrev pub Leaves : Word → PlainAction → Result Fed FollowFault → Word → Type 0
-Leaves history a (Ok (Taken m)) after = after ≡ history ++ a ∷ []
-Leaves history a _ after = after ≡ history
+abbrev pub LeavesFollowed : Word → PlainAction → Result Fed FollowFault → Word → Type 0
+LeavesFollowed history a (Ok (Taken m)) after = after ≡ history ++ a ∷ []
+LeavesFollowed history a _ after = after ≡ history
 
 -- a line fed to a follower with this history: its answer, and the history after it
-pub data Feeds (x : Form) (limit : ℕ) (history : Word) (line : List ℕ)
+pub data FollowsLine (x : Form) (limit : ℕ) (history : Word) (line : List ℕ)
     (answer : Result Fed FollowFault) (after : Word) : Type 0 where
-  no_entry : ((number : ℕ) (a : PlainAction) → ¬ IsEntry line number a) → ¬ IsLeftOut line
-      → answer ≡ Ok Other → after ≡ history → Feeds x limit history line answer after
+  no_entry : ((number : ℕ) (a : PlainAction) → ¬ IsEntryLine line number a) → ¬ IsLeftOut line
+      → answer ≡ Ok Other → after ≡ history → FollowsLine x limit history line answer after
   left_out : IsLeftOut line
-      → answer ≡ Ok LeftOut → after ≡ history → Feeds x limit history line answer after
+      → answer ≡ Ok LeftOut → after ≡ history → FollowsLine x limit history line answer after
   entry : {number : ℕ} {a : PlainAction}
-      → IsEntry line number a → Meets x limit history number a answer
-      → Leaves history a answer after
-      → Feeds x limit history line answer after
+      → IsEntryLine line number a → Meets x limit history number a answer
+      → LeavesFollowed history a answer after
+      → FollowsLine x limit history line answer after

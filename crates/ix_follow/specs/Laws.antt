@@ -8,7 +8,7 @@ use Rattle.ix_engine.specs.Allowed.{IsAllowed}
 use Rattle.ix_follow.specs.declared.answers.Fed.{Fed}
 use Rattle.ix_follow.specs.declared.answers.FollowFault.{FollowFault}
 use Rattle.ix_follow.specs.declared.answers.FollowFault.TheVariants.{Memory}
-use Rattle.ix_follow.specs.Following.{Feeds, HasAt, IsEntry}
+use Rattle.ix_follow.specs.Following.{FollowsLine, HasAt, IsEntryLine}
 
 -- lines fed one behind the other: the answers in their order, and the history behind all
 pub data FeedsAll (x : Form) (limit : ℕ) : Word → List (List ℕ) → List (Result Fed FollowFault)
@@ -16,7 +16,7 @@ pub data FeedsAll (x : Form) (limit : ℕ) : Word → List (List ℕ) → List (
   none : {history : Word} → FeedsAll x limit history [] [] history
   more : {history next last : Word} {line : List ℕ} {lines : List (List ℕ)}
       {answer : Result Fed FollowFault} {answers : List (Result Fed FollowFault)}
-      → Feeds x limit history line answer next → FeedsAll x limit next lines answers last
+      → FollowsLine x limit history line answer next → FeedsAll x limit next lines answers last
       → FeedsAll x limit history (line ∷ lines) (answer ∷ answers) last
 
 -- a history of a manager with this expression and limit: each action is allowed behind those
@@ -27,7 +27,7 @@ IsManaged x limit history = (before : Word) (a : PlainAction) (behind : Word)
 
 -- a line, where it is an entry, tells the history's action of its number
 abbrev pub TellsOf : Word → List ℕ → Type 0
-TellsOf history line = (number : ℕ) (a : PlainAction) → IsEntry line number a
+TellsOf history line = (number : ℕ) (a : PlainAction) → IsEntryLine line number a
     → HasAt history number a
 
 -- the whole begins with the history
@@ -38,7 +38,7 @@ IsPrefix history whole = (behind : Word) × (whole ≡ history ++ behind)
 pub data HasInOrder (last : ℕ) : ℕ → List (List ℕ) → Type 0 where
   all : {first : ℕ} {lines : List (List ℕ)} → last < first → HasInOrder last first lines
   here : {first : ℕ} {a : PlainAction} {line : List ℕ} {lines : List (List ℕ)}
-      → IsEntry line first a → HasInOrder last (first + 1) lines
+      → IsEntryLine line first a → HasInOrder last (first + 1) lines
       → HasInOrder last first (line ∷ lines)
   later : {first : ℕ} {line : List ℕ} {lines : List (List ℕ)}
       → HasInOrder last first lines → HasInOrder last first (line ∷ lines)

@@ -8,7 +8,7 @@ ghost use Rattle.ix_can.specs.TreeOf.{tree_size};
 ghost use Rattle.ix_step.specs.inside.Limits.{most_size};
 ghost use Rattle.ix_engine.specs.inside.Engine.{Permits};
 ghost use Rattle.ix_proto.specs.Replies.{IsReply, reply_text};
-ghost use Rattle.ix_follow.specs.Following.{Feeds, IsNext, Leaves, Meets};
+ghost use Rattle.ix_follow.specs.Following.{FollowsLine, IsNextNumber, LeavesFollowed, Meets};
 
 use crate::{Fed, FollowFault};
 use arrayvec::ArrayVec;
@@ -100,7 +100,7 @@ impl Follower {
         out.push(b'\n');
     }
 
-    /// Feeds a line, which is given without its byte 10. `LeftOut` comes exactly where it is
+    /// FollowsLine a line, which is given without its byte 10. `LeftOut` comes exactly where it is
     /// `refused 33 left out`, and `Other` where it is neither that nor the text of an entry with a
     /// number from 1. An entry whose number is above the next one is `Early`, and is dropped. One
     /// whose number the history has is `Old` where its action is the kept one, and else refused as
@@ -108,7 +108,7 @@ impl Follower {
     /// which is told as the engine tells it. At a fault nothing changes, and want of memory comes
     /// only where the next entry could be taken.
     pub fn feed(&mut self, alloc: Global, line: &[u8]) -> Result<Fed, FollowFault>
-        ensures feeds { Feeds self.old.form self.old.limit self.old.history line.now result
+        ensures feeds { FollowsLine self.old.form self.old.limit self.old.history line.now result
             self.new.history }
         ensures form { self.new.form ≡ self.old.form }
         ensures limit { self.new.limit ≡ self.old.limit }
@@ -122,7 +122,7 @@ impl Follower {
     /// A line that is a reply's text.
     fn hear(&mut self, alloc: Global, reply: &Reply) -> Result<Fed, FollowFault>
         ensures hears { (line : List ℕ) → IsReply reply.now → reply_text reply.now ≡ line
-            → Feeds self.old.form self.old.limit self.old.history line result self.new.history }
+            → FollowsLine self.old.form self.old.limit self.old.history line result self.new.history }
         ensures form { self.new.form ≡ self.old.form }
         ensures limit { self.new.limit ≡ self.old.limit }
     {
@@ -148,7 +148,7 @@ impl Follower {
         requires { 1 ≤ number }
         ensures meets { Meets self.old.form self.old.limit self.old.history number action.now
             result }
-        ensures leaves { Leaves self.old.history action.now result self.new.history }
+        ensures leaves { LeavesFollowed self.old.history action.now result self.new.history }
         ensures form { self.new.form ≡ self.old.form }
         ensures limit { self.new.limit ≡ self.old.limit }
     {
@@ -168,7 +168,7 @@ impl Follower {
         requires kept { number ≤ length self.now.history }
         ensures meets { Meets self.now.form self.now.limit self.now.history number action.now
             result }
-        ensures leaves { Leaves self.now.history action.now result self.now.history }
+        ensures leaves { LeavesFollowed self.now.history action.now result self.now.history }
     {
         let kept = &self.engine.history()[(number - 1) as usize];
         if *kept == *action {
@@ -180,10 +180,10 @@ impl Follower {
 
     /// The entry with the next number.
     fn take_next(&mut self, alloc: Global, number: u64, action: &Action) -> Result<Fed, FollowFault>
-        requires { IsNext self.old.history number }
+        requires { IsNextNumber self.old.history number }
         ensures meets { Meets self.old.form self.old.limit self.old.history number action.now
             result }
-        ensures leaves { Leaves self.old.history action.now result self.new.history }
+        ensures leaves { LeavesFollowed self.old.history action.now result self.new.history }
         ensures form { self.new.form ≡ self.old.form }
         ensures limit { self.new.limit ≡ self.old.limit }
     {

@@ -4,7 +4,7 @@ use Rattle.std.proofs.Common.{get_or, refl}
 use Rattle.std.proofs.Common.{ap, arith, decimal, lt-ltb, sym, true≢false, Option}
 use Rattle.std.specs.Prelude.{slice_set}
 use Rattle.std.specs.Bool.{then_some}
-use Rattle.ix_generate.specs.Workload.{Ask, IsAsk, action_of, call, perform}
+use Rattle.ix_generate.specs.Workload.{Ask, IsAsk, asked_action, call, perform}
 use Rattle.ix_generate.specs.inside.Calls.{are_examinations, is_examination}
 
 both_parts : (a b : Bool) → (a && b) ≡ true → (a ≡ true) × (b ≡ true)
@@ -27,7 +27,7 @@ some_passes true examination lt = lt-ltb examination 10 lt
 some_passes false examination lt = refl
 
 -- the examination that is read of an ask's action
-pub below_ten : (ask : Ask) → IsAsk ask → (values : List (List ℕ)) → values ≡ (action_of ask).values
+pub below_ten : (ask : Ask) → IsAsk ask → (values : List (List ℕ)) → values ≡ (asked_action ask).values
     → (value : List ℕ) → value ≡ get_or values 1 value → (read : ℕ)
     → ((letter number : ℕ) → number < 256 → value ≡ letter ∷ decimal number → read ≡ number)
     → read < 10

@@ -7,10 +7,10 @@ use Rattle.std.specs.List.{slice_index_or}
 use Rattle.std.proofs.lemmas.Bool.Decides.{Decides-eqb}
 use Rattle.std.proofs.lemmas.List.{get_or-set_other, get_or-set_same, length-set, reverse-append}
 use Rattle.std.proofs.lemmas.List.{get_or-replicate}
-use Rattle.ix_generate.specs.Workload.{Ask, PlainWorkload, begun, call, open_call, perform}
+use Rattle.ix_generate.specs.Workload.{Ask, PlainWorkload, begun_workload, call, open_call, perform}
 use Rattle.ix_generate.specs.Workload.{ask_for, behind_draw, drawn, with_granted}
 use Rattle.rand_pcg.specs.Pcg.{pcg32}
-use Rattle.ix_generate.specs.History.{Runs, ask_behind, begins, called_to, granted, is_for}
+use Rattle.ix_generate.specs.History.{RunsWorkload, ask_behind, begins, called_to, granted, is_for}
 use Rattle.ix_generate.specs.History.{last_call, refused}
 
 -- the last call behind one more ask
@@ -73,14 +73,14 @@ granted_last workload done None patient examination lt kept =
 granted_last workload done (Some called) patient examination lt kept =
     set_last workload done (perform patient called) patient None lt kept (λ other. refl) refl
 
-begun_keeps : (seed : ℕ) → Keeps (begun seed) []
+begun_keeps : (seed : ℕ) → Keeps (begun_workload seed) []
 begun_keeps seed = record {
   all = refl;
   last = λ patient small. get_or-replicate 40 patient None None small;
 }
 
 run_keeps : {seed : ℕ} {history : List Ask} {workload : PlainWorkload}
-    → Runs seed history workload → Keeps workload history
+    → RunsWorkload seed history workload → Keeps workload history
 run_keeps {seed = seed} begins = begun_keeps seed
 run_keeps (refused {workload = workload} run) =
     let kept = run_keeps run in
@@ -93,7 +93,7 @@ run_keeps (granted {history = history} {workload = workload} run) =
 
 -- what is drawn goes by the history
 pub drawn_behind : (seed : ℕ) (history : List Ask) (workload : PlainWorkload)
-    → Runs seed history workload
+    → RunsWorkload seed history workload
     → drawn workload ≡ ask_behind history (pcg32 workload.generator).0
 drawn_behind seed history workload run =
     let number = (pcg32 workload.generator).0 in

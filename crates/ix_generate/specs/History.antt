@@ -4,7 +4,7 @@ use Rattle.std.specs.Prelude.{find}
 use Rattle.std.specs.Prelude.{option_and_then, reverse}
 use Rattle.rand_pcg.specs.Lcg.{Lcg, advance}
 use Rattle.rand_pcg.specs.Pcg.{multiplier_64, pcg32}
-use Rattle.ix_generate.specs.Workload.{Ask, PlainWorkload, ask_for, begun, behind_draw, call, drawn}
+use Rattle.ix_generate.specs.Workload.{Ask, PlainWorkload, ask_for, begun_workload, behind_draw, call, drawn}
 use Rattle.ix_generate.specs.Workload.{perform, with_granted}
 
 -- the ask is one for this patient
@@ -28,17 +28,17 @@ ask_behind history number =
 
 -- the generator of a seed behind so many draws, and the number that it gives then
 abbrev pub generator_behind : ℕ → ℕ → Lcg
-generator_behind seed count = advance 64 multiplier_64 count (begun seed).generator
+generator_behind seed count = advance 64 multiplier_64 count (begun_workload seed).generator
 
 abbrev pub number_behind : ℕ → ℕ → ℕ
 number_behind seed count = (pcg32 (generator_behind seed count)).0
 
 -- Asks were drawn from the workload of a seed, each of them refused or granted: those granted are
 -- this history, and this is the workload then.
-pub data Runs (seed : ℕ) : List Ask → PlainWorkload → Type 0 where
-  begins : Runs seed [] (begun seed)
-  refused : {history : List Ask} {workload : PlainWorkload} → Runs seed history workload
-      → Runs seed history (behind_draw workload)
-  granted : {history : List Ask} {workload : PlainWorkload} → Runs seed history workload
-      → Runs seed (history ++ drawn workload ∷ [])
+pub data RunsWorkload (seed : ℕ) : List Ask → PlainWorkload → Type 0 where
+  begins : RunsWorkload seed [] (begun_workload seed)
+  refused : {history : List Ask} {workload : PlainWorkload} → RunsWorkload seed history workload
+      → RunsWorkload seed history (behind_draw workload)
+  granted : {history : List Ask} {workload : PlainWorkload} → RunsWorkload seed history workload
+      → RunsWorkload seed (history ++ drawn workload ∷ [])
       (with_granted (behind_draw workload) (drawn workload))

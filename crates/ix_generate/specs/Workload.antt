@@ -29,9 +29,9 @@ action_on name patient examination = record {
 }
 
 -- `call(pI,xJ)` or `perform(pI,xJ)`
-abbrev pub action_of : Ask → PlainAction
-action_of (call patient examination) = action_on (codes "call") patient examination
-action_of (perform patient examination) = action_on (codes "perform") patient examination
+abbrev pub asked_action : Ask → PlainAction
+asked_action (call patient examination) = action_on (codes "call") patient examination
+asked_action (perform patient examination) = action_on (codes "perform") patient examination
 
 -- a workload: its generator, and for each patient the examination of its open call, or none
 pub record PlainWorkload : Type 0 where
@@ -39,8 +39,8 @@ pub record PlainWorkload : Type 0 where
   pub calls : List (Option ℕ)
 
 -- the workload of a seed: the generator's stream is 1, and no call is open
-abbrev pub begun : ℕ → PlainWorkload
-begun seed = record {
+abbrev pub begun_workload : ℕ → PlainWorkload
+begun_workload seed = record {
   generator = started 64 multiplier_64 seed (increment_of 64 1);
   calls = replicate 40 None;
 }

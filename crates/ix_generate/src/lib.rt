@@ -50,12 +50,12 @@ impl Model for Workload {
 
 impl Workload {
     ghost use Rattle.std.specs.Prelude.{ℕ};
-    ghost use Rattle.ix_generate.specs.Workload.{Ask, IsAsk, PlainWorkload, action_of, begun};
+    ghost use Rattle.ix_generate.specs.Workload.{Ask, IsAsk, PlainWorkload, asked_action, begun_workload};
     ghost use Rattle.ix_generate.specs.Workload.{behind_draw, drawn, with_granted};
 
     /// The workload of a seed, in which no call is open.
     pub fn new(seed: u64) -> Workload
-        ensures { result ≡ begun seed }
+        ensures { result ≡ begun_workload seed }
     {
         Workload {
             generator: Lcg64Xsh32::new(seed, STREAM),
@@ -66,7 +66,7 @@ impl Workload {
     /// The next ask: of a patient that is drawn, the open call is performed; one who has none is
     /// called to an examination that is drawn. Which calls are open stays.
     pub fn draw(&mut self) -> Action
-        ensures action { result ≡ action_of (drawn self.old) }
+        ensures action { result ≡ asked_action (drawn self.old) }
         ensures ask { IsAsk (drawn self.old) }
         ensures next { self.new ≡ behind_draw self.old }
     {
@@ -81,8 +81,8 @@ impl Workload {
     /// Notes that an ask was granted: a call is then open, and one that was performed isn't any
     /// more. The generator stays.
     pub fn granted(&mut self, action: &Action)
-        requires { (ask : Ask) × IsAsk ask × (action.now ≡ action_of ask) }
-        ensures { (ask : Ask) → IsAsk ask → action.now ≡ action_of ask
+        requires { (ask : Ask) × IsAsk ask × (action.now ≡ asked_action ask) }
+        ensures { (ask : Ask) → IsAsk ask → action.now ≡ asked_action ask
             → self.new ≡ with_granted self.old ask }
     {
         let values = action.values();

@@ -8,12 +8,12 @@ use Rattle.ix_values.specs.Faults.{IsActionText}
 use Rattle.ix_values.specs.Tickets.{IsTicketText}
 use Rattle.ix_journal.specs.declared.entries.Entry.{Entry}
 use Rattle.ix_journal.specs.declared.entries.Entry.TheVariants as entry
-use Rattle.ix_journal.specs.inside.Reading.{IsText, Says}
+use Rattle.ix_journal.specs.inside.Reading.{IsText, SaysEntry}
 use Rattle.ix_journal.proofs.EntryTexts.{first_word, later_text, cut-of, first-plain, boot_apart, renewed_apart}
 
 -- the words of a record's text are the record's
 words-of : (word : List ℕ) (later : Option (List ℕ)) → HasNoSpace word → (e : Entry)
-    → Says (word ++ behind_word later) e → (word ≡ first_word e) × (later ≡ later_text e)
+    → SaysEntry (word ++ behind_word later) e → (word ≡ first_word e) × (later ≡ later_text e)
 words-of word later plain e w =
     cut_same word (first_word e) later (later_text e) plain (first-plain e w.valid) (w.same ∙ cut-of e)
 
@@ -22,7 +22,7 @@ pub no_plain : (text : List ℕ) → HasNoSpace text → (IsActionText text → 
 no_plain text plain none (e, w) = by e w (words-of text None plain e
     (record { valid = w.valid; same = append-nil text ∙ w.same }))
   where
-    by : (e : Entry) → Says text e → (text ≡ first_word e) × (None ≡ later_text e) → ⊥
+    by : (e : Entry) → SaysEntry text e → (text ≡ first_word e) × (None ≡ later_text e) → ⊥
     by (entry.Renewed actions boots) w words = absurd cc
     by (entry.Boot number) w words = absurd cc
     by (entry.Spent ticket action) w words = absurd cc
@@ -34,7 +34,7 @@ pub no_boot : (word later : List ℕ) → HasNoSpace word → word ≡ codes "bo
     → ((number : ℕ) → IsNumber (2 ^ 64) later number → ⊥) → IsText (word ++ 32 ∷ later) → ⊥
 no_boot word later plain is none (e, w) = by e w (words-of word (Some later) plain e w)
   where
-    by : (e : Entry) → Says (word ++ 32 ∷ later) e → (word ≡ first_word e) × (Some later ≡ later_text e) → ⊥
+    by : (e : Entry) → SaysEntry (word ++ 32 ∷ later) e → (word ≡ first_word e) × (Some later ≡ later_text e) → ⊥
     by (entry.Renewed actions boots) w words = absurd (let e = sym is ∙ words.0 in cc)
     by (entry.Boot number) w words =
         none number (record { same = some_same words.1; fits = w.valid })
@@ -49,7 +49,7 @@ pub renewed_words : (later word : List ℕ) (last : Option (List ℕ)) → later
 renewed_words later word last cut plain (e, w) =
     by e w (words-of (codes "renewed") (Some later) refl e w)
   where
-    by : (e : Entry) → Says (codes "renewed " ++ later) e
+    by : (e : Entry) → SaysEntry (codes "renewed " ++ later) e
         → (codes "renewed" ≡ first_word e) × (Some later ≡ later_text e)
         → (actions boots : ℕ) × (actions ≤ 2 ^ 63) × (boots ≤ 2 ^ 63) × (word ≡ decimal actions)
         × (last ≡ Some (decimal boots))
@@ -67,7 +67,7 @@ module _ (word later : List ℕ) (plain : HasNoSpace word) (other : word ≢ cod
   pub no_ticket : (IsTicketText word → ⊥) → IsText (word ++ 32 ∷ later) → ⊥
   no_ticket none (e, w) = by e w (words-of word (Some later) plain e w)
     where
-      by : (e : Entry) → Says (word ++ 32 ∷ later) e → (word ≡ first_word e) × (Some later ≡ later_text e) → ⊥
+      by : (e : Entry) → SaysEntry (word ++ 32 ∷ later) e → (word ≡ first_word e) × (Some later ≡ later_text e) → ⊥
       by (entry.Renewed actions boots) w words = also words.0
       by (entry.Boot number) w words = other words.0
       by (entry.Spent ticket action) w words = none (ticket, w.valid.0, words.0)
@@ -77,7 +77,7 @@ module _ (word later : List ℕ) (plain : HasNoSpace word) (other : word ≢ cod
   pub no_action : (IsActionText later → ⊥) → IsText (word ++ 32 ∷ later) → ⊥
   no_action none (e, w) = by e w (words-of word (Some later) plain e w)
     where
-      by : (e : Entry) → Says (word ++ 32 ∷ later) e → (word ≡ first_word e) × (Some later ≡ later_text e) → ⊥
+      by : (e : Entry) → SaysEntry (word ++ 32 ∷ later) e → (word ≡ first_word e) × (Some later ≡ later_text e) → ⊥
       by (entry.Renewed actions boots) w words = also words.0
       by (entry.Boot number) w words = other words.0
       by (entry.Spent ticket action) w words =

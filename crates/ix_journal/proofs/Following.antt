@@ -7,7 +7,7 @@ use Rattle.ix_journal.specs.declared.entries.Marks.{Marks}
 use Rattle.ix_journal.specs.declared.records.Damaged.{Damaged}
 use Rattle.ix_journal.specs.Format.{record_of}
 use Rattle.ix_journal.specs.Records.{Holds, IsDamagedFrom, IsManyFrom}
-use Rattle.ix_journal.specs.Answers.{Standing, at_gate, Gives}
+use Rattle.ix_journal.specs.Answers.{Standing, at_gate, GivesRecord}
 use Rattle.ix_journal.specs.inside.Counting.{AreMany, AreNotMany, CountsTo}
 use Rattle.ix_journal.proofs.HoldsLemmas.{holds_none, holds_more}
 use Rattle.ix_journal.proofs.OrderLemmas.{few_none, marks_of-more, number_of, sound-all, sound-fresh}
@@ -85,10 +85,10 @@ module _ (bytes : List ℕ) (first gate : ℕ) (marks : Marks)
 
   -- one record more
   pub followed_more : (item : Result (Bor (List ℕ)) Damaged) (text : Bor (List ℕ))
-      → Gives old (Some item) new → item ≡ Ok text
+      → GivesRecord old (Some item) new → item ≡ Ok text
       → (new ≡ at_gate bytes new.gate new.marks) × Followed bytes first new.gate new.marks
   followed_more (Ok found) text given e =
-      let at = subst (λ (s : Standing). Gives s (Some (Ok found)) new) here given in
+      let at = subst (λ (s : Standing). GivesRecord s (Some (Ok found)) new) here given in
       let place : new.gate ≡ gate + 1 + length (record_of at.0) = ap (λ (s : Standing). s.gate) at.3 in
       let marked : new.marks ≡ behind marks at.0 = ap (λ (s : Standing). s.marks) at.3 in
       let follows : MayFollow (marks_of before.entries) at.0 =
@@ -107,10 +107,10 @@ module _ (bytes : List ℕ) (first gate : ℕ) (marks : Marks)
 
   -- one record more, which makes too many
   pub followed_many : (item : Result (Bor (List ℕ)) Damaged) (text : Bor (List ℕ))
-      → Gives old (Some item) new → item ≡ Ok text
+      → GivesRecord old (Some item) new → item ≡ Ok text
       → AreMany new.marks → IsManyFrom bytes first
   followed_many (Ok found) text given e many =
-      let at = subst (λ (s : Standing). Gives s (Some (Ok found)) new) here given in
+      let at = subst (λ (s : Standing). GivesRecord s (Some (Ok found)) new) here given in
       let marked : new.marks ≡ marks_of (before.entries ++ at.0 ∷ []) =
       ap (λ (s : Standing). s.marks) at.3
       ∙ ap (λ (m : Marks). behind m at.0) before.marked
@@ -130,11 +130,11 @@ module _ (bytes : List ℕ) (first gate : ℕ) (marks : Marks)
 
   -- no whole record that may follow
   pub followed_damage : (item : Result (Bor (List ℕ)) Damaged) (damage : Damaged)
-      → Gives old (Some item) new → item ≡ Err damage
+      → GivesRecord old (Some item) new → item ≡ Err damage
       → IsDamagedFrom bytes first damage.at
   followed_damage (Ok found) damage given e = absurd cc
   followed_damage (Err found) damage given e =
-      let at = subst (λ (s : Standing). Gives s (Some (Err found)) new) here given in
+      let at = subst (λ (s : Standing). GivesRecord s (Some (Err found)) new) here given in
       let same : found ≡ damage = cc in
       record {
         entries = before.entries;
@@ -148,9 +148,9 @@ module _ (bytes : List ℕ) (first gate : ℕ) (marks : Marks)
       }
 
   -- a closed gate, or damage that was told: there the records end
-  pub followed_end : Gives old None new → CountsTo bytes first new.marks.actions new.gate new.marks.boots
+  pub followed_end : GivesRecord old None new → CountsTo bytes first new.marks.actions new.gate new.marks.boots
   followed_end given =
-      let at = subst (λ (s : Standing). Gives s None new) here given in
+      let at = subst (λ (s : Standing). GivesRecord s None new) here given in
       let family : Standing → Type 0 = λ s. CountsTo bytes first s.marks.actions s.gate s.marks.boots in
       subst family (sym at.1)
       (record {

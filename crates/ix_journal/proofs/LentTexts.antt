@@ -6,7 +6,7 @@ use Rattle.ix_journal.specs.Entries.{entry_text, fresh, marks_of}
 use Rattle.ix_journal.specs.declared.entries.Entry.{Entry}
 use Rattle.ix_journal.specs.Format.{IsClosed, record_of}
 use Rattle.ix_journal.specs.Records.{Holds}
-use Rattle.ix_journal.specs.Answers.{Standing, at_gate, Gives, Lends}
+use Rattle.ix_journal.specs.Answers.{Standing, at_gate, GivesRecord, LendsRecords}
 use Rattle.ix_journal.specs.Kinds.{IsReady}
 use Rattle.ix_journal.specs.Laws.{LendsTheHistory}
 use Rattle.ix_journal.proofs.HoldsLemmas.{holds_none, holds_more}
@@ -21,7 +21,7 @@ record Lent (bytes : List ℕ) (first : ℕ) (so_far : List Entry) (texts : List
 
 module _ (bytes : List ℕ) (first : ℕ) where
   ended : (gate : ℕ) (so_far : List Entry) (new : Standing) → Holds bytes first so_far gate
-      → Gives (at_gate bytes gate (marks_of so_far)) None new → Lent bytes first so_far [] new.gate
+      → GivesRecord (at_gate bytes gate (marks_of so_far)) None new → Lent bytes first so_far [] new.gate
   ended gate so_far new holds given =
       let place : gate ≡ new.gate = sym (ap (λ (s : Standing). s.gate) given.1) in
       record {
@@ -33,12 +33,12 @@ module _ (bytes : List ℕ) (first : ℕ) where
       }
 
   lent : (old new : Standing) (texts : List (List ℕ)) (gate : ℕ) (so_far : List Entry)
-      → Lends old texts new → old ≡ at_gate bytes gate (marks_of so_far) → Holds bytes first so_far gate
+      → LendsRecords old texts new → old ≡ at_gate bytes gate (marks_of so_far) → Holds bytes first so_far gate
       → Lent bytes first so_far texts new.gate
-  lent _ _ _ gate so_far (Lends.at_end old new given) here holds =
-      ended gate so_far new holds (subst (λ (s : Standing). Gives s None new) here given)
-  lent _ _ _ gate so_far (Lends.going_on old next new text texts given later) here holds =
-      let at = subst (λ (s : Standing). Gives s (Some (Ok text)) next) here given in
+  lent _ _ _ gate so_far (LendsRecords.at_end old new given) here holds =
+      ended gate so_far new holds (subst (λ (s : Standing). GivesRecord s None new) here given)
+  lent _ _ _ gate so_far (LendsRecords.going_on old next new text texts given later) here holds =
+      let at = subst (λ (s : Standing). GivesRecord s (Some (Ok text)) next) here given in
       let rest = lent next new texts (gate + 1 + length (record_of at.0))
       (so_far ++ at.0 ∷ []) later
       (at.3 ∙ ap (at_gate bytes (gate + 1 + length (record_of at.0))) (sym (marks_of-more so_far at.0)))

@@ -4,7 +4,7 @@ use Rattle.ix_journal.specs.declared.entries.Entry.{Entry}
 use Rattle.ix_journal.specs.Format.{IsClosed}
 use Rattle.ix_journal.specs.Kinds.{IsUnfinished, IsUnopened, IsReady, unfinished, unopened, ready}
 use Rattle.ix_journal.specs.Records.{BeginsWithRecord, ClosesAt, IsDamagedFrom}
-use Rattle.ix_journal.specs.Recovery.{IsJournal, IsDamaged, IsMany, Keeps, Recovers}
+use Rattle.ix_journal.specs.Recovery.{IsJournal, IsDamaged, IsMany, KeepsRecords, Recovers}
 use Rattle.ix_journal.specs.Entries.{MayFollow, marks_of, pairs_of, renewed_of}
 use Rattle.ix_journal.specs.History.{PlainHistory}
 use Rattle.ix_journal.specs.Laws.{OneHistory, OneJournal, OneList, OneNumber, OneOutcome}
@@ -22,15 +22,15 @@ one_journal bytes text text' x y gate gate' v w =
 
 -- a ready file is neither unfinished nor unopened
 module _ (bytes text : List ℕ) (first : ℕ) (w : IsReady bytes text first) where
-  ready_only : (entries : List Entry) → Keeps bytes entries
+  ready_only : (entries : List Entry) → KeepsRecords bytes entries
       → (t : List ℕ) × (g : ℕ) × IsJournal bytes t entries g
-  ready_only _ (Keeps.unfinished _ h) =
+  ready_only _ (KeepsRecords.unfinished _ h) =
       absurd (let e = one_kind bytes unfinished (ready text first) h w in cc)
-  ready_only _ (Keeps.unopened _ t h) =
+  ready_only _ (KeepsRecords.unopened _ t h) =
       absurd (let e = one_kind bytes (unopened t) (ready text first) h w in cc)
-  ready_only _ (Keeps.ready _ t entries g h) = (t, g, h)
+  ready_only _ (KeepsRecords.ready _ t entries g h) = (t, g, h)
 
-  pub closes_there : (entries : List Entry) → Keeps bytes entries → (g : ℕ) × ClosesAt bytes first entries g
+  pub closes_there : (entries : List Entry) → KeepsRecords bytes entries → (g : ℕ) × ClosesAt bytes first entries g
   closes_there entries h =
       let found = ready_only entries h in
       let same = ready_same bytes found.0 text found.2.first first found.2.ready w in
@@ -78,22 +78,22 @@ pub one_outcome : OneOutcome
 one_outcome bytes = (not_damaged bytes, not_many bytes, damaged_not_many bytes, damaged_once bytes)
 
 -- two lists of records of one file
-keeps_same : (bytes : List ℕ) (x y : List Entry) → Keeps bytes x → Keeps bytes y → x ≡ y
-keeps_same _ _ y (Keeps.unfinished bytes h) w = sym (unfinished_empty bytes y h w)
+keeps_same : (bytes : List ℕ) (x y : List Entry) → KeepsRecords bytes x → KeepsRecords bytes y → x ≡ y
+keeps_same _ _ y (KeepsRecords.unfinished bytes h) w = sym (unfinished_empty bytes y h w)
   where
-    unfinished_empty : (b : List ℕ) (z : List Entry) → IsUnfinished b → Keeps b z → z ≡ []
-    unfinished_empty b _ p (Keeps.unfinished _ q) = refl
-    unfinished_empty b _ p (Keeps.unopened _ t q) = refl
-    unfinished_empty b _ p (Keeps.ready _ t z g q) =
+    unfinished_empty : (b : List ℕ) (z : List Entry) → IsUnfinished b → KeepsRecords b z → z ≡ []
+    unfinished_empty b _ p (KeepsRecords.unfinished _ q) = refl
+    unfinished_empty b _ p (KeepsRecords.unopened _ t q) = refl
+    unfinished_empty b _ p (KeepsRecords.ready _ t z g q) =
         absurd (let e = one_kind b unfinished (ready t q.first) p q.ready in cc)
-keeps_same _ _ y (Keeps.unopened bytes text h) w = sym (unopened_empty bytes y h w)
+keeps_same _ _ y (KeepsRecords.unopened bytes text h) w = sym (unopened_empty bytes y h w)
   where
-    unopened_empty : (b : List ℕ) (z : List Entry) → IsUnopened b text → Keeps b z → z ≡ []
-    unopened_empty b _ p (Keeps.unfinished _ q) = refl
-    unopened_empty b _ p (Keeps.unopened _ t q) = refl
-    unopened_empty b _ p (Keeps.ready _ t z g q) =
+    unopened_empty : (b : List ℕ) (z : List Entry) → IsUnopened b text → KeepsRecords b z → z ≡ []
+    unopened_empty b _ p (KeepsRecords.unfinished _ q) = refl
+    unopened_empty b _ p (KeepsRecords.unopened _ t q) = refl
+    unopened_empty b _ p (KeepsRecords.ready _ t z g q) =
         absurd (let e = one_kind b (unopened text) (ready t q.first) p q.ready in cc)
-keeps_same _ _ y (Keeps.ready bytes text x gate v) w =
+keeps_same _ _ y (KeepsRecords.ready bytes text x gate v) w =
     let closes = closes_there bytes text v.first v.ready y w in
     (one_end bytes v.first x y gate closes.0 (ends_closed bytes v.first x gate v.closes)
     (ends_closed bytes v.first y closes.0 closes.1)).0

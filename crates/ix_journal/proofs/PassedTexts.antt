@@ -6,7 +6,7 @@ use Rattle.ix_journal.specs.Entries.{entry_text, fresh, marks_of}
 use Rattle.ix_journal.specs.declared.entries.Entry.{Entry}
 use Rattle.ix_journal.specs.Format.{record_of}
 use Rattle.ix_journal.specs.Records.{Holds}
-use Rattle.ix_journal.specs.Answers.{Standing, at_gate, Gives, Passes}
+use Rattle.ix_journal.specs.Answers.{Standing, at_gate, GivesRecord, PassesRecords}
 use Rattle.ix_journal.specs.Laws.{PassesTheHistory}
 use Rattle.ix_journal.proofs.HoldsLemmas.{holds_none, holds_more}
 use Rattle.ix_journal.proofs.OrderLemmas.{marks_of-more}
@@ -19,10 +19,10 @@ record Passed (bytes : List ℕ) (first : ℕ) (texts : List (List ℕ)) (new : 
   records : Holds bytes first entries new.gate
 
 module _ (bytes : List ℕ) (first : ℕ) (there : first < length bytes) where
-  passed : (old new : Standing) (texts : List (List ℕ)) → Passes old texts new
+  passed : (old new : Standing) (texts : List (List ℕ)) → PassesRecords old texts new
       → old ≡ at_gate bytes first fresh
       → Passed bytes first texts new
-  passed _ _ _ (Passes.at_first old) here =
+  passed _ _ _ (PassesRecords.at_first old) here =
       let place : first ≡ old.gate = sym (ap (λ (s : Standing). s.gate) here) in
       record {
         entries = [];
@@ -30,9 +30,9 @@ module _ (bytes : List ℕ) (first : ℕ) (there : first < length bytes) where
         texts_of = refl;
         records = subst (Holds bytes first []) place (holds_none bytes first there);
       }
-  passed _ _ _ (Passes.one_more old next new texts text before given) here =
+  passed _ _ _ (PassesRecords.one_more old next new texts text before given) here =
       let p = passed old next texts before here in
-      let at = subst (λ (s : Standing). Gives s (Some (Ok text)) new) p.stands given in
+      let at = subst (λ (s : Standing). GivesRecord s (Some (Ok text)) new) p.stands given in
       let place : next.gate + 1 + length (record_of at.0) ≡ new.gate =
       sym (ap (λ (s : Standing). s.gate) at.3) in
       record {

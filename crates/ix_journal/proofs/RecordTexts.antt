@@ -5,7 +5,7 @@ use Rattle.ix_journal.specs.Records.{BeginsWithRecord}
 use Rattle.ix_journal.specs.declared.entries.Entry.{Entry}
 use Rattle.ix_journal.specs.declared.entries.Marks.{Marks}
 use Rattle.ix_journal.specs.inside.Fronts.{BeginsWithText}
-use Rattle.ix_journal.specs.inside.Reading.{IsText, Says}
+use Rattle.ix_journal.specs.inside.Reading.{IsText, SaysEntry}
 use Rattle.ix_journal.proofs.EntryTexts.{entries-same}
 use Rattle.ix_journal.proofs.OrderLemmas.{entry_short}
 use Rattle.ix_journal.proofs.TextFronts.{with_length-apart}
@@ -41,7 +41,7 @@ no_text bytes none entry w = none (entry_text entry) (text_of_record bytes entry
 
 -- where the record that is there may not follow, no record is there that may
 pub not_next : (bytes text : List ℕ) → BeginsWithText bytes text → (marks : Marks) (found : Entry)
-    → Says text found → (MayFollow marks found → ⊥)
+    → SaysEntry text found → (MayFollow marks found → ⊥)
     → (entry : Entry) → MayFollow marks entry → BeginsWithRecord bytes entry → ⊥
 not_next bytes text v marks found says none entry follows w =
     let same : entry ≡ found = entries-same entry found w.valid says.valid

@@ -7,11 +7,11 @@ use Rattle.ix_journal.specs.declared.slide.Slid.{Slid}
 use Rattle.ix_journal.specs.declared.slide.Slid.TheVariants as slid
 use Rattle.ix_journal.specs.Format.{IsOpen}
 use Rattle.ix_journal.specs.Records.{BeginsWithRecord}
-use Rattle.ix_journal.specs.Answers.{at_gate, Passes}
+use Rattle.ix_journal.specs.Answers.{at_gate, PassesRecords}
 use Rattle.ix_journal.specs.Entries.{fresh}
 use Rattle.ix_journal.specs.Kept.{Kept}
 use Rattle.ix_journal.specs.declared.entries.Marks.{Marks}
-use Rattle.ix_journal.specs.Slide.{ComesTo, Tells, RecordsGive, WantMore}
+use Rattle.ix_journal.specs.Slide.{ComesTo, TellsSlid, RecordsGive, WantMore}
 use Rattle.ix_journal.specs.Laws.{PiecesDoNotMatter}
 use Rattle.ix_journal.proofs.SlideLemmas.{gives_record, gives_text, gives_closed, gives_damage, further}
 use Rattle.ix_journal.proofs.SlideLemmas.{record_within, no_record_more}
@@ -20,7 +20,7 @@ use Rattle.ix_journal.proofs.SlideLemmas.{record_within, no_record_more}
 -- front of it
 record Reached (file : List ℕ) (first : ℕ) (rest : List ℕ) (texts : List (List ℕ))
     (kept : Kept) : Type 0 where
-  passes : Passes (at_gate file first fresh) texts (at_gate file kept.gate kept.marks)
+  passes : PassesRecords (at_gate file first fresh) texts (at_gate file kept.gate kept.marks)
   here : kept.bytes ++ rest ≡ drop kept.gate file
 
 -- the file of a front, the bytes taken and the rest
@@ -33,7 +33,7 @@ module _ (front : List ℕ) (first : ℕ) (is : length front ≡ first) where
       → ComesTo first taken texts kept → Reached (File front taken rest) first rest texts kept
   reached _ rest _ _ ComesTo.begun =
       record {
-        passes = Passes.at_first (at_gate (File front [] rest) first fresh);
+        passes = PassesRecords.at_first (at_gate (File front [] rest) first fresh);
         here = sym (drop_at front rest first is);
       }
   reached _ rest _ _ (ComesTo.took taken texts kept piece before) =
@@ -41,7 +41,7 @@ module _ (front : List ℕ) (first : ℕ) (is : length front ≡ first) where
       ap (λ (b : List ℕ). front ++ b) (sym (append_assoc taken piece rest)) in
       let r = reached taken (piece ++ rest) texts kept before in
       record {
-        passes = subst (λ (b : List ℕ). Passes (at_gate b first fresh) texts (at_gate b kept.gate kept.marks))
+        passes = subst (λ (b : List ℕ). PassesRecords (at_gate b first fresh) texts (at_gate b kept.gate kept.marks))
             same r.passes;
         here = append_assoc kept.bytes piece rest ∙ r.here ∙ ap (drop kept.gate) same;
       }
@@ -55,7 +55,7 @@ module _ (front : List ℕ) (first : ℕ) (is : length front ≡ first) where
       let length_all : ℕ = 3 + length text.now in
       subst (λ (k : Kept). Reached file first rest (texts ++ text.now ∷ []) k) (sym leaves.2)
       (record {
-        passes = Passes.one_more (at_gate file first fresh) (at_gate file kept.gate kept.marks)
+        passes = PassesRecords.one_more (at_gate file first fresh) (at_gate file kept.gate kept.marks)
             (at_gate file (kept.gate + length_all) left) texts text r.passes more;
         here = further file kept.gate kept.bytes rest r.here length_all
             (record_within file kept.gate kept.bytes rest r.here kept.marks left text leaves.1);
@@ -74,7 +74,7 @@ stays_away bytes rest false open_there enough none entry w =
 
 last : (file rest : List ℕ) (kept : Kept) (answer : Slid)
     → kept.bytes ++ rest ≡ drop kept.gate file
-    → (kept.ended ≡ true → rest ≡ []) → Tells kept answer
+    → (kept.ended ≡ true → rest ≡ []) → TellsSlid kept answer
     → RecordsGive 0 file kept.gate kept.marks answer
 last file rest kept (slid.Record text) here none tells =
     gives_record file kept.gate kept.bytes rest here kept.marks text tells.1

@@ -10,7 +10,7 @@ use Rattle.ix_journal.specs.inside.Writing.{digit_of}
 use Rattle.ix_journal.specs.declared.writing.Version.{Version}
 use Rattle.ix_journal.specs.declared.writing.Version.TheVariants as version
 use Rattle.ix_journal.specs.Recovery.{IsJournal}
-use Rattle.ix_journal.specs.Laws.{Opened, Begun, GateIsNear, IgnoresTheRest, Appended}
+use Rattle.ix_journal.specs.Laws.{OpenedIsEmpty, Begun, GateIsNear, IgnoresTheRest, Appended}
 use Rattle.ix_journal.proofs.KindLemmas.{cons_tail}
 use Rattle.ix_journal.proofs.OrderLemmas.{few_none}
 use Rattle.ix_journal.proofs.RecordFronts.{drop_gate}
@@ -31,7 +31,7 @@ is_version version.Started = inr (inl refl)
 is_version version.Renewed = inr (inr refl)
 
 -- a header and a closed gate
-pub opened : Opened
+pub opened : OpenedIsEmpty
 opened version text gate rest known short closed =
     let bytes = 165 ∷ header version text ++ gate ∷ rest in
     let left : drop (7 + length text) bytes ≡ gate ∷ rest =

@@ -36,26 +36,26 @@ pub record StandsBeforeDamage (old : Standing) : Type 0 where
       → ¬ BeginsWithRecord (drop (old.gate + 1) old.bytes) entry
 
 -- what a step over the records gives, and where they stand then
-abbrev pub Gives : Standing → Option (Result (Bor (List ℕ)) Damaged) → Standing → Type 0
+abbrev pub GivesRecord : Standing → Option (Result (Bor (List ℕ)) Damaged) → Standing → Type 0
 -- nothing once damage was told, or at a closed gate
-Gives old None new = ((old.damaged ≡ true) ⊎ IsClosed old.bytes old.gate) × (new ≡ old)
+GivesRecord old None new = ((old.damaged ≡ true) ⊎ IsClosed old.bytes old.gate) × (new ≡ old)
 -- the text of the record behind an open gate, and the gate behind it is the next
-Gives old (Some (Ok text)) new =
+GivesRecord old (Some (Ok text)) new =
     (entry : Entry) × (text.now ≡ entry_text entry) × StandsBefore old entry
     × (new ≡ at_gate old.bytes (old.gate + 1 + length (record_of entry)) (behind old.marks entry))
 -- the place behind an open gate
-Gives old (Some (Err damage)) new =
+GivesRecord old (Some (Err damage)) new =
     (damage.at ≡ old.gate + 1) × StandsBeforeDamage old × (new ≡ record old { damaged = true })
 
 -- the texts that step after step gives until nothing more comes, and where the records stand then
-pub data Lends : Standing → List (List ℕ) → Standing → Type 0 where
-  at_end : (old new : Standing) → Gives old None new → Lends old [] new
+pub data LendsRecords : Standing → List (List ℕ) → Standing → Type 0 where
+  at_end : (old new : Standing) → GivesRecord old None new → LendsRecords old [] new
   going_on : (old next new : Standing) (text : Bor (List ℕ)) (texts : List (List ℕ))
-      → Gives old (Some (Ok text)) next → Lends next texts new → Lends old (text.now ∷ texts) new
+      → GivesRecord old (Some (Ok text)) next → LendsRecords next texts new → LendsRecords old (text.now ∷ texts) new
 
 -- step after step the records give these texts, and then they stand there
-pub data Passes : Standing → List (List ℕ) → Standing → Type 0 where
-  at_first : (old : Standing) → Passes old [] old
+pub data PassesRecords : Standing → List (List ℕ) → Standing → Type 0 where
+  at_first : (old : Standing) → PassesRecords old [] old
   one_more : (old next new : Standing) (texts : List (List ℕ)) (text : Bor (List ℕ))
-      → Passes old texts next → Gives next (Some (Ok text)) new
-      → Passes old (texts ++ text.now ∷ []) new
+      → PassesRecords old texts next → GivesRecord next (Some (Ok text)) new
+      → PassesRecords old (texts ++ text.now ∷ []) new

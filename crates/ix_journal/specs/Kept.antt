@@ -29,5 +29,5 @@ abbrev pub finished : Kept → Kept
 finished kept = kept_at kept.gate kept.marks kept.bytes true
 
 -- so many bytes further on, behind records with these marks
-abbrev pub moved : Kept → ℕ → Marks → Kept
-moved kept count marks = kept_at (kept.gate + count) marks (drop count kept.bytes) kept.ended
+abbrev pub moved_on : Kept → ℕ → Marks → Kept
+moved_on kept count marks = kept_at (kept.gate + count) marks (drop count kept.bytes) kept.ended

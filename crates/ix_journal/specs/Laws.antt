@@ -15,10 +15,10 @@ use Rattle.ix_journal.specs.Format.{renewed_journal}
 use Rattle.ix_journal.specs.Kinds.{IsUnfinished, IsUnopened, IsReady, Kind, HasKind}
 use Rattle.ix_journal.specs.Records.{BeginsWithRecord, Holds}
 use Rattle.ix_journal.specs.declared.slide.Slid.{Slid}
-use Rattle.ix_journal.specs.Answers.{Standing, at_gate, Lends, Passes}
+use Rattle.ix_journal.specs.Answers.{Standing, at_gate, LendsRecords, PassesRecords}
 use Rattle.ix_journal.specs.Kept.{Kept}
-use Rattle.ix_journal.specs.Slide.{ComesTo, Tells, RecordsGive}
-use Rattle.ix_journal.specs.Recovery.{IsJournal, IsDamaged, IsMany, Keeps, Recovers, HoldsBoots}
+use Rattle.ix_journal.specs.Slide.{ComesTo, TellsSlid, RecordsGive}
+use Rattle.ix_journal.specs.Recovery.{IsJournal, IsDamaged, IsMany, KeepsRecords, Recovers, HoldsBoots}
 use Rattle.ix_journal.specs.Recovery.{IsJournalWith}
 
 -- a file has one kind at most
@@ -27,7 +27,7 @@ OneKind = (bytes : List ℕ) (x y : Kind) → HasKind bytes x → HasKind bytes 
 
 -- a file keeps one list of records at most
 abbrev pub OneList : Type 0
-OneList = (bytes : List ℕ) (x y : List Entry) → Keeps bytes x → Keeps bytes y → x ≡ y
+OneList = (bytes : List ℕ) (x y : List Entry) → KeepsRecords bytes x → KeepsRecords bytes y → x ≡ y
 
 -- a file recovers one history at most
 abbrev pub OneHistory : Type 0
@@ -67,7 +67,7 @@ HoldsMore = (bytes : List ℕ) (first : ℕ) (entries : List Entry) (gate : ℕ)
 -- aren't too many they are the journal's
 abbrev pub LendsTheHistory : Type 0
 LendsTheHistory = (bytes text : List ℕ) (first : ℕ) (texts : List (List ℕ)) (end : Standing)
-    → IsReady bytes text first → Lends (at_gate bytes first fresh) texts end
+    → IsReady bytes text first → LendsRecords (at_gate bytes first fresh) texts end
     → (entries : List Entry) × (texts ≡ map entry_text entries)
     × (AreFew entries → IsJournal bytes text entries end.gate)
 
@@ -75,13 +75,13 @@ LendsTheHistory = (bytes text : List ℕ) (first : ℕ) (texts : List (List ℕ)
 abbrev pub PassesTheHistory : Type 0
 PassesTheHistory = (bytes : List ℕ) (first gate : ℕ) (marks : Marks) (texts : List (List ℕ))
     → first < length bytes
-    → Passes (at_gate bytes first fresh) texts (at_gate bytes gate marks)
+    → PassesRecords (at_gate bytes first fresh) texts (at_gate bytes gate marks)
     → (entries : List Entry) × (texts ≡ map entry_text entries) × (marks ≡ marks_of entries)
     × Holds bytes first entries gate
 
 -- with its head gate opened, a header and a closed gate are a journal without records
-abbrev pub Opened : Type 0
-Opened = (version : ℕ) (text : List ℕ) (gate : ℕ) (rest : List ℕ) → IsVersion version
+abbrev pub OpenedIsEmpty : Type 0
+OpenedIsEmpty = (version : ℕ) (text : List ℕ) (gate : ℕ) (rest : List ℕ) → IsVersion version
     → length text < 65536 → gate ≢ OPEN
     → IsJournal (OPEN ∷ header version text ++ gate ∷ rest) text [] (FRONT_LENGTH + length text)
 
@@ -142,7 +142,7 @@ EnoughBytes = (bytes : List ℕ) (read : ℕ) → 237065593 ≤ read
 -- stand, with these marks, the answer, with places counted in the file
 pub record AreOfTheFile (file : List ℕ) (first : ℕ) (texts : List (List ℕ)) (gate : ℕ)
     (marks : Marks) (answer : Slid) : Type 0 where
-  pub lent : Passes (at_gate file first fresh) texts (at_gate file gate marks)
+  pub lent : PassesRecords (at_gate file first fresh) texts (at_gate file gate marks)
   pub last : RecordsGive 0 file gate marks answer
 
 -- whatever pieces a Slide took behind a file's front, what it lent and answers is of the file, and
@@ -151,5 +151,5 @@ abbrev pub PiecesDoNotMatter : Type 0
 PiecesDoNotMatter = (front taken rest : List ℕ) (texts : List (List ℕ)) (kept : Kept)
     (answer : Slid)
     → ComesTo (length front) taken texts kept → (kept.ended ≡ true → rest ≡ [])
-    → Tells kept answer
+    → TellsSlid kept answer
     → AreOfTheFile (front ++ (taken ++ rest)) (length front) texts kept.gate kept.marks answer

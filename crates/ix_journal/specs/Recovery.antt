@@ -30,30 +30,30 @@ pub record IsMany (bytes : List ℕ) : Type 0 where
   pub many : IsManyFrom bytes first
 
 -- the records that a file keeps: none before it is opened, else those up to the first closed gate
-pub data Keeps : List ℕ → List Entry → Type 0 where
-  unfinished : (bytes : List ℕ) → IsUnfinished bytes → Keeps bytes []
-  unopened : (bytes text : List ℕ) → IsUnopened bytes text → Keeps bytes []
+pub data KeepsRecords : List ℕ → List Entry → Type 0 where
+  unfinished : (bytes : List ℕ) → IsUnfinished bytes → KeepsRecords bytes []
+  unopened : (bytes text : List ℕ) → IsUnopened bytes text → KeepsRecords bytes []
   ready : (bytes text : List ℕ) (entries : List Entry) (gate : ℕ)
-      → IsJournal bytes text entries gate → Keeps bytes entries
+      → IsJournal bytes text entries gate → KeepsRecords bytes entries
 
 -- what a file recovers: the actions of the records that it keeps, with their tickets
 pub record Recovers (bytes : List ℕ) (history : PlainHistory) : Type 0 where
   pub entries : List Entry
-  pub keeps : Keeps bytes entries
+  pub keeps : KeepsRecords bytes entries
   pub pairs : pairs_of entries ≡ history
 
 -- what a file stands for besides its own records, which is three times 0 without a renewal; and the
 -- number of its last boot: how many boot records it keeps, with those of the journals before
 pub record HoldsBoots (bytes : List ℕ) (renewed : Renewed) (boots : ℕ) : Type 0 where
   pub entries : List Entry
-  pub keeps : Keeps bytes entries
+  pub keeps : KeepsRecords bytes entries
   pub said : renewed_of (marks_of entries) ≡ renewed
   pub number : (marks_of entries).boots ≡ boots
 
 -- a million of the records that a file keeps are boots
 pub record IsFullOfBoots (bytes : List ℕ) : Type 0 where
   pub entries : List Entry
-  pub keeps : Keeps bytes entries
+  pub keeps : KeepsRecords bytes entries
   pub full : let marks = marks_of entries in
       marks.boots ≡ (renewed_of marks).boots + MOST_BOOTS
 

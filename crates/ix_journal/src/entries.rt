@@ -4,7 +4,7 @@ ghost use Rattle.std.specs.Prelude.{◌≡◌, ◌≢◌, ◌↔◌, ◌+◌, �
 ghost use Rattle.std.specs.Prelude.{IsTrue, MatchOption, None, true, false, codes};
 ghost use Rattle.ix_journal.specs.Entries.{CanSpend, MayFollow, behind, fresh, or_none, renewed_of};
 ghost use Rattle.ix_journal.specs.inside.Counting.{AreMany, AreNotMany, HasBootRoom};
-ghost use Rattle.ix_journal.specs.inside.Reading.{IsText, Says};
+ghost use Rattle.ix_journal.specs.inside.Reading.{IsText, SaysEntry};
 ghost use Rattle.ix_lines.specs.inside.WordsBehind.{HasNoSpace};
 
 use crate::{MOST_BOOTS, MOST_RECORDS, MOST_RENEWED};
@@ -29,7 +29,7 @@ impl Entry {
     /// What the record with this text says.
     pub fn of_text(text: &[u8]) -> Entry
         requires { IsText text.now }
-        ensures { Says text.now result }
+        ensures { SaysEntry text.now result }
     {
         match read_entry(text) {
             Some(entry) => entry,
@@ -203,7 +203,7 @@ impl Marks {
 
 /// What the record with this text says, or None where the text isn't a record's.
 pub(crate) fn read_entry(text: &[u8]) -> Option<Entry>
-    ensures { MatchOption result (¬ IsText text.now) (Says text.now) }
+    ensures { MatchOption result (¬ IsText text.now) (SaysEntry text.now) }
 {
     let (word, later) = split_word(text);
     match later {
@@ -217,7 +217,7 @@ fn read_two(word: &[u8], later: &[u8]) -> Option<Entry>
     requires { HasNoSpace word.now }
     ensures { MatchOption result
         (¬ IsText (word.now ++ 32 ∷ later.now))
-        (Says (word.now ++ 32 ∷ later.now)) }
+        (SaysEntry (word.now ++ 32 ∷ later.now)) }
 {
     if word == b"boot".as_slice() {
         return match read_number(later, u64::MAX) {
@@ -235,7 +235,7 @@ fn read_two(word: &[u8], later: &[u8]) -> Option<Entry>
 fn read_renewed(later: &[u8]) -> Option<Entry>
     ensures { MatchOption result
         (¬ IsText (codes "renewed " ++ later.now))
-        (Says (codes "renewed " ++ later.now)) }
+        (SaysEntry (codes "renewed " ++ later.now)) }
 {
     let (word, last) = split_word(later);
     let actions = read_number(word, MOST_RENEWED)?;
@@ -250,7 +250,7 @@ fn read_spent(word: &[u8], later: &[u8]) -> Option<Entry>
     requires no_renewal { word.now ≢ codes "renewed" }
     ensures { MatchOption result
         (¬ IsText (word.now ++ 32 ∷ later.now))
-        (Says (word.now ++ 32 ∷ later.now)) }
+        (SaysEntry (word.now ++ 32 ∷ later.now)) }
 {
     let ticket = Ticket::read(word)?;
     match Action::read(later) {
@@ -262,7 +262,7 @@ fn read_spent(word: &[u8], later: &[u8]) -> Option<Entry>
 /// What the record says whose text is an action's.
 fn read_plain(text: &[u8]) -> Option<Entry>
     requires { HasNoSpace text.now }
-    ensures { MatchOption result (¬ IsText text.now) (Says text.now) }
+    ensures { MatchOption result (¬ IsText text.now) (SaysEntry text.now) }
 {
     match Action::read(text) {
         Ok(action) => Some(Entry::Plain(action)),

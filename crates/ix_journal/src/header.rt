@@ -4,7 +4,7 @@ ghost use Rattle.std.specs.Prelude.{◌≡◌, ◌↔◌, ◌<◌, ℕ, List, Is
 ghost use Rattle.ix_journal.specs.inside.Fronts.{BeginsWithHeader, BeginsWithMagic};
 ghost use Rattle.ix_journal.specs.inside.Fronts.{BeginsWithText};
 ghost use Rattle.ix_journal.specs.Kinds.{HasHeader, HasKind};
-ghost use Rattle.ix_journal.specs.inside.KindOf.{kind_of};
+ghost use Rattle.ix_journal.specs.inside.KindOf.{kind_told};
 
 use crate::{FIRST_MAGIC, FRONT_LENGTH, MAGIC, OPEN, RENEWED_MAGIC};
 use byteorder::{BigEndian, ByteOrder};
@@ -25,7 +25,7 @@ pub enum Head<'a> {
 
 /// The kind of the file whose bytes these are. A text is lent from the bytes.
 pub fn header_of<'a>(bytes: &'a [u8]) -> Head<'a>
-    ensures { HasKind bytes.now (kind_of result) }
+    ensures { HasKind bytes.now (kind_told result) }
 {
     let Some((head, rest)) = bytes.split_first() else {
         return Head::Unfinished;

@@ -3,7 +3,7 @@
 ghost use Rattle.ix_journal.specs.Laws.{OneKind, OneJournal, OneList, OneHistory, OneNumber};
 ghost use Rattle.ix_journal.specs.Laws.{OneOutcome};
 ghost use Rattle.ix_journal.specs.Laws.{HoldsNone, HoldsMore, LendsTheHistory};
-ghost use Rattle.ix_journal.specs.Laws.{Opened, Begun, GateIsNear, IgnoresTheRest, Appended};
+ghost use Rattle.ix_journal.specs.Laws.{OpenedIsEmpty, Begun, GateIsNear, IgnoresTheRest, Appended};
 ghost use Rattle.ix_journal.specs.Laws.{EnoughBytes, PassesTheHistory, PiecesDoNotMatter};
 ghost use Rattle.ix_journal.specs.Laws.{RenewedIsAJournal};
 
@@ -56,7 +56,7 @@ pub fn lends_the_history()
 
 /// A header and a closed gate are a journal without records once the head gate is open.
 pub fn opened()
-    ensures { Opened }
+    ensures { OpenedIsEmpty }
 {}
 
 /// Whatever its head gate holds, a header and one closed gate are an unfinished or unopened

@@ -76,12 +76,12 @@ impl<'a> Records<'a> {
 }
 
 impl<'a> Iterator for Records<'a> {
-    ghost use Rattle.ix_journal.specs.Answers.{Gives};
+    ghost use Rattle.ix_journal.specs.Answers.{GivesRecord};
     ghost use Rattle.ix_journal.specs.inside.Answers.{standing, items_left};
 
     type Item = Result<&'a [u8], Damaged>;
 
-    ghost next_gives = { λ old item new. Gives (standing old) item (standing new) };
+    ghost next_gives = { λ old item new. GivesRecord (standing old) item (standing new) };
 
     ghost remaining = { λ records. items_left (standing records) };
 

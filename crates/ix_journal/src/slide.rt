@@ -61,7 +61,7 @@ pub enum Slid<'a> {
 }
 
 impl Slide {
-    ghost use Rattle.ix_journal.specs.Slide.{Tells};
+    ghost use Rattle.ix_journal.specs.Slide.{TellsSlid};
     ghost use Rattle.ix_journal.specs.inside.Sliding.{LeavesThen};
 
     /// The records from the first gate of the file on, which is at this place, and of which no byte
@@ -111,7 +111,7 @@ impl Slide {
     /// any other answer the gate stays the next.
     pub fn next(&mut self) -> Slid<'_>
         requires { self.old.gate < 2 ^ 63 }
-        ensures tells { Tells self.old result }
+        ensures tells { TellsSlid self.old result }
         ensures* keeps { sem 𝓛 (LeavesThen self.entry self.old result) }
     {
         let kept = &self.buffer.as_slice()[self.start..];

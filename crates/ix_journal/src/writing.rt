@@ -10,7 +10,7 @@ ghost use Rattle.ix_values.specs.Tickets.{IsTicket, ticket_text};
 ghost use Rattle.ix_journal.specs.Entries.{IsEntry};
 ghost use Rattle.ix_journal.specs.Format.{header, open_records, record_of, renewed_records};
 ghost use Rattle.ix_journal.specs.declared.entries.Entry.TheVariants as entry;
-ghost use Rattle.ix_journal.specs.inside.Writing.{CanBeWritten, digit_of, entry_of};
+ghost use Rattle.ix_journal.specs.inside.Writing.{CanBeWritten, digit_of, entry_written};
 
 use crate::{CLOSED, Entry, MAGIC, OPEN, RENEWED_MAGIC};
 use arrayvec::ArrayVec;
@@ -45,7 +45,7 @@ pub enum Record<'a> {
 impl Record<'_> {
     /// What the record says, with an action of its own.
     pub fn entry(&self) -> Entry
-        ensures { result ≡ entry_of self.now }
+        ensures { result ≡ entry_written self.now }
     {
         match self {
             Record::Renewed { actions, boots } => Entry::Renewed {
@@ -68,8 +68,8 @@ impl Record<'_> {
 pub fn record_bytes(entry: &Record<'_>, out: &mut ArrayVec<u8, 256>)
     requires empty { out.old.items ≡ [] }
     requires fits { CanBeWritten entry.now }
-    ensures bytes { out.new.items ≡ record_of (entry_of entry.now) ++ CLOSED ∷ [] }
-    ensures valid { IsEntry (entry_of entry.now) }
+    ensures bytes { out.new.items ≡ record_of (entry_written entry.now) ++ CLOSED ∷ [] }
+    ensures valid { IsEntry (entry_written entry.now) }
 {
     write_record(entry, out);
     out.push(CLOSED);
@@ -79,9 +79,9 @@ pub fn record_bytes(entry: &Record<'_>, out: &mut ArrayVec<u8, 256>)
 fn write_record(entry: &Record<'_>, out: &mut ArrayVec<u8, 256>)
     requires empty { out.old.items ≡ [] }
     requires fits { CanBeWritten entry.now }
-    ensures bytes { out.new.items ≡ record_of (entry_of entry.now) }
+    ensures bytes { out.new.items ≡ record_of (entry_written entry.now) }
     ensures short { array_vec_len out.new ≤ 209 }
-    ensures valid { IsEntry (entry_of entry.now) }
+    ensures valid { IsEntry (entry_written entry.now) }
 {
     let mut text = ArrayVec::new();
     match entry {
@@ -204,8 +204,8 @@ fn append_carried(bytes: &mut Vec<u8>, carried: &[Action]) -> Result<(), AllocEr
 fn append_open(bytes: &mut Vec<u8>, entry: &Record<'_>) -> Result<(), AllocError>
     requires { CanBeWritten entry.now }
     ensures bytes { OnOk result
-        (bytes.new.items ≡ bytes.old.items ++ OPEN ∷ record_of (entry_of entry.now)) }
-    ensures valid { OnOk result (IsEntry (entry_of entry.now)) }
+        (bytes.new.items ≡ bytes.old.items ++ OPEN ∷ record_of (entry_written entry.now)) }
+    ensures valid { OnOk result (IsEntry (entry_written entry.now)) }
 {
     let mut record = ArrayVec::new();
     write_record(entry, &mut record);

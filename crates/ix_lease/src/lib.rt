@@ -37,7 +37,7 @@ pub fn deadline_of(moment: u64, lease: u32) -> u64
 
 impl Slot {
     ghost use Rattle.ix_lease.specs.Slots.{IsOpenAt, HasTicket};
-    ghost use Rattle.ix_lease.specs.inside.Takes.{IsOpenUntil, Takes};
+    ghost use Rattle.ix_lease.specs.inside.Takes.{IsOpenUntil, TakesSlot};
 
     /// The deadline of a slot that is open at the moment: held, and the moment is below it.
     pub fn open_until(&self, moment: u64) -> Option<u64>
@@ -69,7 +69,7 @@ impl Slot {
 
     /// Spends the reservation of this ticket where it is open. Else the slot stays as it is.
     pub fn take(&mut self, ticket: Ticket, moment: u64) -> Take
-        ensures { Takes self.old ticket moment result self.new }
+        ensures { TakesSlot self.old ticket moment result self.new }
     {
         let Slot::Held {
             ticket: held,

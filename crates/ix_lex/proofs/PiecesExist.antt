@@ -5,7 +5,7 @@ use Rattle.ix_lex.specs.declared.TokenKind.TheVariants.{Word, Param}
 use Rattle.ix_lex.specs.WordBytes.{is_blank, sign_of, begins}
 use Rattle.ix_lines.specs.Bytes.{is_letter, is_word_byte}
 use Rattle.ix_lex.specs.Lexing.{Piece, token, Pieces, BeginsWith, BeginsNothing}
-use Rattle.ix_lex.specs.inside.Items.{grown, alone, with_byte, pieces_of}
+use Rattle.ix_lex.specs.inside.Items.{grown, single_fault, with_byte, item_pieces}
 use Rattle.ix_lex.proofs.ByteClasses.{blank-no_word, letter-word, sign-no_other}
 use Rattle.ix_lex.proofs.PiecesOf.{with_byte-grow, with_byte-word, with_byte-blank, with_byte-sign, with_byte-bad, with_byte-param, pieces_of-token, pieces_of-bad}
 
@@ -41,7 +41,7 @@ grown-param at _ _ _ e letter (Pieces.bad from c rest bad) = let no_word = bad.n
 -- a byte in front of a text whose pieces are known
 module _ (at b : ℕ) (rest : List ℕ) (pieces : List Piece) (known : Pieces (suc at) rest pieces) where
   -- by what `with_byte` computes to
-  as-one : (kind : TokenKind) → BeginsWith kind (b ∷ []) rest → Pieces at (b ∷ rest) (alone (Some kind) at b pieces)
+  as-one : (kind : TokenKind) → BeginsWith kind (b ∷ []) rest → Pieces at (b ∷ rest) (single_fault (Some kind) at b pieces)
   as-one kind first = next-at at (suc at) kind (b ∷ []) rest pieces (omega arith) first known
 
   in-word : (m : Bool) → begins is_word_byte rest ≡ m → is_word_byte b ≡ true → Pieces at (b ∷ rest) (with_byte at b rest pieces)
@@ -79,16 +79,16 @@ module _ (at b : ℕ) (rest : List ℕ) (pieces : List Piece) (known : Pieces (s
   Pieces-with_byte = by-word (is_word_byte b) refl
 
 -- the computed pieces are pieces of the text
-pub Pieces-pieces_of : (at : ℕ) (bytes : List ℕ) → Pieces at bytes (pieces_of at bytes)
-unfolding pieces_of
+pub Pieces-pieces_of : (at : ℕ) (bytes : List ℕ) → Pieces at bytes (item_pieces at bytes)
+unfolding item_pieces
 Pieces-pieces_of at [] = Pieces.done at
-Pieces-pieces_of at (b ∷ rest) = Pieces-with_byte at b rest (pieces_of (suc at) rest) (Pieces-pieces_of (suc at) rest)
+Pieces-pieces_of at (b ∷ rest) = Pieces-with_byte at b rest (item_pieces (suc at) rest) (Pieces-pieces_of (suc at) rest)
 
 -- the pieces of a text are the computed ones, so a text has no others
-pub Pieces-are : (at : ℕ) (bytes : List ℕ) (pieces : List Piece) → Pieces at bytes pieces → pieces ≡ pieces_of at bytes
-unfolding pieces_of
+pub Pieces-are : (at : ℕ) (bytes : List ℕ) (pieces : List Piece) → Pieces at bytes pieces → pieces ≡ item_pieces at bytes
+unfolding item_pieces
 Pieces-are _ _ _ (Pieces.done at) = refl
-Pieces-are _ _ _ (Pieces.blank at b rest pieces blank after) = Pieces-are (suc at) rest pieces after ∙ sym (with_byte-blank at b rest (pieces_of (suc at) rest) blank)
+Pieces-are _ _ _ (Pieces.blank at b rest pieces blank after) = Pieces-are (suc at) rest pieces after ∙ sym (with_byte-blank at b rest (item_pieces (suc at) rest) blank)
 Pieces-are _ _ _ (Pieces.next at kind bytes rest pieces first after) =
     ap (λ more. token (record { kind = kind; bytes = bytes; start = at; end = at + length bytes }) ∷ more) (Pieces-are (at + length bytes) rest pieces after) ∙ sym (pieces_of-token at kind bytes rest first)
 Pieces-are _ _ _ (Pieces.bad at b rest bad) = sym (pieces_of-bad at b rest bad)

@@ -146,11 +146,11 @@ impl<'a> Tokens<'a> {
 
 impl<'a> Iterator for Tokens<'a> {
     ghost use Rattle.std.specs.Iterator.{YieldsFirstBy, item_count};
-    ghost use Rattle.ix_lex.specs.inside.Items.{pieces_left, piece_of};
+    ghost use Rattle.ix_lex.specs.inside.Items.{pieces_left, item_piece};
 
     type Item = Result<Token<'a>, LexFault>;
 
-    ghost next_gives = { YieldsFirstBy piece_of pieces_left };
+    ghost next_gives = { YieldsFirstBy item_piece pieces_left };
 
     ghost remaining = { item_count pieces_left };
 

@@ -2,7 +2,7 @@
 use Rattle.std.proofs.Common.{◌≡◌, ℕ, ◌+◌, ◌-◌, ◌<◌, List, [], ◌∷◌, ◌++◌, length, refl, sym, ap, subst, ◌∙◌, append_assoc, length-append, arith}
 use Rattle.std.specs.List.{flat_map, AllByRecursion}
 use Rattle.std.proofs.lemmas.List.{append-nil}
-use Rattle.ix_lines.specs.LineFaults.{IsFirstFault}
+use Rattle.ix_lines.specs.LineFaults.{IsFirstLineFault}
 use Rattle.ix_lines.specs.TextLines.{bytes_of, lines_of}
 use Rattle.ix_lines.proofs.LineLists.{lines_of-none}
 
@@ -64,7 +64,7 @@ module _ (Holds : List ℕ → Type 0) (all rest : List ℕ) where
 
     -- a line that fails
     pub first_bad : (Fails : List ℕ → ℕ → ℕ → Type 0) (code at within : ℕ) → Fails text code within
-        → at ≡ (length all - length rest) + within → IsFirstFault Holds Fails all code at
+        → at ≡ (length all - length rest) + within → IsFirstLineFault Holds Fails all code at
     first_bad Fails code at within fault place = record {
       before = so_far.before;
       bad = text;

@@ -5,7 +5,7 @@ use Rattle.std.proofs.lemmas.Bool.Decides.{nat_tests}
 use Rattle.std.proofs.lemmas.Fmt.{decimal_injective, decimal_by_steps}
 use Rattle.std.proofs.lemmas.List.Folds.{list_any-append}
 use Rattle.ix_lines.proofs.WordLemmas.{is_byte, is_space}
-use Rattle.ix_lines.specs.Numbers.{IsNumber, BeginsWith, Begins}
+use Rattle.ix_lines.specs.Numbers.{IsNumber, BeginsWithNumber, Begins}
 use Rattle.ix_lines.specs.inside.WordsBehind.{behind_word, HasNoSpace}
 
 pub or_false : (p q : Bool) → (p || q) ≡ false → (p ≡ false) × (q ≡ false)
@@ -75,7 +75,7 @@ number_same m n x y g h e =
 
 -- a number and the rest are read in one way
 pub begins_same : (text : List ℕ) (m n : ℕ) (x y : List ℕ)
-    → BeginsWith (2 ^ 64) text m x → BeginsWith (2 ^ 64) text n y → (m ≡ n) × (x ≡ y)
+    → BeginsWithNumber (2 ^ 64) text m x → BeginsWithNumber (2 ^ 64) text n y → (m ≡ n) × (x ≡ y)
 begins_same text m n x y g h = number_same m n x y g.fits h.fits (sym g.split ∙ h.split)
 
 -- a text whose first word isn't a number's begins with no number

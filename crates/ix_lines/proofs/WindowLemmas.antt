@@ -10,7 +10,7 @@ use Rattle.ix_lines.specs.Items.{Cut, line, too_long, item_of, item_of_last, ite
 use Rattle.ix_lines.specs.Feeding.{UnfinishedLine, unfinished, skipping, held, holds_after, Feeds}
 use Rattle.ix_lines.specs.inside.Buffer.{shown, IsBuffer}
 use Rattle.ix_lines.specs.Cutting.{HasNoEnd}
-use Rattle.ix_lines.specs.inside.FeedAnswers.{IsOpen}
+use Rattle.ix_lines.specs.inside.FeedAnswers.{IsTaking}
 use Rattle.ix_lines.proofs.CutLemmas.{is_end, or_false, cut_plain, cut_line}
 
 not_true : (b : Bool) → (b ≡ true → ⊥) → b ≡ false
@@ -162,8 +162,8 @@ module _ (part piece : List ℕ) (room n : ℕ) (plain : HasNoEnd part) (fills :
       )
 
 -- a line that isn't skipped is the open bytes
-pub open_shown : (test : Bool) (bytes : List ℕ) (value : UnfinishedLine) → shown test bytes ≡ value → IsOpen value → (test ≡ false) × (value ≡ unfinished bytes)
-open_shown true bytes value is open_value = absurd (subst IsOpen (sym is) open_value)
+pub open_shown : (test : Bool) (bytes : List ℕ) (value : UnfinishedLine) → shown test bytes ≡ value → IsTaking value → (test ≡ false) × (value ≡ unfinished bytes)
+open_shown true bytes value is open_value = absurd (subst IsTaking (sym is) open_value)
 open_shown false bytes value is open_value = (refl, sym is)
 
 -- a line that is skipped

@@ -5,7 +5,7 @@ use Rattle.ix_lines.specs.TextLines.{lines_of, bytes_of}
 
 -- The lines before one hold, and that one fails with this code. The place of its fault is counted
 -- in the text's bytes.
-pub record IsFirstFault (Holds : List ℕ → Type 0) (Fails : List ℕ → ℕ → ℕ → Type 0)
+pub record IsFirstLineFault (Holds : List ℕ → Type 0) (Fails : List ℕ → ℕ → ℕ → Type 0)
     (bytes : List ℕ) (code at : ℕ) : Type 0 where
   pub before : List (List ℕ)
   pub bad : List ℕ

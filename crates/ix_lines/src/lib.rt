@@ -76,7 +76,7 @@ pub struct Fed<'a> {
 }
 
 impl Lines {
-    ghost use Rattle.ix_lines.specs.inside.FeedAnswers.{told_item, HoldsAfter, IsOpen, ResumesAt};
+    ghost use Rattle.ix_lines.specs.inside.FeedAnswers.{told_item, HoldsAfter, IsTaking, ResumesAt};
     ghost use Rattle.ix_lines.specs.Cutting.{HasNoEnd};
 
     /// No text so far.
@@ -135,7 +135,7 @@ impl Lines {
 
     /// Takes a piece up to the end of its first line, or to the byte that makes the line too long.
     fn take_line<'a>(&'a mut self, piece: &'a [u8]) -> Fed<'a>
-        requires { IsOpen self.old }
+        requires { IsTaking self.old }
         ensures tells { Feeds self.old piece.now (told_item result.kind) result.used }
         ensures* holds { sem 𝓛 (HoldsAfter self.entry (take result.used piece.now)) }
     {

@@ -3,7 +3,7 @@
 ghost use Rattle.std.specs.Prelude.{◌≡◌, ◌≤◌, ℕ, List, length, MatchOption, IfSome};
 ghost use Rattle.std.specs.List.{AllByRecursion};
 ghost use Rattle.ix_lines.specs.TextLines.{lines_of};
-ghost use Rattle.ix_lines.specs.LineFaults.{IsFirstFault};
+ghost use Rattle.ix_lines.specs.LineFaults.{IsFirstLineFault};
 
 use crate::text_lines::first_line;
 
@@ -35,7 +35,7 @@ pub trait LineGrammar {
 pub fn first_fault<G: LineGrammar>(bytes: &[u8]) -> Option<LineFault>
     ensures { MatchOption result
         (AllByRecursion G.holds (lines_of bytes.now))
-        (λ fault. IsFirstFault G.holds G.fails bytes.now fault.code fault.at) }
+        (λ fault. IsFirstLineFault G.holds G.fails bytes.now fault.code fault.at) }
 {
     let mut rest = bytes;
     while !rest.is_empty() {

@@ -1,7 +1,7 @@
 //! Decimal numbers in texts.
 
 ghost use Rattle.std.specs.Prelude.{◌≡◌, ◌+◌, ◌^◌, ℕ, Some, MatchOption};
-ghost use Rattle.ix_lines.specs.Numbers.{IsNumber, Begins, BeginsWith};
+ghost use Rattle.ix_lines.specs.Numbers.{IsNumber, Begins, BeginsWithNumber};
 
 use crate::words::split_word;
 use itoa::Buffer;
@@ -49,7 +49,7 @@ pub struct NumberAnd<'a> {
 pub fn number_and(text: &[u8], greatest: u64) -> Option<NumberAnd<'_>>
     ensures { MatchOption result
         (¬ Begins (greatest + 1) text.now)
-        (λ found. BeginsWith (greatest + 1) text.now found.number found.rest.now) }
+        (λ found. BeginsWithNumber (greatest + 1) text.now found.number found.rest.now) }
 {
     let (word, Some(rest)) = split_word(text) else {
         return None;

@@ -20,7 +20,7 @@ use Rattle.ix_lint.specs.declared.terms.Term.{Term}
 use Rattle.ix_lint.specs.declared.terms.Term.TheVariants.{Value, Shared, OfFirst, OfSecond}
 use Rattle.ix_lint.specs.Nodes.{Spot, spots, numbered, first, binds}
 use Rattle.ix_lint.specs.Terms.{first_term, second_term, can_differ}
-use Rattle.ix_lint.specs.Owners.{Held, pairs_of, can_share, partner_at, partners, pairs_at, pairs, body, owners_for, owners}
+use Rattle.ix_lint.specs.Owners.{Held, owner_pairs, can_share, partner_at, partners, pairs_at, pairs, body, owners_for, owners}
 use Rattle.ix_lint.specs.Laws.{HasTwoOwners}
 use Rattle.ix_lint.proofs.Lists.{both, neither}
 use Rattle.ix_lint.proofs.Unified.{valuation, unified}
@@ -132,7 +132,7 @@ first_values of fixed e g above (Param q ∷ arguments) s h =
 
 -- and those of the second the same values
 second_values : (of : Term → List ℕ) (fixed : (v : List ℕ) → of (Value v) ≡ v) (e g : Environment) (above other_above : List Form) (arguments others : List Arg) → ((q : List ℕ) → Member (Param q) others → value_in e q ≡ Some (of (Shared q))) → Gives (λ q. of (OfSecond q)) e other_above g →
-    length arguments ≡ length others → Each (λ q. of q.0 ≡ of q.1) (pairs_of above arguments other_above others) → HaveValues g others (valued of (first_term above) arguments)
+    length arguments ≡ length others → Each (λ q. of q.0 ≡ of q.1) (owner_pairs above arguments other_above others) → HaveValues g others (valued of (first_term above) arguments)
 second_values of fixed e g above other_above [] [] s h l k = tt
 second_values of fixed e g above other_above [] (x ∷ others) s h l k = absurd (cc)
 second_values of fixed e g above other_above (x ∷ arguments) [] s h l k = absurd (cc)
@@ -164,9 +164,9 @@ begins own e p y q = chosen (text_eq p q) (text_eq-decides p q).0
 
 two_owners : (p : List ℕ) (y : Form) → SharingAtoms p y → HasTwoOwners p y
 two_owners p y h =
-    let named = both (text_eq h.s_atom.name h.t_atom.name && (length h.s_atom.arguments == length h.t_atom.arguments)) (can_differ [] (pairs_of h.s_above h.s_atom.arguments h.t_above h.t_atom.arguments) (OfFirst p, OfSecond p)) h.share in
+    let named = both (text_eq h.s_atom.name h.t_atom.name && (length h.s_atom.arguments == length h.t_atom.arguments)) (can_differ [] (owner_pairs h.s_above h.s_atom.arguments h.t_above h.t_atom.arguments) (OfFirst p, OfSecond p)) h.share in
     let same = both (text_eq h.s_atom.name h.t_atom.name) (length h.s_atom.arguments == length h.t_atom.arguments) named.0 in
-    let v = valuation (pairs_of h.s_above h.s_atom.arguments h.t_above h.t_atom.arguments) (OfFirst p, OfSecond p) named.1 in
+    let v = valuation (owner_pairs h.s_above h.s_atom.arguments h.t_above h.t_atom.arguments) (OfFirst p, OfSecond p) named.1 in
     let e : Environment = shared_bindings v.of (h.s_atom.arguments ++ h.t_atom.arguments) in
     let a : PlainAction = record { name = h.s_atom.name; values = valued v.of (first_term h.s_above) h.s_atom.arguments } in
     record {
@@ -339,7 +339,7 @@ second_stands e g h above (Param q) v s i = chosen (list_any (binds q) above) (s
     chosen false k = ap some_value (sym (k refl) ∙ i)
 
 all_equal : (e g h : Environment) (above other_above : List Form) (xs ys : List Arg) (values : List (List ℕ)) → ((q : List ℕ) → list_any (binds q) above ≡ false → value_in g q ≡ value_in e q) → ((q : List ℕ) → list_any (binds q) other_above ≡ false → value_in h q ≡ value_in e q) →
-    HaveValues g xs values → HaveValues h ys values → Each (λ q. stands_for e g h q.0 ≡ stands_for e g h q.1) (pairs_of above xs other_above ys)
+    HaveValues g xs values → HaveValues h ys values → Each (λ q. stands_for e g h q.0 ≡ stands_for e g h q.1) (owner_pairs above xs other_above ys)
 all_equal e g h above other_above [] ys values s t i j = no_item
 all_equal e g h above other_above (x ∷ xs) [] values s t i j = no_item
 all_equal e g h above other_above (x ∷ xs) (y ∷ ys) [] s t i j = absurd i
@@ -355,8 +355,8 @@ share_it : (p u v : List ℕ) (e : Environment) (a : PlainAction) (nodes : List 
 share_it p u v e a nodes n s t =
     let named : text_eq s.x.name t.x.name ≡ true = (text_eq-decides s.x.name t.x.name).1 (s.matches.0 ∙ sym t.matches.0) in
     let long : (length s.x.arguments == length t.x.arguments) ≡ true = eq-eqb (length s.x.arguments) (length t.x.arguments) (have-as-many s.under s.x.arguments a.values s.matches.1 ∙ sym (have-as-many t.under t.x.arguments a.values t.matches.1)) in
-    let fits : can_differ [] (pairs_of s.above s.x.arguments t.above t.x.arguments) (OfFirst p, OfSecond p) ≡ true =
-    unified (stands_for e s.under t.under) (λ v. refl) [] (pairs_of s.above s.x.arguments t.above t.x.arguments) (OfFirst p, OfSecond p) no_item
+    let fits : can_differ [] (owner_pairs s.above s.x.arguments t.above t.x.arguments) (OfFirst p, OfSecond p) ≡ true =
+    unified (stands_for e s.under t.under) (λ v. refl) [] (owner_pairs s.above s.x.arguments t.above t.x.arguments) (OfFirst p, OfSecond p) no_item
     (all_equal e s.under t.under s.above t.above s.x.arguments t.x.arguments a.values s.shared t.shared s.matches.1 t.matches.1)
     (different e s.under t.under p u v s.own t.own n) in
     (λ i. named i && long i && fits i)

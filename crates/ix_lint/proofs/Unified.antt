@@ -6,7 +6,7 @@ use Rattle.ix_values.specs.Order.{text_eq}
 use Rattle.ix_values.specs.lemmas.Order.{text_eq-decides}
 use Rattle.ix_lint.specs.declared.terms.Term.{Term}
 use Rattle.ix_lint.specs.declared.terms.Term.TheVariants.{Value, Shared, OfFirst, OfSecond}
-use Rattle.ix_lint.specs.Terms.{same_term, is_value, resolved, can_differ}
+use Rattle.ix_lint.specs.Terms.{same_term, is_value_term, resolved, can_differ}
 use Rattle.ix_lint.proofs.Lists.{both, not_true, not_false}
 
 -- The same terms
@@ -35,9 +35,9 @@ resolved-behind (pair ∷ l) r t = ap (λ u. if same_term u pair.0 then pair.1 e
 
 -- no value is replaced
 abbrev pub NoValue : Term × Term → Type 0
-NoValue pair = is_value pair.0 ≡ false
+NoValue pair = is_value_term pair.0 ≡ false
 
-value_stays : (v : List ℕ) (u : Term) → is_value u ≡ false → same_term (Value v) u ≡ false
+value_stays : (v : List ℕ) (u : Term) → is_value_term u ≡ false → same_term (Value v) u ≡ false
 value_stays v (Value u) e = absurd (true≢false e)
 value_stays v _ e = refl
 
@@ -105,18 +105,18 @@ pub solved : (r ps : List (Term × Term)) (last : Term × Term) → Each NoValue
 solved r [] last n h = record { whole = r; more = []; joined = refl; no_value = n; equal = no_item; apart = not_true (same_term (resolved r last.0) (resolved r last.1)) h }
 solved r (q ∷ ps) last n h =
     chosen (λ g. solved r ps last n g) (λ pair f g. solved (pair ∷ r) ps last (item f n) g)
-    (same_term (resolved r q.0) (resolved r q.1)) refl (is_value (resolved r q.0)) refl h
+    (same_term (resolved r q.0) (resolved r q.1)) refl (is_value_term (resolved r q.0)) refl h
   where
     chosen : (can_differ r ps last ≡ true → Solved r ps last) → ((pair : Term × Term) → NoValue pair → can_differ (pair ∷ r) ps last ≡ true → Solved (pair ∷ r) ps last) →
-        (b : Bool) → same_term (resolved r q.0) (resolved r q.1) ≡ b → (c : Bool) → is_value (resolved r q.0) ≡ c →
+        (b : Bool) → same_term (resolved r q.0) (resolved r q.1) ≡ b → (c : Bool) → is_value_term (resolved r q.0) ≡ c →
         (if b then can_differ r ps last
-        else (if c then not (is_value (resolved r q.1)) && can_differ ((resolved r q.1, resolved r q.0) ∷ r) ps last
+        else (if c then not (is_value_term (resolved r q.1)) && can_differ ((resolved r q.1, resolved r q.0) ∷ r) ps last
         else can_differ ((resolved r q.0, resolved r q.1) ∷ r) ps last)) ≡ true → Solved r (q ∷ ps) last
     chosen same next true e c f g = without_more r ps last q (same_is (resolved r q.0) (resolved r q.1) e) (same g)
     chosen same next false e true f g =
-        let k = both (not (is_value (resolved r q.1))) (can_differ ((resolved r q.1, resolved r q.0) ∷ r) ps last) g in
+        let k = both (not (is_value_term (resolved r q.1))) (can_differ ((resolved r q.1, resolved r q.0) ∷ r) ps last) g in
         with_more r ps last q (resolved r q.1, resolved r q.0) (replaced_back r q.0 q.1)
-        (next (resolved r q.1, resolved r q.0) (not_true (is_value (resolved r q.1)) k.0) k.1)
+        (next (resolved r q.1, resolved r q.0) (not_true (is_value_term (resolved r q.1)) k.0) k.1)
     chosen same next false e false f g =
         with_more r ps last q (resolved r q.0, resolved r q.1) (replaced_by r q.0 q.1)
         (next (resolved r q.0, resolved r q.1) f g)
@@ -204,12 +204,12 @@ module _ (of : Term → List ℕ) (fixed : (v : List ℕ) → of (Value v) ≡ v
       chosen true same k = sym (Each-head h) ∙ sym (ap of (same refl)) ∙ k
       chosen false same k = k
 
-  both_values : (t u : Term) → is_value t ≡ true → is_value u ≡ true → of t ≡ of u → same_term t u ≡ true
+  both_values : (t u : Term) → is_value_term t ≡ true → is_value_term u ≡ true → of t ≡ of u → same_term t u ≡ true
   both_values (Value v) (Value u) f g e = (text_eq-decides v u).1 (sym (fixed v) ∙ e ∙ fixed u)
   both_values (Value v) _ f g e = absurd (true≢false (sym g))
   both_values _ u f g e = absurd (true≢false (sym f))
 
-  other_kind : (t u : Term) (b : Bool) → is_value u ≡ b → is_value t ≡ true → same_term t u ≡ false → of t ≡ of u → is_value u ≡ false
+  other_kind : (t u : Term) (b : Bool) → is_value_term u ≡ b → is_value_term t ≡ true → same_term t u ≡ false → of t ≡ of u → is_value_term u ≡ false
   other_kind t u true g f n e = absurd (true≢false (sym (both_values t u f g e) ∙ n))
   other_kind t u false g f n e = g
 
@@ -226,16 +226,16 @@ module _ (of : Term → List ℕ) (fixed : (v : List ℕ) → of (Value v) ≡ v
   unified r (q ∷ ps) last h k n =
       let e : of (resolved r q.0) ≡ of (resolved r q.1) = keeps_value r q.0 h ∙ Each-head k ∙ sym (keeps_value r q.1 h) in
       chosen (unified r ps last h (Each-tail k) n) (λ pair f. unified (pair ∷ r) ps last (item f h) (Each-tail k) n)
-      (same_term (resolved r q.0) (resolved r q.1)) refl (is_value (resolved r q.0)) refl e
+      (same_term (resolved r q.0) (resolved r q.1)) refl (is_value_term (resolved r q.0)) refl e
     where
       chosen : can_differ r ps last ≡ true → ((pair : Term × Term) → of pair.0 ≡ of pair.1 → can_differ (pair ∷ r) ps last ≡ true) →
-          (b : Bool) → same_term (resolved r q.0) (resolved r q.1) ≡ b → (c : Bool) → is_value (resolved r q.0) ≡ c → of (resolved r q.0) ≡ of (resolved r q.1) →
+          (b : Bool) → same_term (resolved r q.0) (resolved r q.1) ≡ b → (c : Bool) → is_value_term (resolved r q.0) ≡ c → of (resolved r q.0) ≡ of (resolved r q.1) →
           (if b then can_differ r ps last
-          else (if c then not (is_value (resolved r q.1)) && can_differ ((resolved r q.1, resolved r q.0) ∷ r) ps last
+          else (if c then not (is_value_term (resolved r q.1)) && can_differ ((resolved r q.1, resolved r q.0) ∷ r) ps last
           else can_differ ((resolved r q.0, resolved r q.1) ∷ r) ps last)) ≡ true
       chosen same next true f c g e = same
       chosen same next false f true g e =
-          let o : is_value (resolved r q.1) ≡ false = other_kind (resolved r q.0) (resolved r q.1) (is_value (resolved r q.1)) refl g f e in
+          let o : is_value_term (resolved r q.1) ≡ false = other_kind (resolved r q.0) (resolved r q.1) (is_value_term (resolved r q.1)) refl g f e in
           let d : can_differ ((resolved r q.1, resolved r q.0) ∷ r) ps last ≡ true = next (resolved r q.1, resolved r q.0) (sym e) in
           (λ i. not (o i) && d i)
       chosen same next false f false g e = next (resolved r q.0, resolved r q.1) e

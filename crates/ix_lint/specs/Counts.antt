@@ -34,13 +34,13 @@ abbrev pub leader : List Place → List ℕ → Option Place
 leader places name = find (is_leading places name (greatest_frequency places name)) places
 
 -- whether the place is at this node
-abbrev pub is_at : ℕ → Option Place → Bool
-is_at n None = false
-is_at n (Some s) = s.node == n
+abbrev pub is_at_node : ℕ → Option Place → Bool
+is_at_node n None = false
+is_at_node n (Some s) = s.node == n
 
 -- whether the atom at this node is the first of its name and number of arguments
 abbrev pub is_first : List Place → ℕ → PlainAtom → Bool
-is_first places n x = is_at n (find (is_like x) places)
+is_first places n x = is_at_node n (find (is_like x) places)
 
 -- the finding at an atom that isn't alike to the leader of its name
 abbrev pub counts_beside : PlainAtom → Option Place → Option FindingKind

@@ -13,8 +13,8 @@ use Rattle.ix_lint.specs.Nodes.{Spot, spots, numbered, first}
 use Rattle.ix_lint.specs.Terms.{first_term, second_term, can_differ}
 
 -- the arguments of two atoms, place by place
-abbrev pub pairs_of : List Form → List Arg → List Form → List Arg → List (Term × Term)
-pairs_of above arguments other_above others =
+abbrev pub owner_pairs : List Form → List Arg → List Form → List Arg → List (Term × Term)
+owner_pairs above arguments other_above others =
     zip (map (first_term above) arguments) (map (second_term other_above) others)
 
 -- an atom below some nodes
@@ -28,7 +28,7 @@ pub record Held : Type 0 where
 abbrev pub can_share : List ℕ → Held → Held → Bool
 can_share p s t = text_eq s.atom.name t.atom.name
     && (length s.atom.arguments == length t.atom.arguments)
-    && can_differ [] (pairs_of s.above s.atom.arguments t.above t.atom.arguments)
+    && can_differ [] (owner_pairs s.above s.atom.arguments t.above t.atom.arguments)
     (OfFirst p, OfSecond p)
 
 -- the number of the node, if it is an atom that can share an action with s

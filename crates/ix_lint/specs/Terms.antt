@@ -30,9 +30,9 @@ same_term (OfSecond p) (OfSecond q) = text_eq p q
 same_term t u = false
 
 -- whether the term is a value
-abbrev pub is_value : Term → Bool
-is_value (Value v) = true
-is_value t = false
+abbrev pub is_value_term : Term → Bool
+is_value_term (Value v) = true
+is_value_term t = false
 
 -- the term, where the first of each of these pairs was replaced by the second, the last pair first
 abbrev pub resolved : List (Term × Term) → Term → Term
@@ -47,7 +47,7 @@ can_differ replaced [] last = not (same_term (resolved replaced last.0) (resolve
 can_differ replaced (pair ∷ pairs) last =
     if same_term (resolved replaced pair.0) (resolved replaced pair.1)
     then can_differ replaced pairs last
-    else (if is_value (resolved replaced pair.0)
-    then not (is_value (resolved replaced pair.1))
+    else (if is_value_term (resolved replaced pair.0)
+    then not (is_value_term (resolved replaced pair.1))
     && can_differ ((resolved replaced pair.1, resolved replaced pair.0) ∷ replaced) pairs last
     else can_differ ((resolved replaced pair.0, resolved replaced pair.1) ∷ replaced) pairs last)

@@ -87,7 +87,7 @@ fn same_term(one: &Term, other: &Term) -> bool
 }
 
 fn is_value(term: &Term) -> bool
-    ensures { result ≡ spec.is_value term.now }
+    ensures { result ≡ spec.is_value_term term.now }
 {
     matches!(term, Term::Value(_))
 }
@@ -134,7 +134,7 @@ pub(crate) fn can_differ(
 ) -> bool
     ensures { result
         ≡ spec.can_differ (pairs_of_replaced replaced.now)
-        (owners.pairs_of (forms_of above.now) args.now
+        (owners.owner_pairs (forms_of above.now) args.now
         (forms_of other_above.now) others.now)
         (Term.OfFirst parameter.now, Term.OfSecond parameter.now) }
 {

@@ -1,4 +1,4 @@
--- Answers to one action and to several.
+-- TraceAnswers to one action and to several.
 use Rattle.std.proofs.Common.{◌≡◌, ◌≢◌, ◌⊎◌, inl, inr, ℕ, List, [], ◌∷◌, ◌++◌, refl, sym, ap, subst, ◌∙◌, append_assoc, arith, length}
 use Rattle.std.proofs.lemmas.List.{append-nil}
 use Rattle.std.specs.Prelude.{codes}
@@ -7,18 +7,18 @@ use Rattle.ix_expr.specs.Form.{Form}
 use Rattle.ix_outside.specs.Sink.{IsFront}
 use Rattle.ix_journal.proofs.KindLemmas.{cons_head, cons_tail}
 use Rattle.ix_manage.specs.ActionLines.{line}
-use Rattle.ix_engine.specs.inside.Engine.{EngineState, Allows, extended}
-use Rattle.ix_manage.specs.Trace.{Answers, Verdict, done, no, full, large, yes}
+use Rattle.ix_engine.specs.inside.Engine.{EngineState, Allows, extended_by}
+use Rattle.ix_manage.specs.Trace.{TraceAnswers, Verdict, done, no, full, large, yes}
 
 -- an action that is allowed, and joins
-pub answers_yes : (s : EngineState) (a joined : PlainAction) (after : Word) → Allows s a → joined ≡ a → after ≡ extended s joined
-    → Answers s.form s.limit s.history (a ∷ []) (line (codes "yes")) after
+pub answers_yes : (s : EngineState) (a joined : PlainAction) (after : Word) → Allows s a → joined ≡ a → after ≡ extended_by s joined
+    → TraceAnswers s.form s.limit s.history (a ∷ []) (line (codes "yes")) after
 answers_yes s a joined after allowed same longer =
-    subst (Answers s.form s.limit s.history (a ∷ []) (line (codes "yes"))) (sym (longer ∙ ap (extended s) same)) (yes allowed.permitted allowed.room allowed.within done)
+    subst (TraceAnswers s.form s.limit s.history (a ∷ []) (line (codes "yes"))) (sym (longer ∙ ap (extended_by s) same)) (yes allowed.permitted allowed.room allowed.within done)
 
 -- the answers to a front, and those to what is behind it
-pub answers_join : {x : Form} {limit : ℕ} {history middle after front back : Word} {text more : List ℕ} → Answers x limit history front text middle → Answers x limit middle back more after
-    → Answers x limit history (front ++ back) (text ++ more) after
+pub answers_join : {x : Form} {limit : ℕ} {history middle after front back : Word} {text more : List ℕ} → TraceAnswers x limit history front text middle → TraceAnswers x limit middle back more after
+    → TraceAnswers x limit history (front ++ back) (text ++ more) after
 answers_join done rest = rest
 answers_join (no none answers) rest = no none (answers_join answers rest)
 answers_join (full partial many answers) rest = full partial many (answers_join answers rest)
@@ -26,9 +26,9 @@ answers_join (large partial room above answers) rest = large partial room above 
 answers_join (yes partial room small answers) rest = yes partial room small (answers_join answers rest)
 
 -- answers under an equal form and an equal limit
-pub answers_same : {x y : Form} {limit most : ℕ} {history actions after : Word} {text : List ℕ} → y ≡ x → most ≡ limit → Answers y most history actions text after → Answers x limit history actions text after
+pub answers_same : {x y : Form} {limit most : ℕ} {history actions after : Word} {text : List ℕ} → y ≡ x → most ≡ limit → TraceAnswers y most history actions text after → TraceAnswers x limit history actions text after
 answers_same {x = x} {most = most} {history = history} {actions = actions} {after = after} {text = text} form bound answers =
-    subst (λ l. Answers x l history actions text after) bound (subst (λ z. Answers z most history actions text after) form answers)
+    subst (λ l. TraceAnswers x l history actions text after) bound (subst (λ z. TraceAnswers z most history actions text after) form answers)
 
 -- the last line under an equal form
 pub verdict_same : {x y : Form} {history : Word} {last : List ℕ} → y ≡ x → Verdict y history last → Verdict x history last
@@ -46,7 +46,7 @@ longer_front {byte = byte} {front = front} same (inr there) =
     inr (there.0, there.1, ap (λ b. b ∷ front) same ∙ ap (λ bytes. byte ∷ bytes) there.2)
 
 -- where there are no actions, there are no answers
-pub answers_none : {x : Form} {limit : ℕ} {history actions after : Word} {text : List ℕ} → Answers x limit history actions text after → actions ≡ [] → text ≡ []
+pub answers_none : {x : Form} {limit : ℕ} {history actions after : Word} {text : List ℕ} → TraceAnswers x limit history actions text after → actions ≡ [] → text ≡ []
 answers_none done none = refl
 answers_none (no {actions = actions} {action = action} none answers) same = absurd (filled action actions same)
 answers_none (full {actions = actions} {action = action} partial many answers) same = absurd (filled action actions same)
@@ -70,15 +70,15 @@ pub record EndsWithin (x : Form) (limit : ℕ) (history actions : Word) (front :
   pub split : before ++ action ∷ behind ≡ actions
   pub whole : List ℕ
   pub middle : Word
-  pub answers : Answers x limit history before whole middle
+  pub answers : TraceAnswers x limit history before whole middle
   pub part : List ℕ
   pub after : Word
-  pub next : Answers x limit middle (action ∷ []) part after
+  pub next : TraceAnswers x limit middle (action ∷ []) part after
   pub end : List ℕ
   pub is_front : IsFront end part
   pub same : front ≡ whole ++ end
 
-module _ {x : Form} {limit : ℕ} {history middle : Word} {action : PlainAction} {one front : List ℕ} (answer : Answers x limit history (action ∷ []) one middle) where
+module _ {x : Form} {limit : ℕ} {history middle : Word} {action : PlainAction} {one front : List ℕ} (answer : TraceAnswers x limit history (action ∷ []) one middle) where
   ends_here : (actions : Word) → IsFront front one → EndsWithin x limit history (action ∷ actions) front
   ends_here actions is = record {
     before = [];
@@ -121,7 +121,7 @@ module _ {x : Form} {limit : ℕ} {history middle : Word} {action : PlainAction}
   ends_in_two actions text some later (inl here) = ends_here actions here
   ends_in_two actions text some later (inr there) = ends_later actions there.0 (later there.0 there.1 some) there.2
 
-  ends_step : (actions : Word) (text : List ℕ) {after : Word} → Answers x limit middle actions text after
+  ends_step : (actions : Word) (text : List ℕ) {after : Word} → TraceAnswers x limit middle actions text after
       → ((more : List ℕ) → IsFront more text → actions ≢ [] → EndsWithin x limit middle actions more)
       → IsFront front (one ++ text) → EndsWithin x limit history (action ∷ actions) front
   ends_step [] text rest later is =
@@ -130,7 +130,7 @@ module _ {x : Form} {limit : ℕ} {history middle : Word} {action : PlainAction}
       ends_in_two (first ∷ actions) text (filled first actions) later (front_of_two one text front is)
 
 -- some front of the answers to actions ends within the answer to one of these
-pub ends_within : {x : Form} {limit : ℕ} {history actions after : Word} {text : List ℕ} → Answers x limit history actions text after
+pub ends_within : {x : Form} {limit : ℕ} {history actions after : Word} {text : List ℕ} → TraceAnswers x limit history actions text after
     → (front : List ℕ) → IsFront front text → actions ≢ [] → EndsWithin x limit history actions front
 ends_within done front is some = absurd (some refl)
 ends_within (no {actions = actions} {text = text} none answers) front is some =

@@ -15,7 +15,7 @@ use Rattle.ix_outside.proofs.Counting.{Rose-earlier}
 use Rattle.ix_follow.specs.declared.answers.Fed.{Fed}
 use Rattle.ix_follow.specs.declared.answers.FollowFault.{FollowFault}
 use Rattle.ix_follow.specs.declared.answers.FollowFault.TheVariants.{Differs, NotPartial, Full, Over, Memory}
-use Rattle.ix_follow.specs.Following.{Feeds}
+use Rattle.ix_follow.specs.Following.{FollowsLine}
 use Rattle.ix_manage.specs.FollowLines.{Follows, FollowsTo, fed_line, answered, refused, short, ends, lost_answer}
 use Rattle.ix_manage.specs.Puts.{LastLine}
 use Rattle.ix_manage.specs.Trace.{Verdict}
@@ -27,14 +27,14 @@ use Rattle.ix_manage.specs.inside.Refusal.{refusal_line, refusal_status}
 
 -- the same under an equal form and an equal limit
 pub feeds_same : {x y : Form} {limit most : ℕ} {history after : Word} {bytes : List ℕ} {answer : Result Fed FollowFault}
-    → y ≡ x → most ≡ limit → Feeds y most history bytes answer after → Feeds x limit history bytes answer after
+    → y ≡ x → most ≡ limit → FollowsLine y most history bytes answer after → FollowsLine x limit history bytes answer after
 feeds_same {x = x} {most = most} {history = history} {after = after} {bytes = bytes} {answer = answer} form bound fed =
-    subst (λ l. Feeds x l history bytes answer after) bound (subst (λ z. Feeds z most history bytes answer after) form fed)
+    subst (λ l. FollowsLine x l history bytes answer after) bound (subst (λ z. FollowsLine z most history bytes answer after) form fed)
 
 module _ {T : Type 0} (r : Result T EarlyEnd) (s : EngineState) (bytes : List ℕ) (after : Word) (old new : SinkState) where
   -- a line was refused, and nothing was put
   pub fed_refused : (why : FollowFault) → IsErrAnd r (λ e. e ≡ follow_end why)
-      → Feeds s.form s.limit s.history bytes (Err why) after → new.written ≡ old.written
+      → FollowsLine s.form s.limit s.history bytes (Err why) after → new.written ≡ old.written
       → PutsFed s bytes after old new r
   fed_refused why is fed still =
       let p = err_from_is_err_and r is in
@@ -43,7 +43,7 @@ module _ {T : Type 0} (r : Result T EarlyEnd) (s : EngineState) (bytes : List �
 
   -- the put of a line's answer failed
   pub fed_unput : (answer : Fed) → IsErrAnd r (λ e. e ≡ Output)
-      → Feeds s.form s.limit s.history bytes (Ok answer) after
+      → FollowsLine s.form s.limit s.history bytes (Ok answer) after
       → AppendsPart old.written (fed_line answer) new.written → Rose old.faults new.faults
       → PutsFed s bytes after old new r
   fed_unput answer is fed part rose =
@@ -77,7 +77,7 @@ module _ (x : Form) (limit : ℕ) (all rest : List ℕ) (front : List (List ℕ)
       split = sym (so_far ∙ ap (λ lines. front ++ lines) cut)
 
       -- a line that is refused ends it with the refusal's line
-      refuses : (why : FollowFault) (after : Word) → Feeds x limit history bytes (Err why) after
+      refuses : (why : FollowFault) (after : Word) → FollowsLine x limit history bytes (Err why) after
           → FollowsTo x limit (lines_of all) (refusal_status (refusal_of why)) text (refusal_line (refusal_of why))
       refuses (Differs number) after fed = refused (lines_of next) (Differs number) 61 number split follows fed (refl, refl)
       refuses (NotPartial number) after fed = refused (lines_of next) (NotPartial number) 62 number split follows fed (refl, refl)
@@ -92,7 +92,7 @@ module _ (x : Form) (limit : ℕ) (all rest : List ℕ) (front : List (List ℕ)
           → (stop : EarlyEnd) → StopsFed s bytes after was now stop
           → StopsAfter (FollowsLines x limit all) start now stop
       follow_stops s after start was now form most same put_before le (Refused refusal) it =
-          let fed = subst (λ (h : Word). Feeds x limit h bytes (Err it.0) after) same (feeds_same form most it.1) in
+          let fed = subst (λ (h : Word). FollowsLine x limit h bytes (Err it.0) after) same (feeds_same form most it.1) in
           subst (λ r. AwaitsLine (FollowsLines x limit all) (refusal_status r) (refusal_line r) start now) (sym it.2)
           (record {
             before = text;
@@ -103,7 +103,7 @@ module _ (x : Form) (limit : ℕ) (all rest : List ℕ) (front : List (List ℕ)
       follow_stops s after start was now form most same put_before le (Words words) it = absurd it
       follow_stops s after start was now form most same put_before le (OtherExpression kept) it = absurd it
       follow_stops s after start was now form most same put_before le Output it =
-          let fed = subst (λ (h : Word). Feeds x limit h bytes (Ok it.0) after) same (feeds_same form most it.1) in
+          let fed = subst (λ (h : Word). FollowsLine x limit h bytes (Ok it.0) after) same (feeds_same form most it.1) in
           record {
             whole = text;
             part = fed_line it.0;

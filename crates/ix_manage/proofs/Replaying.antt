@@ -42,7 +42,7 @@ use Rattle.ix_manage.specs.Session.{IsNoEnd, IsOver, over, out_of_turns, disk_fa
 use Rattle.ix_manage.specs.inside.Leaves.{AwaitsLine, LeavesOutput}
 use Rattle.ix_manage.specs.inside.Refusal.{refusal_line}
 use Rattle.ix_manage.specs.inside.ReplayProgress.{IsAtStart, IsBetween, OnlyPlays, Player, PutsHistory, ReplaysOn, ReplaysScript}
-use Rattle.ix_manage.specs.inside.ReplayProgress.{HasPlayed, PlaysEvent, disk_stretch, told_by}
+use Rattle.ix_manage.specs.inside.ReplayProgress.{HasPlayed, PlaysEvent, disk_stretch, player_told}
 use Rattle.ix_manage.specs.inside.Progress.{IsStarted, IsEventOutcome, SavesFrom, opening_at}
 use Rattle.ix_manage.specs.declared.refusal.Refusal.TheVariants.{Disk, Turns}
 use Rattle.ix_manage.specs.declared.early_end.EarlyEnd.{EarlyEnd}
@@ -162,11 +162,11 @@ loses_one {conn = conn} (lost {reply = reply} {replies = replies} {s = s} part r
 
 -- what a site tells before its manager sends the replies to an event that it just gave
 abbrev told_before : Player → Player → Contents
-told_before was now = told_by (record was { given = now.given })
+told_before was now = player_told (record was { given = now.given })
 
 -- an event that a manager took of a script's site, none of whose puts had failed
 module _ (old new : ManagerState) (was now : Player) (event : Event) (piece : List ℕ) (ending : Ending)
-    (handled : Handles old event piece ending new (told_before was now) (told_by now))
+    (handled : Handles old event piece ending new (told_before was now) (player_told now))
     (fits : FitsEvent event piece) (none_marked : old.marks ≡ unmarked) (open_sink : was.failed ≡ false)
   where
     open_before : get_or old.marks event.conn false ≡ false
@@ -176,9 +176,9 @@ module _ (old new : ManagerState) (was now : Player) (event : Event) (piece : Li
     within = subst (λ n. event.conn < n) (sym (ap length none_marked ∙ length-replicate 64 false)) fits.0
 
     sends : SendsInOrder (λ reply. SendsWhole event.conn (reply_line reply)) (λ reply. SendsPart event.conn (reply_line reply))
-        (all_replies handled.answers) false (told_before was now) handled.sends.marked (told_by now)
+        (all_replies handled.answers) false (told_before was now) handled.sends.marked (player_told now)
     sends = subst (λ m. SendsInOrder (λ reply. SendsWhole event.conn (reply_line reply)) (λ reply. SendsPart event.conn (reply_line reply))
-        (all_replies handled.answers) m (told_before was now) handled.sends.marked (told_by now)) open_before handled.sends.sends
+        (all_replies handled.answers) m (told_before was now) handled.sends.marked (player_told now)) open_before handled.sends.sends
 
     marked_is : handled.sends.marked ≡ now.failed
     marked_is = let told = lost_told sends (ap Some open_sink) in cc
@@ -196,7 +196,7 @@ pub event_taken : (room : ℕ) (old new : ManagerState) (was between now : Playe
     → between.sink ≡ was.sink → between.failed ≡ was.failed → passed ≡ piece_of event.kind buf
     → FitsBuffer room event → length buf ≡ room
     → IsNextPiece room was.script was.given (given_event event (piece_of event.kind buf))
-    → Handles old event passed ending new (told_by between) (told_by now)
+    → Handles old event passed ending new (player_told between) (player_told now)
     → new.machine.number ≤ old.machine.number + length passed
     → IsBetween old was → IsEventOutcome now.failed ending event.kind outcome
     → ((conn : ℕ) → get_or old.marks conn false ≡ false → get_or new.marks conn false ≡ true
@@ -209,9 +209,9 @@ event_taken room old new was between now buf passed event ending outcome stretch
     let piece : List ℕ = piece_of event.kind buf in
     let fits_event : FitsEvent event piece =
     (fits.0, piece_has event.kind event.conn buf (long ∙ room_is) (subst (λ n. KindFits n event.conn event.kind) (sym long) fits.1)) in
-    let its : Handles old event piece ending new (told_before was now) (told_by now) =
-    subst (λ p. Handles old event p ending new (told_before was now) (told_by now)) passed_is
-    (subst (λ c. Handles old event passed ending new c (told_by now))
+    let its : Handles old event piece ending new (told_before was now) (player_told now) =
+    subst (λ p. Handles old event p ending new (told_before was now) (player_told now)) passed_is
+    (subst (λ c. Handles old event passed ending new c (player_told now))
     (λ i. record { given = Some (same i); sends = None; text = SinkState.written (sink_is i); lost = Some (failed_is i) }) handled) in
     record {
       event = event;
@@ -354,7 +354,7 @@ module _ {old new : ManagerState} {was now : Player} {outcome : EventOutcome} {a
         let opened = open_before old new was now took.event took.piece took.ending took.handled took.fits stands.marks stands.open_sink in
         let inside = within old new was now took.event took.piece took.ending took.handled took.fits stands.marks stands.open_sink in
         let mark = mark_is old new was now took.event took.piece took.ending took.handled took.fits stands.marks stands.open_sink in
-        (run_text_told known was.given stands.answers old took.event took.piece took.ending new (told_before was now) (told_by now)
+        (run_text_told known was.given stands.answers old took.event took.piece took.ending new (told_before was now) (player_told now)
         took.handled (run_lengths stands.follows.run) inside opened stands.text).0 (mark ∙ none_lost)
         ∙ ap (λ taken. append_known known (run_text taken answers)) (sym took.given)
 

@@ -11,7 +11,7 @@ use Rattle.ix_values.specs.Texts.{IsAction}
 use Rattle.ix_values.specs.declared.tickets.Ticket.{Ticket}
 use Rattle.ix_journal.specs.Entries.{IsEntry as IsRecord, fresh, marks_of, pairs_of}
 use Rattle.ix_journal.specs.History.{PlainHistory, Spent, actions_of}
-use Rattle.ix_journal.specs.Recovery.{HoldsBoots, Keeps, Recovers}
+use Rattle.ix_journal.specs.Recovery.{HoldsBoots, KeepsRecords, Recovers}
 use Rattle.ix_journal.specs.inside.Counting.{AreSound}
 use Rattle.ix_journal.specs.declared.entries.Renewed.{Renewed}
 use Rattle.ix_journal.proofs.OrderLemmas.{sound-all, sound-fresh}
@@ -93,7 +93,7 @@ record_actions (record_of.Spent ticket a ∷ entries) valid =
 record_actions (record_of.Plain a ∷ entries) valid =
     item (All-head IsRecord (record_of.Plain a) entries valid) (record_actions entries (All-tail IsRecord (record_of.Plain a) entries valid))
 
-kept_actions : {image : List ℕ} {entries : List Record} → Keeps image entries → Each IsAction (actions_of (pairs_of entries))
+kept_actions : {image : List ℕ} {entries : List Record} → KeepsRecords image entries → Each IsAction (actions_of (pairs_of entries))
 kept_actions (recovery.unfinished image is) = no_item
 kept_actions (recovery.unopened image text is) = no_item
 kept_actions (recovery.ready image text entries gate is) = record_actions entries is.closes.records.valid
@@ -108,7 +108,7 @@ run_actions (runs.takes given completed told run completes steps) kept =
     let has = run_actions run kept in steps_actions steps (record { kept = has.kept; held = has.held })
 
 -- a journal that holds boots carries no more actions than they stand for
-holds_sound : {image : List ℕ} {entries : List Record} → Keeps image entries → AreSound (marks_of entries)
+holds_sound : {image : List ℕ} {entries : List Record} → KeepsRecords image entries → AreSound (marks_of entries)
 holds_sound (recovery.unfinished image is) = sound-fresh
 holds_sound (recovery.unopened image text is) = sound-fresh
 holds_sound (recovery.ready image text entries gate is) = sound-all fresh entries sound-fresh is.closes.records.valid is.closes.records.order

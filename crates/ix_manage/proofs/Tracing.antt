@@ -16,7 +16,7 @@ use Rattle.ix_outside.specs.SinkState.{SinkState}
 use Rattle.ix_outside.proofs.Counting.{Rose-earlier}
 use Rattle.ix_manage.specs.ActionLines.{HasActions, line}
 use Rattle.ix_lines.specs.TextLines.{lines_of}
-use Rattle.ix_manage.specs.Trace.{Answers, Verdict, answered, short, lost_answer}
+use Rattle.ix_manage.specs.Trace.{TraceAnswers, Verdict, answered, short, lost_answer}
 use Rattle.ix_manage.specs.Ends.{Ended}
 use Rattle.ix_manage.specs.Puts.{LastLine}
 use Rattle.ix_manage.specs.declared.early_end.EarlyEnd.{EarlyEnd}
@@ -113,7 +113,7 @@ all_actions all rest front so_far good =
 module _ (x : Form) (limit : ℕ) (all rest : List ℕ) (front history : Word) (text : List ℕ) where
   -- memory runs out with some lines left
   trace_short : StandBefore all rest front → Each IsActionText (lines_of rest)
-      → Answers x limit [] front text history
+      → TraceAnswers x limit [] front text history
       → (status : ℕ) (whole part : List ℕ)
       → LastLine 9 text (line (codes "refused memory")) status whole part
       → TracesLines x limit all status whole part None
@@ -128,7 +128,7 @@ module _ (x : Form) (limit : ℕ) (all rest : List ℕ) (front history : Word) (
   -- the put of the answers that are held fails
   trace_lost : (start now : SinkState)
       → StandBefore all rest front → Each IsActionText (lines_of rest)
-      → Answers x limit [] front text history → front ≢ []
+      → TraceAnswers x limit [] front text history → front ≢ []
       → AppendsPart start.written text now.written → Rose start.faults now.faults
       → Ended (TracesLines x limit all) 10 start now
   trace_lost start now so_far good answers some part rose =
@@ -155,7 +155,7 @@ module _ (x : Form) (limit : ℕ) (all rest : List ℕ) (front history : Word) (
 
   -- all actions are answered
   pub trace_ends : (last : List ℕ) → length rest ≡ 0 → StandBefore all rest front
-      → Answers x limit [] front text history → Verdict x history last
+      → TraceAnswers x limit [] front text history → Verdict x history last
       → (status : ℕ) (whole part : List ℕ) → LastLine 0 text last status whole part
       → TracesLines x limit all status whole part None
   trace_ends last none so_far answers verdict status whole part put_last = record {
@@ -168,7 +168,7 @@ module _ (x : Form) (limit : ℕ) (all rest : List ℕ) (front history : Word) (
   -- an action isn't answered, since memory ran out, or the put of the answers that are held failed
   pub trace_stops : (put held : List ℕ) (start was now : SinkState) → put ++ held ≡ text
       → StandBefore all rest front → Each IsActionText (lines_of rest)
-      → Answers x limit [] front text history
+      → TraceAnswers x limit [] front text history
       → was.written ≡ append_known start.written put → start.faults ≤ was.faults
       → (stop : EarlyEnd) → StopsAnswer held was now stop
       → StopsAfter (TracesLines x limit all) start now stop

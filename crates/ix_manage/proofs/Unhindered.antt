@@ -249,7 +249,7 @@ module _ (x : Form) (limit : ℕ) (file : List ℕ) (can : CanBeRenewed x limit 
   own_journal = image.ready can.history can.marks can.journal.gate kept_journal
 
   keeps_of : {history : PlainHistory} {marks : Marks} (of : IsJournalOf x file history marks)
-      → recovery.Keeps file of.journal.entries
+      → recovery.KeepsRecords file of.journal.entries
   keeps_of of = recovery.ready file (canonical_text x) of.journal.entries of.gate of.journal.journal
 
   recovers_of : {history : PlainHistory} {marks : Marks} → IsJournalOf x file history marks → Recovers file history

@@ -6,10 +6,10 @@ use Rattle.ix_values.specs.PlainAction.{PlainAction, Word}
 use Rattle.ix_expr.specs.Form.{Form}
 use Rattle.ix_can.specs.TreeOf.{tree_size}
 use Rattle.ix_engine.specs.Allowed.{IsAllowed}
-use Rattle.ix_engine.specs.inside.Engine.{Allows, EngineState, Permits, extended}
-use Rattle.ix_generate.specs.Workload.{Ask, PlainWorkload, action_of, begun, behind_draw, drawn}
+use Rattle.ix_engine.specs.inside.Engine.{Allows, EngineState, Permits, extended_by}
+use Rattle.ix_generate.specs.Workload.{Ask, PlainWorkload, asked_action, begun_workload, behind_draw, drawn}
 use Rattle.ix_generate.specs.Workload.{with_granted}
-use Rattle.ix_generate.specs.History.{Runs, begins, generator_behind}
+use Rattle.ix_generate.specs.History.{RunsWorkload, begins, generator_behind}
 use Rattle.ix_generate.specs.History.{granted as more_granted, refused as more_refused}
 use Rattle.ix_generate.proofs.Draws.{begun_generator, drawn_generator, drawn_then}
 use Rattle.ix_generate.proofs.Draws.{granted_generator}
@@ -18,18 +18,18 @@ use Rattle.ix_manage.specs.inside.Working.{AsksNext, HasAsked, granted, refused}
 
 -- an ask that is allowed is granted, and joins the history
 pub allowed_granted : (s : EngineState) (old new : PlainWorkload) (a joined : PlainAction) (after : Word)
-    → a ≡ action_of (drawn old) → Allows s a → joined ≡ a → after ≡ extended s joined
+    → a ≡ asked_action (drawn old) → Allows s a → joined ≡ a → after ≡ extended_by s joined
     → new ≡ with_granted (behind_draw old) (drawn old)
     → AsksNext s old true after new
 allowed_granted s old new a joined after drawn_is allows same longer then =
     subst (AsksNext s old true after) (sym then)
     (subst (λ history. AsksNext s old true history (with_granted (behind_draw old) (drawn old)))
-    (sym (longer ∙ ap (extended s) (same ∙ drawn_is)))
+    (sym (longer ∙ ap (extended_by s) (same ∙ drawn_is)))
     (granted (subst (Allows s) drawn_is allows)))
 
 -- one that isn't is refused, and leaves the history
 not_allowed : (s : EngineState) (old new : PlainWorkload) (a : PlainAction) (after : Word)
-    → a ≡ action_of (drawn old) → ¬ Allows s a → after ≡ s.history → new ≡ behind_draw old
+    → a ≡ asked_action (drawn old) → ¬ Allows s a → after ≡ s.history → new ≡ behind_draw old
     → AsksNext s old false after new
 not_allowed s old new a after drawn_is not same then =
     subst (AsksNext s old false after) (sym then)
@@ -37,7 +37,7 @@ not_allowed s old new a after drawn_is not same then =
     (refused (λ allows. not (subst (Allows s) (sym drawn_is) allows))))
 
 module _ (s : EngineState) (old new : PlainWorkload) (a : PlainAction) (after : Word)
-    (drawn_is : a ≡ action_of (drawn old)) (same : after ≡ s.history) (then : new ≡ behind_draw old)
+    (drawn_is : a ≡ asked_action (drawn old)) (same : after ≡ s.history) (then : new ≡ behind_draw old)
   where
     pub unpermitted_refused : ¬ Permits s a → AsksNext s old false after new
     unpermitted_refused not =
@@ -47,7 +47,7 @@ module _ (s : EngineState) (old new : PlainWorkload) (a : PlainAction) (after : 
     full_refused full = not_allowed s old new a after drawn_is
         (λ allows. (let room = allows.room in absurd (omega (arith, room, full)))) same then
 
-    pub large_refused : s.limit < tree_size s.form (extended s a) → AsksNext s old false after new
+    pub large_refused : s.limit < tree_size s.form (extended_by s a) → AsksNext s old false after new
     large_refused large = not_allowed s old new a after drawn_is
         (λ allows. (let within = allows.within in absurd (omega (arith, within, large)))) same then
 
@@ -60,7 +60,7 @@ all_counted {seed = seed} (grant {count = count} {granted = asks} before allowed
 all_counted (refuse before not) = omega (arith, all_counted before)
 
 pub begins_behind : (x : Form) (limit seed : ℕ) (history : Word) → history ≡ []
-    → HasAsked x limit seed 0 0 0 history (begun seed)
+    → HasAsked x limit seed 0 0 0 history (begun_workload seed)
 begins_behind x limit seed history empty = record {
   asks = [];
   asked = none;
@@ -80,9 +80,9 @@ module _ (x : Form) (limit seed count granted_so_far refused_so_far : ℕ) (engi
     drawn_is : drawn workload ≡ ask
     drawn_is = drawn_then seed count it.asks workload it.runs it.drawn_so_far
 
-    allowed_is : Allows engine (action_of (drawn workload))
-        ≡ IsAllowed x limit (history_of it.asks) (action_of ask)
-    allowed_is = λ i. IsAllowed (form i) (most i) (it.history_is i) (action_of (drawn_is i))
+    allowed_is : Allows engine (asked_action (drawn workload))
+        ≡ IsAllowed x limit (history_of it.asks) (asked_action ask)
+    allowed_is = λ i. IsAllowed (form i) (most i) (it.history_is i) (asked_action (drawn_is i))
 
     generator_is : (behind_draw workload).generator
         ≡ generator_behind seed (suc count)
@@ -95,9 +95,9 @@ module _ (x : Form) (limit seed count granted_so_far refused_so_far : ℕ) (engi
       asks = it.asks ++ ask ∷ [];
       asked = grant it.asked (subst (λ (T : Type 0). T) allowed_is allows);
       granted_is = omega (arith, it.granted_is, length_push it.asks ask);
-      history_is = ap₂ (λ history a. history ++ action_of a ∷ []) it.history_is drawn_is
-          ∙ sym (map_push action_of it.asks ask);
-      runs = subst (λ a. Runs seed (it.asks ++ a ∷ []) (with_granted (behind_draw workload) (drawn workload))) drawn_is
+      history_is = ap₂ (λ history a. history ++ asked_action a ∷ []) it.history_is drawn_is
+          ∙ sym (map_push asked_action it.asks ask);
+      runs = subst (λ a. RunsWorkload seed (it.asks ++ a ∷ []) (with_granted (behind_draw workload) (drawn workload))) drawn_is
           (more_granted it.runs);
       drawn_so_far = granted_generator (behind_draw workload) (drawn workload) ∙ generator_is;
     }

@@ -1,7 +1,7 @@
 -- The lines of an actions file.
 use Rattle.std.specs.Prelude.{◌≡◌, ℕ, List, [], ◌∷◌, ◌++◌, map}
 use Rattle.ix_words.specs.Each.{Each}
-use Rattle.ix_lines.specs.LineFaults.{IsFirstFault}
+use Rattle.ix_lines.specs.LineFaults.{IsFirstLineFault}
 use Rattle.ix_lines.specs.TextLines.{lines_of}
 use Rattle.ix_values.specs.Faults.{IsActionText, IsFault}
 use Rattle.ix_values.specs.PlainAction.{Word, text_of}
@@ -18,4 +18,4 @@ pub record HasActions (bytes : List ℕ) (actions : Word) : Type 0 where
 
 -- the first line that is no action's text has this fault, whose place is counted in the bytes
 abbrev pub IsFirstActionFault : List ℕ → ℕ → ℕ → Type 0
-IsFirstActionFault bytes code at = IsFirstFault IsActionText IsFault bytes code at
+IsFirstActionFault bytes code at = IsFirstLineFault IsActionText IsFault bytes code at

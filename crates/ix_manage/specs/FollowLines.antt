@@ -9,7 +9,7 @@ use Rattle.ix_follow.specs.declared.answers.Fed.TheVariants.{Other, LeftOut, Ear
 use Rattle.ix_follow.specs.declared.answers.FollowFault.{FollowFault}
 use Rattle.ix_follow.specs.declared.answers.FollowFault.TheVariants.{Differs, NotPartial, Full}
 use Rattle.ix_follow.specs.declared.answers.FollowFault.TheVariants.{Over, Memory}
-use Rattle.ix_follow.specs.Following.{Feeds}
+use Rattle.ix_follow.specs.Following.{FollowsLine}
 use Rattle.ix_manage.specs.ActionLines.{line}
 use Rattle.ix_manage.specs.Puts.{LastLine}
 use Rattle.ix_manage.specs.Trace.{Verdict, fault_line}
@@ -34,7 +34,7 @@ HasCode Memory code number = ⊥
 pub data Follows (x : Form) (limit : ℕ) : List (List ℕ) → List ℕ → Word → Type 0 where
   none : Follows x limit [] [] []
   more : {lines : List (List ℕ)} {text bytes : List ℕ} {history next : Word} (answer : Fed)
-      → Follows x limit lines text history → Feeds x limit history bytes (Ok answer) next
+      → Follows x limit lines text history → FollowsLine x limit history bytes (Ok answer) next
       → Follows x limit (lines ++ bytes ∷ []) (text ++ fed_line answer) next
 
 -- How feeding the lines ends: its status, what is put of the answers, and the last line. All are
@@ -47,12 +47,12 @@ pub data FollowsTo (x : Form) (limit : ℕ) (lines : List (List ℕ)) : ℕ → 
     refused : {front : List (List ℕ)} {bytes text : List ℕ} {history after : Word}
         (rest : List (List ℕ)) (fault : FollowFault) (code number : ℕ)
         → front ++ bytes ∷ rest ≡ lines → Follows x limit front text history
-        → Feeds x limit history bytes (Err fault) after → HasCode fault code number
+        → FollowsLine x limit history bytes (Err fault) after → HasCode fault code number
         → FollowsTo x limit lines 11 text (fault_line (codes "follow") code number)
     short : {front : List (List ℕ)} {bytes text : List ℕ} {history after : Word}
         (rest : List (List ℕ))
         → front ++ bytes ∷ rest ≡ lines → Follows x limit front text history
-        → Feeds x limit history bytes (Err Memory) after
+        → FollowsLine x limit history bytes (Err Memory) after
         → FollowsTo x limit lines 9 text (line (codes "refused memory"))
 
 -- what `follow` may put for a form, a limit and lines, by the status: where the put of an answer
@@ -65,7 +65,7 @@ pub data FollowEnds (x : Form) (limit : ℕ) (lines : List (List ℕ)) : ℕ →
     lost_answer : {front : List (List ℕ)} {bytes whole : List ℕ} {history after : Word}
         (rest : List (List ℕ)) (answer : Fed)
         → front ++ bytes ∷ rest ≡ lines → Follows x limit front whole history
-        → Feeds x limit history bytes (Ok answer) after
+        → FollowsLine x limit history bytes (Ok answer) after
         → FollowEnds x limit lines 10 whole (fed_line answer)
 
 -- the file of this name has these bytes, within the length of a file of lines

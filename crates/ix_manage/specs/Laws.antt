@@ -43,7 +43,7 @@ use Rattle.ix_manage.specs.FollowLines.{FollowsTo, ReadsLines}
 use Rattle.ix_manage.specs.Replay.{EndsWithin, Plays, ReadsEvents, session_text}
 use Rattle.ix_manage.specs.Renewals.{CanBeRenewed, IsMade, ReadsJournal, renewed_line}
 use Rattle.ix_manage.specs.Session.{IsOver, Session, Takes, history_line}
-use Rattle.ix_manage.specs.Trace.{Answers, ReadsActions, ReadsForm, ReadsPlaced, Starts, Verdict}
+use Rattle.ix_manage.specs.Trace.{TraceAnswers, ReadsActions, ReadsForm, ReadsPlaced, Starts, Verdict}
 use Rattle.ix_manage.specs.Work.{Asked, history_of, work_line}
 
 -- a run can start from a file: one that was absent, and has no bytes, or one that is startable
@@ -127,13 +127,13 @@ pub data EndsWhole (around : Around) : Job → ℕ → List ℕ → Option Sessi
   short : {expression actions : List ℕ} {limit : ℕ} {x : Form} {front history : Word}
       {text : List ℕ} (rest : Word)
       → Starts around.files expression limit x → ReadsActions around.files actions (front ++ rest)
-      → Answers x limit [] front text history
+      → TraceAnswers x limit [] front text history
       → EndsWhole around (trace expression actions limit) 9
       (text ++ line (codes "refused memory")) None
   traced : {expression actions : List ℕ} {limit : ℕ} {x : Form} {word history : Word}
       {text last : List ℕ}
       → Starts around.files expression limit x → ReadsActions around.files actions word
-      → Answers x limit [] word text history → Verdict x history last
+      → TraceAnswers x limit [] word text history → Verdict x history last
       → EndsWhole around (trace expression actions limit) 0 (text ++ last) None
   replayed : {expression journal script : List ℕ} {limit turns : ℕ} {x : Form}
       {events : List GivenEvent} {session : Session}

@@ -15,26 +15,26 @@ use Rattle.ix_manage.specs.Puts.{LastLine}
 -- action that isn't permitted is answered `no`; any other `full` where the history has 1,000,000
 -- actions, else `large` where the Size of the tree of the history with it is above the limit, and
 -- else `yes`. A `yes` action joins the history.
-pub data Answers (x : Form) (limit : ℕ) : Word → Word → List ℕ → Word → Type 0 where
-  done : {history : Word} → Answers x limit history [] [] history
+pub data TraceAnswers (x : Form) (limit : ℕ) : Word → Word → List ℕ → Word → Type 0 where
+  done : {history : Word} → TraceAnswers x limit history [] [] history
   no : {history actions after : Word} {action : PlainAction} {text : List ℕ}
       → (IsPermitted x history action → ⊥)
-      → Answers x limit history actions text after
-      → Answers x limit history (action ∷ actions) (line (codes "no") ++ text) after
+      → TraceAnswers x limit history actions text after
+      → TraceAnswers x limit history (action ∷ actions) (line (codes "no") ++ text) after
   full : {history actions after : Word} {action : PlainAction} {text : List ℕ}
       → IsPermitted x history action → length history ≡ 1000000
-      → Answers x limit history actions text after
-      → Answers x limit history (action ∷ actions) (line (codes "full") ++ text) after
+      → TraceAnswers x limit history actions text after
+      → TraceAnswers x limit history (action ∷ actions) (line (codes "full") ++ text) after
   large : {history actions after : Word} {action : PlainAction} {text : List ℕ}
       → IsPermitted x history action → length history < 1000000
       → limit < tree_size x (history ++ action ∷ [])
-      → Answers x limit history actions text after
-      → Answers x limit history (action ∷ actions) (line (codes "large") ++ text) after
+      → TraceAnswers x limit history actions text after
+      → TraceAnswers x limit history (action ∷ actions) (line (codes "large") ++ text) after
   yes : {history actions after : Word} {action : PlainAction} {text : List ℕ}
       → IsPermitted x history action → length history < 1000000
       → tree_size x (history ++ action ∷ []) ≤ limit
-      → Answers x limit (history ++ action ∷ []) actions text after
-      → Answers x limit history (action ∷ actions) (line (codes "yes") ++ text) after
+      → TraceAnswers x limit (history ++ action ∷ []) actions text after
+      → TraceAnswers x limit history (action ∷ actions) (line (codes "yes") ++ text) after
 
 -- the last line
 pub data Verdict (x : Form) (history : Word) : List ℕ → Type 0 where
@@ -100,15 +100,15 @@ large_line limit = line (codes "refused expression 14 large " ++ decimal limit)
 -- so; where the put of an answer failed, the answers before it.
 pub data Traces (x : Form) (limit : ℕ) (actions : Word) : ℕ → List ℕ → List ℕ → Type 0 where
   answered : {history : Word} {text last : List ℕ} {status : ℕ} {whole part : List ℕ}
-      → Answers x limit [] actions text history → Verdict x history last
+      → TraceAnswers x limit [] actions text history → Verdict x history last
       → LastLine 0 text last status whole part
       → Traces x limit actions status whole part
   short : {front history : Word} {text : List ℕ} {status : ℕ} {whole part : List ℕ} (rest : Word)
-      → front ++ rest ≡ actions → Answers x limit [] front text history
+      → front ++ rest ≡ actions → TraceAnswers x limit [] front text history
       → LastLine 9 text (line (codes "refused memory")) status whole part
       → Traces x limit actions status whole part
   lost_answer : {front history after : Word} {action : PlainAction} {whole part : List ℕ}
       (rest : Word)
-      → front ++ action ∷ rest ≡ actions → Answers x limit [] front whole history
-      → Answers x limit history (action ∷ []) part after
+      → front ++ action ∷ rest ≡ actions → TraceAnswers x limit [] front whole history
+      → TraceAnswers x limit history (action ∷ []) part after
       → Traces x limit actions 10 whole part

@@ -6,7 +6,7 @@ use Rattle.ix_expr.specs.Form.{Form}
 use Rattle.ix_parse.specs.Faults.{StandsFor}
 use Rattle.ix_can.specs.TreeOf.{tree_size}
 use Rattle.ix_engine.specs.Allowed.{IsAllowed}
-use Rattle.ix_generate.specs.Workload.{Ask, action_of, examinations}
+use Rattle.ix_generate.specs.Workload.{Ask, asked_action, examinations}
 use Rattle.ix_generate.specs.History.{ask_behind, number_behind}
 use Rattle.ix_manage.specs.ActionLines.{line}
 use Rattle.ix_manage.specs.Puts.{LastLine}
@@ -18,17 +18,17 @@ next_ask seed count granted = ask_behind granted (number_behind seed count)
 
 -- the history of granted asks: their actions
 abbrev pub history_of : List Ask → Word
-history_of granted = map action_of granted
+history_of granted = map asked_action granted
 
 -- So many asks of the workload of a seed, with their answers: these were granted, and so many were
 -- refused. An ask is granted exactly where its action is allowed behind those granted before.
 pub data Asked (x : Form) (limit seed : ℕ) : ℕ → List Ask → ℕ → Type 0 where
   none : Asked x limit seed 0 [] 0
   grant : {count refused : ℕ} {granted : List Ask} → Asked x limit seed count granted refused
-      → IsAllowed x limit (history_of granted) (action_of (next_ask seed count granted))
+      → IsAllowed x limit (history_of granted) (asked_action (next_ask seed count granted))
       → Asked x limit seed (suc count) (granted ++ next_ask seed count granted ∷ []) refused
   refuse : {count refused : ℕ} {granted : List Ask} → Asked x limit seed count granted refused
-      → ¬ IsAllowed x limit (history_of granted) (action_of (next_ask seed count granted))
+      → ¬ IsAllowed x limit (history_of granted) (asked_action (next_ask seed count granted))
       → Asked x limit seed (suc count) granted (suc refused)
 
 -- the line at the end: how many asks there were, were granted and were refused, and the Size of the

@@ -6,7 +6,7 @@ use Rattle.ix_lease.specs.declared.Slot.TheVariants.{Held}
 use Rattle.ix_lines.specs.Items.{line, too_long}
 use Rattle.ix_watch.specs.inside.Watches.{changes_of}
 use Rattle.ix_proto.specs.Requests.{PlainRequest, IsRequest, request_words, confirm, poll, stop}
-use Rattle.ix_proto.specs.inside.Lends.{Lends, Reads}
+use Rattle.ix_proto.specs.inside.Lends.{LendsRequest, Reads}
 use Rattle.ix_proto.specs.RequestFaults.{IsRequestFault}
 use Rattle.ix_lines.specs.Words.{words_of}
 use Rattle.ix_proto.specs.declared.reply.Reply.{Reply}
@@ -26,19 +26,19 @@ use Rattle.ix_manager.proofs.HistoryLemmas.{number_rises, step_reserves}
 use Rattle.ix_manager.specs.inside.WireState.{WireState, SendsAll, AnswersItem, AnswersRequest, poll_replies}
 
 -- a request that lends a poll's name lends no other request's texts
-pub lends_poll : (request : Request) (name : List ℕ) (plain : PlainRequest) → Lends request (poll name) → Lends request plain → plain ≡ poll name
+pub lends_poll : (request : Request) (name : List ℕ) (plain : PlainRequest) → LendsRequest request (poll name) → LendsRequest request plain → plain ≡ poll name
 lends_poll (Poll bytes) name (poll other) h k = ap poll (sym k ∙ h)
 lends_poll (Poll bytes) name _ h k = absurd k
 lends_poll _ name _ h k = absurd h
 
 -- a request that lends `stop` lends no other request's texts
-pub lends_stop : (request : Request) (plain : PlainRequest) → Lends request stop → Lends request plain → plain ≡ stop
+pub lends_stop : (request : Request) (plain : PlainRequest) → LendsRequest request stop → LendsRequest request plain → plain ≡ stop
 lends_stop Stop stop h k = refl
 lends_stop Stop _ h k = absurd k
 lends_stop _ _ h k = absurd h
 
 -- behind each other request the run goes on
-pub lends_going : (request : Request) (plain : PlainRequest) → ¬ Lends request stop → Lends request plain → ending_of plain ≡ going
+pub lends_going : (request : Request) (plain : PlainRequest) → ¬ LendsRequest request stop → LendsRequest request plain → ending_of plain ≡ going
 lends_going request stop none lends = absurd (none lends)
 lends_going request _ none lends = refl
 
@@ -57,9 +57,9 @@ poll_step old between new name plain state form limit tells is =
 
 -- each line of a request that lends so makes the step that ends so
 pub line_steps : (old new : Core) (request : Request) (go : Go) (replies : List Reply)
-    → ((plain : PlainRequest) → IsRequest plain → Lends request plain → Step old.form old.limit old.state plain replies new.state)
-    → ((plain : PlainRequest) → Lends request plain → ending_of plain ≡ ending_after go)
-    → (plain : PlainRequest) → IsRequest plain → Lends request plain → (bytes : List ℕ) → words_of bytes ≡ request_words plain
+    → ((plain : PlainRequest) → IsRequest plain → LendsRequest request plain → Step old.form old.limit old.state plain replies new.state)
+    → ((plain : PlainRequest) → LendsRequest request plain → ending_of plain ≡ ending_after go)
+    → (plain : PlainRequest) → IsRequest plain → LendsRequest request plain → (bytes : List ℕ) → words_of bytes ≡ request_words plain
     → ItemStep old.form old.limit old.state (line bytes) replies new.state (ending_after go)
 line_steps old new request go replies steps ends plain valid lends bytes same =
     subst (λ e. ItemStep old.form old.limit old.state (line bytes) replies new.state e) (ends plain lends)
@@ -99,7 +99,7 @@ stop_answered conn request old new before after answers sends = record {
 -- a poll is answered
 abbrev pub poll_answered : (conn : ℕ) (request : Request) (name : List ℕ)
     (old between new : Core) (before after : WireState)
-    → Lends request (poll name)
+    → LendsRequest request (poll name)
     → between.state ≡ old.state → between.form ≡ old.form → between.limit ≡ old.limit
     → TellsPoll between name new → SendsAll conn (poll_replies (changes_of name between.noted)) before after
     → AnswersRequest conn request going (poll_replies (changes_of name between.noted)) old new before after
@@ -117,7 +117,7 @@ poll_answered conn request name old between new before after lends state form li
 
 -- a confirm lends a confirm of its ticket
 pub lends_confirm : (ticket : Ticket) (P : PlainRequest → Type 0) → P (confirm ticket)
-    → (plain : PlainRequest) → Lends (Confirm ticket) plain → P plain
+    → (plain : PlainRequest) → LendsRequest (Confirm ticket) plain → P plain
 lends_confirm ticket P p (confirm other) lends = subst (λ (t : Ticket). P (confirm t)) lends p
 lends_confirm ticket P p _ lends = absurd lends
 

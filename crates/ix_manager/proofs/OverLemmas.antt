@@ -19,12 +19,12 @@ use Rattle.ix_outside.specs.inside.DiskCalls.{DiskCalls, LeavesOnly, span}
 use Rattle.ix_outside.proofs.Passing.{DiskCalls-none}
 use Rattle.ix_proto.specs.Requests.{confirm}
 use Rattle.ix_proto.specs.RequestFaults.{IsRequestFault}
-use Rattle.ix_proto.specs.inside.Lends.{Lends, Reads}
+use Rattle.ix_proto.specs.inside.Lends.{LendsRequest, Reads}
 use Rattle.ix_proto.specs.declared.reply.Reply.{Reply}
 use Rattle.ix_proto.specs.declared.reply.Reply.TheVariants as reply
 use Rattle.ix_proto.specs.declared.request.Request.{Request}
 use Rattle.ix_proto.specs.declared.request.Request.TheVariants.{Confirm}
-use Rattle.ix_store.specs.inside.Keeping.{Fits, IsWithOrWithout}
+use Rattle.ix_store.specs.inside.Keeping.{FitsFile, IsWithOrWithout}
 use Rattle.ix_store.specs.inside.KeptBy.{kept}
 use Rattle.ix_manager.specs.Machine as machine
 use Rattle.ix_manager.specs.Machine.{MachineState, count}
@@ -78,13 +78,13 @@ refused_over ticket one j site crashes lawful fits does = record {
 module _ (ticket : Ticket) (action : PlainAction) (old new : Journaled) (before after : SiteState) (was is : Crashes)
     (lawful : AreLawful after is) (fits : FitsJournal old before was) (finds : Finds old.machine ticket (Taken action))
     (calls : DiskCalls (span before after was is))
-    (images : (text : List ℕ) (history : PlainHistory) → Fits before was (kept old.store) text history
+    (images : (text : List ℕ) (history : PlainHistory) → FitsFile before was (kept old.store) text history
     → ForSome before.disk
     (λ _. LeavesOnly (IsWithOrWithout text history (kept old.store).marks (entry.Spent ticket action)) (span before after was is))) where
   -- the action was appended
   pub confirmed_over : (one : Reply) → Commits old.machine ticket one new.machine
-      → ((text : List ℕ) (history : PlainHistory) → Fits before was (kept old.store) text history
-      → Fits after is (kept new.store) text (history ++ (Some ticket, action) ∷ []))
+      → ((text : List ℕ) (history : PlainHistory) → FitsFile before was (kept old.store) text history
+      → FitsFile after is (kept new.store) text (history ++ (Some ticket, action) ∷ []))
       → (kept new.store).marks ≡ behind (kept old.store).marks (entry.Spent ticket action)
       → (kept new.store).failed ≡ false
       → ConfirmsOver ticket (Ok one) old new (span before after was is)
@@ -261,13 +261,13 @@ long_over conn told j before after p q lawful lawful' fits only is sends =
     }
 
 -- a request that lends a confirm's ticket is that confirm
-is_confirm : (request : Request) (ticket : Ticket) (P : Request → Type 0) → Lends request (confirm ticket) → P (Confirm ticket) → P request
+is_confirm : (request : Request) (ticket : Ticket) (P : Request → Type 0) → LendsRequest request (confirm ticket) → P (Confirm ticket) → P request
 is_confirm (Confirm number) ticket P lends p = subst (λ (t : Ticket). P (Confirm t)) (sym lends) p
 is_confirm _ ticket P lends p = absurd lends
 
 -- a request that is a confirm
 pub confirm_request : (conn : ℕ) (request : Request) (ticket : Ticket) (result : Result Go Stop) (old mid new : Journaled) (before after : WireState) (p q : Crashes)
-    → Lends request (confirm ticket) → mid ≡ old → OverJournal (AnswersRequest conn (Confirm ticket)) result mid new (wire_span before after p q)
+    → LendsRequest request (confirm ticket) → mid ≡ old → OverJournal (AnswersRequest conn (Confirm ticket)) result mid new (wire_span before after p q)
     → OverJournal (AnswersRequest conn request) result old new (wire_span before after p q)
 confirm_request conn request ticket result old mid new before after p q lends same over =
     is_confirm request ticket (λ r. OverJournal (AnswersRequest conn r) result old new (wire_span before after p q)) lends

@@ -5,7 +5,7 @@ use Rattle.std.proofs.lemmas.Bool.{cases_lt}
 use Rattle.std.proofs.lemmas.List.{take_all, take-append-le}
 use Rattle.ix_values.specs.PlainAction.{PlainAction, Word}
 use Rattle.ix_journal.specs.Entries.{AreFew}
-use Rattle.ix_journal.specs.Recovery.{Keeps, unfinished, unopened, ready}
+use Rattle.ix_journal.specs.Recovery.{KeepsRecords, unfinished, unopened, ready}
 use Rattle.ix_journal.specs.declared.entries.Entry.{Entry}
 use Rattle.ix_expr.specs.Form.{Form}
 use Rattle.ix_expr.specs.Meaning.{IsPartial}
@@ -16,7 +16,7 @@ use Rattle.ix_manager.specs.Images.{IsWithin, EachPrefixIsWithin}
 use Rattle.ix_manager.specs.Starts.{IsReached, IsNoWord, IsHeavy}
 
 -- the records that a file keeps aren't too many
-pub few_kept : (file : List ℕ) (entries : List Entry) → Keeps file entries → AreFew entries
+pub few_kept : (file : List ℕ) (entries : List Entry) → KeepsRecords file entries → AreFew entries
 few_kept file _ (unfinished _ is) = record { actions = omega arith; boots = omega arith }
 few_kept file _ (unopened _ text is) = record { actions = omega arith; boots = omega arith }
 few_kept file entries (ready _ text _ gate journal) = journal.closes.few

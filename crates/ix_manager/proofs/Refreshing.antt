@@ -6,7 +6,7 @@ use Rattle.ix_words.specs.Each.{Each, no_item, item}
 use Rattle.ix_engine.specs.inside.Engine.{EngineState, Allows}
 use Rattle.ix_watch.specs.inside.Watches.{PlainWatch, noted}
 use Rattle.ix_manager.specs.Machine.{Tells, HasNoWatch}
-use Rattle.ix_manager.specs.inside.Core.{watch_of}
+use Rattle.ix_manager.specs.inside.Core.{core_watch}
 use Rattle.ix_manager.specs.inside.Does.{IsNoted}
 
 -- an answer that is true exactly where P holds tells it
@@ -23,10 +23,10 @@ some_of None h = elim h [ ]
 some_of (Some watch) h = (watch, refl, h)
 
 -- noting keeps the watches
-pub noted-kept : (watches : List PlainWatch) (index : ℕ) (now : Bool) → map watch_of (noted watches index now) ≡ map watch_of watches
+pub noted-kept : (watches : List PlainWatch) (index : ℕ) (now : Bool) → map core_watch (noted watches index now) ≡ map core_watch watches
 noted-kept [] index now = refl
 noted-kept (watch ∷ watches) zero now = refl
-noted-kept (watch ∷ watches) (suc index) now = ap (λ ws. watch_of watch ∷ ws) (noted-kept watches index now)
+noted-kept (watch ∷ watches) (suc index) now = ap (λ ws. core_watch watch ∷ ws) (noted-kept watches index now)
 
 pub length-noted : (watches : List PlainWatch) (index : ℕ) (now : Bool) → length (noted watches index now) ≡ length watches
 length-noted [] index now = refl
@@ -60,7 +60,7 @@ module _ (G : PlainWatch → Type 0) where
 
 -- a watch of the name is there
 pub has_watch : (name : List ℕ) (watches : List PlainWatch) (index : ℕ) (watch : PlainWatch) → slice_get watches index ≡ Some watch
-    → watch.name ≡ name → HasNoWatch name (map watch_of watches) → ⊥
+    → watch.name ≡ name → HasNoWatch name (map core_watch watches) → ⊥
 has_watch name [] index watch is named none = cc
 has_watch name (first ∷ watches) zero watch is named (item not_first rest) =
     let first_is : first ≡ watch = cc in not_first (subst (λ (w : PlainWatch). w.name ≡ name) (sym first_is) named)
@@ -73,7 +73,7 @@ on_err (Err fault) p = p
 -- the watches are the old ones, and of the first of them it is noted
 abbrev pub IsNotedUpTo : EngineState → List ℕ → List PlainWatch → ℕ → List PlainWatch → Type 0
 IsNotedUpTo engine name old count watches =
-    (map watch_of watches ≡ map watch_of old)
+    (map core_watch watches ≡ map core_watch old)
     × (length watches ≡ length old)
     × FirstHave (λ (watch : PlainWatch). watch.name ≡ name → Tells (Allows engine watch.action) watch.now) count watches
 

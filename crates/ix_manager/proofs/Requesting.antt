@@ -4,13 +4,13 @@ use Rattle.ix_values.specs.PlainAction.{PlainAction, text_of}
 use Rattle.ix_values.specs.Texts.{IsAction}
 use Rattle.ix_values.proofs.TextsApart.{texts_apart}
 use Rattle.ix_proto.specs.Requests.{PlainRequest, ask, may, watch, drop_watch, IsRequest}
-use Rattle.ix_proto.specs.inside.Lends.{Lends}
+use Rattle.ix_proto.specs.inside.Lends.{LendsRequest}
 use Rattle.ix_proto.specs.declared.request.Request.{Request}
 use Rattle.ix_proto.specs.declared.request.Request.TheVariants as lent
 
 -- a property of the requests that a request may stand for
 abbrev pub OfEach : Request → (PlainRequest → Type 0) → Type 0
-OfEach request P = (plain : PlainRequest) → IsRequest plain → Lends request plain → P plain
+OfEach request P = (plain : PlainRequest) → IsRequest plain → LendsRequest request plain → P plain
 
 -- two actions of one text are the same
 same_action : (text : List ℕ) (a b : PlainAction) → IsAction a → text_of a ≡ text → IsAction b → text ≡ text_of b → a ≡ b

@@ -23,7 +23,7 @@ use Rattle.ix_outside.specs.SiteState.{SiteState, OnlySend}
 use Rattle.ix_outside.specs.inside.DiskCalls.{DiskCalls, KeepsOpened, LeavesOnly, span}
 use Rattle.ix_outside.proofs.Counting.{Rose-later, Rose-earlier}
 use Rattle.ix_outside.proofs.Passing.{Passes-none, Passes-join, LeavesOnly-none, LeavesOnly-join}
-use Rattle.ix_store.specs.inside.Keeping.{Fits, IsWithOrWithout}
+use Rattle.ix_store.specs.inside.Keeping.{FitsFile, IsWithOrWithout}
 use Rattle.ix_store.specs.Keeping.{Keeping}
 use Rattle.ix_manager.specs.declared.faults.Go.{Go}
 use Rattle.ix_manager.specs.declared.faults.Go.TheVariants.{More, Stopped}
@@ -180,7 +180,7 @@ pub fits_reserved : (x : Form) (s after : MachineState) (store : Keeping) (site 
     → after.history ≡ s.history → MayReserve s after → FitsWith x s store site crashes → FitsWith x after store site crashes
 fits_reserved x s after store site crashes same reserves fits = record {
   works = fits.works;
-  fits = subst (λ (h : PlainHistory). Fits site crashes store (canonical_text x) h) (sym same) fits.fits;
+  fits = subst (λ (h : PlainHistory). FitsFile site crashes store (canonical_text x) h) (sym same) fits.fits;
   tickets = reserved_on store.marks s after reserves fits.tickets;
 }
 

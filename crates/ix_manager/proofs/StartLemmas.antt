@@ -19,7 +19,7 @@ use Rattle.ix_engine.specs.declared.faults.ResumeFault.{ResumeFault}
 use Rattle.ix_journal.specs.Kinds as kind
 use Rattle.ix_journal.specs.Kinds.{IsUnfinished, IsReady, Kind}
 use Rattle.ix_journal.specs.Recovery as recovery
-use Rattle.ix_journal.specs.Recovery.{IsJournal, HoldsBoots, Recovers, Keeps as KeepsEntries}
+use Rattle.ix_journal.specs.Recovery.{IsJournal, HoldsBoots, Recovers, KeepsRecords as KeepsEntries}
 use Rattle.ix_journal.proofs.KindLaws.{one_kind}
 use Rattle.ix_journal.proofs.OutcomeLaws.{one_history, one_number}
 use Rattle.ix_outside.specs.Crashes.{Crashes, AreLawful}
@@ -28,10 +28,10 @@ use Rattle.ix_outside.specs.SiteState.{SiteState}
 use Rattle.ix_outside.specs.inside.DiskCalls.{DiskCalls, KeepsOpened, LeavesOnly, span}
 use Rattle.ix_store.specs.Opening.{IsNew}
 use Rattle.ix_store.specs.Keeping.{Keeping}
-use Rattle.ix_store.specs.inside.Keeping.{Fits, IsBootedOrNot, booted}
+use Rattle.ix_store.specs.inside.Keeping.{FitsFile, IsBootedOrNot, booted}
 use Rattle.ix_store.specs.inside.Opens.{Opens}
 use Rattle.ix_store.specs.inside.Opens as opening
-use Rattle.ix_store.specs.inside.Refusals.{Refuses}
+use Rattle.ix_store.specs.inside.Refusals.{RefusesFileAs}
 use Rattle.ix_store.specs.inside.Starting.{LeavesOnStart}
 use Rattle.ix_store.specs.declared.fault.OpenFault.{OpenFault}
 use Rattle.ix_store.specs.declared.fault.OpenFault.TheVariants as refused
@@ -79,7 +79,7 @@ not_unfinished at text gate is isnt =
     let same = one_kind at kind.unfinished (kind.ready text gate) isnt is in cc
 
 -- a file that is of the expression's text or unfinished, and keeps records, is one that it may open
-pub own_of : (x : Form) (at : List ℕ) (entries : List Entry) → opening.IsOwn at (canonical_text x) → KeepsEntries at entries → IsOwn x at
+pub own_of : (x : Form) (at : List ℕ) (entries : List Entry) → opening.IsOwnFile at (canonical_text x) → KeepsEntries at entries → IsOwn x at
 own_of x at entries (inl new) keeps = image.new new
 own_of x at _ (inr is) (recovery.unfinished _ unfinished) = absurd (not_unfinished at (canonical_text x) is.0 is.1 unfinished)
 own_of x at _ (inr is) (recovery.unopened _ text unopened) =
@@ -180,7 +180,7 @@ resumed x limit file h marks within allowed few opens = record {
 
 -- the store fits the machine of the boot that it wrote
 pub begun_fits : (x : Form) (h : PlainHistory) (old new : Keeping) (boot : ℕ) (site : SiteState) (crashes : Crashes)
-    → new.failed ≡ false → Fits site crashes new (canonical_text x) h
+    → new.failed ≡ false → FitsFile site crashes new (canonical_text x) h
     → (renewed_of old.marks).boots ≤ old.marks.boots → boot ≡ old.marks.boots + 1 → new.marks ≡ booted old.marks
     → FitsWith x (start_of h (renewed_of old.marks) boot) new site crashes
 begun_fits x h old new boot site crashes works fits within number is = record {
@@ -294,7 +294,7 @@ disk_fault refused.Many fault is same = cc
 disk_fault refused.Memory fault is same = cc
 
 -- why the store wasn't opened
-pub open_fault : (x : Form) (limit : ℕ) (file : List ℕ) (why : OpenFault) → Refuses file (canonical_text x) why
+pub open_fault : (x : Form) (limit : ℕ) (file : List ℕ) (why : OpenFault) → RefusesFileAs file (canonical_text x) why
     → IsStartFault x limit file (open_fault_of why)
 open_fault x limit file refused.Disk facts = tt
 open_fault x limit file refused.NotJournal facts = facts

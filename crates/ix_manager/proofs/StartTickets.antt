@@ -61,7 +61,7 @@ of_boots marks (entry.Spent spent a ∷ entries) order =
     same_boot ticket is = let same : spent ≡ ticket = cc in ap (λ (t : Ticket). t.boot) same
 
 -- the records of a file are in order
-in_order : (bytes : List ℕ) (entries : List Entry) → recovery.Keeps bytes entries → InOrder fresh entries
+in_order : (bytes : List ℕ) (entries : List Entry) → recovery.KeepsRecords bytes entries → InOrder fresh entries
 in_order _ _ (recovery.unfinished bytes is) = tt
 in_order _ _ (recovery.unopened bytes text is) = tt
 in_order _ _ (recovery.ready bytes text entries gate is) = is.closes.records.order

@@ -12,7 +12,7 @@ use Rattle.ix_journal.specs.declared.entries.Renewed.{Renewed}
 use Rattle.ix_expr.specs.Meaning.{IsPartial, IsComplete}
 use Rattle.ix_can.specs.TreeOf.{tree_size}
 use Rattle.ix_engine.specs.Allowed.{IsAllowed, IsPermitted}
-use Rattle.ix_engine.specs.inside.Engine.{EngineState, Allows, Permits, extended}
+use Rattle.ix_engine.specs.inside.Engine.{EngineState, Allows, Permits, extended_by}
 use Rattle.ix_engine.specs.declared.next.Next.{Next}
 use Rattle.ix_lease.specs.Slots.{IsOpenAt, HasTicket}
 use Rattle.ix_lease.specs.declared.Slot.{Slot}
@@ -30,8 +30,8 @@ use Rattle.ix_proto.specs.declared.reply.Reply.TheVariants as reply
 use Rattle.ix_manager.specs.Machine as machine
 use Rattle.ix_manager.specs.Machine.{Step, MachineWatch, MachineState, Tells, IsUnwatched, HasNoWatch}
 use Rattle.ix_manager.specs.Machine.{IsAbsent, IsOpenWith, IsUngranted, next_ticket, word_of}
-use Rattle.ix_manager.specs.inside.Core.{Core, watch_of, IsRefreshed, TellsPoll}
-use Rattle.ix_manager.specs.inside.Ready.{IsReady, Refuses, not_permitted, full, large, memory, IsOpenUpTo}
+use Rattle.ix_manager.specs.inside.Core.{Core, core_watch, IsRefreshed, TellsPoll}
+use Rattle.ix_manager.specs.inside.Ready.{IsReadyFor, RefusesAsk, not_permitted, full, large, memory, IsOpenUpTo}
 use Rattle.ix_manager.specs.inside.Ready.{has_ticket}
 use Rattle.ix_manager.specs.inside.Does.{Does, Refreshes, IsNoted, AddsTold}
 use Rattle.ix_store.proofs.Pairing.{zip-push}
@@ -49,7 +49,7 @@ core_of engine tickets slot watches moment renewed boot number = record {
     history = zip tickets engine.history;
     renewed = renewed;
     slot = slot;
-    watches = map watch_of watches;
+    watches = map core_watch watches;
     moment = moment;
     boot = boot;
     number = number;
@@ -96,19 +96,19 @@ seen_same core core' request one one' same told does =
 -- the action of a reservation is the one that is prepared
 pub ready_action : (engine : EngineState) (tickets : Vec (Option Ticket) Global) (slot : Slot) (pending : Option Next)
     (ticket : Ticket) (a : PlainAction) (deadline : ℕ) (next : Next)
-    → IsReady engine tickets slot pending → slot ≡ Held ticket a deadline → pending ≡ Some next → next.action ≡ a
+    → IsReadyFor engine tickets slot pending → slot ≡ Held ticket a deadline → pending ≡ Some next → next.action ≡ a
 ready_action engine tickets slot pending ticket a deadline next ready held is =
-    (subst (λ (s : Slot). IsReady engine tickets s (Some next)) held
-    (subst (λ (p : Option Next). IsReady engine tickets slot p) is ready)).0.same
+    (subst (λ (s : Slot). IsReadyFor engine tickets s (Some next)) held
+    (subst (λ (p : Option Next). IsReadyFor engine tickets slot p) is ready)).0.same
 
 -- and there is room for it
 pub ready_room : (engine : EngineState) (tickets : Vec (Option Ticket) Global) (slot : Slot) (pending : Option Next)
     (ticket : Ticket) (a : PlainAction) (deadline : ℕ)
-    → IsReady engine tickets slot pending → slot ≡ Held ticket a deadline → length engine.history < 1000000
+    → IsReadyFor engine tickets slot pending → slot ≡ Held ticket a deadline → length engine.history < 1000000
 ready_room engine tickets slot None ticket a deadline ready held =
-    absurd (subst (λ (s : Slot). IsReady engine tickets s None) held ready)
+    absurd (subst (λ (s : Slot). IsReadyFor engine tickets s None) held ready)
 ready_room engine tickets slot (Some next) ticket a deadline ready held =
-    (subst (λ (s : Slot). IsReady engine tickets s (Some next)) held ready).0.follows.room
+    (subst (λ (s : Slot). IsReadyFor engine tickets s (Some next)) held ready).0.follows.room
 
 -- there is room where there isn't none
 pub room_left : (count : ℕ) → count ≤ 1000000 → (count ≡ 1000000 → ⊥) → count < 1000000
@@ -164,13 +164,13 @@ module _ (engine : EngineState) (tickets : List (Option Ticket)) (slot : Slot) (
 
   pub refused_does : (f : EngineState) (tickets' : List (Option Ticket)) (a : PlainAction) (lease : ℕ) (one : Reply)
       → f.form ≡ engine.form → f.history ≡ engine.history → f.limit ≡ engine.limit → tickets' ≡ tickets
-      → ¬ IsOpenAt slot moment → Refuses engine a one
+      → ¬ IsOpenAt slot moment → RefusesAsk engine a one
       → Does old (request.ask a lease) one (core_of f tickets' Free watches moment renewed boot number)
   refused_does f tickets' a lease one p q r t free refuses =
       along f tickets' Free watches number (record old.state { slot = Free }) (request.ask a lease) one p r
       (λ i. record old.state { history = zip (t i) (q i); slot = Free }) (told one refuses) (step one refuses)
     where
-      told : (one : Reply) → Refuses engine a one → CanBeTold one
+      told : (one : Reply) → RefusesAsk engine a one → CanBeTold one
       told _ (not_permitted h) = record { listed = refl; zero_else = λ e. refl }
       told _ (full p e) = record { listed = refl; zero_else = λ e. refl }
       told _ (large p l s) = record { listed = refl; zero_else = λ e. absurd (true≢false e) }
@@ -182,7 +182,7 @@ module _ (engine : EngineState) (tickets : List (Option Ticket)) (slot : Slot) (
       room : length engine.history < 1000000 → length old.state.history < 1000000
       room = subst (λ n. n < 1000000) (sym counts)
 
-      step : (one : Reply) → Refuses engine a one → Step engine.form engine.limit old.state (request.ask a lease) (one ∷ []) (record old.state { slot = Free })
+      step : (one : Reply) → RefusesAsk engine a one → Step engine.form engine.limit old.state (request.ask a lease) (one ∷ []) (record old.state { slot = Free })
       step _ (not_permitted h) = machine.not_permitted free (of_words (λ (w : Word). ¬ IsPermitted engine.form w a) h)
       step _ (full p e) = machine.full free (permits p) (counts ∙ e)
       step _ (large p l s) = machine.large free (permits p) (room l)
@@ -203,7 +203,7 @@ module _ (engine : EngineState) (tickets : List (Option Ticket)) (slot : Slot) (
 
   pub confirmed_does : (f : EngineState) (tickets' : List (Option Ticket)) (slot' : Slot) (ticket : Ticket) (a b : PlainAction)
       (deadline count : ℕ) → f.form ≡ engine.form → f.limit ≡ engine.limit
-      → f.history ≡ extended engine b → tickets' ≡ tickets ++ Some ticket ∷ [] → b ≡ a
+      → f.history ≡ extended_by engine b → tickets' ≡ tickets ++ Some ticket ∷ [] → b ≡ a
       → count ≡ machine.count_of renewed (zip tickets' f.history)
       → slot ≡ Held ticket a deadline → moment < deadline → slot' ≡ Free
       → Does old (request.confirm ticket) (reply.Confirmed count) (core_of f tickets' slot' watches moment renewed boot number)
@@ -256,7 +256,7 @@ module _ (engine : EngineState) (tickets : List (Option Ticket)) (slot : Slot) (
 
   -- a step that changes the watches alone
   with_watches : (watches' : List PlainWatch) (new : List MachineWatch) (request : PlainRequest) (one : Reply)
-      → map watch_of watches' ≡ new → CanBeTold one
+      → map core_watch watches' ≡ new → CanBeTold one
       → Step engine.form engine.limit old.state request (one ∷ []) (record old.state { watches = new })
       → Does old request one (core_of engine tickets slot watches' moment renewed boot number)
   with_watches watches' new request one same told step =
@@ -270,51 +270,51 @@ module _ (engine : EngineState) (tickets : List (Option Ticket)) (slot : Slot) (
       by_place : (added : Added) → Adds watches name a told (Ok added) watches'
           → Does old (request.watch name a) (reply.Watching told) (core_of engine tickets slot watches' moment renewed boot number)
       by_place New h =
-          with_watches watches' (map watch_of watches ++ record { name = name; action = a; told = told } ∷ [])
+          with_watches watches' (map core_watch watches ++ record { name = name; action = a; told = told } ∷ [])
           (request.watch name a) (reply.Watching told)
-          (ap (map watch_of) h.2 ∙ map_between watches (new_watch name a told) []) tt
+          (ap (map core_watch) h.2 ∙ map_between watches (new_watch name a told) []) tt
           (machine.watches_new (unwatched name a watches h.0) (omega (arith, length-watches watches, h.1)) (tells_allowed a told adds.tells))
       by_place Again h =
           let there = found name a told watches adds.distinct h.0 in
-          with_watches watches' (map watch_of there.before ++ record (watch_of there.watch) { told = told } ∷ map watch_of there.behind)
+          with_watches watches' (map core_watch there.before ++ record (core_watch there.watch) { told = told } ∷ map core_watch there.behind)
           (request.watch name a) (reply.Watching told)
-          (ap (map watch_of) (h.1 ∙ there.again) ∙ map_between there.before (record there.watch { told = told; now = told }) there.behind) tt
-          (machine.watches_again (map watch_of there.before) (map watch_of there.behind) (watch_of there.watch)
-          (ap (map watch_of) there.same ∙ map_between there.before there.watch there.behind) there.is (tells_allowed a told adds.tells))
+          (ap (map core_watch) (h.1 ∙ there.again) ∙ map_between there.before (record there.watch { told = told; now = told }) there.behind) tt
+          (machine.watches_again (map core_watch there.before) (map core_watch there.behind) (core_watch there.watch)
+          (ap (map core_watch) there.same ∙ map_between there.before there.watch there.behind) there.is (tells_allowed a told adds.tells))
 
   pub watches_full_does : (watches' : List PlainWatch) (name : List ℕ) (a : PlainAction) → is_watched name a watches ≡ false → length watches ≡ 4096 → watches' ≡ watches
       → Does old (request.watch name a) (reply.Refused 40 0) (core_of engine tickets slot watches' moment renewed boot number)
   watches_full_does watches' name a none many same =
-      with_watches watches' (map watch_of watches) (request.watch name a) (reply.Refused 40 0) (ap (map watch_of) same) (record { listed = refl; zero_else = λ e. refl })
+      with_watches watches' (map core_watch watches) (request.watch name a) (reply.Refused 40 0) (ap (map core_watch) same) (record { listed = refl; zero_else = λ e. refl })
       (machine.watches_full (unwatched name a watches none) (length-watches watches ∙ many))
 
   pub watch_memory_does : (watches' : List PlainWatch) (name : List ℕ) (a : PlainAction) → (is_watched name a watches ≡ false → length watches < 4096) → watches' ≡ watches
       → Does old (request.watch name a) (reply.Refused 90 0) (core_of engine tickets slot watches' moment renewed boot number)
   watch_memory_does watches' name a room same =
-      with_watches watches' (map watch_of watches) (request.watch name a) (reply.Refused 90 0) (ap (map watch_of) same) (record { listed = refl; zero_else = λ e. refl })
+      with_watches watches' (map core_watch watches) (request.watch name a) (reply.Refused 90 0) (ap (map core_watch) same) (record { listed = refl; zero_else = λ e. refl })
       (machine.watch_memory (λ none. let few = room (unwatched-told name a watches none) in omega (arith, length-watches watches, few)))
 
   pub dropped_does : (watches' : List PlainWatch) (name : List ℕ) (a : PlainAction) → AreDistinct watches → is_watched name a watches ≡ true → watches' ≡ without name a watches
       → Does old (request.drop_watch name a) reply.Dropped (core_of engine tickets slot watches' moment renewed boot number)
   dropped_does watches' name a distinct is same =
       let there = found name a true watches distinct is in
-      with_watches watches' (map watch_of there.before ++ map watch_of there.behind) (request.drop_watch name a) reply.Dropped
-      (ap (map watch_of) (same ∙ there.others) ∙ map_both there.before there.behind) tt
-      (machine.dropped (map watch_of there.before) (map watch_of there.behind) (watch_of there.watch)
-      (ap (map watch_of) there.same ∙ map_between there.before there.watch there.behind) there.is)
+      with_watches watches' (map core_watch there.before ++ map core_watch there.behind) (request.drop_watch name a) reply.Dropped
+      (ap (map core_watch) (same ∙ there.others) ∙ map_both there.before there.behind) tt
+      (machine.dropped (map core_watch there.before) (map core_watch there.behind) (core_watch there.watch)
+      (ap (map core_watch) there.same ∙ map_between there.before there.watch there.behind) there.is)
 
   pub no_such_watch_does : (watches' : List PlainWatch) (name : List ℕ) (a : PlainAction) → is_watched name a watches ≡ false → watches' ≡ without name a watches
       → Does old (request.drop_watch name a) (reply.Refused 41 0) (core_of engine tickets slot watches' moment renewed boot number)
   no_such_watch_does watches' name a none same =
-      with_watches watches' (map watch_of watches) (request.drop_watch name a) (reply.Refused 41 0) (ap (map watch_of) (same ∙ without_none name a watches none))
+      with_watches watches' (map core_watch watches) (request.drop_watch name a) (reply.Refused 41 0) (ap (map core_watch) (same ∙ without_none name a watches none))
       (record { listed = refl; zero_else = λ e. refl }) (machine.drop_no_such (unwatched name a watches none))
 
-  pub poll_memory_does : (watches' : List PlainWatch) (name : List ℕ) → map watch_of watches' ≡ map watch_of watches → ¬ HasNoWatch name (map watch_of watches)
+  pub poll_memory_does : (watches' : List PlainWatch) (name : List ℕ) → map core_watch watches' ≡ map core_watch watches → ¬ HasNoWatch name (map core_watch watches)
       → Does old (request.poll name) (reply.Refused 90 0) (core_of engine tickets slot watches' moment renewed boot number)
   poll_memory_does watches' name same has =
-      with_watches watches' (map watch_of watches) (request.poll name) (reply.Refused 90 0) same (record { listed = refl; zero_else = λ e. refl }) (machine.poll_memory has)
+      with_watches watches' (map core_watch watches) (request.poll name) (reply.Refused 90 0) same (record { listed = refl; zero_else = λ e. refl }) (machine.poll_memory has)
 
-  pub refreshes : (watches' : List PlainWatch) (name : List ℕ) → map watch_of watches' ≡ map watch_of watches → IsNoted engine name watches'
+  pub refreshes : (watches' : List PlainWatch) (name : List ℕ) → map core_watch watches' ≡ map core_watch watches → IsNoted engine name watches'
       → Refreshes old name (core_of engine tickets slot watches' moment renewed boot number)
   refreshes watches' name same noted = record {
     state = λ i. record old.state { watches = same i };
@@ -339,7 +339,7 @@ module _ (engine : EngineState) (tickets : List (Option Ticket)) (slot : Slot) (
         limit = refl;
       })
 
-  pub may_does : (a : PlainAction) (answer : Bool) → IsTrue answer ↔ IsPartial engine.form [] (extended engine a)
+  pub may_does : (a : PlainAction) (answer : Bool) → IsTrue answer ↔ IsPartial engine.form [] (extended_by engine a)
       → Does old (request.may a) (reply.May answer) old
   may_does a answer both = unchanged old (request.may a) (reply.May answer)
       (machine.may (of_words (λ (w : Word). Tells (IsPermitted engine.form w a) answer) (tells_of answer both))) tt

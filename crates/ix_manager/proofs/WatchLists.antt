@@ -8,7 +8,7 @@ use Rattle.ix_values.specs.inside.ActionOrder.{action_eq}
 use Rattle.ix_values.specs.lemmas.Order.{text_eq-decides, action_eq-decides}
 use Rattle.ix_watch.specs.inside.Watches.{PlainWatch, is_of, is_watched, AreDistinct, told_again, without}
 use Rattle.ix_manager.specs.Machine.{IsOf, IsUnwatched}
-use Rattle.ix_manager.specs.inside.Core.{watch_of}
+use Rattle.ix_manager.specs.inside.Core.{core_watch}
 
 both_true : (a b : Bool) → (a && b) ≡ true → (a ≡ true) × (b ≡ true)
 both_true true b h = (refl, h)
@@ -24,24 +24,24 @@ or_false false b h = (refl, h)
 
 module _ (name : List ℕ) (action : PlainAction) where
   -- the test tells that the watch is of the pair
-  pub is_of-tells : (watch : PlainWatch) → is_of name action watch ≡ true → IsOf name action (watch_of watch)
+  pub is_of-tells : (watch : PlainWatch) → is_of name action watch ≡ true → IsOf name action (core_watch watch)
   is_of-tells watch h =
       let parts = both_true (text_eq name watch.name) (action_eq action watch.action) h in
       (sym ((text_eq-decides name watch.name).0 parts.0), sym ((action_eq-decides action watch.action).0 parts.1))
 
-  is_of-told : (watch : PlainWatch) → IsOf name action (watch_of watch) → is_of name action watch ≡ true
+  is_of-told : (watch : PlainWatch) → IsOf name action (core_watch watch) → is_of name action watch ≡ true
   is_of-told watch h =
       true_both (text_eq name watch.name) (action_eq action watch.action)
       ((text_eq-decides name watch.name).1 (sym h.0)) ((action_eq-decides action watch.action).1 (sym h.1))
 
-  pub unwatched : (watches : List PlainWatch) → is_watched name action watches ≡ false → IsUnwatched name action (map watch_of watches)
+  pub unwatched : (watches : List PlainWatch) → is_watched name action watches ≡ false → IsUnwatched name action (map core_watch watches)
   unwatched [] h = no_item
   unwatched (watch ∷ watches) h =
       let parts = or_false (is_of name action watch) (is_watched name action watches) h in
       item (λ is. true≢false (sym (is_of-told watch is) ∙ parts.0)) (unwatched watches parts.1)
 
   -- no watch is of the pair only where the test says so
-  pub unwatched-told : (watches : List PlainWatch) → IsUnwatched name action (map watch_of watches) → is_watched name action watches ≡ false
+  pub unwatched-told : (watches : List PlainWatch) → IsUnwatched name action (map core_watch watches) → is_watched name action watches ≡ false
   unwatched-told [] h = refl
   unwatched-told (watch ∷ watches) (item none rest) =
       told (is_of name action watch) (λ is. none (is_of-tells watch is)) (unwatched-told watches rest)
@@ -76,7 +76,7 @@ module _ (name : List ℕ) (action : PlainAction) where
     pub watch : PlainWatch
     pub behind : List PlainWatch
     pub same : watches ≡ before ++ watch ∷ behind
-    pub is : IsOf name action (watch_of watch)
+    pub is : IsOf name action (core_watch watch)
     pub again : told_again name action told watches ≡ before ++ record watch { told = told; now = told } ∷ behind
     pub others : without name action watches ≡ before ++ behind
 
@@ -129,14 +129,14 @@ module _ (name : List ℕ) (action : PlainAction) where
 
 -- the watches without what was noted, of two parts and one watch between them
 pub map_between : (before : List PlainWatch) (watch : PlainWatch) (behind : List PlainWatch)
-    → map watch_of (before ++ watch ∷ behind) ≡ map watch_of before ++ watch_of watch ∷ map watch_of behind
+    → map core_watch (before ++ watch ∷ behind) ≡ map core_watch before ++ core_watch watch ∷ map core_watch behind
 map_between [] watch behind = refl
-map_between (first ∷ before) watch behind = ap (λ ws. watch_of first ∷ ws) (map_between before watch behind)
+map_between (first ∷ before) watch behind = ap (λ ws. core_watch first ∷ ws) (map_between before watch behind)
 
-pub map_both : (before behind : List PlainWatch) → map watch_of (before ++ behind) ≡ map watch_of before ++ map watch_of behind
+pub map_both : (before behind : List PlainWatch) → map core_watch (before ++ behind) ≡ map core_watch before ++ map core_watch behind
 map_both [] behind = refl
-map_both (first ∷ before) behind = ap (λ ws. watch_of first ∷ ws) (map_both before behind)
+map_both (first ∷ before) behind = ap (λ ws. core_watch first ∷ ws) (map_both before behind)
 
-pub length-watches : (watches : List PlainWatch) → length (map watch_of watches) ≡ length watches
+pub length-watches : (watches : List PlainWatch) → length (map core_watch watches) ≡ length watches
 length-watches [] = refl
 length-watches (watch ∷ watches) = ap suc (length-watches watches)

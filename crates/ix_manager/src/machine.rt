@@ -10,7 +10,7 @@ ghost use Rattle.ix_manager.specs.inside.Core.{MachineAnswers, IsRefreshed, Tell
 ghost use Rattle.ix_manager.specs.inside.Does.{MayReserve};
 ghost use Rattle.ix_manager.specs.inside.Ready.{IsSoundRenewal};
 ghost use Rattle.ix_proto.specs.Requests.{PlainRequest, IsRequest};
-ghost use Rattle.ix_proto.specs.inside.Lends.{Lends};
+ghost use Rattle.ix_proto.specs.inside.Lends.{LendsRequest};
 
 use ix_engine::{Engine, Next};
 use ix_journal::Renewed;
@@ -54,7 +54,7 @@ pub(crate) struct Machine {
 }
 
 impl Model for Machine {
-    ghost use Rattle.ix_manager.specs.inside.Core.{Core, watch_of};
+    ghost use Rattle.ix_manager.specs.inside.Core.{Core, core_watch};
     ghost use Rattle.ix_expr.specs.lemmas.FormCode.{form_code};
     ghost use Rattle.std.specs.Coded.{codes};
     ghost use Rattle.std.specs.Prelude.{map};
@@ -71,7 +71,7 @@ impl Model for Machine {
         history = zip m.tickets.items m.engine.history;
         renewed = m.renewed;
         slot = m.slot;
-        watches = map watch_of m.watches;
+        watches = map core_watch m.watches;
         moment = m.moment;
         boot = m.boot;
         number = m.number;
@@ -126,7 +126,7 @@ impl Machine {
     }
 
     pub(crate) fn answer(&mut self, alloc: Global, request: &Request<'_>) -> Answer
-        requires read { (plain : PlainRequest) × IsRequest plain × Lends request.now plain }
+        requires read { (plain : PlainRequest) × IsRequest plain × LendsRequest request.now plain }
         requires tickets { self.old.state.number < 2 ^ 64 - 1 }
         ensures answers { MachineAnswers self.old request.now result self.new }
         ensures tickets { MayReserve self.old.state self.new.state }

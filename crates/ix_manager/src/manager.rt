@@ -9,7 +9,7 @@ ghost use Rattle.ix_expr.specs.CanonicalText.{canonical_text};
 ghost use Rattle.ix_outside.specs.Counts.{CountsFault, Rose};
 ghost use Rattle.ix_outside.specs.Crashes.{Passes, stretch_of};
 ghost use Rattle.ix_outside.specs.inside.DiskCalls.{DiskCalls, LeavesOnly};
-ghost use Rattle.ix_store.specs.inside.Keeping.{Fits, IsBootedOrNot};
+ghost use Rattle.ix_store.specs.inside.Keeping.{FitsFile, IsBootedOrNot};
 ghost use Rattle.ix_store.specs.inside.KeptBy.{kept};
 ghost use Rattle.ix_manager.specs.inside.Saving.{FitsJournal};
 ghost use Rattle.ix_journal.specs.Entries.{renewed_of};
@@ -287,7 +287,7 @@ fn start_machine<S: Site>(
     requires attached { (S.state site.old).attached ≡ true }
     requires works { (kept store).failed ≡ false }
     requires room { HasBootRoom (kept store).marks }
-    requires fits { Fits (S.state site.old) (S.crashes site.old) (kept store)
+    requires fits { FitsFile (S.state site.old) (S.crashes site.old) (kept store)
         (canonical_text engine.form) (zip tickets.items engine.history) }
     ensures starts { IfOk result (λ j. j.machine ≡ record {
       form = engine.form;

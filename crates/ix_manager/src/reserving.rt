@@ -6,7 +6,7 @@ ghost use Rattle.ix_values.specs.PlainAction.{PlainAction};
 ghost use Rattle.ix_engine.specs.inside.Engine.{Allows};
 ghost use Rattle.ix_lease.specs.Slots.{IsOpenAt};
 ghost use Rattle.ix_proto.specs.Requests as request;
-ghost use Rattle.ix_manager.specs.inside.Ready.{IsPrepared, Refuses, IsOpenUpTo};
+ghost use Rattle.ix_manager.specs.inside.Ready.{IsPrepared, RefusesAsk, IsOpenUpTo};
 ghost use Rattle.ix_proto.specs.inside.ReplyTexts.{CanBeTold};
 ghost use Rattle.ix_manager.specs.inside.Does.{Does};
 ghost use Rattle.ix_manager.specs.inside.Saving.{Finds, Commits};
@@ -121,7 +121,7 @@ fn prepare(
     ensures place { OnOk result (length tickets.new.items < vec_capacity tickets.new) }
     ensures tickets { tickets.new.items ≡ tickets.old.items }
     ensures permitted { OnOk result (Allows engine.old action.now) }
-    ensures refused { IfErr result (λ reply. Refuses engine.old action.now reply) }
+    ensures refused { IfErr result (λ reply. RefusesAsk engine.old action.now reply) }
     ensures form { engine.new.form ≡ engine.old.form }
     ensures history { engine.new.history ≡ engine.old.history }
     ensures limit { engine.new.limit ≡ engine.old.limit }

@@ -2,7 +2,7 @@
 
 ghost use Rattle.std.specs.Prelude.{◌≡◌, OnOk, OnErr, map};
 ghost use Rattle.ix_proto.specs.Requests as request;
-ghost use Rattle.ix_manager.specs.inside.Core.{watch_of};
+ghost use Rattle.ix_manager.specs.inside.Core.{core_watch};
 ghost use Rattle.ix_manager.specs.inside.Does.{Does, PollAnswers, IsNoted, WatchAnswers};
 ghost use Rattle.ix_manager.specs.Machine.{HasNoWatch};
 
@@ -81,9 +81,9 @@ fn refresh(
     watches: &mut Watches,
     name: &Name,
 ) -> Result<(), AllocError>
-    ensures kept { map watch_of watches.new ≡ map watch_of watches.old }
+    ensures kept { map core_watch watches.new ≡ map core_watch watches.old }
     ensures noted { OnOk result (IsNoted engine.now name.now watches.new) }
-    ensures asked { OnErr result (¬ HasNoWatch name.now (map watch_of watches.old)) }
+    ensures asked { OnErr result (¬ HasNoWatch name.now (map core_watch watches.old)) }
 {
     for index in 0..watches.len() {
         let (watched, action) = watches.at(index);

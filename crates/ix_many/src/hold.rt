@@ -3,7 +3,7 @@
 //! A manager has one reservation. Without a holder the asks of all others would come between a
 //! grant and its confirm, and each would be refused.
 ghost use Rattle.std.specs.Prelude.{◌≡◌, ◌<◌, true, false, None, IfSome};
-ghost use Rattle.ix_many.specs.inside.Hold.{held};
+ghost use Rattle.ix_many.specs.inside.Hold.{held_by};
 
 use crate::wire::CONNECTIONS;
 use std::marker::Model;
@@ -50,7 +50,7 @@ impl Hold {
     /// came in its turn. So nobody is the holder for two events in a row.
     pub(crate) fn grant(&mut self, place: usize)
         requires { place < 64 }
-        ensures { self.new ≡ held place self.old }
+        ensures { self.new ≡ held_by place self.old }
     {
         if self.in_turn && place < CONNECTIONS {
             self.holder = Some(place);

@@ -1,6 +1,6 @@
 //! Whose turn it is: round by round, each place that wants one has it once in a round.
 ghost use Rattle.std.specs.Prelude.{◌≡◌, ◌<◌, ◌≤◌, true, false, replicate, set, IfSome};
-ghost use Rattle.ix_many.specs.Rounds.{IsNext, place_behind};
+ghost use Rattle.ix_many.specs.Rounds.{IsNextTurn, place_behind};
 
 use crate::wire::CONNECTIONS;
 use std::marker::Model;
@@ -66,7 +66,7 @@ impl Turns {
     /// The next place of this round that wants a turn. None where the round is over: another
     /// begins.
     pub(crate) fn next(&mut self) -> Option<usize>
-        ensures next { IsNext self.old.wants self.old.at result }
+        ensures next { IsNextTurn self.old.wants self.old.at result }
         ensures same { self.new.wants ≡ self.old.wants }
         ensures at { self.new.at ≡ place_behind result }
         ensures bound { IfSome result (λ place. place < 64) }
@@ -82,7 +82,7 @@ impl Turns {
 
 /// The first place from this one on that wants a turn.
 fn first_wanted(wants: &[bool; CONNECTIONS], from: usize) -> Option<usize>
-    ensures next { IsNext wants.now from result }
+    ensures next { IsNextTurn wants.now from result }
     ensures bound { IfSome result (λ place. place < 64) }
 {
     for place in from..CONNECTIONS {

@@ -28,9 +28,9 @@ pub(crate) struct Wire {
 
 /// Contracts see which stream has which number, and the holder.
 impl Model for Wire {
-    ghost use Rattle.ix_many.specs.inside.Streams.{WireState};
+    ghost use Rattle.ix_many.specs.inside.Streams.{StreamsState};
 
-    ghost Value = { WireState };
+    ghost Value = { StreamsState };
 
     ghost view = { λ wire. record { streams = wire.connections; hold = wire.hold } };
 }

@@ -6,9 +6,9 @@ use Rattle.ix_outside.specs.Contents.{GivenEvent, piece_of}
 use Rattle.ix_outside.specs.Event.{FitsBuffer, KindFits}
 use Rattle.ix_outside.specs.declared.event.EventKind.{EventKind}
 use Rattle.ix_outside.specs.declared.event.EventKind.TheVariants.{Bytes, Closed, End}
-use Rattle.ix_memory.specs.inside.EventsState.{event_of, events_of, IsKept, KindIsKept, AreEventsKept}
+use Rattle.ix_memory.specs.inside.EventsState.{event_of, events_from, IsKept, KindIsKept, AreEventsKept}
 use Rattle.ix_memory.specs.inside.NextEvent.{front_kind, rest_of, next_event, then_coming}
-use Rattle.ix_memory.specs.inside.NextPiece.{rest_piece, next_piece, then_pieces}
+use Rattle.ix_memory.specs.inside.NextPiece.{rest_piece, next_piece_told, then_pieces}
 use Rattle.ix_memory.specs.declared.events.Piece.{Piece}
 
 -- a take of a take is the smaller one
@@ -32,7 +32,7 @@ piece_of-front (suc room) End bytes = refl
 
 -- the next piece is the next event
 pub event-next : (bytes : List ℕ) (room last : ℕ) (pieces : List Piece)
-    → event_of bytes (next_piece room last pieces) ≡ next_event room last (events_of bytes pieces)
+    → event_of bytes (next_piece_told room last pieces) ≡ next_event room last (events_from bytes pieces)
 event-next bytes room last [] = refl
 event-next bytes room last (piece ∷ later) =
     ap (λ (text : List ℕ). record { event = record piece.event { kind = front_kind room piece.event.kind }; bytes = text })
@@ -40,8 +40,8 @@ event-next bytes room last (piece ∷ later) =
 
 -- a piece that is given is the next event
 pub given_event : (bytes : List ℕ) (room last : ℕ) (pieces : List Piece) (piece : Piece) (text : List ℕ)
-    → piece ≡ next_piece room last pieces → text ≡ piece_of piece.event.kind (drop piece.start bytes)
-    → record { event = piece.event; bytes = text } ≡ next_event room last (events_of bytes pieces)
+    → piece ≡ next_piece_told room last pieces → text ≡ piece_of piece.event.kind (drop piece.start bytes)
+    → record { event = piece.event; bytes = text } ≡ next_event room last (events_from bytes pieces)
 given_event bytes room last pieces piece text is here =
     ap (λ (t : List ℕ). record { event = piece.event; bytes = t }) here ∙ ap (event_of bytes) is ∙ event-next bytes room last pieces
 
@@ -55,7 +55,7 @@ rest_bytes room n start bytes below =
     ∙ ap (λ k. drop room (take k (drop start bytes))) all
 
 then-first : (bytes : List ℕ) (room : ℕ) (kind : EventKind) (piece : Piece) → piece.event.kind ≡ kind
-    → events_of bytes (rest_piece room kind piece) ≡ rest_of room kind (event_of bytes piece)
+    → events_from bytes (rest_piece room kind piece) ≡ rest_of room kind (event_of bytes piece)
 then-first bytes room (Bytes n) piece is =
     elim (cases_lt room n) [
       | inl below ↦
@@ -72,11 +72,11 @@ then-first bytes room End piece is = refl
 
 -- the pieces to come are the events to come
 pub events-then : (bytes : List ℕ) (room : ℕ) (pieces : List Piece)
-    → events_of bytes (then_pieces room pieces) ≡ then_coming room (events_of bytes pieces)
+    → events_from bytes (then_pieces room pieces) ≡ then_coming room (events_from bytes pieces)
 events-then bytes room [] = refl
 events-then bytes room (piece ∷ later) =
     map-append (event_of bytes) (rest_piece room piece.event.kind piece) later
-    ∙ ap (λ (events : List GivenEvent). events ++ events_of bytes later) (then-first bytes room piece.event.kind piece refl)
+    ∙ ap (λ (events : List GivenEvent). events ++ events_from bytes later) (then-first bytes room piece.event.kind piece refl)
 
 pub AreEventsKept-more : (count more : ℕ) (pieces : List Piece) → count ≤ more → AreEventsKept count pieces → AreEventsKept more pieces
 AreEventsKept-more count more [] le kept = tt
@@ -123,7 +123,7 @@ kept_front count room start conn (Bytes n) some kept = (omega (arith, kept.0), o
 kept_front count room start conn Closed some kept = kept
 kept_front count room start conn End some kept = kept
 
-pub next_kept : (count room last : ℕ) (pieces : List Piece) → 0 < room → AreEventsKept count pieces → IsKept count (next_piece room last pieces)
+pub next_kept : (count room last : ℕ) (pieces : List Piece) → 0 < room → AreEventsKept count pieces → IsKept count (next_piece_told room last pieces)
 next_kept count room last [] some kept = (omega arith, refl)
 next_kept count room last (piece ∷ pieces) some kept =
     (kept.0.0, kept_front count room piece.start piece.event.conn piece.event.kind some kept.0.1)
@@ -135,7 +135,7 @@ fits_front count room start conn Closed some kept = kept
 fits_front count room start conn End some kept = kept
 
 pub next_fits : (count room last : ℕ) (pieces : List Piece) → 0 < room → AreEventsKept count pieces
-    → FitsBuffer room (next_piece room last pieces).event
+    → FitsBuffer room (next_piece_told room last pieces).event
 next_fits count room last [] some kept = (omega arith, refl)
 next_fits count room last (piece ∷ pieces) some kept =
     (kept.0.0, fits_front count room piece.start piece.event.conn piece.event.kind some kept.0.1)

@@ -2,12 +2,12 @@
 use Rattle.std.proofs.Common.{◌≡◌, ◌≢◌, ◌<◌, ◌+◌, ℕ, List, [], ◌∷◌, length, map, drop, get_or, refl, inl, inr, sym, subst}
 use Rattle.std.proofs.lemmas.List.{drop_more}
 use Rattle.ix_outside.specs.Files.{Listing, Lists}
-use Rattle.ix_memory.specs.inside.MemoryFilesState.{IsAbsent}
+use Rattle.ix_memory.specs.inside.MemoryFilesState.{HasNoFile}
 
 -- what the rest of a listing says of a name, the whole one says
 pub record Leads (rest whole : Listing) (name : List ℕ) : Type 0 where
   pub found : (bytes : List ℕ) → Lists rest name bytes → Lists whole name bytes
-  pub absent : IsAbsent rest name → IsAbsent whole name
+  pub absent : HasNoFile rest name → HasNoFile whole name
 
 -- the rest begins with the item at its place
 pub Leads-at : {A : Type 0} → (file_of : A → List ℕ × List ℕ) (items : List A) (at : ℕ) (item : A) (whole : Listing) (name : List ℕ)
@@ -40,7 +40,7 @@ Leads-found file_of items at item whole name within is leads same =
     (Leads-at file_of items at item whole name within is leads).found _ (inl (same, refl))
 
 -- a listing that lists a name isn't without it
-pub Lists-there : (files : Listing) (name bytes : List ℕ) → Lists files name bytes → IsAbsent files name → ⊥
+pub Lists-there : (files : Listing) (name bytes : List ℕ) → Lists files name bytes → HasNoFile files name → ⊥
 Lists-there [] name bytes there absent = there
 Lists-there (file ∷ files) name bytes there absent = elim there [
   | inl here ↦ absent.0 here.0

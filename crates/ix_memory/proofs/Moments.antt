@@ -8,7 +8,7 @@ use Rattle.ix_outside.specs.Crashes.{Left, OneCall, IsSentByThen, stretch_of}
 use Rattle.ix_memory.specs.PlanState.{fresh_plan}
 use Rattle.ix_memory.specs.declared.past.Effect.{Effect}
 use Rattle.ix_memory.specs.inside.MemorySiteState.{MemorySiteState, state_of, crashes_of}
-use Rattle.ix_memory.specs.inside.Moments.{Leaves, LeftSince}
+use Rattle.ix_memory.specs.inside.Moments.{LeavesImage, LeftSince}
 use Rattle.ix_memory.specs.inside.PastCalls.{PastCall}
 use Rattle.ix_memory.specs.lemmas.Lawful.{LeftSince-now, told_sends}
 
@@ -26,7 +26,7 @@ LeftSince-split call calls file sent t left (inr (inr behind)) =
 -- since a call began: what might be left before it, or what may be left behind it
 LeftSince-images : (call : PastCall) (calls : List PastCall) (file : List ℕ) (sent : List SentBytes)
     (left : Left) → LeftSince (call ∷ calls) file sent (length calls) left
-    → Leaves calls call.file left.image ⊎ Leaves (call ∷ calls) file left.image
+    → LeavesImage calls call.file left.image ⊎ LeavesImage (call ∷ calls) file left.image
 LeftSince-images call calls file sent left (inl before) =
     inl (LeftSince-now calls call.file call.sent left before).0
 LeftSince-images call calls file sent left (inr (inl within)) = inr within.1

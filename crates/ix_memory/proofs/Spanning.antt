@@ -4,12 +4,12 @@ use Rattle.std.proofs.lemmas.List.{take-append-le, drop-append-le, drop_at, take
 use Rattle.ix_outside.specs.Contents.{SentBytes, with_pair, with_gone}
 use Rattle.ix_memory.specs.declared.sent.Pair.{Pair}
 use Rattle.ix_memory.specs.declared.sent.Span.{Span}
-use Rattle.ix_memory.specs.inside.Spans.{text_at, IsWithin, AreWithin}
+use Rattle.ix_memory.specs.inside.Spans.{text_at, IsSpanWithin, AreWithin}
 use Rattle.ix_memory.specs.inside.SentState.{sent_of, sends_of, AreKept}
 use Rattle.ix_outside.specs.Contents.{with_heard}
 
 -- more bytes behind don't change a text
-pub text_at-more : (bytes more : List ℕ) (span : Span) → IsWithin (length bytes) span
+pub text_at-more : (bytes more : List ℕ) (span : Span) → IsSpanWithin (length bytes) span
     → text_at (bytes ++ more) span ≡ text_at bytes span
 text_at-more bytes more span within =
     let start_within : span.start ≤ length bytes = omega arith in
@@ -25,7 +25,7 @@ text_at-last bytes text span at_start at_end =
     ap (take (span.end - span.start)) (drop_at bytes text span.start (sym at_start))
     ∙ take_all (span.end - span.start) text all
 
-pub IsWithin-more : (count more : ℕ) (span : Span) → count ≤ more → IsWithin count span → IsWithin more span
+pub IsWithin-more : (count more : ℕ) (span : Span) → count ≤ more → IsSpanWithin count span → IsSpanWithin more span
 IsWithin-more count more span le within =
     record { in_order = within.in_order; within = let end = within.within in omega arith }
 
@@ -34,14 +34,14 @@ AreWithin-more count more [] le within = tt
 AreWithin-more count more (span ∷ spans) le within =
     (IsWithin-more count more span le within.0, AreWithin-more count more spans le within.1)
 
-pub AreWithin-push : (count : ℕ) (spans : List Span) (span : Span) → AreWithin count spans → IsWithin count span
+pub AreWithin-push : (count : ℕ) (spans : List Span) (span : Span) → AreWithin count spans → IsSpanWithin count span
     → AreWithin count (spans ++ span ∷ [])
 AreWithin-push count [] span within last = (last, tt)
 AreWithin-push count (first ∷ spans) span within last = (within.0, AreWithin-push count spans span within.1 last)
 
 -- the span of a text that was put behind the bytes
 pub IsWithin-last : (bytes text : List ℕ) (span : Span) → span.start ≡ length bytes → span.end ≡ length bytes + length text
-    → IsWithin (length (bytes ++ text)) span
+    → IsSpanWithin (length (bytes ++ text)) span
 IsWithin-last bytes text span at_start at_end =
     record { in_order = omega (arith, length-append bytes text); within = omega (arith, length-append bytes text) }
 
@@ -169,7 +169,7 @@ AreKept-name bytes text pairs heard name span kept at_start at_end =
 
 -- the pair at a place lies within the bytes
 pub pair_within : (count : ℕ) (pairs : List Pair) (at : ℕ) (none : Pair) → at < length pairs
-    → AreWithin count (map (λ (pair : Pair). pair.span) pairs) → IsWithin count (get_or pairs at none).span
+    → AreWithin count (map (λ (pair : Pair). pair.span) pairs) → IsSpanWithin count (get_or pairs at none).span
 pair_within count [] at none below within = absurd (omega arith)
 pair_within count (pair ∷ pairs) zero none below within = within.0
 pair_within count (pair ∷ pairs) (suc at) none below within = pair_within count pairs at none (omega arith) within.1

@@ -5,7 +5,7 @@ use Rattle.ix_outside.specs.Contents.{GivenEvent, piece_of}
 use Rattle.ix_outside.specs.declared.event.Event.{Event}
 use Rattle.ix_outside.specs.declared.event.EventKind.{EventKind}
 use Rattle.ix_outside.specs.declared.event.EventKind.TheVariants.{Bytes, Closed, End}
-use Rattle.ix_memory.specs.inside.EventsState.{event_of, events_of, IsKept, KindIsKept, AreEventsKept}
+use Rattle.ix_memory.specs.inside.EventsState.{event_of, events_from, IsKept, KindIsKept, AreEventsKept}
 use Rattle.ix_memory.specs.inside.CanCome.{StandsBeside, CanCome, CanAllCome, last_moment}
 use Rattle.ix_memory.specs.declared.events.Piece.{Piece}
 use Rattle.ix_memory.proofs.GivingNext.{AreEventsKept-more}
@@ -27,27 +27,27 @@ piece_of-last bytes text conn End beside = sym beside.0
 
 -- events stay what they are when bytes come behind
 pub events-more : (bytes more : List ℕ) (pieces : List Piece) → AreEventsKept (length bytes) pieces
-    → events_of (bytes ++ more) pieces ≡ events_of bytes pieces
+    → events_from (bytes ++ more) pieces ≡ events_from bytes pieces
 events-more bytes more [] kept = refl
 events-more bytes more (piece ∷ pieces) kept =
     let first : event_of (bytes ++ more) piece ≡ event_of bytes piece =
     ap (λ (text : List ℕ). record { event = piece.event; bytes = text })
     (piece_of-more bytes more piece.start piece.event.conn piece.event.kind kept.0.1) in
-    ap (λ (event : GivenEvent). event ∷ events_of (bytes ++ more) pieces) first
+    ap (λ (event : GivenEvent). event ∷ events_from (bytes ++ more) pieces) first
     ∙ ap (λ (events : List GivenEvent). event_of bytes piece ∷ events) (events-more bytes more pieces kept.1)
 
 -- one more event, whose bytes were put behind the bytes
 pub events-push : (bytes text : List ℕ) (pieces : List Piece) (event : Event) (start : ℕ) → start ≡ length bytes
     → AreEventsKept (length bytes) pieces → CanCome (record { event = event; bytes = text })
-    → events_of (bytes ++ text) (pieces ++ record { event = event; start = start } ∷ [])
-    ≡ events_of bytes pieces ++ record { event = event; bytes = text } ∷ []
+    → events_from (bytes ++ text) (pieces ++ record { event = event; start = start } ∷ [])
+    ≡ events_from bytes pieces ++ record { event = event; bytes = text } ∷ []
 events-push bytes text pieces event start here kept can =
     let last : event_of (bytes ++ text) (record { event = event; start = start }) ≡ record { event = event; bytes = text } =
     ap (λ (t : List ℕ). record { event = event; bytes = t })
     (ap (λ (s : ℕ). piece_of event.kind (drop s (bytes ++ text))) here ∙ piece_of-last bytes text event.conn event.kind can.1) in
     map-append (event_of (bytes ++ text)) pieces (record { event = event; start = start } ∷ [])
     ∙ ap (λ (events : List GivenEvent). events ++ event_of (bytes ++ text) (record { event = event; start = start }) ∷ []) (events-more bytes text pieces kept)
-    ∙ ap (λ (e : GivenEvent). events_of bytes pieces ++ e ∷ []) last
+    ∙ ap (λ (e : GivenEvent). events_from bytes pieces ++ e ∷ []) last
 
 kind_kept : (bytes text : List ℕ) (start conn : ℕ) (kind : EventKind) → start ≡ length bytes → StandsBeside kind conn text
     → KindIsKept (length (bytes ++ text)) start conn kind
@@ -71,7 +71,7 @@ kept-push bytes text pieces event start here kept can =
 
 -- the pieces so far and the rest of the events are all events
 pub record Takes (bytes : List ℕ) (pieces : List Piece) (last : ℕ) (rest all : List GivenEvent) : Type 0 where
-  pub spells : events_of bytes pieces ++ rest ≡ all
+  pub spells : events_from bytes pieces ++ rest ≡ all
   pub kept : AreEventsKept (length bytes) pieces
   pub moment : last_moment last rest ≡ last_moment 0 all
   pub come : CanAllCome rest
@@ -96,14 +96,14 @@ pub Takes-next : {A : Type 0} → (seen : A → GivenEvent) (events : List A) (a
     (bytes : List ℕ) (pieces : List Piece) (last : ℕ) (all : List GivenEvent) (bytes' : List ℕ) (pieces' : List Piece)
     → at < length events → item ≡ get_or events at item
     → Takes bytes pieces last (map seen (drop at events)) all
-    → events_of bytes' pieces' ≡ events_of bytes pieces ++ seen item ∷ []
+    → events_from bytes' pieces' ≡ events_from bytes pieces ++ seen item ∷ []
     → AreEventsKept (length bytes') pieces'
     → Takes bytes' pieces' (seen item).event.moment (map seen (drop (at + 1) events)) all
 Takes-next seen events at item bytes pieces last all bytes' pieces' within is takes more kept =
     let here = Takes-item seen events at item bytes pieces last all within is takes in
     record {
       spells = ap (λ (xs : List GivenEvent). xs ++ map seen (drop (at + 1) events)) more
-          ∙ append_assoc (events_of bytes pieces) (seen item ∷ []) (map seen (drop (at + 1) events)) ∙ here.spells;
+          ∙ append_assoc (events_from bytes pieces) (seen item ∷ []) (map seen (drop (at + 1) events)) ∙ here.spells;
       kept = kept;
       moment = here.moment;
       come = here.come.1;

@@ -10,7 +10,7 @@ use Rattle.ix_outside.specs.Disk.{Opened, MakesFile, Torn}
 use Rattle.ix_memory.specs.declared.past.Effect.{Effect}
 use Rattle.ix_memory.specs.declared.past.Effect.TheVariants.{Kept, Wrote}
 use Rattle.ix_memory.specs.inside.MemorySiteState.{told_disk, half_of, opened_behind, opened_where, written}
-use Rattle.ix_memory.specs.inside.Moments.{Leaves}
+use Rattle.ix_memory.specs.inside.Moments.{LeavesImage}
 use Rattle.ix_memory.specs.inside.PastCalls.{PastCall}
 
 -- a front of at most so many bytes was written
@@ -52,10 +52,10 @@ IsNext effect file sent past calls =
 -- a write that so left the file
 pub write_leaves : (at count : ℕ) (file new : List ℕ) (sent : List SentBytes)
     (past calls : List PastCall) → IsNext (Wrote at count) file sent past calls
-    → Torn at count file new → LeavesJust (Torn at count) (Leaves past file) (Leaves calls new)
+    → Torn at count file new → LeavesJust (Torn at count) (LeavesImage past file) (LeavesImage calls new)
 write_leaves at count file new sent past calls next torn =
     let P : List PastCall → Type 0 = λ calls.
-    LeavesJust (Torn at count) (Leaves past file) (Leaves calls new) in
+    LeavesJust (Torn at count) (LeavesImage past file) (LeavesImage calls new) in
     subst P (sym next) (λ image. (
       (λ now. elim now [
         | inl same ↦ (file, inl refl, subst (Torn at count file) (sym same) torn)
@@ -68,20 +68,20 @@ write_leaves at count file new sent past calls next torn =
 pub keeps_leaving : (Step : List ℕ → List ℕ → Type 0) (file : List ℕ) (sent : List SentBytes)
     (past calls : List PastCall) → IsNext Kept file sent past calls
     → ((image : List ℕ) → Step image image)
-    → LeavesAtMost Step (Leaves past file) (Leaves calls file)
-    × LeavesNoLess (Leaves past file) (Leaves calls file)
+    → LeavesAtMost Step (LeavesImage past file) (LeavesImage calls file)
+    × LeavesNoLess (LeavesImage past file) (LeavesImage calls file)
 keeps_leaving Step file sent past calls next none =
     let P : List PastCall → Type 0 = λ calls.
-    LeavesAtMost Step (Leaves past file) (Leaves calls file)
-    × LeavesNoLess (Leaves past file) (Leaves calls file) in
+    LeavesAtMost Step (LeavesImage past file) (LeavesImage calls file)
+    × LeavesNoLess (LeavesImage past file) (LeavesImage calls file) in
     subst P (sym next) ((λ image now. (image, now, none image)), (λ image was. was))
 
 -- a write of which a part was done
 pub part_leaves : (at count : ℕ) (file new : List ℕ) (sent : List SentBytes)
     (past calls : List PastCall) → IsNext (Wrote at count) file sent past calls
     → Torn at count file new
-    → LeavesAtMost (Torn at count) (Leaves past file) (Leaves calls new)
-    × LeavesNoLess (Leaves past file) (Leaves calls new)
+    → LeavesAtMost (Torn at count) (LeavesImage past file) (LeavesImage calls new)
+    × LeavesNoLess (LeavesImage past file) (LeavesImage calls new)
 part_leaves at count file new sent past calls next torn =
     let just = write_leaves at count file new sent past calls next torn in (
       (λ image. (just image).0),

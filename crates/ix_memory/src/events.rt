@@ -3,10 +3,10 @@ ghost use Rattle.std.specs.Prelude.{◌≡◌, ◌≤◌, ◌<◌, ◌+◌, ◌-
 ghost use Rattle.std.specs.Prelude.{drop, IfOk, OnOk};
 ghost use Rattle.ix_outside.specs.Contents.{piece_of};
 ghost use Rattle.ix_outside.specs.Event.{FitsBuffer};
-ghost use Rattle.ix_memory.specs.inside.EventsState.{IsKept, AreEventsKept, events_of};
+ghost use Rattle.ix_memory.specs.inside.EventsState.{IsKept, AreEventsKept, events_from};
 ghost use Rattle.ix_memory.specs.inside.NextEvent.{next_event, then_coming};
 ghost use Rattle.ix_memory.specs.inside.CanCome.{CanCome, CanAllCome, events_beside, last_moment};
-ghost use Rattle.ix_memory.specs.inside.NextPiece.{next_piece, then_pieces};
+ghost use Rattle.ix_memory.specs.inside.NextPiece.{next_piece_told, then_pieces};
 
 use crate::room::{copy_text, put};
 use ix_outside::{Event, EventKind};
@@ -32,13 +32,13 @@ pub(crate) struct Events {
 
 impl Model for Events {
     ghost use Rattle.std.specs.Prelude.{◌-◌, ◌≤◌, drop, length, vec_capacity, vec_len};
-    ghost use Rattle.ix_memory.specs.inside.EventsState.{EventsState, events_of, AreEventsKept};
+    ghost use Rattle.ix_memory.specs.inside.EventsState.{EventsState, events_from, AreEventsKept};
 
     ghost Value = { EventsState };
 
     ghost view = { λ s. record {
-      coming = events_of s.bytes.items (drop s.at s.pieces.items);
-      given = events_of s.bytes.items s.given.items;
+      coming = events_from s.bytes.items (drop s.at s.pieces.items);
+      given = events_from s.bytes.items s.given.items;
       last = s.last;
       spare = vec_capacity s.given - vec_len s.given;
     } };
@@ -109,8 +109,8 @@ fn add_piece(
 ) -> Result<(), AllocError>
     requires kept { AreEventsKept (length bytes.old.items) pieces.old.items }
     requires come { CanCome (record { event = event; bytes = text.now }) }
-    ensures events { OnOk result (events_of bytes.new.items pieces.new.items
-        ≡ events_of bytes.old.items pieces.old.items
+    ensures events { OnOk result (events_from bytes.new.items pieces.new.items
+        ≡ events_from bytes.old.items pieces.old.items
         ++ record { event = event; bytes = text.now } ∷ []) }
     ensures kept { OnOk result (AreEventsKept (length bytes.new.items) pieces.new.items) }
 {
@@ -128,7 +128,7 @@ fn take_piece(pieces: &mut Vec<Piece>, at: &mut usize, last: u64, room: usize) -
     requires at { at.old ≤ length pieces.old.items }
     requires room { 0 < room }
     requires kept { AreEventsKept (2 ^ 64 - 1) pieces.old.items }
-    ensures piece { result ≡ next_piece room last (drop at.old pieces.old.items) }
+    ensures piece { result ≡ next_piece_told room last (drop at.old pieces.old.items) }
     ensures coming { drop at.new pieces.new.items
         ≡ then_pieces room (drop at.old pieces.old.items) }
     ensures at { at.new ≤ length pieces.new.items }

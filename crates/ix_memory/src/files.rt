@@ -5,7 +5,7 @@ ghost use Rattle.ix_outside.specs.Files.{HasFile, HasLonger, Lists};
 ghost use Rattle.ix_outside.specs.FilesState.{OnlyFaults};
 ghost use Rattle.ix_memory.specs.Calls.{next_call};
 ghost use Rattle.ix_outside.specs.Counts.{one_more};
-ghost use Rattle.ix_memory.specs.inside.MemoryFilesState.{state_of, FailsToLoad, IsAbsent};
+ghost use Rattle.ix_memory.specs.inside.MemoryFilesState.{memory_files_state, FailsToLoad, HasNoFile};
 ghost use Rattle.ix_memory.specs.inside.MemoryFilesState.{listing_of};
 
 use crate::calls::Calls;
@@ -50,7 +50,7 @@ impl MemoryFiles {
 }
 
 impl Files for MemoryFiles {
-    ghost state = { state_of };
+    ghost state = { memory_files_state };
 
     /// The bytes of the first file of this name. `Failed` is a call that is told to fail, or a
     /// name that no file has; `TooLong` a file of more than `limit` bytes; `Memory` want of
@@ -66,7 +66,7 @@ impl Files for MemoryFiles {
         ensures not_counted { (result ≡ Err LoadFault.Failed → ⊥)
             → self.new.faults ≡ self.old.faults }
         ensures calls { self.new.calls ≡ next_call self.old.calls }
-        ensures rest { OnlyFaults (state_of self.old) (state_of self.new) }
+        ensures rest { OnlyFaults (memory_files_state self.old) (memory_files_state self.new) }
     {
         let is_told = self.calls.make();
         let loaded = loaded(alloc, &self.files, is_told, name, limit);
@@ -89,9 +89,9 @@ fn loaded(
     ensures too_long { IsErrOf result LoadFault.TooLong
         → HasLonger (Some (listing_of files.now)) name.now limit }
     ensures failed { result ≡ Err LoadFault.Failed
-        → (is_told ≡ true) ⊎ IsAbsent (listing_of files.now) name.now }
+        → (is_told ≡ true) ⊎ HasNoFile (listing_of files.now) name.now }
     ensures told { is_told ≡ true → result ≡ Err LoadFault.Failed }
-    ensures absent { IsAbsent (listing_of files.now) name.now → result ≡ Err LoadFault.Failed }
+    ensures absent { HasNoFile (listing_of files.now) name.now → result ≡ Err LoadFault.Failed }
 {
     if is_told {
         return Err(LoadFault::Failed);
@@ -110,7 +110,7 @@ fn loaded(
 
 fn bytes_of<'a>(files: &'a [(String, Vec<u8>)], name: &str) -> Option<&'a [u8]>
     ensures { MatchOption result
-        (IsAbsent (listing_of files.entry.now) name.now)
+        (HasNoFile (listing_of files.entry.now) name.now)
         (λ bytes. Lists (listing_of files.entry.now) name.now bytes.now) }
 {
     for (known, bytes) in files {

@@ -3,7 +3,7 @@ ghost use Rattle.std.specs.Prelude.{◌≡◌, ◌<◌, IfOk};
 ghost use Rattle.ix_memory.specs.Calls.{is_told, next_call};
 ghost use Rattle.ix_memory.specs.PlanState.{fresh_plan};
 ghost use Rattle.ix_memory.specs.inside.Adding.{with_failing};
-ghost use Rattle.ix_memory.specs.inside.Fate.{fate_of, TakesRoom, Tells};
+ghost use Rattle.ix_memory.specs.inside.Fate.{fate_of, TakesRoom, TellsPlanned};
 ghost use Rattle.ix_memory.specs.Plan.{plan_after, is_spent_by, room_left_behind};
 
 use crate::MOST_ADDED;
@@ -99,7 +99,7 @@ impl Plan {
         ensures fate { result ≡ fate_of self.old cost }
         ensures after { self.new ≡ plan_after self.old cost }
         ensures room { TakesRoom result cost self.old self.new }
-        ensures tells { Tells result self.old cost }
+        ensures tells { TellsPlanned result self.old cost }
     {
         let is_spent = is_spent(self.fuse, self.calls.number());
         let is_told = self.count();

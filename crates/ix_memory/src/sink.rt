@@ -7,7 +7,7 @@ ghost use Rattle.ix_outside.specs.Sink.{AppendsPart};
 ghost use Rattle.ix_outside.specs.SinkState.{OnlyPuts};
 ghost use Rattle.ix_memory.specs.Calls.{next_call};
 ghost use Rattle.ix_outside.specs.Counts.{one_more};
-ghost use Rattle.ix_memory.specs.inside.MemorySinkState.{fails_to_put, state_of};
+ghost use Rattle.ix_memory.specs.inside.MemorySinkState.{fails_to_put, memory_sink_state};
 
 use crate::calls::Calls;
 use ix_outside::{Failed, Sink};
@@ -63,7 +63,7 @@ impl MemorySink {
 }
 
 impl Sink for MemorySink {
-    ghost state = { state_of };
+    ghost state = { memory_sink_state };
 
     /// Puts the bytes out. It fails exactly where it is told to, or where there would be more bytes
     /// than the room; then none of its bytes go out.
@@ -81,7 +81,7 @@ impl Sink for MemorySink {
             ≡ record self.old
             { calls = next_call self.old.calls; faults = one_more self.old.faults }) }
 
-        ensures rest { OnlyPuts (state_of self.old) (state_of self.new) }
+        ensures rest { OnlyPuts (memory_sink_state self.old) (memory_sink_state self.new) }
     {
         let is_told = self.calls.make();
         if is_told || self.room - self.bytes.len() < bytes.len() {

@@ -14,7 +14,7 @@ use Rattle.ix_expr.specs.Environment.{Environment, value_in, HaveValues}
 use Rattle.ix_next.specs.Given.{PlainGiven}
 use Rattle.ix_next.specs.declared.term.Term.{Term}
 use Rattle.ix_next.specs.declared.term.Term.TheVariants.{Known, New}
-use Rattle.ix_next.specs.Candidates.{PlainCandidate, candidate_of, candidate_eq, value_of, action_of, candidates, candidates_at, fillings, terms_for, term_of, choices, new_behind, values_for}
+use Rattle.ix_next.specs.Candidates.{PlainCandidate, candidate_of, candidate_eq, value_of, action_with, candidates, candidates_at, fillings, terms_for, term_of, choices, new_behind, values_for}
 use Rattle.ix_next.specs.Menu.{known, StandsForAction}
 use Rattle.ix_next.specs.Laws.{HasTriedValues, TheMenuIsComplete, TheMenuIsSound}
 use Rattle.ix_next.specs.lemmas.Same.{candidate_eq-tells}
@@ -253,9 +253,9 @@ menu_complete x w given menu a is partial within =
 pub menu_sound : TheMenuIsSound
 menu_sound x w given menu c is m =
     let may = (projection_has is m).1 in
-    record { action = action_of (fresh (known x w given)) c; stands = some; may_come = may (action_of (fresh (known x w given)) c) some; each_may_come = may }
+    record { action = action_with (fresh (known x w given)) c; stands = some; may_come = may (action_with (fresh (known x w given)) c) some; each_may_come = may }
   where
-    some : StandsForAction x w given c (action_of (fresh (known x w given)) c)
+    some : StandsForAction x w given c (action_with (fresh (known x w given)) c)
     some = record {
       new = fresh (known x w given);
       same = refl;

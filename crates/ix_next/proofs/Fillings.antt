@@ -12,14 +12,14 @@ use Rattle.ix_next.specs.declared.term.Term.{Term}
 use Rattle.ix_next.specs.declared.term.Term.TheVariants.{Known, New}
 use Rattle.ix_next.specs.Candidates.{PlainCandidate, candidate_of, fillings, new_behind, term_of, choices, terms_for}
 use Rattle.ix_next.proofs.Sorted.{taken}
-use Rattle.ix_next.specs.inside.Fillings.{with_term, with_fixed, with_own, with_first, with_param, extended, pool, filled, filled_with, keep, Took}
+use Rattle.ix_next.specs.inside.Fillings.{with_term, with_fixed, with_own, with_first, with_param, with_terms, pool, filled, filled_with, keep, Took}
 
 no_more : {A : Type 0} (w : List A) → w ++ [] ≡ w
 no_more [] = refl
 no_more (a ∷ w) = ap (λ u. a ∷ u) (no_more w)
 
 -- a term, and then the others
-extended_behind : (c : PlainCandidate) (t : Term) (w : List (List Term)) → map (extended c) (map (λ ts. t ∷ ts) w) ≡ map (extended (with_term c t)) w
+extended_behind : (c : PlainCandidate) (t : Term) (w : List (List Term)) → map (with_terms c) (map (λ ts. t ∷ ts) w) ≡ map (with_terms (with_term c t)) w
 extended_behind c t [] = refl
 extended_behind c t (ts ∷ w) = λ i. candidate_of c.name (sym (append_assoc c.terms (t ∷ []) ts) i) ∷ extended_behind c t w i
 
@@ -30,9 +30,9 @@ pub filled_fixed : (s : Scope) (v : List ℕ) (rest : List Arg) (f : Filling) �
 filled_fixed s v rest f = extended_behind f.candidate (Known v) (fillings s.new (pool s) rest f.chosen f.news)
 
 -- each of the terms, and then the others
-extended_each : (c : PlainCandidate) (g : Term → List (List Term)) (ts : List Term) → map (extended c) (flat_map (λ t. map (λ w. t ∷ w) (g t)) ts) ≡ flat_map (λ t. map (extended (with_term c t)) (g t)) ts
+extended_each : (c : PlainCandidate) (g : Term → List (List Term)) (ts : List Term) → map (with_terms c) (flat_map (λ t. map (λ w. t ∷ w) (g t)) ts) ≡ flat_map (λ t. map (with_terms (with_term c t)) (g t)) ts
 extended_each c g [] = refl
-extended_each c g (t ∷ ts) = map-append (extended c) (map (λ w. t ∷ w) (g t)) (flat_map (λ t. map (λ w. t ∷ w) (g t)) ts) ∙ (λ i. extended_behind c t (g t) i ++ extended_each c g ts i)
+extended_each c g (t ∷ ts) = map-append (with_terms c) (map (λ w. t ∷ w) (g t)) (flat_map (λ t. map (λ w. t ∷ w) (g t)) ts) ∙ (λ i. extended_behind c t (g t) i ++ extended_each c g ts i)
 
 pub filled_param : (s : Scope) (p : List ℕ) (rest : List Arg) (f : Filling) → filled s (Param p ∷ rest) f
     ≡ flat_map (λ t. filled s rest (with_param f p (term_of p f.chosen) t)) (choices (term_of p f.chosen) (terms_for s.new (pool s p) f.news))

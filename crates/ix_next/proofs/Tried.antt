@@ -17,7 +17,7 @@ use Rattle.ix_can.proofs.MovesTell.{each_step}
 use Rattle.ix_next.specs.declared.fresh.Known.{Known as KnownValues}
 use Rattle.ix_next.specs.Given.{PlainGiven}
 use Rattle.ix_next.specs.Atoms.{fixed_in}
-use Rattle.ix_next.specs.Candidates.{PlainCandidate, action_of, candidates, candidate_eq, once}
+use Rattle.ix_next.specs.Candidates.{PlainCandidate, action_with, candidates, candidate_eq, once}
 use Rattle.ix_next.specs.Menu.{known, StandsForAction, MayCome, IsMenu}
 use Rattle.ix_next.specs.inside.Fresh.{is_known, AreNew, AreNewBehind}
 use Rattle.ix_next.specs.inside.Trials.{new_of}
@@ -85,7 +85,7 @@ got_at (v ∷ w) (suc i) d h = got_at w i d (omega (arith, h))
 
 -- the values that were found new stand for the numbers of a candidate
 pub tried_stands : (x : Form) (w : Word) (given : List PlainGiven) (k : KnownValues) (values : List (List ℕ)) (c : PlainCandidate) → IsSpelled x → Member c (candidates true x given)
-    → k.history.now ≡ w → k.fixed.now ≡ fixed_in x → k.given.now ≡ given → length values ≡ 4 → AreNew k values → StandsForAction x w given c (action_of (new_of values) c)
+    → k.history.now ≡ w → k.fixed.now ≡ fixed_in x → k.given.now ≡ given → length values ≡ 4 → AreNew k values → StandsForAction x w given c (action_with (new_of values) c)
 tried_stands x w given k values c spelled among history fixed gave four new = record {
   new = new_of values;
   same = refl;
@@ -115,16 +115,16 @@ fits h = record { faultless = h.faultless; numbers = h.numbers }
 -- so what passes is the menu
 pub menu_of : (x : Form) (w : Word) (given : List PlainGiven) (k : KnownValues) (values : List (List ℕ)) → IsWellFormed x → IsSpelled x
     → k.history.now ≡ w → k.fixed.now ≡ fixed_in x → k.given.now ≡ given → length values ≡ 4 → AreNew k values
-    → IsMenu x w given (filter (λ c. may x [] (tree_of x [] w) (action_of (new_of values) c)) (once candidate_eq (candidates true x given)))
+    → IsMenu x w given (filter (λ c. may x [] (tree_of x [] w) (action_with (new_of values) c)) (once candidate_eq (candidates true x given)))
 menu_of x w given k values formed spelled history fixed gave four new =
-    projection_of (λ c. may x [] (tree_of x [] w) (action_of (new_of values) c)) (once candidate_eq (candidates true x given)) says
+    projection_of (λ c. may x [] (tree_of x [] w) (action_with (new_of values) c)) (once candidate_eq (candidates true x given)) says
   where
     says : (c : PlainCandidate) → Member c (once candidate_eq (candidates true x given))
-        → (may x [] (tree_of x [] w) (action_of (new_of values) c) ≡ true → MayCome x w given c) × (MayCome x w given c → may x [] (tree_of x [] w) (action_of (new_of values) c) ≡ true)
+        → (may x [] (tree_of x [] w) (action_with (new_of values) c) ≡ true → MayCome x w given c) × (MayCome x w given c → may x [] (tree_of x [] w) (action_with (new_of values) c) ≡ true)
     says c m =
         let among = once_members candidate_eq (candidates true x given) m in
         let stands = tried_stands x w given k values c spelled among history fixed gave four new in
-        let tells = (each_step x [] (action_of (new_of values) c) (fits formed)).next w in (
-          λ e. λ b t. stand_or_fall x w given c (action_of (new_of values) c) b among stands t (tells.0 e),
-          λ come. tells.1 (come (action_of (new_of values) c) stands),
+        let tells = (each_step x [] (action_with (new_of values) c) (fits formed)).next w in (
+          λ e. λ b t. stand_or_fall x w given c (action_with (new_of values) c) b among stands t (tells.0 e),
+          λ come. tells.1 (come (action_with (new_of values) c) stands),
         )

@@ -41,8 +41,8 @@ value_of new (Known v) = v
 value_of new (New n) = new n
 
 -- the action of a candidate, where `new` gives the new values
-abbrev pub action_of : (ℕ → List ℕ) → PlainCandidate → PlainAction
-action_of new c = record { name = c.name; values = map (value_of new) c.terms }
+abbrev pub action_with : (ℕ → List ℕ) → PlainCandidate → PlainAction
+action_with new c = record { name = c.name; values = map (value_of new) c.terms }
 
 -- the text of a term: its value, or `$` and its number
 abbrev pub term_text : Term → List ℕ

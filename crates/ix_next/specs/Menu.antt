@@ -8,7 +8,7 @@ use Rattle.ix_expr.specs.Meaning.{IsPartial}
 use Rattle.ix_next.specs.Given.{PlainGiven}
 use Rattle.ix_next.specs.declared.term.Term.TheVariants.{New}
 use Rattle.ix_next.specs.Atoms.{fixed_in}
-use Rattle.ix_next.specs.Candidates.{PlainCandidate, action_of, candidate_eq, candidates, once}
+use Rattle.ix_next.specs.Candidates.{PlainCandidate, action_with, candidate_eq, candidates, once}
 
 -- the values that aren't new: those of the history w, those fixed in x, and those given
 abbrev pub known : Form → Word → List PlainGiven → List (List ℕ)
@@ -19,7 +19,7 @@ known x w given = values_of w ++ (fixed_in x ++ map (λ g. g.value) given)
 pub record StandsForAction (x : Form) (w : Word) (given : List PlainGiven) (c : PlainCandidate)
     (a : PlainAction) : Type 0 where
   pub new : ℕ → List ℕ
-  pub same : a ≡ action_of new c
+  pub same : a ≡ action_with new c
   pub unknown : (i : ℕ) → Member (New i) c.terms → ¬ Member (new i) (known x w given)
   pub apart : (i j : ℕ) → Member (New i) c.terms → Member (New j) c.terms → new i ≡ new j → i ≡ j
 
@@ -36,4 +36,4 @@ IsMenu x w given menu =
 -- the moves: the actions of the candidates without new values, each once, in order; no number
 -- stands in them, so it doesn't matter which value is given here
 abbrev pub moves : Form → List PlainGiven → List PlainAction
-moves x given = map (action_of (λ n. 48 ∷ [])) (once candidate_eq (candidates false x given))
+moves x given = map (action_with (λ n. 48 ∷ [])) (once candidate_eq (candidates false x given))

@@ -5,7 +5,7 @@ ghost use Rattle.arrayvec.specs.ArrayVec.{array_vec_len};
 ghost use Rattle.ix_values.specs.PlainAction.{text_of_values, text_of_rest};
 ghost use Rattle.ix_next.specs.Candidates.{candidate_of, candidate_eq, candidate_text, term_text};
 ghost use Rattle.ix_next.specs.lemmas.Same.{candidate_eq-partial, candidate_eq-equiv};
-ghost use Rattle.ix_next.specs.lemmas.Same.{hash_input_of, hash_input_of-respects_eq};
+ghost use Rattle.ix_next.specs.lemmas.Same.{candidate_input, candidate_input-respects_eq};
 
 use crate::term::Term;
 use arrayvec::ArrayVec;
@@ -109,9 +109,9 @@ impl Eq for Candidate {
 }
 
 impl Hash for Candidate {
-    ghost hash_input = { hash_input_of };
+    ghost hash_input = { candidate_input };
 
-    ghost respects_eq = { hash_input_of-respects_eq };
+    ghost respects_eq = { candidate_input-respects_eq };
 
     fn hash<H: Hasher>(&self, state: &mut H) {
         state.write(self.name.bytes());

@@ -7,7 +7,7 @@ ghost use Rattle.ix_expr.specs.declared.arg.Arg.TheVariants.{Fixed, Param};
 ghost use Rattle.ix_next.specs.Candidates.{terms_for, term_of};
 ghost use Rattle.ix_next.specs.declared.menu.MenuFault.TheVariants.{Many};
 ghost use Rattle.ix_next.specs.declared.term.Term.TheVariants.{Known, New};
-ghost use Rattle.ix_next.specs.inside.Fillings.{Took, begun, filled, filled_atoms, filled_with};
+ghost use Rattle.ix_next.specs.inside.Fillings.{Took, begun_filling, filled, filled_atoms, filled_with};
 ghost use Rattle.ix_next.specs.inside.Fillings.{keep, pool};
 ghost use Rattle.ix_next.specs.inside.Trials.{CanTry};
 
@@ -290,10 +290,10 @@ fn fill_atom(tray: &mut Tray, scope: &Scope, atom: &Atom) -> Result<(), MenuFaul
     requires can { CanTry scope.now.test }
     requires room { tray.old.seen ≤ scope.now.limit }
     ensures took { OnOk result (Took scope.now tray.old tray.new
-        (filled scope.now atom.now.arguments (begun atom.now.name))) }
+        (filled scope.now atom.now.arguments (begun_filling atom.now.name))) }
     ensures many { IfErr result (λ fault. fault ≡ Many
         → scope.now.limit < tray.old.seen
-        + length (filled scope.now atom.now.arguments (begun atom.now.name))) }
+        + length (filled scope.now atom.now.arguments (begun_filling atom.now.name))) }
 {
     fill(tray, scope, atom.args(), &Filling::new(atom.name()))
 }

@@ -22,7 +22,7 @@ pub(crate) struct Filling {
 impl Filling {
     /// The candidate of this name without a term.
     pub(crate) fn new(name: &Name) -> Filling
-        ensures { result ≡ spec.begun name.now }
+        ensures { result ≡ spec.begun_filling name.now }
     {
         Filling {
             candidate: Candidate::new(name),

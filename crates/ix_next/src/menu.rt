@@ -6,8 +6,8 @@ ghost use Rattle.ix_expr.specs.Form.{Form};
 ghost use Rattle.ix_expr.specs.inside.FormOf.{form_of};
 ghost use Rattle.ix_can.specs.TreeOf.{tree_of};
 ghost use Rattle.ix_next.specs.Atoms.{atoms_of, fixed_in};
-ghost use Rattle.ix_next.specs.Candidates.{action_of, candidates, candidate_eq, once};
-ghost use Rattle.ix_next.specs.inside.Trials.{new_of, may_come, CanAskTrial};
+ghost use Rattle.ix_next.specs.Candidates.{action_with, candidates, candidate_eq, once};
+ghost use Rattle.ix_next.specs.inside.Trials.{new_of, may_come_next, CanAskTrial};
 ghost use Rattle.ix_next.specs.Menu as spec;
 
 use crate::atoms::{collect, fixed_values};
@@ -91,7 +91,7 @@ pub fn moves(
 /// The actions of the candidates, with the value `0` for each new one.
 fn actions(alloc: Global, candidates: &[Candidate]) -> Result<Vec<Action>, AllocError>
     ensures { IfOk result
-        (λ actions. actions.items ≡ map (action_of (new_of [])) candidates.now) }
+        (λ actions. actions.items ≡ map (action_with (new_of [])) candidates.now) }
 {
     let mut actions = Vec::new(alloc);
     for candidate in candidates {
@@ -188,7 +188,7 @@ fn tried(
     ensures value { (x : Form) → parts.now.atoms.items ≡ atoms_of x
         → parts.now.fixed.items ≡ fixed_in x
         → IfOk result (λ found. found.keys
-        ≡ filter (may_come trial.entry) (once candidate_eq (candidates true x given.now))) }
+        ≡ filter (may_come_next trial.entry) (once candidate_eq (candidates true x given.now))) }
     ensures few { (x : Form) → parts.now.atoms.items ≡ atoms_of x
         → parts.now.fixed.items ≡ fixed_in x
         → OnOk result (length (candidates true x given.now) ≤ CANDIDATE_LIMIT) }

@@ -1,7 +1,7 @@
 //! Whether a candidate is kept.
 
 ghost use Rattle.std.specs.Prelude.{◌≡◌};
-ghost use Rattle.ix_next.specs.Candidates.{action_of, value_of};
+ghost use Rattle.ix_next.specs.Candidates.{action_with, value_of};
 ghost use Rattle.ix_next.specs.inside.Trials as spec;
 
 use crate::candidate::Candidate;
@@ -33,7 +33,7 @@ pub(crate) enum Test<'e, 't, 'n> {
 /// Whether the candidate is kept.
 pub(crate) fn passes(test: Test, candidate: &Candidate) -> bool
     requires { spec.CanTry test }
-    ensures { result ≡ spec.passes test.entry candidate.now }
+    ensures { result ≡ spec.passes_filter test.entry candidate.now }
 {
     match test {
         Test::Nothing => false,
@@ -45,7 +45,7 @@ pub(crate) fn passes(test: Test, candidate: &Candidate) -> bool
 /// Whether the action of the candidate may come.
 fn may_come(trial: Trial, candidate: &Candidate) -> bool
     requires { spec.CanAskTrial trial }
-    ensures { result ≡ spec.may_come trial.entry candidate.now }
+    ensures { result ≡ spec.may_come_next trial.entry candidate.now }
 {
     let action = action(candidate, trial.new);
     can(trial.tree, trial.expression.expr(), &Env::new(), &action)
@@ -54,7 +54,7 @@ fn may_come(trial: Trial, candidate: &Candidate) -> bool
 /// The action of the candidate, `new` having the values of the numbers from 1; a number without a
 /// value has the value `0`.
 pub(crate) fn action(candidate: &Candidate, new: &[Value]) -> Action
-    ensures { result ≡ action_of (spec.new_of new.now) candidate.now }
+    ensures { result ≡ action_with (spec.new_of new.now) candidate.now }
 {
     let terms = candidate.terms();
     let mut values = [Value::of_text(b"0"); 4];

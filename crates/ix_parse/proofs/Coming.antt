@@ -4,9 +4,9 @@ use Rattle.std.specs.Prelude.{is_some}
 use Rattle.ix_expr.specs.declared.arg.Arg.{Arg}
 use Rattle.ix_parse.specs.declared.signs.WordClass.{WordClass}
 use Rattle.ix_parse.specs.declared.signs.WordClass.TheVariants.{Quantifies, Counts, Names, Other}
-use Rattle.ix_parse.specs.Symbols.{Symbol, word, param, opening, closing, comma, before, between, class_of, level, Meaning, joined, named, argument_of}
+use Rattle.ix_parse.specs.Symbols.{Symbol, word, param, opening, closing, comma, before, between, class_of, level, Meaning, joined_meaning, named, argument_of}
 use Rattle.ix_parse.specs.Grammar.{Stands}
-use Rattle.ix_parse.specs.inside.StackMachine.{Entry, group, sign, binder, counter, left, Config, WithOperand, held, closed, reduced, left_group, step_operand, step_word, step_wanted, step_name, step_argument, step_quantifier, step_times, with_argument, with_number, number_of, step, groups}
+use Rattle.ix_parse.specs.inside.StackMachine.{Entry, group, sign, binder, counter, left, Config, WithOperand, operand_held, closed, reduced, left_group, step_operand, step_word, step_wanted, step_name, step_argument, step_quantifier, step_times, with_argument, times_with_number, number_of, step, groups}
 use Rattle.ix_parse.specs.inside.Judged.{begins_operand, may_begin, may_follow, may_follow_name, may_follow_argument, is_argument, is_param, is_number, may_come}
 use Rattle.ix_parse.proofs.Runs.{hole, level-some}
 use Rattle.ix_parse.proofs.Holding.{Holds, hole-low, Reads, Ended, Ended-closed, Reads-reduced}
@@ -29,7 +29,7 @@ groups-reduced k (group ∷ s) x = refl
 groups-reduced k (sign at p ∷ s) x = refl
 groups-reduced k (binder at q p ∷ s) x = refl
 groups-reduced k (counter at n ∷ s) x = refl
-groups-reduced k (left at o y ∷ s) x = groups-by (leb k (level o)) (reduced k s (joined o at y x)) (held (left at o y ∷ s) x) (groups s) (groups-reduced k s (joined o at y x)) refl
+groups-reduced k (left at o y ∷ s) x = groups-by (leb k (level o)) (reduced k s (joined_meaning o at y x)) (operand_held (left at o y ∷ s) x) (groups s) (groups-reduced k s (joined_meaning o at y x)) refl
 
 -- a group is inmost where nothing is left to join and one is open
 inmost : (s : List Entry) (x : Meaning) → hole s ≤ 1 → ltb 0 (groups s) ≡ is_some (left_group s x)
@@ -100,7 +100,7 @@ comes-quantifier s at q comma = refl
 comes-quantifier s at q (before at' p) = refl
 comes-quantifier s at q (between at' o) = refl
 
-comes-number : (s : List Entry) (at : ℕ) (o : Option ℕ) → is_some o ≡ is_some (with_number s at o)
+comes-number : (s : List Entry) (at : ℕ) (o : Option ℕ) → is_some o ≡ is_some (times_with_number s at o)
 comes-number s at None = refl
 comes-number s at (Some n) = refl
 
@@ -113,11 +113,11 @@ comes-times s at comma = refl
 comes-times s at (before at' p) = refl
 comes-times s at (between at' o) = refl
 
-comes-operand : (all : List Symbol) (s : List Entry) (x : Meaning) (t : Symbol) → Ended all (held s x) → may_follow (ltb 0 (groups s)) t ≡ is_some (step_operand s x t)
+comes-operand : (all : List Symbol) (s : List Entry) (x : Meaning) (t : Symbol) → Ended all (operand_held s x) → may_follow (ltb 0 (groups s)) t ≡ is_some (step_operand s x t)
 comes-operand all s x (word at w) e = refl
 comes-operand all s x (param p) e = refl
 comes-operand all s x opening e = refl
-comes-operand all s x closing e = closes all (held s x) e
+comes-operand all s x closing e = closes all (operand_held s x) e
 comes-operand all s x comma e = refl
 comes-operand all s x (before at p) e = refl
 comes-operand all s x (between at o) e = refl

@@ -5,9 +5,9 @@ use Rattle.ix_parse.specs.declared.signs.Operator.{Operator}
 use Rattle.ix_parse.specs.declared.signs.Prefix.{Prefix}
 use Rattle.ix_parse.specs.declared.signs.Quantifier.{Quantifier}
 use Rattle.ix_parse.specs.declared.signs.WordClass.TheVariants.{Quantifies, Counts, Names}
-use Rattle.ix_parse.specs.Symbols.{Symbol, word, param, opening, closing, comma, before, between, class_of, IsNumberWord, level, Meaning, joined, prefixed, quantified, counted, argument_of}
-use Rattle.ix_parse.specs.Grammar.{Arguments, Stands, Cut, CanGoOn}
-use Rattle.ix_parse.specs.inside.StackMachine.{Entry, group, sign, binder, counter, left, wanted, name_read, argument_wanted, argument_read, quantifier_read, times_read, operand_read, Config, WithOperand, held, config, closed, reduced, with_operand, left_group, with_left, step_operand, levels}
+use Rattle.ix_parse.specs.Symbols.{Symbol, word, param, opening, closing, comma, before, between, class_of, IsNumberWord, level, Meaning, joined_meaning, prefixed, quantified, counted, argument_of}
+use Rattle.ix_parse.specs.Grammar.{Arguments, Stands, CutAtOperand, CanGoOn}
+use Rattle.ix_parse.specs.inside.StackMachine.{Entry, group, sign, binder, counter, left, wanted, name_read, argument_wanted, argument_read, quantifier_read, times_read, operand_read, Config, WithOperand, operand_held, config, closed, reduced, with_operand, left_group, with_left, step_operand, levels}
 use Rattle.ix_parse.proofs.Runs.{hole, level-low, level-some}
 use Rattle.ix_parse.proofs.Cuts.{Stands-loosen, Cut-loosen, Cut-then, fill}
 
@@ -29,25 +29,25 @@ hole-low (counter at n ∷ s) = omega arith
 hole-low (left at o x ∷ s) = let low = level-low o in omega arith
 
 -- a level that is opened in the place of an operand
-open-level : (n d : ℕ) (ts us : List Symbol) (m : ℕ) → n ≤ 6 → Cut 1 n d ts → Cut 6 m 1 us → Cut 1 m (suc d) (ts ++ us)
+open-level : (n d : ℕ) (ts us : List Symbol) (m : ℕ) → n ≤ 6 → CutAtOperand 1 n d ts → CutAtOperand 6 m 1 us → CutAtOperand 1 m (suc d) (ts ++ us)
 open-level n d ts us m low cut inner =
     let same : d + 1 ≡ suc d = omega arith in
-    subst (λ i. Cut 1 m i (ts ++ us)) same (Cut-then 1 n m d 1 ts us cut (Cut-loosen 6 n m 1 us low (omega arith) inner))
+    subst (λ i. CutAtOperand 1 m i (ts ++ us)) same (Cut-then 1 n m d 1 ts us cut (Cut-loosen 6 n m 1 us low (omega arith) inner))
 
 -- where the machine wants an operand, so does the grammar, with as many levels
-pub Holds-cut : (ts : List Symbol) (s : List Entry) → Holds ts s → Cut 1 (hole s) (levels s) ts
-Holds-cut _ _ Holds.nothing_open = Cut.here 1
-Holds-cut _ _ (Holds.open_group ts s h) = open-level (hole s) (levels s) ts (opening ∷ []) 1 (hole-low s) (Holds-cut ts s h) (Cut.group 1 0 [] (Cut.here 1))
-Holds-cut _ _ (Holds.open_sign ts s at p h) = open-level (hole s) (levels s) ts (before at p ∷ []) 6 (hole-low s) (Holds-cut ts s h) (Cut.prefixes at p 6 0 [] (Cut.here 6))
-Holds-cut _ _ (Holds.open_binder ts s at w q p is h) = open-level (hole s) (levels s) ts (word at w ∷ param p ∷ []) 6 (hole-low s) (Holds-cut ts s h) (Cut.quantifies at w q p 6 0 [] is (Cut.here 6))
-Holds-cut _ _ (Holds.open_counter ts s at at' w v n is number h) = open-level (hole s) (levels s) ts (word at w ∷ word at' v ∷ []) 6 (hole-low s) (Holds-cut ts s h) (Cut.counts at at' w v n 6 0 [] is number (Cut.here 6))
+pub Holds-cut : (ts : List Symbol) (s : List Entry) → Holds ts s → CutAtOperand 1 (hole s) (levels s) ts
+Holds-cut _ _ Holds.nothing_open = CutAtOperand.here 1
+Holds-cut _ _ (Holds.open_group ts s h) = open-level (hole s) (levels s) ts (opening ∷ []) 1 (hole-low s) (Holds-cut ts s h) (CutAtOperand.group 1 0 [] (CutAtOperand.here 1))
+Holds-cut _ _ (Holds.open_sign ts s at p h) = open-level (hole s) (levels s) ts (before at p ∷ []) 6 (hole-low s) (Holds-cut ts s h) (CutAtOperand.prefixes at p 6 0 [] (CutAtOperand.here 6))
+Holds-cut _ _ (Holds.open_binder ts s at w q p is h) = open-level (hole s) (levels s) ts (word at w ∷ param p ∷ []) 6 (hole-low s) (Holds-cut ts s h) (CutAtOperand.quantifies at w q p 6 0 [] is (CutAtOperand.here 6))
+Holds-cut _ _ (Holds.open_counter ts s at at' w v n is number h) = open-level (hole s) (levels s) ts (word at w ∷ word at' v ∷ []) 6 (hole-low s) (Holds-cut ts s h) (CutAtOperand.counts at at' w v n 6 0 [] is number (CutAtOperand.here 6))
 Holds-cut _ _ (Holds.open_left ts us s at o x fits stands h) =
     let low = level-low o in
     let same : levels s + 0 ≡ levels s = omega arith in
-    subst (Cut 1 (suc (level o)) (levels s)) (sym (append_assoc ts us (between at o ∷ [])))
-    (subst (λ i. Cut 1 (suc (level o)) i (ts ++ (us ++ between at o ∷ []))) same
+    subst (CutAtOperand 1 (suc (level o)) (levels s)) (sym (append_assoc ts us (between at o ∷ [])))
+    (subst (λ i. CutAtOperand 1 (suc (level o)) i (ts ++ (us ++ between at o ∷ []))) same
     (Cut-then 1 (hole s) (suc (level o)) (levels s) 0 ts (us ++ between at o ∷ []) (Holds-cut ts s h)
-    (Cut-loosen (level o) (hole s) (suc (level o)) 0 (us ++ between at o ∷ []) fits (omega arith) (Cut.binary at o (suc (level o)) 0 us [] x stands (Cut.here (suc (level o)))))))
+    (Cut-loosen (level o) (hole s) (suc (level o)) 0 (us ++ between at o ∷ []) fits (omega arith) (CutAtOperand.binary at o (suc (level o)) 0 us [] x stands (CutAtOperand.here (suc (level o)))))))
 
 -- an operand in the place where one is wanted can go on
 pub Holds-fill : (ts us : List Symbol) (s : List Entry) (x : Meaning) → Holds ts s → Stands 6 us x → CanGoOn (ts ++ us)
@@ -147,10 +147,10 @@ Reads-reduced k j _ us _ x some below low fits clear stands (Holds.open_left ts 
     by-test (leb k (level o)) refl
     (λ tight.
     let o_low = level-low o in
-    let y_x : Stands (level o) (vs ++ between at o ∷ us) (joined o at y x) = Stands.binary at o vs us y x first (Stands-loosen j (suc (level o)) us x fits low stands) in
-    Reads-reduced k (level o) ts (vs ++ between at o ∷ us) s (joined o at y x) some tight (omega arith) left_fits (hole-clear s (omega arith)) y_x h)
+    let y_x : Stands (level o) (vs ++ between at o ∷ us) (joined_meaning o at y x) = Stands.binary at o vs us y x first (Stands-loosen j (suc (level o)) us x fits low stands) in
+    Reads-reduced k (level o) ts (vs ++ between at o ∷ us) s (joined_meaning o at y x) some tight (omega arith) left_fits (hole-clear s (omega arith)) y_x h)
   where
-    by-test : (v : Bool) → leb k (level o) ≡ v → (k ≤ level o → ReadTo k (ts ++ (vs ++ between at o ∷ us)) (reduced k s (joined o at y x))) → ReadTo k ((ts ++ vs ++ between at o ∷ []) ++ us) (cond v (reduced k s (joined o at y x)) (held (left at o y ∷ s) x))
+    by-test : (v : Bool) → leb k (level o) ≡ v → (k ≤ level o → ReadTo k (ts ++ (vs ++ between at o ∷ us)) (reduced k s (joined_meaning o at y x))) → ReadTo k ((ts ++ vs ++ between at o ∷ []) ++ us) (cond v (reduced k s (joined_meaning o at y x)) (operand_held (left at o y ∷ s) x))
     by-test true joins more =
         let r = more (leb-true k (level o) joins) in
         let same : (ts ++ vs ++ between at o ∷ []) ++ us ≡ ts ++ (vs ++ between at o ∷ us) = append_assoc (ts ++ vs) (between at o ∷ []) us ∙ append_assoc ts vs (between at o ∷ us) in

@@ -9,7 +9,7 @@ use Rattle.ix_parse.specs.declared.signs.WordClass.TheVariants.{Quantifies, Coun
 use Rattle.ix_parse.specs.Symbols.{Symbol, word, param, opening, closing, comma, before, between, symbol_of, class_of, IsNumberWord, Meaning}
 use Rattle.ix_parse.specs.Grammar.{Stands, Wanted, AfterTimes, AfterArgument}
 use Rattle.ix_parse.specs.Faults.{ParamNext, WordNext, BeginsNoOperand, OpensLevel, IsNode, Nodes, IsLong, Met, symbols_of, HasMeaning}
-use Rattle.ix_parse.specs.inside.StackMachine.{Entry, Config, config, wanted, quantifier_read, times_read, argument_read, argument_wanted, step_word, with_number, run, start, whole}
+use Rattle.ix_parse.specs.inside.StackMachine.{Entry, Config, config, wanted, quantifier_read, times_read, argument_read, argument_wanted, step_word, times_with_number, run, start, whole}
 use Rattle.ix_parse.proofs.Runs.{run-append, run-none, run-wanted, run-after_times, run-after_argument, run-stands, whole-stands}
 use Rattle.ix_parse.proofs.Steps.{some_is}
 use Rattle.ix_parse.proofs.Numbers.{number-none}
@@ -70,7 +70,7 @@ module _ (ts : List Symbol) (x : Meaning) (stands : Stands 1 ts x) where
   not-numberless us vs at w split after none =
       let r = run-after_times us after in
       let more = rest-runs us (word at w ∷ vs) (config r.stack (times_read r.at)) split r.is in
-      let stuck : run (Some (config r.stack (times_read r.at))) (word at w ∷ vs) ≡ None = ap (λ (o : Option ℕ). run (with_number r.stack r.at o) vs) (number-none w none) ∙ run-none vs in
+      let stuck : run (Some (config r.stack (times_read r.at))) (word at w ∷ vs) ≡ None = ap (λ (o : Option ℕ). run (times_with_number r.stack r.at o) vs) (number-none w none) ∙ run-none vs in
       let h : None ≡ Some last = sym stuck ∙ more in
       cc
 

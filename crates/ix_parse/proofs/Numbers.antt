@@ -7,7 +7,7 @@ use Rattle.std.proofs.lemmas.Bool.Decides.{nat_tests}
 use Rattle.ix_values.specs.Order.{text_eq}
 use Rattle.ix_values.specs.lemmas.Order.{text_eq-decides}
 use Rattle.ix_lines.specs.Bytes.{is_word_byte}
-use Rattle.ix_expr.specs.FormFaults.{IsNumber}
+use Rattle.ix_expr.specs.FormFaults.{IsTimesNumber}
 use Rattle.ix_parse.specs.Symbols.{IsNumberWord}
 use Rattle.ix_parse.specs.inside.StackMachine.{number_below, number_of}
 
@@ -67,7 +67,7 @@ digit : (n : ℕ) → n < 10 → is_word_byte (48 + n) ≡ true
 digit n low = grind (arith, nat_tests)
 
 -- the decimal of a number is a word of at most two bytes
-pub decimal-word : (n : ℕ) → IsNumber n → list_all is_word_byte (decimal n) ≡ true
+pub decimal-word : (n : ℕ) → IsTimesNumber n → list_all is_word_byte (decimal n) ≡ true
 decimal-word n number =
     decimal_by_steps (λ n ds. list_all is_word_byte ds ≡ true)
     (λ n low. rw (digit n low) refl)
@@ -75,8 +75,8 @@ decimal-word n number =
     list_all-append is_word_byte ds ((48 + n % 10) ∷ []) ∙ rw (rest, digit (n % 10) last) refl)
     n (omega (arith, number.1))
 
-pub decimal-some : (n : ℕ) → IsNumber n → 0 < length (decimal n)
+pub decimal-some : (n : ℕ) → IsTimesNumber n → 0 < length (decimal n)
 decimal-some n number = decimal_nonempty n (omega (arith, number.1))
 
-pub decimal-short : (n : ℕ) → IsNumber n → length (decimal n) ≤ 2
+pub decimal-short : (n : ℕ) → IsTimesNumber n → length (decimal n) ≤ 2
 decimal-short n number = length-decimal-le 2 n (omega arith) (omega (arith, number.1)) (omega (arith, number.1))

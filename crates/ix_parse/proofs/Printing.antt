@@ -9,7 +9,7 @@ use Rattle.ix_expr.specs.declared.arg.Arg.{Arg}
 use Rattle.ix_expr.specs.declared.arg.Arg.TheVariants.{Fixed, Param}
 use Rattle.ix_expr.specs.Form as forms
 use Rattle.ix_expr.specs.Form.{Form, atom_of}
-use Rattle.ix_expr.specs.FormFaults.{IsNumber, HasNumbers}
+use Rattle.ix_expr.specs.FormFaults.{IsTimesNumber, HasNumbers}
 use Rattle.ix_expr.specs.Spelling.{IsArgument, IsAtom, IsSpelled}
 use Rattle.ix_expr.specs.CanonicalText.{binding, enclosed, argument_text, more_arguments_text, arguments_text, operand_text, canonical_text}
 use Rattle.ix_lex.specs.declared.TokenKind.{TokenKind}
@@ -232,7 +232,7 @@ unfolding class_of
 times_class = refl
 
 -- `times` and its number in front of an operand
-printed-counted : (n : ℕ) (x : Form) (at : ℕ) (t : List ℕ) (d : ℕ) → IsNumber n → ((from : ℕ) → Printed from t 6 x d) → Printed at ((codes "times" ++ (32 ∷ decimal n)) ++ (32 ∷ t)) 6 (forms.times n x) (suc d)
+printed-counted : (n : ℕ) (x : Form) (at : ℕ) (t : List ℕ) (d : ℕ) → IsTimesNumber n → ((from : ℕ) → Printed from t 6 x d) → Printed at ((codes "times" ++ (32 ∷ decimal n)) ++ (32 ∷ t)) 6 (forms.times n x) (suc d)
 printed-counted n x at t d number inner =
     let w = codes "times" in
     let word_token = token_at kinds.Word w at in

@@ -6,9 +6,9 @@ use Rattle.ix_parse.specs.declared.signs.Operator.{Operator}
 use Rattle.ix_parse.specs.declared.signs.Operator.TheVariants as operators
 use Rattle.ix_parse.specs.declared.signs.WordClass.{WordClass}
 use Rattle.ix_parse.specs.declared.signs.WordClass.TheVariants.{Counts}
-use Rattle.ix_parse.specs.Symbols.{Symbol, word, param, opening, closing, comma, between, class_of, IsNumberWord, level, Meaning, joined, quantified, counted, named}
-use Rattle.ix_parse.specs.Grammar.{Arguments, Stands, Cut, CanGoOn, Wanted, AfterTimes, AfterArgument}
-use Rattle.ix_parse.specs.inside.StackMachine.{Entry, group, sign, binder, counter, left, Mode, wanted, name_read, argument_wanted, argument_read, quantifier_read, times_read, operand_read, Config, WithOperand, held, config, closed, reduced, with_operand, left_group, with_left, step_operand, step_word, with_argument, with_number, step_by, step, settled_by, settled, alone, joined_all, whole, start, step_some, run, levels}
+use Rattle.ix_parse.specs.Symbols.{Symbol, word, param, opening, closing, comma, between, class_of, IsNumberWord, level, Meaning, joined_meaning, quantified, counted, named}
+use Rattle.ix_parse.specs.Grammar.{Arguments, Stands, CutAtOperand, CanGoOn, Wanted, AfterTimes, AfterArgument}
+use Rattle.ix_parse.specs.inside.StackMachine.{Entry, group, sign, binder, counter, left, Mode, wanted, name_read, argument_wanted, argument_read, quantifier_read, times_read, operand_read, Config, WithOperand, operand_held, config, closed, reduced, with_operand, left_group, with_left, step_operand, step_word, with_argument, times_with_number, step_by, step, settled_mode, settled_config, joined_whole, joined_all, whole, start, step_some, run, levels}
 use Rattle.ix_parse.proofs.Numbers.{number-is}
 
 -- a run over an appended list is a run over its parts
@@ -30,8 +30,8 @@ hole (binder at q p ∷ s) = 6
 hole (counter at n ∷ s) = 6
 hole (left at o x ∷ s) = suc (level o)
 
--- where an operand of this level may stand, nothing is joined to it
-pub reduced-clear : (k : ℕ) (s : List Entry) (x : Meaning) → hole s ≤ k → reduced k s x ≡ held s x
+-- where an operand of this level may stand, nothing is joined_meaning to it
+pub reduced-clear : (k : ℕ) (s : List Entry) (x : Meaning) → hole s ≤ k → reduced k s x ≡ operand_held s x
 reduced-clear k [] x h = refl
 reduced-clear k (group ∷ s) x h = refl
 reduced-clear k (sign at p ∷ s) x h = refl
@@ -40,7 +40,7 @@ reduced-clear k (counter at n ∷ s) x h = refl
 reduced-clear k (left at o y ∷ s) x h = let below : leb k (level o) ≡ false = grind (arith, nat_tests) in rw below refl
 
 -- at the end of an operand that no prefix takes, nothing is closed
-pub closed-clear : (s : List Entry) (x : Meaning) → hole s ≤ 5 → closed s x ≡ held s x
+pub closed-clear : (s : List Entry) (x : Meaning) → hole s ≤ 5 → closed s x ≡ operand_held s x
 closed-clear [] x h = refl
 closed-clear (group ∷ s) x h = refl
 closed-clear (sign at p ∷ s) x h = absurd (omega arith)
@@ -49,23 +49,23 @@ closed-clear (counter at n ∷ s) x h = absurd (omega arith)
 closed-clear (left at o y ∷ s) x h = refl
 
 -- behind an operand the machine goes on as from the operand
-pub step-closing : (s : List Entry) (mode : Mode) (h : WithOperand) → settled_by s mode ≡ Some h → step_by s mode closing ≡ step_operand h.stack h.operand closing
+pub step-closing : (s : List Entry) (mode : Mode) (h : WithOperand) → settled_mode s mode ≡ Some h → step_by s mode closing ≡ step_operand h.stack h.operand closing
 step-closing s wanted h e = absurd cc
 step-closing s (name_read at w) h e = let same : closed s (named at w []) ≡ h = cc in ap (λ (g : WithOperand). step_operand g.stack g.operand closing) same
 step-closing s (argument_wanted at w args) h e = absurd cc
 step-closing s (argument_read at w args) h e = absurd cc
 step-closing s (quantifier_read at q) h e = absurd cc
 step-closing s (times_read at) h e = absurd cc
-step-closing s (operand_read x) h e = let same : held s x ≡ h = cc in ap (λ (g : WithOperand). step_operand g.stack g.operand closing) same
+step-closing s (operand_read x) h e = let same : operand_held s x ≡ h = cc in ap (λ (g : WithOperand). step_operand g.stack g.operand closing) same
 
-pub step-between : (s : List Entry) (mode : Mode) (h : WithOperand) (at : ℕ) (o : Operator) → settled_by s mode ≡ Some h → step_by s mode (between at o) ≡ step_operand h.stack h.operand (between at o)
+pub step-between : (s : List Entry) (mode : Mode) (h : WithOperand) (at : ℕ) (o : Operator) → settled_mode s mode ≡ Some h → step_by s mode (between at o) ≡ step_operand h.stack h.operand (between at o)
 step-between s wanted h at o e = absurd cc
 step-between s (name_read at' w) h at o e = let same : closed s (named at' w []) ≡ h = cc in ap (λ (g : WithOperand). step_operand g.stack g.operand (between at o)) same
 step-between s (argument_wanted at' w args) h at o e = absurd cc
 step-between s (argument_read at' w args) h at o e = absurd cc
 step-between s (quantifier_read at' q) h at o e = absurd cc
 step-between s (times_read at') h at o e = absurd cc
-step-between s (operand_read x) h at o e = let same : held s x ≡ h = cc in ap (λ (g : WithOperand). step_operand g.stack g.operand (between at o)) same
+step-between s (operand_read x) h at o e = let same : operand_held s x ≡ h = cc in ap (λ (g : WithOperand). step_operand g.stack g.operand (between at o)) same
 
 abbrev pub reduced_held : ℕ → WithOperand → WithOperand
 reduced_held k h = reduced k h.stack h.operand
@@ -75,7 +75,7 @@ pub record Reached (n : ℕ) (whole : WithOperand) (c : Option Config) : Type 0 
   pub last : Config
   pub is : c ≡ Some last
   pub held : WithOperand
-  pub settled_is : settled last ≡ Some held
+  pub settled_is : settled_config last ≡ Some held
   pub same : (k : ℕ) → k ≤ n → reduced_held k held ≡ reduced_held k whole
 
 pub some_arguments : (ts : List Symbol) (args : List Arg) → Arguments ts args → 1 ≤ length args
@@ -108,15 +108,15 @@ level-some operators.Couple = omega arith
 level-some operators.Par = omega arith
 level-some operators.Seq = omega arith
 
-reduced-left : (k at : ℕ) (o : Operator) (x y : Meaning) (s : List Entry) → k ≤ level o → reduced k (left at o x ∷ s) y ≡ reduced k s (joined o at x y)
-reduced-left k at o x y s low = ap (λ (b : Bool). cond b (reduced k s (joined o at x y)) (held (left at o x ∷ s) y)) (le-leb k (level o) low)
+reduced-left : (k at : ℕ) (o : Operator) (x y : Meaning) (s : List Entry) → k ≤ level o → reduced k (left at o x ∷ s) y ≡ reduced k s (joined_meaning o at x y)
+reduced-left k at o x y s low = ap (λ (b : Bool). cond b (reduced k s (joined_meaning o at x y)) (operand_held (left at o x ∷ s) y)) (le-leb k (level o) low)
 
 -- an operator behind a left operand that was read
 pub run-left : (at : ℕ) (o : Operator) (ts us : List Symbol) (x : Meaning) (s : List Entry) → hole s ≤ level o → Reached (level o) (closed s x) (run (Some (config s wanted)) ts) → run (Some (config s wanted)) (ts ++ between at o ∷ us) ≡ run (Some (config (left at o x ∷ s) wanted)) us
 run-left at o ts us x s fits r =
     let low = level-low o in
     let clear = closed-clear s x (omega arith) in
-    let found : reduced_held (level o) r.held ≡ held s x = r.same (level o) (omega arith) ∙ ap (reduced_held (level o)) clear ∙ reduced-clear (level o) s x fits in
+    let found : reduced_held (level o) r.held ≡ operand_held s x = r.same (level o) (omega arith) ∙ ap (reduced_held (level o)) clear ∙ reduced-clear (level o) s x fits in
     let stepped : step r.last (between at o) ≡ Some (config (left at o x ∷ s) wanted) = step-between r.last.stack r.last.mode r.held at o r.settled_is ∙ ap (λ (h : WithOperand). Some (with_left at o h)) found in
     run-append (Some (config s wanted)) ts (between at o ∷ us) ∙ ap (λ (c : Option Config). run (step_some c (between at o)) us) r.is ∙ ap (λ (c : Option Config). run c us) stepped
 
@@ -124,7 +124,7 @@ run-left at o ts us x s fits r =
 pub run-counts : (s : List Entry) (at at' : ℕ) (w v : List ℕ) (n : ℕ) (ts : List Symbol) → class_of w ≡ Counts → IsNumberWord v n → run (Some (config s wanted)) (word at w ∷ word at' v ∷ ts) ≡ run (Some (config (counter at n ∷ s) wanted)) ts
 run-counts s at at' w v n ts is number =
     ap (λ (k : WordClass). run (step_some (step_word s at w k) (word at' v)) ts) is
-    ∙ ap (λ (o : Option ℕ). run (with_number s at o) ts) (number-is v n number)
+    ∙ ap (λ (o : Option ℕ). run (times_with_number s at o) ts) (number-is v n number)
 
 -- each symbol list that stands for a meaning is read as it
 pub run-stands : (n : ℕ) (ts : List Symbol) (x : Meaning) → Stands n ts x → (s : List Entry) → hole s ≤ n → Reached n (closed s x) (run (Some (config s wanted)) ts)
@@ -140,7 +140,7 @@ run-stands _ _ _ (Stands.binary at o ts us x y first second) s fits =
       is = ran ∙ r2.is;
       held = r2.held;
       settled_is = r2.settled_is;
-      same = λ k h. r2.same k (omega arith) ∙ reduced-left k at o x y s h ∙ sym (ap (reduced_held k) (closed-clear s (joined o at x y) (omega arith)));
+      same = λ k h. r2.same k (omega arith) ∙ reduced-left k at o x y s h ∙ sym (ap (reduced_held k) (closed-clear s (joined_meaning o at x y) (omega arith)));
     }
 run-stands _ _ _ (Stands.prefixes at p ts x operand) s fits = run-stands 6 ts x operand (sign at p ∷ s) (omega arith)
 run-stands _ _ _ (Stands.quantifies at w q p ts x is operand) s fits =
@@ -150,7 +150,7 @@ run-stands _ _ _ (Stands.counts at at' w v n ts x is number operand) s fits =
     subst (Reached 6 (closed s (counted n at x))) (sym (run-counts s at at' w v n ts is number)) (run-stands 6 ts x operand (counter at n ∷ s) (omega arith))
 run-stands _ _ _ (Stands.group ts x inner) s fits =
     let r = run-stands 1 ts x inner (group ∷ s) (omega arith) in
-    let found : reduced_held 1 r.held ≡ held (group ∷ s) x = r.same 1 (omega arith) in
+    let found : reduced_held 1 r.held ≡ operand_held (group ∷ s) x = r.same 1 (omega arith) in
     record {
       last = with_operand (closed s x);
       is =
@@ -179,7 +179,7 @@ pub whole-stands : (ts : List Symbol) (x : Meaning) → Stands 1 ts x → (c : C
 whole-stands ts x stands c is =
     let r = run-stands 1 ts x stands [] (omega arith) in
     let same : r.last ≡ c = let e : Some r.last ≡ Some c = sym r.is ∙ is in cc in
-    ap whole (sym same) ∙ ap joined_all r.settled_is ∙ ap (λ (h : WithOperand). alone h.stack h.operand) (r.same 1 (omega arith))
+    ap whole (sym same) ∙ ap joined_all r.settled_is ∙ ap (λ (h : WithOperand). joined_whole h.stack h.operand) (r.same 1 (omega arith))
 
 -- where symbols can go on, the machine isn't stuck
 pub run-can : (ts : List Symbol) → CanGoOn ts → run (Some start) ts ≡ None → ⊥
@@ -198,19 +198,19 @@ pub record ReachedCut (s : List Entry) (d : ℕ) (c : Option Config) : Type 0 wh
 one_deeper : (s t : List Entry) (d : ℕ) (c : Option Config) → levels t ≡ suc (levels s) → ReachedCut t d c → ReachedCut s (suc d) c
 one_deeper s t d c more r = record { stack = r.stack; is = r.is; deeper = let deeper = r.deeper in omega arith }
 
-pub run-cut : (n m d : ℕ) (ts : List Symbol) → Cut n m d ts → (s : List Entry) → hole s ≤ n → ReachedCut s d (run (Some (config s wanted)) ts)
-run-cut _ _ _ _ (Cut.here n) s fits = record { stack = s; is = refl; deeper = omega arith }
-run-cut _ _ _ _ (Cut.tighter n m d ts low cut) s fits = run-cut (suc n) m d ts cut s (omega arith)
-run-cut _ _ _ _ (Cut.binary at o m d ts us x first cut) s fits =
+pub run-cut : (n m d : ℕ) (ts : List Symbol) → CutAtOperand n m d ts → (s : List Entry) → hole s ≤ n → ReachedCut s d (run (Some (config s wanted)) ts)
+run-cut _ _ _ _ (CutAtOperand.here n) s fits = record { stack = s; is = refl; deeper = omega arith }
+run-cut _ _ _ _ (CutAtOperand.tighter n m d ts low cut) s fits = run-cut (suc n) m d ts cut s (omega arith)
+run-cut _ _ _ _ (CutAtOperand.binary at o m d ts us x first cut) s fits =
     let r = run-cut (suc (level o)) m d us cut (left at o x ∷ s) (omega arith) in
     record { stack = r.stack; is = run-left at o ts us x s fits (run-stands (level o) ts x first s fits) ∙ r.is; deeper = r.deeper }
-run-cut _ _ _ _ (Cut.prefixes at p m d ts cut) s fits = one_deeper s (sign at p ∷ s) d _ refl (run-cut 6 m d ts cut (sign at p ∷ s) (omega arith))
-run-cut _ _ _ _ (Cut.quantifies at w q p m d ts is cut) s fits =
+run-cut _ _ _ _ (CutAtOperand.prefixes at p m d ts cut) s fits = one_deeper s (sign at p ∷ s) d _ refl (run-cut 6 m d ts cut (sign at p ∷ s) (omega arith))
+run-cut _ _ _ _ (CutAtOperand.quantifies at w q p m d ts is cut) s fits =
     let ran : run (Some (config s wanted)) (word at w ∷ param p ∷ ts) ≡ run (Some (config (binder at q p ∷ s) wanted)) ts = ap (λ (k : WordClass). run (step_some (step_word s at w k) (param p)) ts) is in
     subst (ReachedCut s (suc d)) (sym ran) (one_deeper s (binder at q p ∷ s) d _ refl (run-cut 6 m d ts cut (binder at q p ∷ s) (omega arith)))
-run-cut _ _ _ _ (Cut.counts at at' w v n m d ts is number cut) s fits =
+run-cut _ _ _ _ (CutAtOperand.counts at at' w v n m d ts is number cut) s fits =
     subst (ReachedCut s (suc d)) (sym (run-counts s at at' w v n ts is number)) (one_deeper s (counter at n ∷ s) d _ refl (run-cut 6 m d ts cut (counter at n ∷ s) (omega arith)))
-run-cut _ _ _ _ (Cut.group m d ts cut) s fits = one_deeper s (group ∷ s) d _ refl (run-cut 1 m d ts cut (group ∷ s) (omega arith))
+run-cut _ _ _ _ (CutAtOperand.group m d ts cut) s fits = one_deeper s (group ∷ s) d _ refl (run-cut 1 m d ts cut (group ∷ s) (omega arith))
 
 -- where the grammar wants an operand, so does the machine
 pub run-wanted : (d : ℕ) (ts : List Symbol) → Wanted d ts → ReachedCut [] d (run (Some start) ts)

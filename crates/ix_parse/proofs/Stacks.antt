@@ -5,10 +5,10 @@ use Rattle.std.specs.List.{slice_get, count_by, fold}
 use Rattle.ix_parse.specs.declared.stack.Entry.{Entry}
 use Rattle.ix_parse.specs.declared.stack.Entry.TheVariants as entries
 use Rattle.ix_parse.specs.declared.stack.Taking.TheVariants.{Sign, Binder, Counter}
-use Rattle.ix_parse.specs.Symbols.{Meaning, level, joined}
+use Rattle.ix_parse.specs.Symbols.{Meaning, level, joined_meaning}
 use Rattle.ix_parse.specs.inside.Operands.{meaning_of}
 use Rattle.ix_parse.specs.inside.StackMachine as machine
-use Rattle.ix_parse.specs.inside.StackMachine.{group, sign, binder, counter, left, closed, reduced, held, left_group, alone, levels, groups}
+use Rattle.ix_parse.specs.inside.StackMachine.{group, sign, binder, counter, left, closed, reduced, operand_held, left_group, joined_whole, levels, groups}
 use Rattle.ix_parse.specs.inside.Stack.{taking_of, is_counted, entry_of, stack_onto, stack_of, is_prefix_inmost, is_left_inmost}
 
 -- the last entry is the inmost
@@ -17,7 +17,7 @@ stack_of-push s [] e = refl
 stack_of-push s (x ∷ es) e = stack_of-push (entry_of x ∷ s) es e
 
 -- nothing is closed where no prefix is inmost
-pub closed-none : (s : List machine.Entry) (x : Meaning) → is_prefix_inmost s ≡ false → closed s x ≡ held s x
+pub closed-none : (s : List machine.Entry) (x : Meaning) → is_prefix_inmost s ≡ false → closed s x ≡ operand_held s x
 closed-none [] x e = refl
 closed-none (group ∷ s) x e = refl
 closed-none (sign at p ∷ s) x e = absurd cc
@@ -25,8 +25,8 @@ closed-none (binder at q p ∷ s) x e = absurd cc
 closed-none (counter at n ∷ s) x e = absurd cc
 closed-none (left at o y ∷ s) x e = refl
 
--- nothing is joined where no operator that binds so tightly is inmost
-pub reduced-none : (k : ℕ) (s : List machine.Entry) (x : Meaning) → is_left_inmost k s ≡ false → reduced k s x ≡ held s x
+-- nothing is joined_meaning where no operator that binds so tightly is inmost
+pub reduced-none : (k : ℕ) (s : List machine.Entry) (x : Meaning) → is_left_inmost k s ≡ false → reduced k s x ≡ operand_held s x
 reduced-none k [] x e = refl
 reduced-none k (group ∷ s) x e = refl
 reduced-none k (sign at p ∷ s) x e = refl
@@ -103,11 +103,11 @@ taking-no_left k (Counter at n) s = refl
 pub closed-taking : (es : List Entry) (t : _) (x : Meaning) → slice_get es (length es - 1) ≡ Some (entries.Taking t) → closed (stack_of es) x ≡ closed (taking_of t ∷ stack_of (take (length es - 1) es)) x
 closed-taking es t x last = ap (λ s. closed s x) (stack_onto-last [] es (entries.Taking t) last)
 
--- the operator that is inmost is joined first
-pub reduced-left : (k : ℕ) (es fs : List Entry) (l : _) (x : Meaning) → es ≡ fs ++ entries.Left l ∷ [] → k ≤ level l.operator → reduced k (stack_of es) x ≡ reduced k (stack_of fs) (joined l.operator l.at (meaning_of l.operand) x)
+-- the operator that is inmost is joined_meaning first
+pub reduced-left : (k : ℕ) (es fs : List Entry) (l : _) (x : Meaning) → es ≡ fs ++ entries.Left l ∷ [] → k ≤ level l.operator → reduced k (stack_of es) x ≡ reduced k (stack_of fs) (joined_meaning l.operator l.at (meaning_of l.operand) x)
 reduced-left k es fs l x is tight =
     ap (λ s. reduced k s x) (ap stack_of is ∙ stack_of-push [] fs (entries.Left l))
-    ∙ ap (λ (b : Bool). cond b (reduced k (stack_of fs) (joined l.operator l.at (meaning_of l.operand) x)) (held (left l.at l.operator (meaning_of l.operand) ∷ stack_of fs) x)) (le-leb k (level l.operator) tight)
+    ∙ ap (λ (b : Bool). cond b (reduced k (stack_of fs) (joined_meaning l.operator l.at (meaning_of l.operand) x)) (operand_held (left l.at l.operator (meaning_of l.operand) ∷ stack_of fs) x)) (le-leb k (level l.operator) tight)
 
 -- what is inmost after a pop tells against another
 pub clash_popped : {A : Type 0} (f : List machine.Entry → Bool) (es fs : List Entry) (e : Entry) → es ≡ fs ++ e ∷ [] → true ≡ f (stack_of es) → f (entry_of e ∷ stack_of fs) ≡ false → A
@@ -121,7 +121,7 @@ pub pushed : (es : List Entry) (e : Entry) → stack_of (es ++ e ∷ []) ≡ ent
 pushed es e = stack_of-push [] es e
 
 -- what is left of a group, by what was popped
-pub left_group-popped : (s : List machine.Entry) (x : Meaning) (es fs : List Entry) (e : Entry) (y : Meaning) → reduced 1 s x ≡ held (stack_of es) y → es ≡ fs ++ e ∷ [] → left_group (reduced 1 s x).stack (reduced 1 s x).operand ≡ left_group (entry_of e ∷ stack_of fs) y
+pub left_group-popped : (s : List machine.Entry) (x : Meaning) (es fs : List Entry) (e : Entry) (y : Meaning) → reduced 1 s x ≡ operand_held (stack_of es) y → es ≡ fs ++ e ∷ [] → left_group (reduced 1 s x).stack (reduced 1 s x).operand ≡ left_group (entry_of e ∷ stack_of fs) y
 left_group-popped s x es fs e y r is = ap (λ (h : machine.WithOperand). left_group h.stack h.operand) r ∙ ap (λ t. left_group t y) (ap stack_of is ∙ pushed fs e)
 
 pub taking-no_group : (t : _) (s : List machine.Entry) (y : Meaning) → left_group (taking_of t ∷ s) y ≡ None
@@ -130,14 +130,14 @@ taking-no_group (Binder at q p) s y = refl
 taking-no_group (Counter at n) s y = refl
 
 -- whether nothing is open
-alone-onto : (e : machine.Entry) (s : List machine.Entry) (es : List Entry) (y : Meaning) → alone (stack_onto (e ∷ s) es) y ≡ None
+alone-onto : (e : machine.Entry) (s : List machine.Entry) (es : List Entry) (y : Meaning) → joined_whole (stack_onto (e ∷ s) es) y ≡ None
 alone-onto e s [] y = refl
 alone-onto e s (x ∷ es) y = alone-onto (entry_of x) (e ∷ s) es y
 
-pub alone_empty : (es : List Entry) (y : Meaning) → length es ≡ 0 → alone (stack_of es) y ≡ Some y
+pub alone_empty : (es : List Entry) (y : Meaning) → length es ≡ 0 → joined_whole (stack_of es) y ≡ Some y
 alone_empty [] y e = refl
 alone_empty (x ∷ es) y e = absurd (omega arith)
 
-pub alone_more : (es : List Entry) (y : Meaning) → (length es ≡ 0 → ⊥) → alone (stack_of es) y ≡ None
+pub alone_more : (es : List Entry) (y : Meaning) → (length es ≡ 0 → ⊥) → joined_whole (stack_of es) y ≡ None
 alone_more [] y e = absurd (e refl)
 alone_more (x ∷ es) y e = alone-onto (entry_of x) [] es y

@@ -9,7 +9,7 @@ use Rattle.ix_parse.specs.declared.signs.WordClass.{WordClass}
 use Rattle.ix_parse.specs.declared.signs.WordClass.TheVariants.{Quantifies, Counts, Names, Other}
 use Rattle.ix_parse.specs.Symbols.{Symbol, word, param, opening, closing, comma, before, between, class_of, IsNumberWord, Meaning, named, argument_of}
 use Rattle.ix_parse.specs.Grammar.{Arguments, Stands, CanGoOn}
-use Rattle.ix_parse.specs.inside.StackMachine.{Entry, group, sign, binder, counter, argument_wanted, Config, WithOperand, held, config, closed, reduced, step_operand, step_word, step_wanted, step_name, step_argument, step_quantifier, step_times, with_argument, with_number, number_of, step, alone, joined_all, whole, start, run}
+use Rattle.ix_parse.specs.inside.StackMachine.{Entry, group, sign, binder, counter, argument_wanted, Config, WithOperand, operand_held, config, closed, reduced, step_operand, step_word, step_wanted, step_name, step_argument, step_quantifier, step_times, with_argument, times_with_number, number_of, step, joined_whole, joined_all, whole, start, run}
 use Rattle.ix_parse.proofs.Numbers.{number-when}
 use Rattle.ix_parse.proofs.Runs.{run-none}
 use Rattle.ix_parse.proofs.Cuts.{CanGoOn-front}
@@ -93,7 +93,7 @@ quantifier-step ts s at w q (before at' p) c is h e = absurd cc
 quantifier-step ts s at w q (between at' o) c is h e = absurd cc
 
 -- a symbol behind `times`
-number-step : (ts : List Symbol) (s : List Entry) (at at' : ℕ) (w v : List ℕ) (o : Option ℕ) (c : Config) → number_of v ≡ o → class_of w ≡ Counts → Holds ts s → with_number s at o ≡ Some c → Reads ((ts ++ word at w ∷ []) ++ word at' v ∷ []) c
+number-step : (ts : List Symbol) (s : List Entry) (at at' : ℕ) (w v : List ℕ) (o : Option ℕ) (c : Config) → number_of v ≡ o → class_of w ≡ Counts → Holds ts s → times_with_number s at o ≡ Some c → Reads ((ts ++ word at w ∷ []) ++ word at' v ∷ []) c
 number-step ts s at at' w v None c found is h e = absurd cc
 number-step ts s at at' w v (Some n) c found is h e =
     subst (λ l. Reads l c) (sym (append_assoc ts (word at w ∷ []) (word at' v ∷ [])))
@@ -141,10 +141,10 @@ Holds-none _ _ (Holds.open_counter ts s at at' w v n is number h) e = absurd cc
 Holds-none _ _ (Holds.open_left ts us s at o x fits stands h) e = absurd cc
 
 -- an operand with nothing open around it is whole
-Stands-read : (all : List Symbol) (h : WithOperand) (x : Meaning) → ReadTo 1 all h → alone h.stack h.operand ≡ Some x → Stands 1 all x
+Stands-read : (all : List Symbol) (h : WithOperand) (x : Meaning) → ReadTo 1 all h → joined_whole h.stack h.operand ≡ Some x → Stands 1 all x
 Stands-read all h x r e = by-stack h.stack refl (λ none. subst (λ l. Stands 1 l h.operand) (sym (r.split ∙ ap (λ l. l ++ r.operand) (Holds-none r.front h.stack r.holds none))) r.stands) e
   where
-    by-stack : (s : List Entry) → h.stack ≡ s → (h.stack ≡ [] → Stands 1 all h.operand) → alone s h.operand ≡ Some x → Stands 1 all x
+    by-stack : (s : List Entry) → h.stack ≡ s → (h.stack ≡ [] → Stands 1 all h.operand) → joined_whole s h.operand ≡ Some x → Stands 1 all x
     by-stack [] is whole e = subst (Stands 1 all) (some_is h.operand x e) (whole is)
     by-stack (entry ∷ s) is whole e = absurd cc
 
@@ -162,7 +162,7 @@ Reads-whole _ _ x (Reads.behind_argument ts us s at w args is listed few h) e = 
 Reads-whole _ _ x (Reads.behind_quantifier ts s at w q is h) e = absurd cc
 Reads-whole _ _ x (Reads.behind_times ts s at w is h) e = absurd cc
 Reads-whole _ _ x (Reads.behind_operand ts us s y clear stands h) e =
-    ended-whole (ts ++ us) (held s y) x (record { front = ts; operand = us; split = refl; clear = clear; stands = stands; holds = h }) e
+    ended-whole (ts ++ us) (operand_held s y) x (record { front = ts; operand = us; split = refl; clear = clear; stands = stands; holds = h }) e
 
 -- a name for what may follow
 a_word : class_of (97 ∷ []) ≡ Names

@@ -10,7 +10,7 @@ use Rattle.ix_expr.specs.declared.arg.Arg.{Arg}
 use Rattle.ix_expr.specs.declared.arg.Arg.TheVariants.{Fixed, Param}
 use Rattle.ix_expr.specs.Form as forms
 use Rattle.ix_expr.specs.Form.{Form, atom_of}
-use Rattle.ix_expr.specs.FormFaults.{IsNumber}
+use Rattle.ix_expr.specs.FormFaults.{IsTimesNumber}
 use Rattle.ix_parse.specs.declared.signs.Operator.{Operator}
 use Rattle.ix_parse.specs.declared.signs.Operator.TheVariants as operators
 use Rattle.ix_parse.specs.declared.signs.Prefix.{Prefix}
@@ -66,7 +66,7 @@ class_of w =
 -- zeros
 pub record IsNumberWord (w : List ℕ) (n : ℕ) : Type 0 where
   pub same : w ≡ decimal n
-  pub number : IsNumber n
+  pub number : IsTimesNumber n
 
 -- how tightly an operator binds, the weakest first
 abbrev pub level : Operator → ℕ
@@ -104,8 +104,8 @@ quantified_form quantifiers.Sync p x = forms.sync p x
 quantified_form quantifiers.All p x = forms.all p x
 
 -- an operator between two operands
-abbrev pub joined : Operator → ℕ → Meaning → Meaning → Meaning
-joined o at x y = record { form = joined_form o x.form y.form; places = at ∷ x.places ++ y.places }
+abbrev pub joined_meaning : Operator → ℕ → Meaning → Meaning → Meaning
+joined_meaning o at x y = record { form = joined_form o x.form y.form; places = at ∷ x.places ++ y.places }
 
 -- a prefix in front of an operand
 abbrev pub prefixed : Prefix → ℕ → Meaning → Meaning

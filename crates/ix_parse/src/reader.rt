@@ -8,7 +8,7 @@ ghost use Rattle.ix_parse.specs.inside.Judged as judging;
 ghost use Rattle.ix_parse.specs.inside.Operands.{meaning_of};
 ghost use Rattle.ix_parse.specs.inside.Stack.{stack_of};
 ghost use Rattle.ix_parse.specs.inside.Views.{symbol_at};
-ghost use Rattle.ix_parse.specs.inside.Configs.{config_of, mode_of, IsSound, IsReadable};
+ghost use Rattle.ix_parse.specs.inside.Configs.{config_of, mode_of, IsModeSound, IsReadable};
 ghost use Rattle.ix_parse.specs.declared.signs.WordClass.TheVariants.{Names};
 
 use crate::faults::Fault;

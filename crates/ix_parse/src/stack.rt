@@ -116,7 +116,7 @@ pub(crate) fn closed(
     operand: Operand,
 ) -> Result<Operand, AllocError>
     ensures { IfOk result (λ x. machine.closed (stack_of stack.old.items) (meaning_of operand)
-        ≡ machine.held (stack_of stack.new.items) (meaning_of x)) }
+        ≡ machine.operand_held (stack_of stack.new.items) (meaning_of x)) }
 {
     let mut operand = operand;
     while let Some(taking) = taking_inmost(stack.as_slice()) {
@@ -135,7 +135,7 @@ pub(crate) fn reduced(
 ) -> Result<Operand, AllocError>
     ensures { IfOk result
         (λ x. machine.reduced lowest (stack_of stack.old.items) (meaning_of operand)
-        ≡ machine.held (stack_of stack.new.items) (meaning_of x)) }
+        ≡ machine.operand_held (stack_of stack.new.items) (meaning_of x)) }
 {
     let mut operand = operand;
     while let Some(left) = pop_left(stack, lowest) {

@@ -8,7 +8,7 @@ ghost use Rattle.ix_parse.specs.inside.StackMachine as machine;
 ghost use Rattle.ix_parse.specs.inside.Operands.{meaning_of};
 ghost use Rattle.ix_parse.specs.inside.Stack.{stack_of};
 ghost use Rattle.ix_parse.specs.inside.Views.{symbol_at};
-ghost use Rattle.ix_parse.specs.inside.Configs.{config_of, mode_of, IsSound, IsReadable};
+ghost use Rattle.ix_parse.specs.inside.Configs.{config_of, mode_of, IsModeSound, IsReadable};
 ghost use Rattle.ix_parse.specs.declared.signs.WordClass.TheVariants.{Names};
 
 use crate::operand::Operand;
@@ -162,7 +162,7 @@ fn leave(alloc: Global, stack: Vec<Entry>, operand: Operand) -> Result<Option<Re
 /// A reader behind an operand.
 fn behind(stack: Vec<Entry>, operand: Operand) -> Reader
     ensures { config_of result
-        ≡ machine.with_operand (machine.held (stack_of stack.items) (meaning_of operand)) }
+        ≡ machine.with_operand (machine.operand_held (stack_of stack.items) (meaning_of operand)) }
 {
     Reader {
         stack,
@@ -274,7 +274,7 @@ pub(crate) fn step(
     at: usize,
     sign: Sign<'_>,
 ) -> Result<Option<Reader>, AllocError>
-    requires sound { IsSound (mode_of reader.mode) }
+    requires sound { IsModeSound (mode_of reader.mode) }
     requires readable { IsReadable (symbol_at at sign) }
     ensures { IfOk result (λ r. option_map config_of r
         ≡ machine.step (config_of reader) (symbol_at at sign.entry)) }
@@ -299,7 +299,7 @@ pub(crate) fn step(
 
 /// The operand that was read, or None where the text isn't whole.
 pub(crate) fn whole(alloc: Global, reader: Reader) -> Result<Option<Operand>, AllocError>
-    requires { IsSound (mode_of reader.mode) }
+    requires { IsModeSound (mode_of reader.mode) }
     ensures { IfOk result (λ x. option_map meaning_of x ≡ machine.whole (config_of reader)) }
 {
     let Reader { stack, mode } = reader;
@@ -326,7 +326,7 @@ fn whole_operand(
 ) -> Result<Option<Operand>, AllocError>
     ensures { IfOk result
         (λ x. option_map meaning_of x
-        ≡ machine.joined_all (Some (machine.held (stack_of stack.items) (meaning_of operand)))) }
+        ≡ machine.joined_all (Some (machine.operand_held (stack_of stack.items) (meaning_of operand)))) }
 {
     let mut stack = stack;
     let whole = reduced(alloc, &mut stack, 1, operand)?;

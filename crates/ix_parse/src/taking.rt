@@ -7,8 +7,8 @@ ghost use Rattle.ix_parse.specs.Symbols.{symbol_of};
 ghost use Rattle.ix_parse.specs.inside.StackMachine as machine;
 ghost use Rattle.ix_parse.specs.inside.Judged as judging;
 ghost use Rattle.ix_parse.specs.inside.Operands.{meaning_of};
-ghost use Rattle.ix_parse.specs.inside.Configs.{config_of, mode_of, IsSound, IsReadable};
-ghost use Rattle.ix_parse.specs.inside.Outcomes.{IsTaken, IsMeaning, IsEnded, piece_follower};
+ghost use Rattle.ix_parse.specs.inside.Configs.{config_of, mode_of, IsModeSound, IsReadable};
+ghost use Rattle.ix_parse.specs.inside.Outcomes.{IsStepTaken, IsMeaning, IsEnded, piece_follower};
 
 use crate::faults::Fault;
 use crate::operand::Operand;
@@ -53,9 +53,9 @@ fn take(
     requires readable { judging.judged (config_of reading.reader) reading.nodes
         (symbol_of (plain_token token.now)) next ≡ None
         → IsReadable (symbol_of (plain_token token.now)) }
-    requires sound { IsSound (mode_of reading.reader.mode) }
+    requires sound { IsModeSound (mode_of reading.reader.mode) }
     requires few { reading.nodes ≤ 512 }
-    ensures { IsTaken (config_of reading.reader) reading.nodes
+    ensures { IsStepTaken (config_of reading.reader) reading.nodes
         (plain_token token.now) next result }
 {
     let Reading { reader, nodes } = reading;
@@ -107,7 +107,7 @@ pub(crate) fn read_operand(alloc: Global, text: &[u8]) -> Result<Operand, TextFa
 }
 
 fn finish(alloc: Global, reader: Reader, end: usize) -> Result<Operand, TextFault>
-    requires { IsSound (mode_of reader.mode) }
+    requires { IsModeSound (mode_of reader.mode) }
     ensures { MatchResult result
         (λ x. machine.whole (config_of reader) ≡ Some (meaning_of x))
         (λ fault. IsEnded (config_of reader) end fault) }

@@ -7,7 +7,7 @@ use Rattle.ix_values.specs.Texts.{IsAction}
 use Rattle.ix_values.specs.Tickets.{IsTicket, IsTicketText, ticket_text}
 use Rattle.ix_values.specs.declared.tickets.Ticket.{Ticket}
 use Rattle.ix_proto.specs.Requests.{ask, confirm, cancel, outcome, may, watch, drop_watch, poll, status, log, stop, IsLease}
-use Rattle.ix_proto.specs.RequestFaults.{Part, an_action, a_name, a_ticket, a_number, a_lease, IsPart, IsPartFault, IsFirstFault, IsFaultBehind, verb_word, parts_of, IsNumberText, IsLeaseText, IsRequestFault}
+use Rattle.ix_proto.specs.RequestFaults.{Part, an_action, a_name, a_ticket, a_number, a_lease, IsPart, IsPartFault, IsFirstRequestFault, IsFaultBehind, verb_word, parts_of, IsNumberText, IsLeaseText, IsRequestFault}
 use Rattle.ix_proto.specs.RequestLaws.{FaultsTellNoRequest, RequestLinesHaveOneFault}
 use Rattle.ix_proto.specs.declared.request.Verb.{Verb}
 use Rattle.ix_proto.specs.declared.request.Verb.TheVariants as verb
@@ -33,7 +33,7 @@ no_part_fault a_number word code h f = f.0 h
 no_part_fault a_lease word code h (inl f) = f.0 (h.0, h.1)
 no_part_fault a_lease word code h (inr f) = f.1 h
 
-no_first_fault : (parts : List Part) (words : List (List ℕ)) (code : ℕ) → AreParts parts words → ¬ IsFirstFault parts words code
+no_first_fault : (parts : List Part) (words : List (List ℕ)) (code : ℕ) → AreParts parts words → ¬ IsFirstRequestFault parts words code
 no_first_fault [] words code h f = absurd f
 no_first_fault (part ∷ parts) [] code h f = absurd f
 no_first_fault (part ∷ parts) (word ∷ words) code h (inl f) = no_part_fault part word code h.0 f
@@ -118,7 +118,7 @@ one_part_fault a_lease word c d (inr f) (inl g) = absurd (g.0 f.0)
 one_part_fault a_lease word c d (inr f) (inr g) = f.2 ∙ sym g.2
 
 one_first_fault : (parts : List Part) (words : List (List ℕ)) (c d : ℕ)
-    → IsFirstFault parts words c → IsFirstFault parts words d → c ≡ d
+    → IsFirstRequestFault parts words c → IsFirstRequestFault parts words d → c ≡ d
 one_first_fault [] words c d f g = absurd f
 one_first_fault (part ∷ parts) [] c d f g = absurd f
 one_first_fault (part ∷ parts) (word ∷ words) c d (inl f) (inl g) = one_part_fault part word c d f g

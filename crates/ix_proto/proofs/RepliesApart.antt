@@ -8,7 +8,7 @@ use Rattle.ix_values.specs.Tickets.{ticket_text}
 use Rattle.ix_values.proofs.TextsApart.{texts_apart}
 use Rattle.ix_values.specs.Laws.{TextsTellTicketsApart}
 use Rattle.ix_proto.specs.Replies.{IsReply, IsRefusal, IsOutcome, TextsTellRepliesApart, reply_text, outcome_text, yes_or_no, complete_or_partial, with_number, has_number, refusal_text}
-use Rattle.ix_proto.specs.inside.ReplyParts.{kind_word, kind_of, behind, nodes_text}
+use Rattle.ix_proto.specs.inside.ReplyParts.{kind_word, kind_of, reply_rest, nodes_text}
 use Rattle.ix_lines.proofs.NumberCuts.{cut_same, number_same, some_same}
 use Rattle.ix_proto.proofs.ReplyKinds as only
 use Rattle.ix_proto.proofs.ReplyLemmas.{parts_of_text, kind-plain, same_kind, complete_same}
@@ -65,51 +65,51 @@ refused_apart c d m n e l l' r r' h =
     told_apart (has_number c) (refusal_text c) m n r.listed r.zero_else told.zero_else l l' text
 
 same_entry : (m : ℕ) (action : PlainAction) (y : Reply) → IsReply (Entry m action) → IsReply y → kind_of y ≡ kind.Entry
-    → behind (Entry m action) ≡ behind y → Entry m action ≡ y
+    → reply_rest (Entry m action) ≡ reply_rest y → Entry m action ≡ y
 same_entry m action y v w k b =
-    only.only_entry (λ y. IsReply y → behind (Entry m action) ≡ behind y → Entry m action ≡ y)
+    only.only_entry (λ y. IsReply y → reply_rest (Entry m action) ≡ reply_rest y → Entry m action ≡ y)
     (λ n other w e.
     let places = number_same m n (text_of action) (text_of other) v.0 w.0 (some_same e) in
     λ i. Entry (places.0 i) (texts_apart action other v.1 w.1 places.1 i))
     y k w b
 
 same_refusal : (c m : ℕ) (y : Reply) → IsReply (Refused c m) → IsReply y → kind_of y ≡ kind.Refused
-    → behind (Refused c m) ≡ behind y → Refused c m ≡ y
+    → reply_rest (Refused c m) ≡ reply_rest y → Refused c m ≡ y
 same_refusal c m y v w k b =
-    only.only_refused (λ y. IsReply y → behind (Refused c m) ≡ behind y → Refused c m ≡ y)
+    only.only_refused (λ y. IsReply y → reply_rest (Refused c m) ≡ reply_rest y → Refused c m ≡ y)
     (λ d n w e.
     let codes = number_same c d _ _ (omega (arith, v.0)) (omega (arith, w.0)) (some_same e) in
     λ i. Refused (codes.0 i) (refused_apart c d m n codes.0 v.1 w.1 v.2 w.2 codes.1 i))
     y k w b
 
-same_reply : TextsTellTicketsApart → (x y : Reply) → IsReply x → IsReply y → kind_of y ≡ kind_of x → behind x ≡ behind y → x ≡ y
+same_reply : TextsTellTicketsApart → (x y : Reply) → IsReply x → IsReply y → kind_of y ≡ kind_of x → reply_rest x ≡ reply_rest y → x ≡ y
 same_reply apart (Granted t) y v w k b =
-    only.only_granted (λ y. IsReply y → Some (ticket_text t) ≡ behind y → Granted t ≡ y)
+    only.only_granted (λ y. IsReply y → Some (ticket_text t) ≡ reply_rest y → Granted t ≡ y)
     (λ u w e. ap Granted (apart t u v w (some_same e))) y k w b
 same_reply apart (Confirmed t) y v w k b =
-    only.only_confirmed (λ y. IsReply y → Some (decimal t) ≡ behind y → Confirmed t ≡ y)
+    only.only_confirmed (λ y. IsReply y → Some (decimal t) ≡ reply_rest y → Confirmed t ≡ y)
     (λ u w e. ap Confirmed (decimal_injective t u v w (some_same e))) y k w b
 same_reply apart (Cancelled t) y v w k b =
-    only.only_cancelled (λ y. IsReply y → Some (ticket_text t) ≡ behind y → Cancelled t ≡ y)
+    only.only_cancelled (λ y. IsReply y → Some (ticket_text t) ≡ reply_rest y → Cancelled t ≡ y)
     (λ u w e. ap Cancelled (apart t u v w (some_same e))) y k w b
 same_reply apart (Outcome a) y v w k b =
-    only.only_outcome (λ y. IsReply y → Some (outcome_text a) ≡ behind y → Outcome a ≡ y)
+    only.only_outcome (λ y. IsReply y → Some (outcome_text a) ≡ reply_rest y → Outcome a ≡ y)
     (λ u w e. ap Outcome (outcomes_apart a u v w (some_same e))) y k w b
 same_reply apart (Changes t) y v w k b =
-    only.only_changes (λ y. IsReply y → Some (decimal t) ≡ behind y → Changes t ≡ y)
+    only.only_changes (λ y. IsReply y → Some (decimal t) ≡ reply_rest y → Changes t ≡ y)
     (λ u w e. ap Changes (decimal_injective t u (omega (arith, v)) (omega (arith, w)) (some_same e))) y k w b
 same_reply apart (May a) y v w k b =
-    only.only_answer (λ y. None ≡ behind y → May a ≡ y) a (λ e. refl) (λ action e. cc) y k b
+    only.only_answer (λ y. None ≡ reply_rest y → May a ≡ y) a (λ e. refl) (λ action e. cc) y k b
 same_reply apart (Change a action) y v w k b =
-    only.only_answer (λ y. IsReply y → Some (text_of action) ≡ behind y → Change a action ≡ y) a
+    only.only_answer (λ y. IsReply y → Some (text_of action) ≡ reply_rest y → Change a action ≡ y) a
     (λ w e. cc) (λ other w e. ap (Change a) (texts_apart action other v w (some_same e))) y k w b
 same_reply apart (Watching a) y v w k b =
-    only.only_watching (λ y. Some (yes_or_no a) ≡ behind y → Watching a ≡ y)
+    only.only_watching (λ y. Some (yes_or_no a) ≡ reply_rest y → Watching a ≡ y)
     (λ c e. ap Watching (answers_apart a c (some_same e))) y k b
 same_reply apart Dropped y v w k b = only.only_dropped (λ y. Dropped ≡ y) refl y k
 same_reply apart Stopping y v w k b = only.only_stopping (λ y. Stopping ≡ y) refl y k
 same_reply apart (Status a m s) y v w k b =
-    only.only_status (λ y. IsReply y → behind (Status a m s) ≡ behind y → Status a m s ≡ y)
+    only.only_status (λ y. IsReply y → reply_rest (Status a m s) ≡ reply_rest y → Status a m s ≡ y)
     (λ c n t w e.
     let front = complete_same a c (decimal m ++ 32 ∷ nodes_text s) (decimal n ++ 32 ∷ nodes_text t) (some_same e) in
     let counts = number_same m n (nodes_text s) (nodes_text t) v.0 w.0 front.1 in
@@ -118,9 +118,9 @@ same_reply apart (Status a m s) y v w k b =
 same_reply apart (Entry m action) y v w k b = same_entry m action y v w k b
 same_reply apart (Refused c m) y v w k b = same_refusal c m y v w k b
 
-same_parts : (x y : Reply) → reply_text x ≡ reply_text y → (kind_of y ≡ kind_of x) × (behind x ≡ behind y)
+same_parts : (x y : Reply) → reply_text x ≡ reply_text y → (kind_of y ≡ kind_of x) × (reply_rest x ≡ reply_rest y)
 same_parts x y e =
-    let parts = cut_same (kind_word (kind_of x)) (kind_word (kind_of y)) (behind x) (behind y)
+    let parts = cut_same (kind_word (kind_of x)) (kind_word (kind_of y)) (reply_rest x) (reply_rest y)
     (kind-plain (kind_of x)) (kind-plain (kind_of y)) (sym (parts_of_text x) ∙ e ∙ parts_of_text y) in
     (sym (same_kind (kind_of x) (kind_of y) parts.0), parts.1)
 

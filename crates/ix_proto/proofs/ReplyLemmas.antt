@@ -1,4 +1,4 @@
--- A reply's text as its first word and what stands behind it.
+-- A reply's text as its first word and what stands reply_rest it.
 use Rattle.std.proofs.Common.{◌≡◌, ◌≢◌, ℕ, ◌+◌, ◌<◌, ◌≤◌, ◌^◌, ◌==◌, Bool, true, false, if◌then◌else◌, List, [], ◌∷◌, ◌++◌, get_or, Option, Some, None, MatchOption, refl, sym, ◌∙◌, ap, subst, arith, append-nil}
 use Rattle.std.specs.Fmt.{decimal}
 use Rattle.std.proofs.lemmas.Fmt.{decimal_injective}
@@ -7,8 +7,8 @@ use Rattle.ix_values.specs.PlainAction.{text_of}
 use Rattle.ix_lines.specs.inside.WordsBehind.{behind_word, HasNoSpace}
 use Rattle.ix_proto.specs.Replies.{IsReply, reply_text, complete_or_partial, with_number, has_number, refusal_text}
 use Rattle.ix_proto.specs.inside.ReplyTexts.{IsReplyText}
-use Rattle.ix_proto.specs.inside.ReplyParts.{kind_word, kind_of, behind, nodes_text, StandsBehind, IsRefusalBehind}
-use Rattle.ix_lines.specs.Numbers.{BeginsWith}
+use Rattle.ix_proto.specs.inside.ReplyParts.{kind_word, kind_of, reply_rest, nodes_text, StandsBehind, IsRefusalBehind}
+use Rattle.ix_lines.specs.Numbers.{BeginsWithNumber}
 use Rattle.ix_lines.proofs.NumberCuts.{cut_same, number_same, some_same}
 use Rattle.ix_proto.proofs.ReplyKinds.{only_changes, only_refused, only_status, only_entry}
 use Rattle.ix_proto.specs.declared.reply.Reply.{Reply}
@@ -16,7 +16,7 @@ use Rattle.ix_proto.specs.declared.reply.Reply.TheVariants.{Granted, Confirmed, 
 use Rattle.ix_proto.specs.declared.reply_read.Kind.{Kind}
 use Rattle.ix_proto.specs.declared.reply_read.Kind.TheVariants as kind
 
-pub parts_of_text : (r : Reply) → reply_text r ≡ kind_word (kind_of r) ++ behind_word (behind r)
+pub parts_of_text : (r : Reply) → reply_text r ≡ kind_word (kind_of r) ++ behind_word (reply_rest r)
 parts_of_text (Granted ticket) = refl
 parts_of_text (Confirmed count) = refl
 parts_of_text (Cancelled ticket) = refl
@@ -86,11 +86,11 @@ kind_again kind.Refused = refl
 pub same_kind : (j k : Kind) → kind_word j ≡ kind_word k → j ≡ k
 same_kind j k e = sym (kind_again j) ∙ ap from_word e ∙ kind_again k
 
--- the first word of a reply's text, and what stands behind it
+-- the first word of a reply's text, and what stands reply_rest it
 pub cut_text : (line word : List ℕ) (rest : Option (List ℕ)) → line ≡ word ++ behind_word rest → HasNoSpace word
-    → (r : Reply) → reply_text r ≡ line → (word ≡ kind_word (kind_of r)) × (rest ≡ behind r)
+    → (r : Reply) → reply_text r ≡ line → (word ≡ kind_word (kind_of r)) × (rest ≡ reply_rest r)
 cut_text line word rest cut plain r e =
-    cut_same word (kind_word (kind_of r)) rest (behind r) plain (kind-plain (kind_of r)) (sym cut ∙ sym e ∙ parts_of_text r)
+    cut_same word (kind_word (kind_of r)) rest (reply_rest r) plain (kind-plain (kind_of r)) (sym cut ∙ sym e ∙ parts_of_text r)
 
 pub no_kind : (line word : List ℕ) (rest : Option (List ℕ)) → line ≡ word ++ behind_word rest → HasNoSpace word
     → ((k : Kind) → word ≢ kind_word k) → ¬ IsReplyText line
@@ -114,7 +114,7 @@ read_line line word rest k None cut plain is none = no_reply line word rest cut 
 read_line line word rest k (Some reply) cut plain is h = (
   h.valid,
   parts_of_text reply
-      ∙ ap (λ z. kind_word z ++ behind_word (behind reply)) h.kind_is
+      ∙ ap (λ z. kind_word z ++ behind_word (reply_rest reply)) h.kind_is
       ∙ ap (λ z. kind_word k ++ behind_word z) h.rest_is
       ∙ ap (λ z. z ++ behind_word rest) (sym is)
       ∙ sym cut,
@@ -129,7 +129,7 @@ no_changes rest n fits is large r h =
     (λ k g. above k n (decimal_injective k n (omega (arith, g.valid)) fits (some_same (g.rest_is ∙ is))) g.valid large)
     r h.kind_is h
 
-pub no_entry : (rest : Option (List ℕ)) (text tail : List ℕ) (n : ℕ) → rest ≡ Some text → BeginsWith (2 ^ 64) text n tail → ¬ IsActionText tail
+pub no_entry : (rest : Option (List ℕ)) (text tail : List ℕ) (n : ℕ) → rest ≡ Some text → BeginsWithNumber (2 ^ 64) text n tail → ¬ IsActionText tail
     → (r : Reply) → ¬ StandsBehind kind.Entry rest r
 no_entry rest text tail n is number none r h =
     only_entry (λ r. StandsBehind kind.Entry rest r → ⊥)
@@ -138,7 +138,7 @@ no_entry rest text tail n is number none r h =
     none (record { action = action; valid = g.valid.1; same = sym same.1 }))
     r h.kind_is h
 
-pub no_refused : (rest : Option (List ℕ)) (text tail : List ℕ) (n : ℕ) → rest ≡ Some text → BeginsWith (2 ^ 8) text n tail
+pub no_refused : (rest : Option (List ℕ)) (text tail : List ℕ) (n : ℕ) → rest ≡ Some text → BeginsWithNumber (2 ^ 8) text n tail
     → ((told : ℕ) → ¬ IsRefusalBehind n tail told) → (r : Reply) → ¬ StandsBehind kind.Refused rest r
 no_refused rest text tail n is number none r h =
     only_refused (λ r. StandsBehind kind.Refused rest r → ⊥)
@@ -169,7 +169,7 @@ complete_same b d x y e =
     (cut.0, some_same cut.1)
 
 pub no_status : (rest : Option (List ℕ)) (text middle tail : List ℕ) (b : Bool) (n : ℕ) → rest ≡ Some text
-    → text ≡ complete_or_partial b ++ 32 ∷ middle → BeginsWith (2 ^ 64) middle n tail
+    → text ≡ complete_or_partial b ++ 32 ∷ middle → BeginsWithNumber (2 ^ 64) middle n tail
     → ((s : ℕ) → s < 2 ^ 64 → tail ≢ nodes_text s) → (r : Reply) → ¬ StandsBehind kind.Status rest r
 no_status rest text middle tail b n is front number none r h =
     only_status (λ r. StandsBehind kind.Status rest r → ⊥)

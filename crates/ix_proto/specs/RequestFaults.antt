@@ -72,16 +72,16 @@ IsPartFault a_lease word code =
     ((¬ IsNumberText word) × (code ≡ 13)) ⊎ (IsNumberText word × (¬ IsLeaseText word) × (code ≡ 14))
 
 -- word by word from the left, the first that isn't what it has to be
-abbrev pub IsFirstFault : List Part → List (List ℕ) → ℕ → Type 0
-IsFirstFault (part ∷ parts) (word ∷ words) code = IsPartFault part word code
-    ⊎ (IsPart part word × IsFirstFault parts words code)
-IsFirstFault _ _ code = ⊥
+abbrev pub IsFirstRequestFault : List Part → List (List ℕ) → ℕ → Type 0
+IsFirstRequestFault (part ∷ parts) (word ∷ words) code = IsPartFault part word code
+    ⊎ (IsPart part word × IsFirstRequestFault parts words code)
+IsFirstRequestFault _ _ code = ⊥
 
 -- 15 where there are more words or fewer, and else the first fault of a word
 abbrev pub IsFaultBehind : List Part → List (List ℕ) → ℕ → Type 0
 IsFaultBehind parts words code =
     ((length words ≢ length parts) × (code ≡ 15))
-    ⊎ ((length words ≡ length parts) × IsFirstFault parts words code)
+    ⊎ ((length words ≡ length parts) × IsFirstRequestFault parts words code)
 
 -- 11 where the first word isn't one of the eleven, and else the fault of what stands behind it
 abbrev pub IsRequestFault : List (List ℕ) → ℕ → Type 0

@@ -6,7 +6,7 @@ ghost use Rattle.ix_values.specs.Faults.{IsActionText};
 ghost use Rattle.ix_values.specs.Texts.{IsName};
 ghost use Rattle.ix_values.specs.Tickets.{IsTicket, ticket_text};
 ghost use Rattle.ix_lines.specs.Numbers.{IsNumber};
-ghost use Rattle.ix_proto.specs.inside.Causes.{code_of};
+ghost use Rattle.ix_proto.specs.inside.Causes.{cause_code};
 ghost use Rattle.ix_proto.specs.Requests.{IsLease};
 ghost use Rattle.ix_proto.specs.RequestFaults.{an_action, a_name, a_ticket, a_number, a_lease};
 ghost use Rattle.ix_proto.specs.RequestFaults.{IsPartFault};
@@ -22,7 +22,7 @@ const LONGEST_LEASE: u64 = 86_400_000;
 pub(crate) fn no_words(rest: Option<&[u8]>) -> Result<(), Cause>
     ensures { MatchResult result
         (λ _. words_behind (option_copied rest.entry) ≡ [])
-        (λ cause. (length (words_behind (option_copied rest.entry)) ≢ 0) × (code_of cause ≡ 15)) }
+        (λ cause. (length (words_behind (option_copied rest.entry)) ≢ 0) × (cause_code cause ≡ 15)) }
 {
     match rest {
         None => Ok(()),
@@ -36,7 +36,7 @@ pub(crate) fn no_words(rest: Option<&[u8]>) -> Result<(), Cause>
 pub(crate) fn one_word(rest: Option<&[u8]>) -> Result<&[u8], Cause>
     ensures { MatchResult result
         (λ word. words_behind (option_copied rest.entry) ≡ word.now ∷ [])
-        (λ cause. (length (words_behind (option_copied rest.entry)) ≢ 1) × (code_of cause ≡ 15)) }
+        (λ cause. (length (words_behind (option_copied rest.entry)) ≢ 1) × (cause_code cause ≡ 15)) }
 {
     let Some(text) = rest else {
         return Err(Cause::WordCount);
@@ -49,7 +49,7 @@ pub(crate) fn one_word(rest: Option<&[u8]>) -> Result<&[u8], Cause>
 pub(crate) fn two_words(rest: Option<&[u8]>) -> Result<(&[u8], &[u8]), Cause>
     ensures { MatchResult result
         (λ words. words_behind (option_copied rest.entry) ≡ words.0.now ∷ words.1.now ∷ [])
-        (λ cause. (length (words_behind (option_copied rest.entry)) ≢ 2) × (code_of cause ≡ 15)) }
+        (λ cause. (length (words_behind (option_copied rest.entry)) ≢ 2) × (cause_code cause ≡ 15)) }
 {
     let Some(text) = rest else {
         return Err(Cause::WordCount);
@@ -62,7 +62,7 @@ pub(crate) fn two_words(rest: Option<&[u8]>) -> Result<(&[u8], &[u8]), Cause>
 pub(crate) fn action_word(word: &[u8]) -> Result<&[u8], Cause>
     ensures { MatchResult result
         (λ text. (text.now ≡ word.now) × IsActionText word.now)
-        (λ cause. IsPartFault an_action word.now (code_of cause)) }
+        (λ cause. IsPartFault an_action word.now (cause_code cause)) }
 {
     match Action::read(word) {
         Ok(_action) => Ok(word),
@@ -73,7 +73,7 @@ pub(crate) fn action_word(word: &[u8]) -> Result<&[u8], Cause>
 pub(crate) fn name_word(word: &[u8]) -> Result<&[u8], Cause>
     ensures { MatchResult result
         (λ text. (text.now ≡ word.now) × IsName word.now)
-        (λ cause. IsPartFault a_name word.now (code_of cause)) }
+        (λ cause. IsPartFault a_name word.now (cause_code cause)) }
 {
     match Name::read(word) {
         Some(_name) => Ok(word),
@@ -84,7 +84,7 @@ pub(crate) fn name_word(word: &[u8]) -> Result<&[u8], Cause>
 pub(crate) fn ticket_word(word: &[u8]) -> Result<Ticket, Cause>
     ensures { MatchResult result
         (λ ticket. IsTicket ticket × (word.now ≡ ticket_text ticket))
-        (λ cause. IsPartFault a_ticket word.now (code_of cause)) }
+        (λ cause. IsPartFault a_ticket word.now (cause_code cause)) }
 {
     Ticket::read(word).ok_or(Cause::NoTicket)
 }
@@ -92,7 +92,7 @@ pub(crate) fn ticket_word(word: &[u8]) -> Result<Ticket, Cause>
 pub(crate) fn number_word(word: &[u8]) -> Result<u64, Cause>
     ensures { MatchResult result
         (λ number. IsNumber (2 ^ 64) word.now number)
-        (λ cause. IsPartFault a_number word.now (code_of cause)) }
+        (λ cause. IsPartFault a_number word.now (cause_code cause)) }
 {
     read_number(word, u64::MAX).ok_or(Cause::NoNumber)
 }
@@ -101,7 +101,7 @@ pub(crate) fn number_word(word: &[u8]) -> Result<u64, Cause>
 pub(crate) fn lease_word(word: &[u8]) -> Result<u32, Cause>
     ensures { MatchResult result
         (λ lease. IsNumber (2 ^ 64) word.now lease × IsLease lease)
-        (λ cause. IsPartFault a_lease word.now (code_of cause)) }
+        (λ cause. IsPartFault a_lease word.now (cause_code cause)) }
 {
     let lease = number_word(word)?;
     if lease < 1 || lease > LONGEST_LEASE {

@@ -8,7 +8,7 @@ ghost use Rattle.ix_values.specs.Faults.{IsActionText};
 ghost use Rattle.ix_values.specs.Texts.{IsName};
 ghost use Rattle.ix_values.specs.Tickets.{IsTicket, ticket_text};
 ghost use Rattle.ix_lines.specs.Numbers.{IsNumber};
-ghost use Rattle.ix_proto.specs.inside.Causes.{code_of};
+ghost use Rattle.ix_proto.specs.inside.Causes.{cause_code};
 ghost use Rattle.ix_proto.specs.inside.Lends.{Reads};
 ghost use Rattle.ix_proto.specs.Requests.{IsLease};
 ghost use Rattle.ix_proto.specs.RequestFaults.{an_action, a_name, a_ticket, a_number, a_lease};
@@ -85,7 +85,7 @@ impl<'a> Request<'a> {
 fn read_line(line: &[u8]) -> Result<Request<'_>, Cause>
     ensures { MatchResult result
         (λ request. Reads (words_of line.now) request)
-        (λ cause. IsRequestFault (words_of line.now) (code_of cause)) }
+        (λ cause. IsRequestFault (words_of line.now) (cause_code cause)) }
 {
     let (word, rest) = split_word(line);
     match read_verb(word) {
@@ -98,7 +98,7 @@ fn read_behind(verb: Verb, rest: Option<&[u8]>) -> Result<Request<'_>, Cause>
     ensures { MatchResult result
         (λ request. Reads (verb_word verb ∷ words_behind (option_copied rest.entry)) request)
         (λ cause. IsFaultBehind (parts_of verb)
-        (words_behind (option_copied rest.entry)) (code_of cause)) }
+        (words_behind (option_copied rest.entry)) (cause_code cause)) }
 {
     match verb {
         Verb::Ask => read_ask(rest),
@@ -140,7 +140,7 @@ fn read_ask(rest: Option<&[u8]>) -> Result<Request<'_>, Cause>
     ensures { MatchResult result
         (λ request. Reads (codes "ask" ∷ words_behind (option_copied rest.entry)) request)
         (λ cause. IsFaultBehind (parts_of Verb.Ask)
-        (words_behind (option_copied rest.entry)) (code_of cause)) }
+        (words_behind (option_copied rest.entry)) (cause_code cause)) }
 {
     let (action, lease) = two_words(rest)?;
     let action = action_word(action)?;
@@ -152,7 +152,7 @@ fn read_confirm(rest: Option<&[u8]>) -> Result<Request<'_>, Cause>
     ensures { MatchResult result
         (λ request. Reads (codes "confirm" ∷ words_behind (option_copied rest.entry)) request)
         (λ cause. IsFaultBehind (parts_of Verb.Confirm)
-        (words_behind (option_copied rest.entry)) (code_of cause)) }
+        (words_behind (option_copied rest.entry)) (cause_code cause)) }
 {
     let word = one_word(rest)?;
     let ticket = ticket_word(word)?;
@@ -163,7 +163,7 @@ fn read_cancel(rest: Option<&[u8]>) -> Result<Request<'_>, Cause>
     ensures { MatchResult result
         (λ request. Reads (codes "cancel" ∷ words_behind (option_copied rest.entry)) request)
         (λ cause. IsFaultBehind (parts_of Verb.Cancel)
-        (words_behind (option_copied rest.entry)) (code_of cause)) }
+        (words_behind (option_copied rest.entry)) (cause_code cause)) }
 {
     let word = one_word(rest)?;
     let ticket = ticket_word(word)?;
@@ -174,7 +174,7 @@ fn read_outcome(rest: Option<&[u8]>) -> Result<Request<'_>, Cause>
     ensures { MatchResult result
         (λ request. Reads (codes "outcome" ∷ words_behind (option_copied rest.entry)) request)
         (λ cause. IsFaultBehind (parts_of Verb.Outcome)
-        (words_behind (option_copied rest.entry)) (code_of cause)) }
+        (words_behind (option_copied rest.entry)) (cause_code cause)) }
 {
     let word = one_word(rest)?;
     let ticket = ticket_word(word)?;
@@ -185,7 +185,7 @@ fn read_log(rest: Option<&[u8]>) -> Result<Request<'_>, Cause>
     ensures { MatchResult result
         (λ request. Reads (codes "log" ∷ words_behind (option_copied rest.entry)) request)
         (λ cause. IsFaultBehind (parts_of Verb.Log)
-        (words_behind (option_copied rest.entry)) (code_of cause)) }
+        (words_behind (option_copied rest.entry)) (cause_code cause)) }
 {
     let word = one_word(rest)?;
     let number = number_word(word)?;
@@ -196,7 +196,7 @@ fn read_may(rest: Option<&[u8]>) -> Result<Request<'_>, Cause>
     ensures { MatchResult result
         (λ request. Reads (codes "may" ∷ words_behind (option_copied rest.entry)) request)
         (λ cause. IsFaultBehind (parts_of Verb.May)
-        (words_behind (option_copied rest.entry)) (code_of cause)) }
+        (words_behind (option_copied rest.entry)) (cause_code cause)) }
 {
     let word = one_word(rest)?;
     let action = action_word(word)?;
@@ -207,7 +207,7 @@ fn read_poll(rest: Option<&[u8]>) -> Result<Request<'_>, Cause>
     ensures { MatchResult result
         (λ request. Reads (codes "poll" ∷ words_behind (option_copied rest.entry)) request)
         (λ cause. IsFaultBehind (parts_of Verb.Poll)
-        (words_behind (option_copied rest.entry)) (code_of cause)) }
+        (words_behind (option_copied rest.entry)) (cause_code cause)) }
 {
     let word = one_word(rest)?;
     let name = name_word(word)?;
@@ -218,7 +218,7 @@ fn read_watch(rest: Option<&[u8]>) -> Result<Request<'_>, Cause>
     ensures { MatchResult result
         (λ request. Reads (codes "watch" ∷ words_behind (option_copied rest.entry)) request)
         (λ cause. IsFaultBehind (parts_of Verb.Watch)
-        (words_behind (option_copied rest.entry)) (code_of cause)) }
+        (words_behind (option_copied rest.entry)) (cause_code cause)) }
 {
     let (name, action) = two_words(rest)?;
     let name = name_word(name)?;
@@ -230,7 +230,7 @@ fn read_drop(rest: Option<&[u8]>) -> Result<Request<'_>, Cause>
     ensures { MatchResult result
         (λ request. Reads (codes "drop" ∷ words_behind (option_copied rest.entry)) request)
         (λ cause. IsFaultBehind (parts_of Verb.Drop)
-        (words_behind (option_copied rest.entry)) (code_of cause)) }
+        (words_behind (option_copied rest.entry)) (cause_code cause)) }
 {
     let (name, action) = two_words(rest)?;
     let name = name_word(name)?;
@@ -242,7 +242,7 @@ fn read_status(rest: Option<&[u8]>) -> Result<Request<'_>, Cause>
     ensures { MatchResult result
         (λ request. Reads (codes "status" ∷ words_behind (option_copied rest.entry)) request)
         (λ cause. IsFaultBehind (parts_of Verb.Status)
-        (words_behind (option_copied rest.entry)) (code_of cause)) }
+        (words_behind (option_copied rest.entry)) (cause_code cause)) }
 {
     no_words(rest)?;
     Ok(Request::Status)
@@ -252,7 +252,7 @@ fn read_stop(rest: Option<&[u8]>) -> Result<Request<'_>, Cause>
     ensures { MatchResult result
         (λ request. Reads (codes "stop" ∷ words_behind (option_copied rest.entry)) request)
         (λ cause. IsFaultBehind (parts_of Verb.Stop)
-        (words_behind (option_copied rest.entry)) (code_of cause)) }
+        (words_behind (option_copied rest.entry)) (cause_code cause)) }
 {
     no_words(rest)?;
     Ok(Request::Stop)

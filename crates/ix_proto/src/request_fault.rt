@@ -1,7 +1,7 @@
 //! Why a line isn't a request's.
 
 ghost use Rattle.std.specs.Prelude.{◌≡◌};
-ghost use Rattle.ix_proto.specs.inside.Causes.{code_of};
+ghost use Rattle.ix_proto.specs.inside.Causes.{cause_code};
 
 /// Why a line isn't a request's: the first that applies of 11 (the first word isn't one of the
 /// eleven), 15 (the number of words isn't that of the request), and then, word by word from the
@@ -33,7 +33,7 @@ pub(crate) enum Cause {
 
 impl Cause {
     pub(crate) fn code(self) -> u8
-        ensures { result ≡ code_of self }
+        ensures { result ≡ cause_code self }
     {
         match self {
             Cause::UnknownRequest => 11,

@@ -9,7 +9,7 @@ use Rattle.ix_can.specs.TreeOf.{tree_size}
 use Rattle.ix_journal.specs.Entries.{fresh, renewed_of}
 use Rattle.ix_journal.specs.Kinds.{IsUnfinished}
 use Rattle.ix_journal.specs.Recovery as recovery
-use Rattle.ix_journal.specs.Recovery.{IsJournalWith, Keeps}
+use Rattle.ix_journal.specs.Recovery.{IsJournalWith, KeepsRecords}
 use Rattle.ix_journal.specs.declared.entries.Marks.{Marks}
 use Rattle.ix_outside.specs.Crashes.{Crashes, LeavesTheFile}
 use Rattle.ix_outside.specs.Disk.{Disk, HasNothingOpened, IsOpened, MakesFile, Opened, Stays}
@@ -151,7 +151,7 @@ initial_within x limit small = record { partial = empty-partial x []; size = sma
 
 module _ (x : Form) (limit : ℕ) (small : tree_size x [] ≤ limit) where
   -- a file that is to be made anew, or has no record, is that of a new journal
-  anew : (at : List ℕ) → Keeps at [] → image.IsOwn x at → StartsAnew x limit at
+  anew : (at : List ℕ) → KeepsRecords at [] → image.IsOwn x at → StartsAnew x limit at
   anew at keeps own = record {
     own = own;
     recovers = record { entries = []; keeps = keeps; pairs = refl };

@@ -93,7 +93,7 @@ actions_are m (entry.Spent ticket a ∷ entries) = let rest = actions_are (behin
 actions_are m (entry.Plain a ∷ entries) = let rest = actions_are (behind m (entry.Plain a)) entries in omega (arith, rest)
 
 -- the records of a file are in order
-in_order : (bytes : List ℕ) (entries : List Entry) → recovery.Keeps bytes entries → InOrder fresh entries
+in_order : (bytes : List ℕ) (entries : List Entry) → recovery.KeepsRecords bytes entries → InOrder fresh entries
 in_order _ _ (recovery.unfinished bytes is) = tt
 in_order _ _ (recovery.unopened bytes text is) = tt
 in_order _ _ (recovery.ready bytes text entries gate is) = is.closes.records.order

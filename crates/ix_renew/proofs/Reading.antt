@@ -3,7 +3,7 @@ use Rattle.std.proofs.Common.{◌≡◌, ℕ, ◌+◌, ◌<◌, List, [], ◌∷
 use Rattle.std.proofs.Common.{refl, sym, ◌∙◌, ap, subst, arith, inl, inr}
 use Rattle.std.proofs.lemmas.List.{append-nil, map-append}
 use Rattle.ix_values.specs.PlainAction.{Word}
-use Rattle.ix_journal.specs.Answers.{Standing, at_gate, Gives}
+use Rattle.ix_journal.specs.Answers.{Standing, at_gate, GivesRecord}
 use Rattle.ix_journal.specs.Entries.{MayFollow, behind, fresh, marks_of, pair_of, pairs_of, renewed_of}
 use Rattle.ix_journal.specs.Format.{record_of}
 use Rattle.ix_journal.specs.History.{PlainHistory, Spent, actions_of}
@@ -12,7 +12,7 @@ use Rattle.ix_journal.specs.declared.entries.Entry.{Entry}
 use Rattle.ix_journal.specs.declared.entries.Marks.{Marks}
 use Rattle.ix_journal.specs.declared.records.Damaged.{Damaged}
 use Rattle.ix_journal.specs.inside.Counting.{AreNotMany}
-use Rattle.ix_journal.specs.inside.Reading.{Says}
+use Rattle.ix_journal.specs.inside.Reading.{SaysEntry}
 use Rattle.ix_journal.proofs.EntryTexts.{entries-same}
 use Rattle.ix_journal.proofs.Following.{FewFollowed, Followed}
 use Rattle.ix_journal.proofs.HoldsLemmas.{holds_more, holds_none}
@@ -54,11 +54,11 @@ module _ (bytes : List ℕ) (first gate : ℕ) (marks : Marks) (actions : Word)
 
   -- one record more
   pub read_more : (item : Result (Bor (List ℕ)) Damaged) (text : Bor (List ℕ))
-      → Gives old (Some item) new → item ≡ Ok text → (entry : Entry) → Says text.now entry
+      → GivesRecord old (Some item) new → item ≡ Ok text → (entry : Entry) → SaysEntry text.now entry
       → AreNotMany new.marks → (after : Word) → after ≡ actions ++ actions_of (pair_of entry)
       → ReadTo bytes first new.gate new.marks after
   read_more (Ok found) text given e entry says few after more =
-      let at = subst (λ (s : Standing). Gives s (Some (Ok found)) new) here given in
+      let at = subst (λ (s : Standing). GivesRecord s (Some (Ok found)) new) here given in
       let texts : found ≡ text = cc in
       let same : at.0 ≡ entry =
       entries-same at.0 entry at.2.begins.valid says.valid
@@ -100,9 +100,9 @@ module _ (bytes : List ℕ) (first gate : ℕ) (marks : Marks) (actions : Word)
   read_more (Err damage) text given e entry says few after more = absurd cc
 
   -- a closed gate
-  pub read_end : Gives old None new → TellsActions bytes first actions new.marks
+  pub read_end : GivesRecord old None new → TellsActions bytes first actions new.marks
   read_end given =
-      let at = subst (λ (s : Standing). Gives s None new) here given in
+      let at = subst (λ (s : Standing). GivesRecord s None new) here given in
       let family : Standing → Type 0 = λ s. TellsActions bytes first actions s.marks in
       subst family (sym at.1)
       (record {
@@ -119,7 +119,7 @@ module _ (bytes : List ℕ) (first gate : ℕ) (marks : Marks) (actions : Word)
 
 -- what the text of a record says, which stands behind an open gate
 pub text_said : (old new : Standing) (item : Result (Bor (List ℕ)) Damaged) (text : Bor (List ℕ))
-    → Gives old (Some item) new → item ≡ Ok text → (entry : Entry) × Says text.now entry
+    → GivesRecord old (Some item) new → item ≡ Ok text → (entry : Entry) × SaysEntry text.now entry
 text_said old new (Ok found) text given e =
     let texts : found ≡ text = cc in
     (given.0, record { valid = given.2.begins.valid; same = sym (ap (λ (b : Bor (List ℕ)). b.now) texts) ∙ given.1 })

@@ -38,7 +38,7 @@ module _ (x : Form) (limit : ℕ) (file : List ℕ) (carried : Word) (actions bo
   abbrev pub image : List ℕ
   image = renewed_journal (canonical_text x) carried actions boots
 
-  file_keeps : recovery.Keeps file is.journal.journal.entries
+  file_keeps : recovery.KeepsRecords file is.journal.journal.entries
   file_keeps = recovery.ready file (canonical_text x) is.journal.journal.entries is.journal.gate is.journal.journal.journal
 
   -- what the old journal tells
@@ -78,7 +78,7 @@ module _ (x : Form) (limit : ℕ) (file : List ℕ) (carried : Word) (actions bo
       renewed_is_a_journal (canonical_text x) carried actions boots is.journal.journal.journal.ready.header.short is.texts many
       fewer is.few_actions is.few_boots
 
-  image_keeps : recovery.Keeps image made.1.entries
+  image_keeps : recovery.KeepsRecords image made.1.entries
   image_keeps = recovery.ready image (canonical_text x) made.1.entries made.0 made.1.journal
 
   -- what the new one tells

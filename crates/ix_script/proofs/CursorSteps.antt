@@ -2,7 +2,7 @@
 use Rattle.std.proofs.Common.{◌≡◌, ℕ, ◌<◌, min, drop, true, false, cond, List, [], ◌∷◌, length, refl, sym, ◌∙◌, ap, subst}
 use Rattle.ix_outside.specs.declared.event.Event.{Event}
 use Rattle.ix_outside.specs.declared.event.EventKind.TheVariants.{Closed}
-use Rattle.ix_script.specs.inside.Cursor.{IsBare, IsBegun, left_of, open_bytes, later_events}
+use Rattle.ix_script.specs.inside.Cursor.{IsBare, IsCursorAt, left_of, open_bytes, later_events}
 use Rattle.ix_script.specs.declared.cursor.Cursor.{Cursor}
 use Rattle.ix_script.specs.Events.{bytes_event, closed_event, end_event, is_close, text_bytes, line_event}
 use Rattle.ix_script.specs.Grammar.{IsScriptLine}
@@ -54,7 +54,7 @@ closed_bare old new event is first =
     })
 
 -- what a buffer leaves
-pub given_left : (old begun new : Cursor) (room count : ℕ) → IsBegun old begun → count ≡ min (length (open_bytes begun)) room → open_bytes new ≡ drop count (open_bytes begun)
+pub given_left : (old begun new : Cursor) (room count : ℕ) → IsCursorAt old begun → count ≡ min (length (open_bytes begun)) room → open_bytes new ≡ drop count (open_bytes begun)
     → later_events new ≡ later_events begun → new.moment ≡ begun.moment → new.conn ≡ begun.conn → left_of new ≡ left_after room (left_of old)
 given_left old begun new room count start is open_now later moment conn =
     (λ i. with_bytes (moment i) (conn i) (open_now i) (later i))

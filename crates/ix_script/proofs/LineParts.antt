@@ -5,8 +5,8 @@ use Rattle.std.proofs.lemmas.Fmt.{decimal_by_steps}
 use Rattle.ix_outside.specs.Contents.{GivenEvent}
 use Rattle.ix_script.specs.Events.{text_bytes, line_event, AreEvents}
 use Rattle.ix_script.specs.Grammar.{IsScriptLine, InGrammar, IsLineFault, no_moment, no_connection, no_text}
-use Rattle.ix_script.specs.inside.Progress.{before_space, behind_space, number_from, moment_of, conn_of, text_of, events_at}
-use Rattle.ix_lines.specs.Numbers.{BeginsWith}
+use Rattle.ix_script.specs.inside.Progress.{before_space, behind_space, number_from, moment_of, conn_of, text_behind_two, events_at}
+use Rattle.ix_lines.specs.Numbers.{BeginsWithNumber}
 use Rattle.ix_lines.specs.inside.WordsBehind.{HasNoSpace}
 use Rattle.ix_lines.proofs.WordLemmas.{is_space}
 use Rattle.ix_lines.proofs.NumberCuts.{or_false, decimal-plain, begins_same}
@@ -33,18 +33,18 @@ number_from-decimal =
     (λ n l. omega arith)
     (λ n ds l h. number_from-end 0 ds (48 + n % 10) ∙ omega (arith, h))
 
-begins-number : (text rest : List ℕ) (n : ℕ) → BeginsWith (2 ^ 64) text n rest → number_from 0 (before_space text) ≡ n
+begins-number : (text rest : List ℕ) (n : ℕ) → BeginsWithNumber (2 ^ 64) text n rest → number_from 0 (before_space text) ≡ n
 begins-number text rest n h =
     ap (λ t. number_from 0 (before_space t)) h.split ∙ ap (number_from 0) (before-at (decimal n) rest (decimal-plain n h.fits)) ∙ number_from-decimal n h.fits
 
-begins-rest : (text rest : List ℕ) (n : ℕ) → BeginsWith (2 ^ 64) text n rest → behind_space text ≡ rest
+begins-rest : (text rest : List ℕ) (n : ℕ) → BeginsWithNumber (2 ^ 64) text n rest → behind_space text ≡ rest
 begins-rest text rest n h = ap behind_space h.split ∙ behind-at (decimal n) rest (decimal-plain n h.fits)
 
-small : {text rest : List ℕ} {n : ℕ} → BeginsWith 64 text n rest → BeginsWith (2 ^ 64) text n rest
+small : {text rest : List ℕ} {n : ℕ} → BeginsWithNumber 64 text n rest → BeginsWithNumber (2 ^ 64) text n rest
 small h = record { fits = omega (arith, h.fits); split = h.split }
 
 -- the parts of a line are computed of it
-pub line_parts : (line text : List ℕ) (moment conn : ℕ) → IsScriptLine line moment conn text → (moment_of line ≡ moment) × (conn_of line ≡ conn) × (text_of line ≡ text)
+pub line_parts : (line text : List ℕ) (moment conn : ℕ) → IsScriptLine line moment conn text → (moment_of line ≡ moment) × (conn_of line ≡ conn) × (text_behind_two line ≡ text)
 line_parts line text moment conn h =
     let rest = begins-rest line h.behind moment h.begins in (
       begins-number line h.behind moment h.begins,
@@ -70,10 +70,10 @@ pub no_fault : (line : List ℕ) (code : ℕ) → IsLineFault line code → InGr
 no_fault line code (no_moment none) (moment, conn, text, parts) = none (moment, parts.behind, parts.begins)
 no_fault line code (no_connection {moment = m} {behind = b} begins none) (moment, conn, text, parts) =
     let same = begins_same line m moment b parts.behind begins parts.begins in
-    none (conn, text, subst (λ t. BeginsWith 64 t conn text) (sym same.1) parts.goes_on)
+    none (conn, text, subst (λ t. BeginsWithNumber 64 t conn text) (sym same.1) parts.goes_on)
 no_fault line code (no_text {moment = m} {conn = d} {behind = b} begins goes_on) (moment, conn, text, parts) =
     let same = begins_same line m moment b parts.behind begins parts.begins in
-    let again = subst (λ t. BeginsWith 64 t d (92 ∷ [])) same.1 goes_on in
+    let again = subst (λ t. BeginsWithNumber 64 t d (92 ∷ [])) same.1 goes_on in
     parts.more (begins_same parts.behind conn d text (92 ∷ []) (small parts.goes_on) (small again)).1
 
 one_byte : (test : Bool) (byte : ℕ) → (byte == 92) ≡ test → byte ∷ [] ≢ 92 ∷ [] → 0 < length (cond test [] (byte ∷ 10 ∷ []))

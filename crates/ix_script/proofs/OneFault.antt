@@ -2,7 +2,7 @@
 use Rattle.std.proofs.Common.{◌≡◌, ℕ, List, [], ◌∷◌, ◌++◌, refl, sym, ◌∙◌, ap, subst, arith}
 use Rattle.std.specs.List.{AllByRecursion}
 use Rattle.ix_outside.specs.Contents.{GivenEvent}
-use Rattle.ix_lines.specs.Numbers.{BeginsWith}
+use Rattle.ix_lines.specs.Numbers.{BeginsWithNumber}
 use Rattle.ix_lines.specs.TextLines.{bytes_of}
 use Rattle.ix_lines.proofs.NumberCuts.{begins_same}
 use Rattle.ix_script.specs.Events.{AreEvents}
@@ -41,13 +41,13 @@ one-code line _ _ (no_connection begins none) (no_connection starts lack) = refl
 one-code line _ _ (no_connection {moment = m} {behind = b} begins none)
     (no_text {moment = n} {conn = k} {behind = r} starts text) =
     let same = begins_same line m n b r begins starts in
-    absurd (none (k, 92 ∷ [], subst (λ t. BeginsWith 64 t k (92 ∷ [])) (sym same.1) text))
+    absurd (none (k, 92 ∷ [], subst (λ t. BeginsWithNumber 64 t k (92 ∷ [])) (sym same.1) text))
 one-code line _ _ (no_text {moment = m} {conn = k} {behind = b} begins text) (no_moment lack) =
     absurd (lack (m, b, begins))
 one-code line _ _ (no_text {moment = m} {conn = k} {behind = b} begins text)
     (no_connection {moment = n} {behind = r} starts lack) =
     let same = begins_same line m n b r begins starts in
-    absurd (lack (k, 92 ∷ [], subst (λ t. BeginsWith 64 t k (92 ∷ [])) same.1 text))
+    absurd (lack (k, 92 ∷ [], subst (λ t. BeginsWithNumber 64 t k (92 ∷ [])) same.1 text))
 one-code line _ _ (no_text begins text) (no_text starts more) = refl
 
 pub one-first_fault : ScriptsHaveOneFirstFault

@@ -32,7 +32,7 @@ impl<'a> Cursor<'a> {
     ghost use Rattle.std.specs.Prelude.{length, take, drop, MatchBool, MatchOption};
     ghost use Rattle.ix_outside.specs.Contents.{piece_of};
     ghost use Rattle.ix_outside.specs.Event.{FitsBuffer};
-    ghost use Rattle.ix_script.specs.inside.Cursor.{open_bytes, later_events, left_of, IsBegun};
+    ghost use Rattle.ix_script.specs.inside.Cursor.{open_bytes, later_events, left_of, IsCursorAt};
     ghost use Rattle.ix_script.specs.inside.Cursor.{IsBare};
     ghost use Rattle.ix_script.specs.Events.{closed_event};
     ghost use Rattle.ix_script.specs.Pieces.{left_after};
@@ -74,7 +74,7 @@ impl<'a> Cursor<'a> {
     /// Begins the next line where none is open. An event without bytes is answered at once, and
     /// None where bytes are to come.
     fn begin(&mut self) -> Option<Event>
-        ensures begun { MatchOption result (IsBegun self.old self.new)
+        ensures begun { MatchOption result (IsCursorAt self.old self.new)
             (λ event. IsBare self.old event self.new) }
         ensures bytes { self.new.bytes ≡ self.old.bytes }
     {
@@ -110,7 +110,7 @@ impl<'a> Cursor<'a> {
         requires idle { open_bytes self.old ≡ [] }
         requires more { 0 < length self.old.rest.now }
         ensures begun { MatchBool result
-            (IsBegun self.old self.new)
+            (IsCursorAt self.old self.new)
             ((left_of self.old ≡ closed_event self.new.moment self.new.conn ∷ left_of self.new)
             × (open_bytes self.new ≡ [])) }
         ensures bytes { self.new.bytes ≡ self.old.bytes }

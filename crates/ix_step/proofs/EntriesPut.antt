@@ -15,7 +15,7 @@ use Rattle.ix_words.proofs.Each.{Each-head, Each-tail, Each-members}
 use Rattle.ix_words.proofs.Canon.{by_order-has, canon-members, flat_map-append, flat_map-Member, when-Member}
 use Rattle.ix_values.specs.Order.{text_eq, text_cmp}
 use Rattle.ix_values.specs.lemmas.Order.{text_cmp-same, text_eq-decides}
-use Rattle.ix_entries.specs.inside.Entries.{KeysAscend, IsProper, item_at, with_entry}
+use Rattle.ix_entries.specs.inside.Entries.{KeysAscend, AreProperEntries, item_at, with_entry}
 use Rattle.ix_tree.specs.Plain.{Plain, entry, listed, more}
 use Rattle.ix_tree.specs.PlainOf.{plain_entry, plain_entries}
 use Rattle.ix_tree.specs.Order.{key, first_part, tree_cmp}
@@ -220,9 +220,9 @@ some_size common tree us vs =
 
 -- Nothing is put yet
 
-pub nothing_proper : (eq : Plain → Plain → Bool) (common : Plain) (es : List (List ℕ × Plain)) → es ≡ [] → IsProper text_cmp eq common es
+pub nothing_proper : (eq : Plain → Plain → Bool) (common : Plain) (es : List (List ℕ × Plain)) → es ≡ [] → AreProperEntries text_cmp eq common es
 unfolding IsStrictlySortedBy
-nothing_proper eq common es e = subst (IsProper text_cmp eq common) (sym e) (record { ascending = tt; differing = λ k d lt. absurd (omega arith) })
+nothing_proper eq common es e = subst (AreProperEntries text_cmp eq common) (sym e) (record { ascending = tt; differing = λ k d lt. absurd (omega arith) })
 
 pub nothing_held : (common : Plain) (tree : List ℕ → Plain) (es : List (List ℕ × Plain)) → es ≡ [] → HoldTrees common tree [] es 0
 nothing_held common tree es e = subst (λ l. HoldTrees common tree [] l 0) (sym e) (record { items = refl; counted = refl })

@@ -15,7 +15,7 @@ use Rattle.ix_tree.specs.Plain.{Plain, listed, is_dead}
 use Rattle.ix_tree.specs.Order.{tree_cmp}
 use Rattle.ix_tree.specs.Size.{size_of}
 use Rattle.ix_tree.specs.lemmas.TreeOrder.{tree_order, tree_cmp-same}
-use Rattle.ix_step.specs.inside.Makes.{put_all, Gathers, Puts}
+use Rattle.ix_step.specs.inside.Makes.{put_all, Gathers, PutsItem}
 use Rattle.ix_step.specs.inside.Moves.{if_open}
 use Rattle.ix_step.specs.declared.fault.Unbuilt.{Unbuilt}
 
@@ -82,7 +82,7 @@ module _ {T : Type 0} (f : T → Plain) (cmp : T → T → Ordering) (is : (x y 
   is_new xs item n x m e = n (Member-HasItem f cmp is xs item (subst (λ y. Member y (map f xs)) (sym (tree_cmp-same (f item) x e)) m))
 
   -- an item that is put into a set is its tree put into the list of trees
-  pub gathers_put : (set : Alternatives T) (new : List T) (item : T) (r : Result (Unit {0}) Unbuilt) → Puts cmp (λ x. size_of (f x)) set new item r → Gathers set.budget (f item ∷ []) (map f set.items) (map f new) r
+  pub gathers_put : (set : Alternatives T) (new : List T) (item : T) (r : Result (Unit {0}) Unbuilt) → PutsItem cmp (λ x. size_of (f x)) set new item r → Gathers set.budget (f item ∷ []) (map f set.items) (map f new) r
   gathers_put set new item (Ok done) h = ap (map f) h ∙ insert_key-put_once f cmp is set.items item
   gathers_put set new item (Err fault) h = λ e.
       let k = h e in
@@ -175,7 +175,7 @@ any_more test ts i t lt is =
     ap (list_any test) (take_more ts i t lt ∙ ap (λ u. take i ts ++ u ∷ []) (sym is)) ∙ any_after test (take i ts) t
 
 -- a tree put into a set of trees
-pub gathers_tree : (set : Alternatives Plain) (new : List Plain) (item : Plain) (r : Result (Unit {0}) Unbuilt) → Puts tree_cmp size_of set new item r → Gathers set.budget (item ∷ []) set.items new r
+pub gathers_tree : (set : Alternatives Plain) (new : List Plain) (item : Plain) (r : Result (Unit {0}) Unbuilt) → PutsItem tree_cmp size_of set new item r → Gathers set.budget (item ∷ []) set.items new r
 gathers_tree set new item r h =
     subst (λ l. Gathers set.budget (item ∷ []) l new r) (map-id set.items)
     (subst (λ l. Gathers set.budget (item ∷ []) (map (λ x. x) set.items) l r) (map-id new)

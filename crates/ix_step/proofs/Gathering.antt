@@ -19,9 +19,9 @@ use Rattle.ix_can.specs.Nodes.{is_live, put_in, set_of}
 use Rattle.ix_can.proofs.Spent.{open_not_done}
 use Rattle.ix_can.specs.inside.Moved.{moved, picks}
 use Rattle.ix_can.proofs.Lists.{any_says}
-use Rattle.ix_step.specs.inside.Makes.{IsOver, put_all, Gathers}
+use Rattle.ix_step.specs.inside.Makes.{IsAboveLimit, put_all, Gathers}
 use Rattle.ix_step.specs.inside.Moves.{if_open, begun}
-use Rattle.ix_step.specs.inside.ParallelMoves.{pairs_of, pick_move, pick_moves, bag_moves, more_runs, runs_with, begun_runs, has_room}
+use Rattle.ix_step.specs.inside.ParallelMoves.{pairs_moved, pick_move, pick_moves, bag_moves, more_runs, runs_with, begun_runs, has_room}
 use Rattle.ix_step.specs.declared.fault.Unbuilt.{Unbuilt}
 use Rattle.ix_step.proofs.BagsPut.{size-put_in}
 use Rattle.ix_step.proofs.Gathered.{put_all-nothing, put_all-append, put_all_grows, put_all_holds, live_over, above_open, above_lives, open_over, size_all}
@@ -40,7 +40,7 @@ each_at (x ∷ ks) (suc i) k lt e (item g h) = each_at ks i k (omega arith) e h
 pub gathers_after : (limit : ℕ) (us vs old mid new : List Plain) (r : Result (Unit {0}) Unbuilt) → mid ≡ put_all us old → Gathers limit vs mid new r → Gathers limit (us ++ vs) old new r
 gathers_after limit us vs old mid new (Ok done) e h = h ∙ ap (put_all vs) e ∙ sym (put_all-append us vs old)
 gathers_after limit us vs old mid new (Err fault) e h =
-    subst (λ l. IsOver limit (listed l) fault) (ap (put_all vs) e ∙ sym (put_all-append us vs old)) h
+    subst (λ l. IsAboveLimit limit (listed l) fault) (ap (put_all vs) e ∙ sym (put_all-append us vs old)) h
 
 -- the first lot is no larger than both together
 pub front_size : (us vs old : List Plain) → size_all (put_all us old) ≤ size_all (put_all (us ++ vs) old)
@@ -104,12 +104,12 @@ made_set f xs = ap listed (put_all-nothing (flat_map f xs)) ∙ ap (λ l. set_of
 -- Pairs
 
 module _ (limit : ℕ) (x u left right : Plain) (old : List Plain) (le : 1 ≤ limit) where
-  pub left_over : limit < size_of left → limit < size_all (put_all (pairs_of x u left right) old)
+  pub left_over : limit < size_of left → limit < size_all (put_all (pairs_moved x u left right) old)
   left_over lt =
       let k : limit < size_all (put_all (when (is_live left) (pair left u ∷ [])) old) = live_over limit left (pair left u) old le (omega arith) lt in
       omega (arith, front_size (when (is_live left) (pair left u ∷ [])) (when (is_live right) (pair x right ∷ [])) old)
 
-  pub right_over : limit < size_of right → limit < size_all (put_all (pairs_of x u left right) old)
+  pub right_over : limit < size_of right → limit < size_all (put_all (pairs_moved x u left right) old)
   right_over lt =
       subst (λ l. limit < size_all l) (sym (put_all-append (when (is_live left) (pair left u ∷ [])) (when (is_live right) (pair x right ∷ [])) old))
       (live_over limit right (pair x right) (put_all (when (is_live left) (pair left u ∷ [])) old) le (omega arith) lt)

@@ -15,11 +15,11 @@ use Rattle.ix_can.proofs.Testing.{alphabet_says}
 use Rattle.ix_can.proofs.Spent.{dead_is}
 use Rattle.ix_can.proofs.MovesShared.{moved_live}
 use Rattle.ix_can.proofs.OutsideAlphabet.{outside_next}
-use Rattle.ix_step.specs.inside.Makes.{IsOver}
+use Rattle.ix_step.specs.inside.Makes.{IsAboveLimit}
 use Rattle.ix_step.specs.declared.fault.Unbuilt.{Unbuilt}
 
 -- a part above the limit puts the whole above it
-pub over_grows : (limit : ℕ) (x y : Plain) (fault : Unbuilt) → size_of x ≤ size_of y → IsOver limit x fault → IsOver limit y fault
+pub over_grows : (limit : ℕ) (x y : Plain) (fault : Unbuilt) → size_of x ≤ size_of y → IsAboveLimit limit x fault → IsAboveLimit limit y fault
 over_grows limit x y fault le h = λ e. let lt : limit < size_of x = h e in omega arith
 
 -- where the action may not come next the moved tree is dead

@@ -7,7 +7,7 @@ use Rattle.ix_words.specs.Canon.{Ascending, canon, put_once, when}
 use Rattle.ix_words.proofs.Each.{Each-head, Each-tail, Each-weaker, Each-member, Each-members}
 use Rattle.ix_words.proofs.Canon.{by_order-has, Member-cases}
 use Rattle.ix_values.specs.Order.{text_eq, text_cmp}
-use Rattle.ix_entries.specs.inside.Entries.{IsProper as IsProperList, KeysAscend, with_entry}
+use Rattle.ix_entries.specs.inside.Entries.{AreProperEntries as IsProperList, KeysAscend, with_entry}
 use Rattle.ix_expr.specs.Form.{Form, all}
 use Rattle.ix_expr.specs.Environment.{Environment, bind}
 use Rattle.ix_expr.proofs.LawsOfNames.{fits-names}
@@ -26,7 +26,7 @@ use Rattle.ix_can.specs.TreeOf.{tree_of}
 use Rattle.ix_can.specs.inside.Moved.{map_with, entry_with, or_initial}
 use Rattle.ix_can.proofs.Nodes.{same_is}
 use Rattle.ix_can.proofs.Spent.{dead_is}
-use Rattle.ix_step.specs.inside.Makes.{IsOver, Makes, put_all}
+use Rattle.ix_step.specs.inside.Makes.{IsAboveLimit, Makes, put_all}
 use Rattle.ix_step.specs.declared.fault.Unbuilt.{Unbuilt}
 use Rattle.ix_step.specs.inside.Ready.{Ready}
 use Rattle.ix_step.specs.inside.Initial.{initial_tree}
@@ -213,13 +213,13 @@ module _ (m : Map) (es : List (List ℕ × Plain)) (copied : es ≡ m.entries) w
 -- What was made
 
 -- a value's tree that was made within the room, or puts each list with its map above the limit
-pub owner_made : (limit room : ℕ) (initial : Plain) (v : List ℕ) (x z : Plain) (xs : List Plain) (r : Result Plain Unbuilt) → z ≡ x → 1 ≤ room → limit ≤ room → size_of initial ≤ room → room ≤ 2000010 → Makes room z r → MatchResult r (λ tree. (tree ≡ x) × (size_of tree ≤ 2000010)) (λ fault. (old : List Plain) → IsOver limit (listed (put_all (map_with initial v x xs) old)) fault)
+pub owner_made : (limit room : ℕ) (initial : Plain) (v : List ℕ) (x z : Plain) (xs : List Plain) (r : Result Plain Unbuilt) → z ≡ x → 1 ≤ room → limit ≤ room → size_of initial ≤ room → room ≤ 2000010 → Makes room z r → MatchResult r (λ tree. (tree ≡ x) × (size_of tree ≤ 2000010)) (λ fault. (old : List Plain) → IsAboveLimit limit (listed (put_all (map_with initial v x xs) old)) fault)
 owner_made limit room initial v x z xs (Ok tree) same positive le small bound h =
     (h.0 ∙ same, omega (arith, ap size_of h.0, h.1))
 owner_made limit room initial v x z xs (Err fault) same positive le small bound h = λ old e.
     above_room limit room initial v x xs old positive le small (let lt : room < size_of z = h e in omega (arith, ap size_of same))
 
 -- the dead tree of a value that can't move, which puts no map into a list
-pub dead_owner : (limit : ℕ) (initial : Plain) (v : List ℕ) (x : Plain) (xs : List Plain) (r : Result Plain Unbuilt) → x ≡ dead → 1 ≤ limit → limit ≤ 2000010 → Makes limit dead r → MatchResult r (λ tree. (tree ≡ x) × (size_of tree ≤ 2000010)) (λ fault. (old : List Plain) → IsOver limit (listed (put_all (map_with initial v x xs) old)) fault)
+pub dead_owner : (limit : ℕ) (initial : Plain) (v : List ℕ) (x : Plain) (xs : List Plain) (r : Result Plain Unbuilt) → x ≡ dead → 1 ≤ limit → limit ≤ 2000010 → Makes limit dead r → MatchResult r (λ tree. (tree ≡ x) × (size_of tree ≤ 2000010)) (λ fault. (old : List Plain) → IsAboveLimit limit (listed (put_all (map_with initial v x xs) old)) fault)
 dead_owner limit initial v x xs (Ok tree) is positive bound h = (h.0 ∙ sym is, omega (arith, h.1, bound, ap size_of h.0))
 dead_owner limit initial v x xs (Err fault) is positive bound h = λ old e. absurd (let lt : limit < 1 = h e in omega arith)

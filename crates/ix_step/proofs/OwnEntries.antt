@@ -12,7 +12,7 @@ use Rattle.ix_words.proofs.Canon.{Member-cases, when-Member, flat_map-Member, ca
 use Rattle.ix_values.specs.Order.{text_eq, text_cmp}
 use Rattle.ix_values.specs.lemmas.Order.{text_eq-decides}
 use Rattle.ix_values.specs.PlainAction.{PlainAction}
-use Rattle.ix_entries.specs.inside.Entries.{IsProper, item_at, with_entry}
+use Rattle.ix_entries.specs.inside.Entries.{AreProperEntries, item_at, with_entry}
 use Rattle.ix_expr.specs.Form.{Form}
 use Rattle.ix_expr.specs.Environment.{Environment, bind}
 use Rattle.ix_expr.proofs.Agreement.{member-or-not}
@@ -148,7 +148,7 @@ module _ (eq : Plain → Plain → Bool) (agree : (x y : Plain) → eq x y ≡ s
 
   -- proper entries that give all values their trees are those after the action
   pub all_given : (p : List ℕ) (y : Form) (e : Environment) (a : PlainAction) (es fs : List (List ℕ × Plain)) → ReadyInside p y e common (map plain_entry es) → in_alphabet y (bind p None e) a ≡ false
-      → IsProper text_cmp eq common fs → GivesAll common (own_after p y e a common es) [] fs
+      → AreProperEntries text_cmp eq common fs → GivesAll common (own_after p y e a common es) [] fs
       → entries_after OwnAlphabet p y e a common (plain_entries es) ≡ plain_entries fs
   all_given p y e a es fs ready outside proper given =
       own_entries p y e a common es fs ready outside (entries_ascend fs proper.ascending) (differing_each fs proper.differing)

@@ -13,7 +13,7 @@ ghost use Rattle.ix_can.specs.inside.Moved.{moved};
 ghost use Rattle.ix_can.specs.TreeOf.{tree_of};
 ghost use Rattle.ix_step.specs.inside.Builds.{Builds, IsAbove};
 ghost use Rattle.ix_step.specs.inside.Limits.{most_size};
-ghost use Rattle.ix_step.specs.inside.Makes.{Makes, IsOver};
+ghost use Rattle.ix_step.specs.inside.Makes.{Makes, IsAboveLimit};
 ghost use Rattle.ix_step.specs.inside.Ready.{Ready};
 
 use crate::advance::advance;
@@ -108,7 +108,7 @@ fn at_least_one(limit: usize) -> usize
 }
 
 pub(crate) fn told(unbuilt: Unbuilt, limit: usize) -> BuildFault
-    ensures { (x : Plain) → IsOver limit x unbuilt → IsAbove limit x result }
+    ensures { (x : Plain) → IsAboveLimit limit x unbuilt → IsAbove limit x result }
 {
     match unbuilt {
         Unbuilt::Over => BuildFault::Over { limit },

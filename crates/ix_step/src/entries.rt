@@ -3,7 +3,7 @@
 ghost use Rattle.std.specs.Prelude.{◌≡◌, ℕ, ◌≤◌, ◌++◌, ◌∷◌, [], List, IfOk, OnOk};
 ghost use Rattle.std.specs.Map.{keys_of};
 ghost use Rattle.ix_values.specs.Order.{text_cmp};
-ghost use Rattle.ix_entries.specs.inside.Entries.{IsProper};
+ghost use Rattle.ix_entries.specs.inside.Entries.{AreProperEntries};
 ghost use Rattle.ix_expr.specs.inside.FormOf.{form_of};
 ghost use Rattle.ix_tree.specs.Plain.{Plain};
 ghost use Rattle.ix_tree.specs.Size.{size_of};
@@ -29,11 +29,11 @@ pub(crate) fn put_tree(
     tree: Knot,
     limit: usize,
 ) -> Result<usize, Unbuilt>
-    requires proper { IsProper text_cmp ⟦<Knot as PartialEq>⟧.eq common.now entries.old.items }
+    requires proper { AreProperEntries text_cmp ⟦<Knot as PartialEq>⟧.eq common.now entries.old.items }
     requires small { size_of tree ≤ most_limit }
     requires within { total ≤ limit }
     requires bounded { limit ≤ most_limit }
-    ensures proper { IsProper text_cmp ⟦<Knot as PartialEq>⟧.eq common.now entries.new.items }
+    ensures proper { AreProperEntries text_cmp ⟦<Knot as PartialEq>⟧.eq common.now entries.new.items }
     ensures entered { (trees : List ℕ → Plain) (values : List (List ℕ))
         → HoldTrees common.now trees values entries.old.items total
         → tree ≡ trees value

@@ -13,7 +13,7 @@ ghost use Rattle.ix_can.specs.inside.Moved.{map_with, or_initial};
 ghost use Rattle.ix_entries.specs.inside.Entries.{KeysAscend};
 ghost use Rattle.ix_values.specs.Order.{text_cmp};
 ghost use Rattle.ix_step.specs.inside.Limits.{most_limit};
-ghost use Rattle.ix_step.specs.inside.Makes.{Makes, Collects, Gathers, IsOver, put_all};
+ghost use Rattle.ix_step.specs.inside.Makes.{Makes, Collects, Gathers, IsAboveLimit, put_all};
 ghost use Rattle.ix_step.specs.inside.MovedNode.{moved_node};
 ghost use Rattle.ix_step.specs.inside.Pruned.{pruned};
 ghost use Rattle.ix_step.specs.inside.Ready.{Ready};
@@ -119,7 +119,7 @@ fn advance_owner(
         (form_of body.entry.expr.now) step.entry.env.now step.entry.action.now first.now
         (plain_map state.now) value.now) × (size_of tree ≤ most_limit))
         (λ fault. (old : List Plain)
-        → IsOver step.entry.limit
+        → IsAboveLimit step.entry.limit
         (listed
         (put_all
         (map_after body.entry.parameter.now

@@ -8,7 +8,7 @@ ghost use Rattle.ix_tree.specs.Size.{size_of};
 ghost use Rattle.ix_can.specs.Nodes.{is_live};
 ghost use Rattle.ix_step.specs.inside.Limits.{most_size, most_limit};
 ghost use Rattle.ix_step.specs.inside.Makes.{Gathers};
-ghost use Rattle.ix_step.specs.inside.ParallelMoves.{pairs_of};
+ghost use Rattle.ix_step.specs.inside.ParallelMoves.{pairs_moved};
 
 use crate::fault::Unbuilt;
 use crate::sets::put;
@@ -26,7 +26,7 @@ pub(crate) fn put_pairs(
     requires left { size_of left ≤ most_limit }
     requires right { size_of right ≤ most_limit }
     requires within { size_of (listed (map plain_pair set.old.items)) ≤ set.old.budget }
-    ensures gathers { Gathers set.old.budget (pairs_of pair.now.first pair.now.second left right)
+    ensures gathers { Gathers set.old.budget (pairs_moved pair.now.first pair.now.second left right)
         (map plain_pair set.old.items) (map plain_pair set.new.items) result }
     ensures within { size_of (listed (map plain_pair set.new.items)) ≤ set.old.budget }
     ensures budget { set.new.budget ≡ set.old.budget }

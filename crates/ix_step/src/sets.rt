@@ -8,7 +8,7 @@ ghost use Rattle.ix_tree.specs.Plain.{Plain, listed};
 ghost use Rattle.ix_tree.specs.Size.{size_of};
 ghost use Rattle.ix_step.specs.inside.Initial.{initial_tree};
 ghost use Rattle.ix_step.specs.inside.Limits.{most_size};
-ghost use Rattle.ix_step.specs.inside.Makes.{Gathers, Puts};
+ghost use Rattle.ix_step.specs.inside.Makes.{Gathers, PutsItem};
 ghost use Rattle.ix_step.specs.inside.Moves.{if_open};
 
 use crate::fault::Unbuilt;
@@ -21,7 +21,7 @@ use ix_tree::Knot;
 
 pub(crate) fn put<T: Ord + Weight + Drop>(set: &mut AltSet<T>, item: T) -> Result<(), Unbuilt>
     requires { T.weight item ≤ 2 ^ 32 }
-    ensures put { Puts T.Ord.cmp T.weight set.old set.new.items item result }
+    ensures put { PutsItem T.Ord.cmp T.weight set.old set.new.items item result }
     ensures within { sum_by T.weight set.new.items ≤ set.new.budget }
     ensures budget { set.new.budget ≡ set.old.budget }
 {

@@ -12,7 +12,7 @@ use Rattle.ix_outside.specs.SiteState.{SiteState}
 use Rattle.ix_outside.specs.inside.DiskCalls.{DiskCalls, LeavesOnly, span}
 use Rattle.ix_journal.specs.Format.{record_of}
 use Rattle.ix_journal.specs.Recovery.{IsJournalWith}
-use Rattle.ix_store.specs.inside.Keeping.{Fits, IsWithOrWithout}
+use Rattle.ix_store.specs.inside.Keeping.{FitsFile, IsWithOrWithout}
 use Rattle.ix_store.specs.Keeping.{Keeping}
 use Rattle.ix_store.specs.inside.Steps.{MaybeTorn}
 use Rattle.ix_store.proofs.Told.{of_told, to_told, made, came, just}
@@ -23,7 +23,7 @@ use Rattle.ix_store.proofs.Appending.{torn_behind, staged, torn_gate, opened_gat
 
 -- the file as it reads is the journal too
 fitting_file : (old : SiteState) (was : Crashes) (store : Keeping) (text : List ℕ) (history : PlainHistory)
-    → AreLawful old was → Fits old was store text history → (told : Disk) → old.disk ≡ Some told
+    → AreLawful old was → FitsFile old was store text history → (told : Disk) → old.disk ≡ Some told
     → IsJournalWith told.file text history store.marks store.gate
 fitting_file old was store text history lawful fits told is =
     fits.images told is told.file (of_told was.now old.disk told is lawful.file)
@@ -31,7 +31,7 @@ fitting_file old was store text history lawful fits told is =
 -- the place behind the gate is in the file
 pub place_behind : (old : SiteState) (was : Crashes) (store : Keeping) (text : List ℕ)
     (history : PlainHistory)
-    → AreLawful old was → Fits old was store text history
+    → AreLawful old was → FitsFile old was store text history
     → OfFile (λ file. store.gate + 1 ≤ length file) old.disk
 place_behind old was store text history lawful fits =
     to_told (λ file. store.gate + 1 ≤ length file) old.disk (λ told is.
@@ -41,7 +41,7 @@ place_behind old was store text history lawful fits =
 -- `mid` is behind the call that writes the record
 module _ (old mid : SiteState) (was then : Crashes) (calls : DiskCalls (span old mid was then))
     (lawful : AreLawful old was) (lawful' : AreLawful mid then)
-    (store : Keeping) (text : List ℕ) (history : PlainHistory) (fits : Fits old was store text history)
+    (store : Keeping) (text : List ℕ) (history : PlainHistory) (fits : FitsFile old was store text history)
     (bytes : List ℕ) (images : (disk : Disk) → old.disk ≡ Some disk
     → LeavesOnly (MaybeTorn (store.gate + 1) (length bytes) was.now) (span old mid was then))
   where
@@ -114,7 +114,7 @@ module _ (old mid : SiteState) (was then : Crashes) (calls : DiskCalls (span old
             → LeavesTheFile new.disk is.now → (after : Keeping)
             → after.gate ≡ store.gate + length bytes
             → after.marks ≡ behind store.marks entry
-            → Fits new is after text (history ++ pair_of entry)
+            → FitsFile new is after text (history ++ pair_of entry)
         fits_more opened settled' after gate marked =
             let more : PlainHistory = history ++ pair_of entry in
             record {

@@ -14,7 +14,7 @@ use Rattle.ix_outside.specs.SiteState.{SiteState}
 use Rattle.ix_outside.specs.inside.DiskCalls.{DiskCalls, LeavesOnly, span}
 use Rattle.ix_journal.specs.Format.{header}
 use Rattle.ix_journal.specs.Kinds.{IsReady, unfinished, unopened, foreign, ready}
-use Rattle.ix_journal.specs.Recovery.{IsJournalWith, Keeps}
+use Rattle.ix_journal.specs.Recovery.{IsJournalWith, KeepsRecords}
 use Rattle.ix_journal.proofs.KindLaws.{one_kind}
 use Rattle.ix_journal.proofs.OrderLemmas.{records-behind, records_of, sound-fresh}
 use Rattle.ix_journal.proofs.OutcomeLaws.{one_list}
@@ -25,33 +25,33 @@ use Rattle.ix_store.specs.declared.find.Found.{Found}
 use Rattle.ix_store.specs.declared.find.Found.TheVariants as fd
 use Rattle.ix_store.specs.declared.records.Kept.{Kept}
 use Rattle.ix_store.specs.Opening.{IsNew, IsReadyWith}
-use Rattle.ix_store.specs.inside.Opens.{IsOwn, Opens}
-use Rattle.ix_store.specs.inside.Keeping.{Fits}
+use Rattle.ix_store.specs.inside.Opens.{IsOwnFile, Opens}
+use Rattle.ix_store.specs.inside.Keeping.{FitsFile}
 use Rattle.ix_store.specs.Keeping.{Keeping}
 use Rattle.ix_store.specs.inside.Reading.{IsHeadOf}
-use Rattle.ix_store.specs.inside.Refusals.{Refuses, TellsNothing}
+use Rattle.ix_store.specs.inside.Refusals.{RefusesFileAs, TellsNothing}
 use Rattle.ix_store.specs.inside.Starting.{CountsOpening, LeavesOnStart, SettlesOpening}
-use Rattle.ix_store.specs.inside.Steps.{ClosesWith, IsBegun, IsFound, IsSound, IsSoundly, RefusesHead}
+use Rattle.ix_store.specs.inside.Steps.{ClosesWith, IsBegun, IsFound, IsFoundSound, IsSoundly, RefusesHead}
 use Rattle.ix_store.specs.inside.Steps.{StopsReading}
 use Rattle.ix_store.proofs.Calls.{calls_more}
 use Rattle.ix_store.proofs.ReadCalls.{stayed_of}
 use Rattle.ix_store.proofs.Told.{just}
 
 -- a new file keeps no record
-new_keeps : (file text : List ℕ) → IsNew file text → Keeps file []
-new_keeps file text (inl new) = Keeps.unfinished file new
-new_keeps file text (inr new) = Keeps.unopened file text new
+new_keeps : (file text : List ℕ) → IsNew file text → KeepsRecords file []
+new_keeps file text (inl new) = KeepsRecords.unfinished file new
+new_keeps file text (inr new) = KeepsRecords.unopened file text new
 
 -- a journal keeps its records
 pub journal_keeps : (file text : List ℕ) (history : PlainHistory) (marks : Marks) (gate : ℕ)
-    → (w : IsJournalWith file text history marks gate) → Keeps file w.entries
-journal_keeps file text history marks gate w = Keeps.ready file text w.entries gate w.journal
+    → (w : IsJournalWith file text history marks gate) → KeepsRecords file w.entries
+journal_keeps file text history marks gate w = KeepsRecords.ready file text w.entries gate w.journal
 
-begun_keeps : (text image : List ℕ) → IsBegun text image → Keeps image []
+begun_keeps : (text image : List ℕ) → IsBegun text image → KeepsRecords image []
 begun_keeps text image (inl new) = new_keeps image text new
 begun_keeps text image (inr w) =
     let records = w.journal.closes.records in
-    subst (Keeps image) (none w.entries (omega (
+    subst (KeepsRecords image) (none w.entries (omega (
       arith,
       records-behind fresh w.entries sound-fresh records.valid records.order,
       ap records_of w.marked,
@@ -62,7 +62,7 @@ begun_keeps text image (inr w) =
     none [] long = refl
     none (e ∷ entries) long = absurd (omega arith)
 
-begun_own : (text image : List ℕ) → IsBegun text image → IsOwn image text
+begun_own : (text image : List ℕ) → IsBegun text image → IsOwnFile image text
 begun_own text image (inl new) = inl new
 begun_own text image (inr w) = inr (w.journal.first, w.journal.ready)
 
@@ -78,21 +78,21 @@ pub found_new : (text : List ℕ) (found : Found) (head : Vec ℕ Global) (file 
 found_new text found head file is found_so =
     let P : Found → Type 0 = λ f. IsFound text f file in subst P is found_so
 
-pub found_sound : (found : Found) (kept : Kept) → found ≡ fd.Journal kept → IsSound found
+pub found_sound : (found : Found) (kept : Kept) → found ≡ fd.Journal kept → IsFoundSound found
     → IsSoundly kept.history kept.marks kept.gate × HasBootRoom kept.marks
-found_sound found kept is sound = subst IsSound is sound
+found_sound found kept is sound = subst IsFoundSound is sound
 
 -- what was found of a file that stays was found of it before
 pub found_before : (text : List ℕ) (result : Result Found OpenFault) (old new : Option Disk)
     → MakesFile Stays old new
     → MatchResult result (λ found. OfFile (IsFound text found) new)
-    (λ fault. OfFile (λ file. Refuses file text fault) new)
+    (λ fault. OfFile (λ file. RefusesFileAs file text fault) new)
     → MatchResult result (λ found. OfFile (IsFound text found) old)
-    (λ fault. OfFile (λ file. Refuses file text fault) old)
+    (λ fault. OfFile (λ file. RefusesFileAs file text fault) old)
 found_before text (Ok found) old new stays holds =
     stayed_of (IsFound text found) old new stays holds
 found_before text (Err fault) old new stays holds =
-    stayed_of (λ file. Refuses file text fault) old new stays holds
+    stayed_of (λ file. RefusesFileAs file text fault) old new stays holds
 
 -- where just the file may be left whatever is answered
 pub settles : {T : Type 0} (result : Result T OpenFault) (disk : Option Disk)
@@ -107,7 +107,7 @@ counts_on result before then now same counts =
     subst (λ n. CountsOpening result n now) same counts
 
 -- a fault that tells nothing of the file refuses any
-pub refuses_any : (why : OpenFault) (file text : List ℕ) → TellsNothing why → Refuses file text why
+pub refuses_any : (why : OpenFault) (file text : List ℕ) → TellsNothing why → RefusesFileAs file text why
 refuses_any fault.NotJournal file text none = absurd none
 refuses_any (fault.OtherExpression kept) file text none = absurd none
 refuses_any (fault.Damaged at) file text none = absurd none
@@ -131,7 +131,7 @@ module _ (head file text : List ℕ) (is_head : IsHeadOf head file) where
   new_read (inl new) = inl (is_head.kind unfinished new)
   new_read (inr new) = inr (is_head.kind (unopened text) new)
 
-  pub refusal_read : (fault : OpenFault) → RefusesHead head text fault → Refuses file text fault
+  pub refusal_read : (fault : OpenFault) → RefusesHead head text fault → RefusesFileAs file text fault
   refusal_read fault.NotJournal refused = is_head.kind foreign refused
   refusal_read (fault.OtherExpression kept) (inl is_unopened, other) =
       (inl (is_head.kind (unopened kept.items) is_unopened), other)
@@ -159,7 +159,7 @@ module _ (head file text : List ℕ) (is_head : IsHeadOf head file) where
     -- a journal of a million boots has no room for another
     pub full_read : (history : PlainHistory) (marks : Marks) (gate : ℕ)
         → ClosesWith file first history marks gate → marks.boots ≡ (renewed_of marks).boots + 1000000
-        → Refuses file text fault.Many
+        → RefusesFileAs file text fault.Many
     full_read history marks gate w full =
         let journal = journal_read history marks gate w in (
           (first, ready_there),
@@ -175,7 +175,7 @@ module _ (head file text : List ℕ) (is_head : IsHeadOf head file) where
           }),
         )
 
-    pub stop_read : (fault : OpenFault) → StopsReading first fault file → Refuses file text fault
+    pub stop_read : (fault : OpenFault) → StopsReading first fault file → RefusesFileAs file text fault
     stop_read fault.NotJournal stops = absurd stops
     stop_read (fault.OtherExpression kept) stops = absurd stops
     stop_read (fault.Damaged at) stops = (
@@ -219,7 +219,7 @@ pub fits_only : (site : SiteState) (crashes : Crashes) (store : Keeping) (text :
     → store.marks.actions ≡ length history → LeavesTheFile site.disk crashes.now
     → ((disk : Disk) → site.disk ≡ Some disk → IsJournalWith disk.file text history store.marks
     store.gate)
-    → Fits site crashes store text history
+    → FitsFile site crashes store text history
 fits_only site crashes store text history counts settled journal = record {
   count = counts;
   images = λ disk told image now.
@@ -250,7 +250,7 @@ leaves_begun text file old mid new was then is new_file calls only calls' begun 
     record {
       keeps = λ entries kept image left. elim (both image left) [
         | inl before ↦ inl before
-        | inr now ↦ inr (subst (Keeps image)
+        | inr now ↦ inr (subst (KeepsRecords image)
             (one_list file [] entries (new_keeps file text new_file) kept)
             (begun_keeps text image now))
       ];

@@ -22,11 +22,11 @@ use Rattle.ix_journal.specs.History.{PlainHistory, Spent}
 use Rattle.ix_journal.specs.Kinds.{HasKind}
 use Rattle.ix_journal.specs.Format.{IsClosed, header, with_length, record_of}
 use Rattle.ix_journal.specs.Records.{BeginsWithRecord, Holds, ClosesAt, IsDamagedFrom, IsManyFrom}
-use Rattle.ix_journal.specs.Answers.{Standing, at_gate, Gives}
-use Rattle.ix_journal.specs.Kept.{Kept, empty_at, extended, moved}
-use Rattle.ix_journal.specs.Slide.{GivesText, Leaves, Tells, RecordsGive, WantMore, IsShort}
+use Rattle.ix_journal.specs.Answers.{Standing, at_gate, GivesRecord}
+use Rattle.ix_journal.specs.Kept.{Kept, empty_at, extended, moved_on}
+use Rattle.ix_journal.specs.Slide.{GivesText, Leaves, TellsSlid, RecordsGive, WantMore, IsShort}
 use Rattle.ix_journal.specs.inside.Counting.{AreMany, AreNotMany, AreSound}
-use Rattle.ix_journal.specs.inside.Reading.{IsText, Says}
+use Rattle.ix_journal.specs.inside.Reading.{IsText, SaysEntry}
 use Rattle.ix_journal.proofs.EntryTexts.{entries-same}
 use Rattle.ix_journal.proofs.HoldsLemmas.{holds_none, holds_more, gate_behind}
 use Rattle.ix_journal.proofs.KindFronts.{Covers, kinds_of_front}
@@ -132,7 +132,7 @@ few_reached first at history kept file reached way = record {
 }
 
 -- a record is lent
-pub text_lent : (kept : Kept) (text : Bor (List ℕ)) → Tells kept (slid.Record text) → IsText text.now
+pub text_lent : (kept : Kept) (text : Bor (List ℕ)) → TellsSlid kept (slid.Record text) → IsText text.now
 text_lent kept text tells =
     let at_first = tells.1.1 in
     (at_first.0, record { valid = at_first.2.begins.valid; same = at_first.1 })
@@ -141,9 +141,9 @@ text_lent kept text tells =
 record IsLent (kept : Kept) (text : Bor (List ℕ)) (entry : Entry) (new : Kept) : Type 0 where
   given : GivesText kept.bytes 0 kept.marks text (behind kept.marks entry)
   says : given.0 ≡ entry
-  next : new ≡ moved kept (3 + length text.now) (behind kept.marks entry)
+  next : new ≡ moved_on kept (3 + length text.now) (behind kept.marks entry)
 
-lent_so : (kept new : Kept) (text : Bor (List ℕ)) (entry : Entry) → Says text.now entry
+lent_so : (kept new : Kept) (text : Bor (List ℕ)) (entry : Entry) → SaysEntry text.now entry
     → Leaves kept (slid.Record text) new → IsLent kept text entry new
 lent_so kept new text entry says leaves =
     let first = leaves.1 in
@@ -153,11 +153,11 @@ lent_so kept new text entry says leaves =
     ap (λ (s : Standing). s.marks) first.3 ∙ ap (behind kept.marks) same in
     let family : Marks → Type 0 = λ m.
     (given : GivesText kept.bytes 0 kept.marks text m) × (given.0 ≡ entry)
-    × (new ≡ moved kept (3 + length text.now) m) in
+    × (new ≡ moved_on kept (3 + length text.now) m) in
     let all = subst family left (first, same, leaves.2) in
     record { given = all.0; says = all.1; next = all.2 }
 
-module _ (kept new : Kept) (text : Bor (List ℕ)) (entry : Entry) (says : Says text.now entry)
+module _ (kept new : Kept) (text : Bor (List ℕ)) (entry : Entry) (says : SaysEntry text.now entry)
     (leaves : Leaves kept (slid.Record text) new) where
   lent : IsLent kept text entry new
   lent = lent_so kept new text entry says leaves
@@ -215,7 +215,7 @@ module _ (kept new : Kept) (text : Bor (List ℕ)) (entry : Entry) (says : Says 
         by (said.Plain action) = omega arith
 
     abbrev after : Kept
-    after = moved kept (3 + length text.now) (behind kept.marks entry)
+    after = moved_on kept (3 + length text.now) (behind kept.marks entry)
 
     lent_on_way : IsOnWay first at (history ++ pair_of entry) after
     lent_on_way =
@@ -284,7 +284,7 @@ module _ (kept new : Kept) (text : Bor (List ℕ)) (entry : Entry) (says : Says 
     follows_there = subst (λ (m : Marks). MayFollow m entry) (sym reached.marked) follows
 
     lent_reached : Reached first at (history ++ pair_of entry)
-        (moved kept (3 + length text.now) (behind kept.marks entry)) file
+        (moved_on kept (3 + length text.now) (behind kept.marks entry)) file
     lent_reached =
         let next : kept.gate + 1 + length (record_of entry) ≡ kept.gate + (3 + length text.now) =
         omega (arith, len) in
@@ -331,12 +331,12 @@ module _ (kept new : Kept) (text : Bor (List ℕ)) (entry : Entry) (says : Says 
 -- a closed gate is met, or damage
 module _ (first at : ℕ) (history : PlainHistory) (kept : Kept) (file : List ℕ)
     (reached : Reached first at history kept file) (way : IsOnWay first at history kept) where
-  closed_here : (gate : ℕ) (marks : Marks) (new : Standing) → Gives (at_gate file gate marks) None new
+  closed_here : (gate : ℕ) (marks : Marks) (new : Standing) → GivesRecord (at_gate file gate marks) None new
       → IsClosed file gate
   closed_here gate marks new (inl damaged, same) = absurd cc
   closed_here gate marks new (inr closed, same) = closed
 
-  pub closes : (gate : ℕ) → Tells kept (slid.Closed gate)
+  pub closes : (gate : ℕ) → TellsSlid kept (slid.Closed gate)
       → ClosesWith file first history kept.marks gate
   closes gate tells =
       let given =
@@ -353,7 +353,7 @@ module _ (first at : ℕ) (history : PlainHistory) (kept : Kept) (file : List �
         marked = reached.marked;
       }
 
-  module _ (place : ℕ) (tells : Tells kept (slid.Damaged place)) where
+  module _ (place : ℕ) (tells : TellsSlid kept (slid.Damaged place)) where
     given_damage : RecordsGive 0 file kept.gate kept.marks (slid.Damaged place)
     given_damage =
         gives_damage file kept.gate kept.bytes (drop at file) reached.here kept.marks place

@@ -5,9 +5,9 @@ ghost use Rattle.std.specs.Option.{ForSome};
 ghost use Rattle.ix_outside.specs.Disk.{OfFile, MakesFile, Stays};
 ghost use Rattle.ix_outside.specs.inside.DiskCalls.{DiskCalls, LeavesOnly};
 ghost use Rattle.ix_store.specs.inside.Reading.{OnlyReads};
-ghost use Rattle.ix_store.specs.inside.Refusals.{Refuses};
+ghost use Rattle.ix_store.specs.inside.Refusals.{RefusesFileAs};
 ghost use Rattle.ix_store.specs.inside.Starting.{CountsOpening, SettlesOpening};
-ghost use Rattle.ix_store.specs.inside.Steps.{IsFound, IsSound};
+ghost use Rattle.ix_store.specs.inside.Steps.{IsFound, IsFoundSound};
 ghost use Rattle.ix_outside.specs.Crashes.{stretch_of};
 
 use crate::OpenFault;
@@ -35,8 +35,8 @@ pub(crate) fn sync_and_find<S: Site>(
     requires { (S.state site.old).attached ≡ true }
     ensures file { MatchResult result
         (λ found. OfFile (IsFound text.now found) (S.state site.old).disk)
-        (λ fault. OfFile (λ file. Refuses file text.now fault) (S.state site.old).disk) }
-    ensures sound { IfOk result IsSound }
+        (λ fault. OfFile (λ file. RefusesFileAs file text.now fault) (S.state site.old).disk) }
+    ensures sound { IfOk result IsFoundSound }
     ensures settled { SettlesOpening result (S.state site.new).disk (S.crashes site.new).now }
     ensures stays { MakesFile Stays (S.state site.old).disk (S.state site.new).disk }
     ensures images { ForSome (S.state site.old).disk (λ _.
@@ -57,8 +57,8 @@ fn find<S: Site>(alloc: Global, site: &mut S, text: &[u8]) -> Result<Found, Open
     requires { (S.state site.old).attached ≡ true }
     ensures file { MatchResult result
         (λ found. OfFile (IsFound text.now found) (S.state site.old).disk)
-        (λ fault. OfFile (λ file. Refuses file text.now fault) (S.state site.old).disk) }
-    ensures sound { IfOk result IsSound }
+        (λ fault. OfFile (λ file. RefusesFileAs file text.now fault) (S.state site.old).disk) }
+    ensures sound { IfOk result IsFoundSound }
     ensures reads { OnlyReads (stretch_of S.state S.crashes site.old site.new) }
     ensures failed { CountsOpening result
         (S.state site.old).counts.disk (S.state site.new).counts.disk }

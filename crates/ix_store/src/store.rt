@@ -5,7 +5,7 @@ ghost use Rattle.ix_journal.specs.Entries.{MayFollow, behind, pair_of, renewed_o
 ghost use Rattle.ix_journal.specs.Format.{farthest_gate};
 ghost use Rattle.ix_journal.specs.declared.TheConstants.{MOST_RECORDS};
 ghost use Rattle.ix_journal.specs.inside.Counting.{AreNotMany, AreSound, HasBootRoom};
-ghost use Rattle.ix_journal.specs.inside.Writing.{CanBeWritten, entry_of};
+ghost use Rattle.ix_journal.specs.inside.Writing.{CanBeWritten, entry_written};
 
 use crate::begin::begin;
 use crate::find::{Found, sync_and_find};
@@ -42,9 +42,9 @@ impl Store {
     ghost use Rattle.ix_outside.specs.Disk.{MakesFile};
     ghost use Rattle.ix_outside.specs.inside.DiskCalls.{DiskCalls, LeavesOnly};
     ghost use Rattle.ix_store.specs.inside.Opens.{Opens};
-    ghost use Rattle.ix_store.specs.inside.Keeping.{Fits, IsBootedOrNot, IsWithOrWithout, booted};
+    ghost use Rattle.ix_store.specs.inside.Keeping.{FitsFile, IsBootedOrNot, IsWithOrWithout, booted};
     ghost use Rattle.ix_store.specs.inside.KeptBy.{kept};
-    ghost use Rattle.ix_store.specs.inside.Refusals.{Refuses};
+    ghost use Rattle.ix_store.specs.inside.Refusals.{RefusesFileAs};
     ghost use Rattle.ix_store.specs.inside.Starting.{CountsOpening, LeavesOnStart, MakesNew};
     ghost use Rattle.ix_store.specs.inside.Starting.{SettlesOpening};
 
@@ -76,10 +76,10 @@ impl Store {
         ensures opened { IfOk result (λ opened. ForSome (S.state site.old).disk (λ disk.
             Opens disk.file text.now opened.1 (kept opened.0).marks)) }
         ensures refused { IfErr result (λ fault. ForSome (S.state site.old).disk (λ disk.
-            Refuses disk.file text.now fault)) }
+            RefusesFileAs disk.file text.now fault)) }
 
         // The store and the history.
-        ensures fits { IfOk result (λ opened. Fits (S.state site.new) (S.crashes site.new)
+        ensures fits { IfOk result (λ opened. FitsFile (S.state site.new) (S.crashes site.new)
             (kept opened.0) text.now opened.1) }
         ensures works { IfOk result (λ opened. (kept opened.0).failed ≡ false) }
         ensures room { IfOk result (λ opened. HasBootRoom (kept opened.0).marks) }
@@ -129,18 +129,18 @@ impl Store {
         requires works { (kept self.old).failed ≡ false }
         requires room { HasBootRoom (kept self.old).marks }
         requires fits { (text : List ℕ) × (history : PlainHistory)
-            × Fits (S.state site.old) (S.crashes site.old) (kept self.old) text history }
+            × FitsFile (S.state site.old) (S.crashes site.old) (kept self.old) text history }
 
         ensures number { IfOk result (λ number. number ≡ (kept self.old).marks.boots + 1) }
         ensures booted { OnOk result ((kept self.new).marks ≡ booted (kept self.old).marks) }
         ensures fits { OnOk result ((text : List ℕ) (history : PlainHistory)
-            → Fits (S.state site.old) (S.crashes site.old) (kept self.old) text history
-            → Fits (S.state site.new) (S.crashes site.new) (kept self.new) text history) }
+            → FitsFile (S.state site.old) (S.crashes site.old) (kept self.old) text history
+            → FitsFile (S.state site.new) (S.crashes site.new) (kept self.new) text history) }
         ensures works { (kept self.new).failed ≡ is_err result }
 
         // What the disk is left with, whatever the answer.
         ensures images { (text : List ℕ) (history : PlainHistory)
-            → Fits (S.state site.old) (S.crashes site.old) (kept self.old) text history
+            → FitsFile (S.state site.old) (S.crashes site.old) (kept self.old) text history
             → ForSome (S.state site.old).disk (λ _.
             LeavesOnly (IsBootedOrNot text history (kept self.old).marks)
             (stretch_of S.state S.crashes site.old site.new)) }
@@ -169,11 +169,11 @@ impl Store {
         requires few { (kept self.old).marks.actions < MOST_RECORDS }
         requires spends { CanSpend (kept self.old).marks ticket }
         requires fits { (text : List ℕ) × (history : PlainHistory)
-            × Fits (S.state site.old) (S.crashes site.old) (kept self.old) text history }
+            × FitsFile (S.state site.old) (S.crashes site.old) (kept self.old) text history }
 
         ensures appended { OnOk result ((text : List ℕ) (history : PlainHistory)
-            → Fits (S.state site.old) (S.crashes site.old) (kept self.old) text history
-            → Fits (S.state site.new) (S.crashes site.new) (kept self.new) text
+            → FitsFile (S.state site.old) (S.crashes site.old) (kept self.old) text history
+            → FitsFile (S.state site.new) (S.crashes site.new) (kept self.new) text
             (history ++ (Some ticket, action.now) ∷ [])) }
         ensures spent { OnOk result ((kept self.new).marks
             ≡ behind (kept self.old).marks (entry.Spent ticket action.now)) }
@@ -182,7 +182,7 @@ impl Store {
 
         // What the disk is left with, whatever the answer.
         ensures images { (text : List ℕ) (history : PlainHistory)
-            → Fits (S.state site.old) (S.crashes site.old) (kept self.old) text history
+            → FitsFile (S.state site.old) (S.crashes site.old) (kept self.old) text history
             → ForSome (S.state site.old).disk (λ _. LeavesOnly
             (IsWithOrWithout text history (kept self.old).marks (entry.Spent ticket action.now))
             (stretch_of S.state S.crashes site.old site.new)) }
@@ -225,24 +225,24 @@ impl Store {
     ) -> Result<(), DiskFailed>
         requires attached { (S.state site.old).attached ≡ true }
         requires works { (kept self.old).failed ≡ false }
-        requires few { AreNotMany (behind (kept self.old).marks (entry_of written.now)) }
+        requires few { AreNotMany (behind (kept self.old).marks (entry_written written.now)) }
         requires fits { CanBeWritten written.now }
-        requires follows { MayFollow (kept self.old).marks (entry_of written.now) }
+        requires follows { MayFollow (kept self.old).marks (entry_written written.now) }
         requires journal { (text : List ℕ) × (history : PlainHistory)
-            × Fits (S.state site.old) (S.crashes site.old) (kept self.old) text history }
+            × FitsFile (S.state site.old) (S.crashes site.old) (kept self.old) text history }
 
         ensures appended { OnOk result ((text : List ℕ) (history : PlainHistory)
-            → Fits (S.state site.old) (S.crashes site.old) (kept self.old) text history
-            → Fits (S.state site.new) (S.crashes site.new) (kept self.new) text
-            (history ++ pair_of (entry_of written.now))) }
+            → FitsFile (S.state site.old) (S.crashes site.old) (kept self.old) text history
+            → FitsFile (S.state site.new) (S.crashes site.new) (kept self.new) text
+            (history ++ pair_of (entry_written written.now))) }
         ensures marks { OnOk result ((kept self.new).marks
-            ≡ behind (kept self.old).marks (entry_of written.now)) }
+            ≡ behind (kept self.old).marks (entry_written written.now)) }
         ensures boots { IfErr result (λ _. (kept self.new).marks ≡ (kept self.old).marks) }
         ensures works { (kept self.new).failed ≡ is_err result }
         ensures images { (text : List ℕ) (history : PlainHistory)
-            → Fits (S.state site.old) (S.crashes site.old) (kept self.old) text history
+            → FitsFile (S.state site.old) (S.crashes site.old) (kept self.old) text history
             → ForSome (S.state site.old).disk (λ _. LeavesOnly
-            (IsWithOrWithout text history (kept self.old).marks (entry_of written.now))
+            (IsWithOrWithout text history (kept self.old).marks (entry_written written.now))
             (stretch_of S.state S.crashes site.old site.new)) }
         ensures failed { CountsFault result
             (S.state site.old).counts.disk (S.state site.new).counts.disk }

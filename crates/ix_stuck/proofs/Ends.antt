@@ -15,7 +15,7 @@ use Rattle.ix_stuck.specs.declared.graph.Halt.TheVariants.{Memory, Large, Many, 
 use Rattle.ix_stuck.specs.declared.graph.State.{State}
 use Rattle.ix_stuck.specs.declared.graph.Edge.{Edge}
 use Rattle.ix_stuck.specs.inside.Graphs.{run_of, At, IsWhole, CanEnd, Halts}
-use Rattle.ix_stuck.specs.inside.Marks.{mark_at, AreSound, EdgesSettled, FinalsMarked, NoneNearer, LeadsTo}
+use Rattle.ix_stuck.specs.inside.Marks.{mark_at, AreMarked, EdgesSettled, FinalsMarked, NoneNearer, LeadsTo}
 use Rattle.ix_stuck.specs.inside.Ruled.{EndTells}
 use Rattle.ix_stuck.proofs.Runs.{run_word, live_says, final_says}
 use Rattle.ix_stuck.proofs.Graphs.{reaches}
@@ -34,7 +34,7 @@ either : (b : Bool) → Either b
 either true = yes refl
 either false = no refl
 
-module _ (x : Form) (fits : Fits x []) (moves : Word) (limit : ℕ) (root : Plain) (states : List State) (edges : List Edge) (g : IsWhole x moves limit root states edges) (begun : root ≡ tree_of x [] []) (marks : List Bool) (sound : AreSound x moves states marks) where
+module _ (x : Form) (fits : Fits x []) (moves : Word) (limit : ℕ) (root : Plain) (states : List State) (edges : List Edge) (g : IsWhole x moves limit root states edges) (begun : root ≡ tree_of x [] []) (marks : List Bool) (sound : AreMarked x moves states marks) where
   pub run_start : (w : Word) → run_of x root w ≡ tree_of x [] w
   run_start w = ap (λ t. run_of x t w) begun ∙ run_word x fits [] w
 

@@ -9,12 +9,12 @@ use Rattle.ix_can.specs.TreeOf.{is_final}
 use Rattle.ix_stuck.specs.declared.graph.State.{State}
 use Rattle.ix_stuck.specs.declared.graph.Edge.{Edge}
 use Rattle.ix_stuck.specs.inside.Graphs.{At, IsEdge, CanEnd, run_of}
-use Rattle.ix_stuck.specs.inside.Marks.{mark_at, AreSound}
+use Rattle.ix_stuck.specs.inside.Marks.{mark_at, AreMarked}
 use Rattle.ix_stuck.proofs.Places.{at_same, among}
 
 module _ (x : Form) (moves : Word) (states : List State) where
   -- the final states are marked
-  pub finals_sound : (marks : List Bool) → marks ≡ map (λ (state : State). is_final x state.tree) states → AreSound x moves states marks
+  pub finals_sound : (marks : List Bool) → marks ≡ map (λ (state : State). is_final x state.tree) states → AreMarked x moves states marks
   finals_sound marks are i s at m = record {
     word = [];
     over = Each.no_item;
@@ -22,7 +22,7 @@ module _ (x : Form) (moves : Word) (states : List State) where
   }
 
   -- a state from which a move leads to a marked one
-  pub one_more : (edge : Edge) (marks : List Bool) → IsEdge x moves states edge → AreSound x moves states marks → mark_at marks edge.to ≡ true → AreSound x moves states (set marks edge.from true)
+  pub one_more : (edge : Edge) (marks : List Bool) → IsEdge x moves states edge → AreMarked x moves states marks → mark_at marks edge.to ≡ true → AreMarked x moves states (set marks edge.from true)
   one_more edge marks is sound m i s at e = elim (cases_eq i edge.from) [
     | inl same ↦
         let source : s ≡ is.source = at_same (subst (λ j. At states j s) same at) is.at_source in

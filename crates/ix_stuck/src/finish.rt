@@ -6,7 +6,7 @@ ghost use Rattle.ix_expr.specs.inside.FormOf.{form_of};
 ghost use Rattle.ix_can.specs.TreeOf.{is_final};
 ghost use Rattle.ix_stuck.specs.declared.graph.State.{State};
 ghost use Rattle.ix_stuck.specs.inside.Graphs.{At};
-ghost use Rattle.ix_stuck.specs.inside.Marks.{AreSound, EdgesSettled, FinalsMarked};
+ghost use Rattle.ix_stuck.specs.inside.Marks.{AreMarked, EdgesSettled, FinalsMarked};
 ghost use Rattle.ix_stuck.specs.inside.Marks.{NoneNearer, mark_at};
 ghost use Rattle.ix_stuck.specs.inside.Ruled.{form, EdgesAre};
 
@@ -24,7 +24,7 @@ pub(crate) fn finishing(
     edges: &[Edge],
 ) -> Result<Vec<bool>, AllocError>
     requires { EdgesAre rules states.now edges.now }
-    ensures sound { IfOk result (λ marks. AreSound (form rules.entry) rules.entry.moves.now
+    ensures sound { IfOk result (λ marks. AreMarked (form rules.entry) rules.entry.moves.now
         states.now marks.items) }
     ensures as_many { IfOk result (λ marks. length marks.items ≡ length states.now) }
 {
@@ -53,9 +53,9 @@ fn final_marks(alloc: Global, expr: &Expr, states: &[State]) -> Result<Vec<bool>
 /// there was such a state.
 fn spread(rules: Rules<'_>, states: &[State], edges: &[Edge], marks: &mut Vec<bool>) -> bool
     requires edges { EdgesAre rules states.now edges.now }
-    requires sound { AreSound (form rules) rules.moves.now states.now marks.old.items }
+    requires sound { AreMarked (form rules) rules.moves.now states.now marks.old.items }
     ensures as_many { length marks.new.items ≡ length marks.old.items }
-    ensures sound { AreSound (form rules.entry) rules.entry.moves.now states.now marks.new.items }
+    ensures sound { AreMarked (form rules.entry) rules.entry.moves.now states.now marks.new.items }
 {
     let mut more = false;
     for index in (0..edges.len()).rev() {

@@ -8,7 +8,7 @@ use Rattle.ix_expr.specs.declared.arg.Arg.{Arg}
 use Rattle.ix_expr.specs.declared.arg.Arg.TheVariants.{Fixed, Param}
 use Rattle.ix_expr.specs.Form.{PlainAtom, Form, atom, opt, seq, star, par, par_star, or, and, couple, any, every, sync, all, times}
 use Rattle.ix_expr.specs.CanonicalText.{binding, enclosed, argument_text, more_arguments_text, arguments_text, atom_text, binary_text, operand_text, quantifier_text, canonical_text}
-use Rattle.ix_expr.specs.FormFaults.{Binder, Node, nodes_below, IsNumber, HasNumbers, IsWellFormed}
+use Rattle.ix_expr.specs.FormFaults.{Binder, Node, nodes_below, IsTimesNumber, HasNumbers, IsWellFormed}
 use Rattle.ix_expr.specs.Spelling.{IsArgument, IsAtom, IsSpelled}
 use Rattle.ix_expr.proofs.Parts.{well-formed-few}
 
@@ -52,7 +52,7 @@ quantifier-length word p b text nodes brief is short =
     omega (arith, length-append (word ++ (32 ∷ 36 ∷ p)) (32 ∷ operand_text (b, text)), length-append word (32 ∷ 36 ∷ p), operand, is.short, brief, short)
 
 -- `times`, its number of at most two digits, and its operand
-times-length : (n b : ℕ) (text : List ℕ) (nodes : ℕ) → IsNumber n → length text ≤ 88 * nodes + 81 → length (codes "times" ++ (32 ∷ decimal n) ++ (32 ∷ operand_text (b, text))) ≤ 88 * suc nodes + 81
+times-length : (n b : ℕ) (text : List ℕ) (nodes : ℕ) → IsTimesNumber n → length text ≤ 88 * nodes + 81 → length (codes "times" ++ (32 ∷ decimal n) ++ (32 ∷ operand_text (b, text))) ≤ 88 * suc nodes + 81
 times-length n b text nodes number short =
     let operand = enclosed-length (nat_le b 5) text in
     let digits = length-decimal-le 2 n (omega arith) (omega (arith, number.1)) (omega (arith, number.1)) in

@@ -15,7 +15,7 @@ use Rattle.ix_tree.specs.Plain.{Plain}
 use Rattle.ix_tree.specs.PlainOf.{plain_entries}
 use Rattle.ix_tree.specs.Size.{size_of}
 use Rattle.ix_tree.specs.inside.Pieces.{HasEntries, IsAround, in_pieces, leads}
-use Rattle.ix_tree.specs.lemmas.Falls.{joined}
+use Rattle.ix_tree.specs.lemmas.Falls.{size_joined}
 
 abbrev Entry : Type 0
 Entry = List ℕ × Plain
@@ -213,12 +213,12 @@ led_piece v front (e ∷ es) back h le = led v front e (es ++ back) h le
 -- where the value stands in a piece
 pub parts_around : (v : List ℕ) (pieces before : List (List Entry)) (piece : List Entry) (behind : List (List Entry)) → KeysAscend text_cmp (in_pieces pieces) → AllByRecursion HasEntries pieces → IsAround v pieces before piece behind → Parts v (in_pieces pieces) (in_pieces before) piece (in_pieces behind)
 parts_around v pieces before piece behind h some around =
-    let joined : in_pieces before ++ (piece ++ in_pieces behind) ≡ in_pieces pieces =
+    let size_joined : in_pieces before ++ (piece ++ in_pieces behind) ≡ in_pieces pieces =
     sym (flat_map-append (λ p. p) before (piece ∷ behind)) ∙ ap in_pieces (sym around.parts) in
-    let up : KeysAscend text_cmp (in_pieces before ++ (piece ++ in_pieces behind)) = subst (KeysAscend text_cmp) (sym joined) h in
+    let up : KeysAscend text_cmp (in_pieces before ++ (piece ++ in_pieces behind)) = subst (KeysAscend text_cmp) (sym size_joined) h in
     let rest : KeysAscend text_cmp (piece ++ in_pieces behind) = ascend_right (in_pieces before) (piece ++ in_pieces behind) up in
     record {
-      joined = joined;
+      joined = size_joined;
       behind = ⊎_elim (led_piece v (in_pieces before) piece (in_pieces behind) up) (λ none. subst (λ ps. Behind v (in_pieces ps)) (sym none) tt) around.here;
       before = beyond v behind (some_behind before piece behind (subst (AllByRecursion HasEntries) around.parts some)) (ascend_right piece (in_pieces behind) rest) around.further;
       ascending = ascend_left piece (in_pieces behind) rest;
@@ -239,7 +239,7 @@ size_counts (e ∷ es) = omega (arith, size_counts es)
 
 -- what the pieces from one on are together is that piece and those behind it
 pub size_drop : (pieces : List (List Entry)) (k : ℕ) (d : List Entry) → k < length pieces → size_of (plain_entries (in_pieces (drop k pieces))) ≡ size_of (plain_entries (get_or pieces k d)) + size_of (plain_entries (in_pieces (drop (k + 1) pieces)))
-size_drop pieces k d lt = ap (λ l. size_of (plain_entries (in_pieces l))) (drop_more pieces k d lt) ∙ joined (get_or pieces k d) (in_pieces (drop (k + 1) pieces))
+size_drop pieces k d lt = ap (λ l. size_of (plain_entries (in_pieces l))) (drop_more pieces k d lt) ∙ size_joined (get_or pieces k d) (in_pieces (drop (k + 1) pieces))
 
 -- pieces put together again, with other entries in place of one of them
 pub pieces_again : (made : List Entry) (before behind put all : List (List Entry)) → in_pieces put ≡ in_pieces before ++ made → all ≡ put ++ behind → in_pieces all ≡ in_pieces before ++ (made ++ in_pieces behind)

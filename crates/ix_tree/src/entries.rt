@@ -48,9 +48,9 @@ impl Model for Entries {
 
     ghost use Rattle.ix_tree.specs.Size.{size_of};
     ghost use Rattle.ix_tree.specs.PlainOf.{plain_entries};
-    ghost use Rattle.ix_tree.specs.inside.HeldEntries.{IsCutWell, entries_of};
+    ghost use Rattle.ix_tree.specs.inside.HeldEntries.{IsCutWell, entries_kept};
 
-    ghost view = { λ e. entries_of e.held };
+    ghost view = { λ e. entries_kept e.held };
 
     // The first few stand in no piece, and no piece is empty.
     ghost invariant = { λ e. IsCutWell e.held };

@@ -6,7 +6,7 @@ use Rattle.std.specs.List.{list_all}
 use Rattle.std.proofs.lemmas.List.{append_cancel_right}
 use Rattle.std.proofs.lemmas.List.Elements.{All-take, All-nil}
 use Rattle.ix_lines.specs.Bytes.{is_word_byte}
-use Rattle.ix_values.specs.Faults.{IsActionText, CanGoOn, EndsInLongest, EndsInFourthValue, IsTooLong, IsTooMany, IsFaultCode, IsFault}
+use Rattle.ix_values.specs.Faults.{IsActionText, BeginsAction, EndsInLongest, EndsInFourthValue, IsTooLong, IsTooMany, IsFaultCode, IsFault}
 use Rattle.ix_values.specs.PlainAction.{PlainAction, text_of}
 use Rattle.ix_values.specs.inside.ActionOf.{action_of}
 use Rattle.ix_values.specs.inside.FirstWord.{opened, code_after_name, code_after_value}
@@ -30,7 +30,7 @@ slice_get-drop [] (suc at) = refl
 slice_get-drop (x ∷ xs) zero = refl
 slice_get-drop (x ∷ xs) (suc at) = slice_get-drop xs at
 
-live : (front : List ℕ) → CanGoOn front → run start front ≡ dead → ⊥
+live : (front : List ℕ) → BeginsAction front → run start front ≡ dead → ⊥
 live front goes e =
     let whole : run start (text_of goes.action) ≡ dead = ap (run start) (sym goes.same) ∙ run-append start front goes.rest ∙ ap (λ s. run s goes.rest) e ∙ run-dead goes.rest in
     true≢false (sym (run-action goes.action goes.valid) ∙ ap may_end whole)
@@ -49,7 +49,7 @@ no_further (y ∷ ys) rest (suc k) s stuck within alive =
     omega arith
 
 -- the fault of a text at which the machine is stuck
-pub fault_at : (text : List ℕ) (at code : ℕ) (s : State) → at ≤ length text → run start (take at text) ≡ s → CanGoOn (take at text) → StuckAt s (slice_get text at) → IsFaultCode text at code → IsFault text code at
+pub fault_at : (text : List ℕ) (at code : ℕ) (s : State) → at ≤ length text → run start (take at text) ≡ s → BeginsAction (take at text) → StuckAt s (slice_get text at) → IsFaultCode text at code → IsFault text code at
 fault_at text at code s within runs goes stuck row =
     let same : text ≡ take at text ++ drop at text = sym (take-append-drop at text) in
     let front_stuck : StuckAt (run start (take at text)) (head (drop at text)) = subst (λ t. StuckAt t (head (drop at text))) (sym runs) (subst (StuckAt s) (slice_get-drop text at) stuck) in
@@ -230,7 +230,7 @@ pub fault_behind_name : (text name : List ℕ) (at byte : ℕ) → at ≤ length
 fault_behind_name text name at byte within front is next never full =
     let short : length name ≤ 32 = is.short in
     fault_at text at (code_after_name byte) state within runs
-    (subst CanGoOn (sym front) (goes_on_text name (name_text name is)))
+    (subst BeginsAction (sym front) (goes_on_text name (name_text name is)))
     (subst (StuckAt state) (sym next) (stuck_in_name (32 - length name) byte never (λ w. let e = full w in omega arith)))
     (row (is_word_byte byte) refl)
   where
@@ -259,7 +259,7 @@ expecting_is_not_start v e = cc
 pub fault_no_value : (text name : List ℕ) (values : List (List ℕ)) (at : ℕ) → at ≤ length text → take at text ≡ opened name values → IsName name → All IsValue values → length values < 4 → word_next (slice_get text at) ≡ false → IsFault text 2 at
 fault_no_value text name values at within front is are few none =
     fault_at text at 2 (expecting (3 - length values)) within runs
-    (subst CanGoOn (sym front) (goes_on_opened name values is are few))
+    (subst BeginsAction (sym front) (goes_on_opened name values is are few))
     (stuck (slice_get text at) none)
     (row_argument text at 2 (not_long text at none)
     (not_many text at _ runs (expecting_is_not_valued (3 - length values)))
@@ -287,7 +287,7 @@ is_not_comma byte h e = true≢false (sym (eq-eqb byte 44 e) ∙ h)
 pub fault_behind_value : (text name : List ℕ) (values : List (List ℕ)) (value : List ℕ) (at : ℕ) → at ≤ length text → take at text ≡ opened name values ++ value → IsName name → All IsValue values → length values < 4 → IsValue value → (o : Option ℕ) → slice_get text at ≡ o → (o ≡ Some 41 → ⊥) → (o ≡ Some 44 → length values ≡ 3) → (word_next o ≡ true → length value ≡ 32) → IsFault text (code_after_value o) at
 fault_behind_value text name values value at within front is are few one o next never last full =
     fault_at text at (code_after_value o) (valued (3 - length values) (32 - length value)) within runs
-    (subst CanGoOn (sym front) (goes_on_begun name values value is are few one))
+    (subst BeginsAction (sym front) (goes_on_begun name values value is are few one))
     (subst (StuckAt (valued (3 - length values) (32 - length value))) (sym next) (stuck o never last full))
     (row o next last full)
   where
@@ -353,7 +353,7 @@ pub fault_trailing : (text : List ℕ) (action : PlainAction) (at : ℕ) → at 
 fault_trailing text action at below front is some =
     let more = some_behind text at below in
     fault_at text at 5 closed (omega arith) runs
-    (subst CanGoOn (sym front) (goes_on_action action is))
+    (subst BeginsAction (sym front) (goes_on_action action is))
     (subst (StuckAt closed) (sym more.1) refl)
     (row_trailing text at 5 (λ l. not_long_when_closed (take at text) runs l.0)
     (not_many text at _ runs closed_is_not_valued)

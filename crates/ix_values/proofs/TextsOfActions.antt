@@ -3,7 +3,7 @@ use Rattle.std.proofs.Common.{◌≡◌, ℕ, ◌<◌, lit≤, lit<, List, [], �
 use Rattle.std.specs.Prelude.{All}
 use Rattle.std.specs.List.{flat_map}
 use Rattle.std.proofs.lemmas.List.Elements.{All-push, All-nil}
-use Rattle.ix_values.specs.Faults.{CanGoOn, IsActionText}
+use Rattle.ix_values.specs.Faults.{BeginsAction, IsActionText}
 use Rattle.ix_values.specs.PlainAction.{PlainAction, text_of, text_of_rest, text_of_values}
 use Rattle.ix_values.specs.inside.ActionOf.{action_of}
 use Rattle.ix_values.specs.inside.FirstWord.{opened}
@@ -63,7 +63,7 @@ IsAction-push name values value is are few one = record {
   few = omega (arith, length-append values (value ∷ []));
 }
 
-pub goes_on_empty : CanGoOn []
+pub goes_on_empty : BeginsAction []
 goes_on_empty = record {
   action = action_of (97 ∷ []) [];
   rest = 97 ∷ [];
@@ -74,13 +74,13 @@ goes_on_empty = record {
 append_nil : (xs : List ℕ) → xs ++ [] ≡ xs
 append_nil xs = search rules
 
-pub goes_on_text : (text : List ℕ) → IsActionText text → CanGoOn text
+pub goes_on_text : (text : List ℕ) → IsActionText text → BeginsAction text
 goes_on_text text is = record { action = is.action; rest = []; valid = is.valid; same = append_nil text ∙ is.same }
 
-pub goes_on_action : (action : PlainAction) → IsAction action → CanGoOn (text_of action)
+pub goes_on_action : (action : PlainAction) → IsAction action → BeginsAction (text_of action)
 goes_on_action action is = goes_on_text (text_of action) (record { action = action; valid = is; same = refl })
 
-pub goes_on_opened : (name : List ℕ) (values : List (List ℕ)) → IsName name → All IsValue values → length values < 4 → CanGoOn (opened name values)
+pub goes_on_opened : (name : List ℕ) (values : List (List ℕ)) → IsName name → All IsValue values → length values < 4 → BeginsAction (opened name values)
 goes_on_opened name values is are few = record {
   action = action_of name (values ++ (48 ∷ []) ∷ []);
   rest = 48 ∷ 41 ∷ [];
@@ -88,7 +88,7 @@ goes_on_opened name values is are few = record {
   same = sym (append_assoc (opened name values) (48 ∷ []) (41 ∷ [])) ∙ sym (text_of-push name values (48 ∷ []));
 }
 
-pub goes_on_begun : (name : List ℕ) (values : List (List ℕ)) (value : List ℕ) → IsName name → All IsValue values → length values < 4 → IsValue value → CanGoOn (opened name values ++ value)
+pub goes_on_begun : (name : List ℕ) (values : List (List ℕ)) (value : List ℕ) → IsName name → All IsValue values → length values < 4 → IsValue value → BeginsAction (opened name values ++ value)
 goes_on_begun name values value is are few one = record {
   action = action_of name (values ++ value ∷ []);
   rest = 41 ∷ [];

@@ -12,7 +12,7 @@ pub record IsActionText (text : List ℕ) : Type 0 where
   pub same : text ≡ text_of action
 
 -- the text is a prefix of some action's text
-pub record CanGoOn (text : List ℕ) : Type 0 where
+pub record BeginsAction (text : List ℕ) : Type 0 where
   pub action : PlainAction
   pub rest : List ℕ
   pub valid : IsAction action
@@ -21,8 +21,8 @@ pub record CanGoOn (text : List ℕ) : Type 0 where
 -- the greatest number of bytes of the text that are a prefix of some action's text
 pub record IsFaultPlace (text : List ℕ) (at : ℕ) : Type 0 where
   pub within : at ≤ length text
-  pub goes_on : CanGoOn (take at text)
-  pub greatest : (k : ℕ) → k ≤ length text → CanGoOn (take k text) → k ≤ at
+  pub goes_on : BeginsAction (take at text)
+  pub greatest : (k : ℕ) → k ≤ length text → BeginsAction (take k text) → k ≤ at
 
 -- the text ends in a name or a value of 32 bytes
 pub record EndsInLongest (text : List ℕ) : Type 0 where

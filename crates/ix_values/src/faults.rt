@@ -1,7 +1,7 @@
 //! Why a text isn't an action's.
 
 ghost use Rattle.std.specs.Prelude.{◌≡◌};
-ghost use Rattle.ix_values.specs.inside.Causes.{code_of};
+ghost use Rattle.ix_values.specs.inside.Causes.{action_code};
 
 /// A fault of a text that isn't an action's.
 ///
@@ -33,7 +33,7 @@ pub(crate) enum Cause {
 
 impl Cause {
     fn code(self) -> u8
-        ensures { result ≡ code_of self }
+        ensures { result ≡ action_code self }
     {
         match self {
             Cause::Name => 1,
@@ -47,7 +47,7 @@ impl Cause {
 
 /// The fault of this cause, with this place.
 pub(crate) fn fault(cause: Cause, at: usize) -> ActionFault
-    ensures { result ≡ record { code = code_of cause; at = at } }
+    ensures { result ≡ record { code = action_code cause; at = at } }
 {
     ActionFault {
         code: cause.code(),

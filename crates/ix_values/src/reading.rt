@@ -5,7 +5,7 @@ ghost use Rattle.std.specs.Prelude.{MatchOption, MatchResult};
 ghost use Rattle.ix_values.specs.Faults.{IsActionText, IsFault};
 ghost use Rattle.ix_values.specs.Laws.{ActionTextsHaveOneFault};
 ghost use Rattle.ix_values.specs.PlainAction.{text_of};
-ghost use Rattle.ix_values.specs.inside.Causes.{code_of};
+ghost use Rattle.ix_values.specs.inside.Causes.{action_code};
 ghost use Rattle.ix_values.specs.inside.FirstWord as spec;
 ghost use Rattle.ix_values.specs.Texts as texts;
 ghost use Rattle.ix_values.specs.Texts.{IsAction, IsName, IsValue};
@@ -152,7 +152,7 @@ fn goes_on(next: Option<u8>, count: usize) -> bool
 }
 
 fn cause_after_name(byte: u8) -> Cause
-    ensures { code_of result ≡ spec.code_after_name byte }
+    ensures { action_code result ≡ spec.code_after_name byte }
 {
     if is_word_byte(byte) {
         Cause::TooLong
@@ -162,7 +162,7 @@ fn cause_after_name(byte: u8) -> Cause
 }
 
 fn cause_after_value(next: Option<u8>) -> Cause
-    ensures { code_of result ≡ spec.code_after_value next }
+    ensures { action_code result ≡ spec.code_after_value next }
 {
     match next {
         Some(b',') => Cause::TooManyArguments,

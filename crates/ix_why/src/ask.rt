@@ -4,7 +4,7 @@ ghost use Rattle.std.specs.Prelude.{◌≡◌};
 ghost use Rattle.ix_expr.specs.inside.FormOf.{form_of};
 ghost use Rattle.ix_can.specs.inside.CanAsk.{CanAsk};
 ghost use Rattle.ix_can.specs.May.{may};
-ghost use Rattle.ix_why.specs.inside.Held.{held, tree_held, refuses_if};
+ghost use Rattle.ix_why.specs.inside.Held.{kept_tree, tree_held, refuses_if};
 
 use crate::scope::Scope;
 use crate::state::State;
@@ -21,9 +21,9 @@ pub(crate) struct Operand<'a> {
 
 /// Whether the word of the state, extended by the action, is partial.
 pub(crate) fn takes(expr: &Expr, scope: &Scope, state: State, action: &Action) -> bool
-    requires { CanAsk (form_of expr.now) scope.now (tree_held (form_of expr.now) (held state)) }
+    requires { CanAsk (form_of expr.now) scope.now (tree_held (form_of expr.now) (kept_tree state)) }
     ensures { result
-        ≡ may (form_of expr.now) scope.now (tree_held (form_of expr.now) (held state.entry))
+        ≡ may (form_of expr.now) scope.now (tree_held (form_of expr.now) (kept_tree state.entry))
         action.now }
 {
     match state {
@@ -36,10 +36,10 @@ pub(crate) fn takes(expr: &Expr, scope: &Scope, state: State, action: &Action) -
 /// Whether the action may not come in the operand, and is in its alphabet where that is asked too.
 pub(crate) fn refuses(operand: Operand, scope: &Scope, state: State, action: &Action) -> bool
     requires { CanAsk (form_of operand.expr.now) scope.now
-        (tree_held (form_of operand.expr.now) (held state)) }
+        (tree_held (form_of operand.expr.now) (kept_tree state)) }
     ensures { result
         ≡ refuses_if operand.entry.own (form_of operand.entry.expr.now) scope.now
-        (tree_held (form_of operand.entry.expr.now) (held state.entry)) action.now }
+        (tree_held (form_of operand.entry.expr.now) (kept_tree state.entry)) action.now }
 {
     if operand.own && !in_alphabet(operand.expr, scope.env(), action) {
         return false;

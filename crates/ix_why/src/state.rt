@@ -11,7 +11,7 @@ ghost use Rattle.ix_can.specs.May.{tree_at};
 ghost use Rattle.ix_tree.specs.Order.{first_part};
 ghost use Rattle.ix_why.specs.Blames.{only};
 ghost use Rattle.ix_why.specs.Trees.{left, right, entries, owner_maps, tree_for};
-ghost use Rattle.ix_why.specs.inside.Held.{held, of_held, entries_held, maps_held};
+ghost use Rattle.ix_why.specs.inside.Held.{kept_tree, of_held, entries_held, maps_held};
 ghost use Rattle.ix_why.specs.inside.Held.{AscendByValue, IsOwned};
 
 use ix_can::state_at;
@@ -32,7 +32,7 @@ pub(crate) enum State<'a> {
 impl<'a> State<'a> {
     /// That of the only operand or of the left one.
     pub(crate) fn left(self) -> State<'a>
-        ensures { held result ≡ of_held left (held self.entry) }
+        ensures { kept_tree result ≡ of_held left (kept_tree self.entry) }
     {
         match self {
             State::Initial => State::Initial,
@@ -43,7 +43,7 @@ impl<'a> State<'a> {
 
     /// That of the right operand.
     pub(crate) fn right(self) -> State<'a>
-        ensures { held result ≡ of_held right (held self.entry) }
+        ensures { kept_tree result ≡ of_held right (kept_tree self.entry) }
     {
         match self {
             State::Initial => State::Initial,
@@ -54,8 +54,8 @@ impl<'a> State<'a> {
 
     /// That of a body for the value, where None is outside.
     pub(crate) fn at(self, value: &Option<Value>) -> State<'a>
-        requires { AscendByValue (entries_held (held self)) }
-        ensures { held result ≡ of_held (tree_for value.now) (held self.entry) }
+        requires { AscendByValue (entries_held (kept_tree self)) }
+        ensures { kept_tree result ≡ of_held (tree_for value.now) (kept_tree self.entry) }
     {
         match (self, value) {
             (State::At(knot), Some(value)) => state_for(knot, value),
@@ -65,8 +65,8 @@ impl<'a> State<'a> {
 
     /// The states of the values that have one of their own, if there can be any.
     pub(crate) fn entries(self) -> Option<&'a Entries>
-        ensures { MatchOption result (entries_held (held self.entry) ≡ [])
-            (λ es. entries_held (held self.entry) ≡ items_of (plain_entries es.now)) }
+        ensures { MatchOption result (entries_held (kept_tree self.entry) ≡ [])
+            (λ es. entries_held (kept_tree self.entry) ≡ items_of (plain_entries es.now)) }
     {
         match self {
             State::At(knot) => entries_of(knot),
@@ -76,9 +76,9 @@ impl<'a> State<'a> {
 
     /// That of the value in the only map, or None where there isn't exactly one.
     pub(crate) fn owned(self, value: &Value) -> Option<State<'a>>
-        requires { Each (λ m. AscendByValue (items_of (first_part m))) (maps_held (held self)) }
-        ensures { MatchOption result (only (maps_held (held self.entry)) ≡ None)
-            (λ s. IsOwned value.now (maps_held (held self.entry)) (held s)) }
+        requires { Each (λ m. AscendByValue (items_of (first_part m))) (maps_held (kept_tree self)) }
+        ensures { MatchOption result (only (maps_held (kept_tree self.entry)) ≡ None)
+            (λ s. IsOwned value.now (maps_held (kept_tree self.entry)) (kept_tree s)) }
     {
         match self {
             State::Initial => Some(State::Initial),
@@ -90,7 +90,7 @@ impl<'a> State<'a> {
 
 fn state_for<'a>(knot: &'a Knot, value: &Value) -> State<'a>
     requires { AscendByValue (entries knot.now) }
-    ensures { held result ≡ Some (tree_for (Some value.now) knot.entry.now) }
+    ensures { kept_tree result ≡ Some (tree_for (Some value.now) knot.entry.now) }
 {
     match knot.node() {
         Node::Every(common, entries) | Node::Sync(common, entries) => {
@@ -113,7 +113,7 @@ fn entries_of<'a>(knot: &'a Knot) -> Option<&'a Entries>
 fn owned_in<'a>(knot: &'a Knot, value: &Value) -> Option<State<'a>>
     requires { Each (λ m. AscendByValue (items_of (first_part m))) (owner_maps knot.now) }
     ensures { MatchOption result (only (owner_maps knot.entry.now) ≡ None)
-        (λ s. IsOwned value.now (owner_maps knot.entry.now) (held s)) }
+        (λ s. IsOwned value.now (owner_maps knot.entry.now) (kept_tree s)) }
 {
     match knot.node() {
         Node::All(maps) => owned_by(maps, value),
@@ -126,7 +126,7 @@ fn owned_by<'a>(maps: &'a [Map], value: &Value) -> Option<State<'a>>
         (items_of (listed (map plain_map maps.now))) }
     ensures { MatchOption result
         (only (items_of (listed (map plain_map maps.entry.now))) ≡ None)
-        (λ s. IsOwned value.now (items_of (listed (map plain_map maps.entry.now))) (held s)) }
+        (λ s. IsOwned value.now (items_of (listed (map plain_map maps.entry.now))) (kept_tree s)) }
 {
     if maps.len() == 1 {
         Some(state_in(&maps[0].entries, value))
@@ -138,7 +138,7 @@ fn owned_by<'a>(maps: &'a [Map], value: &Value) -> Option<State<'a>>
 /// That of the value in a map, where a value without an entry hasn't begun.
 fn state_in<'a>(entries: &'a Entries, value: &Value) -> State<'a>
     requires { KeysAscend text_cmp entries.now }
-    ensures { (common : Plain) → unwrap_or (held result) common
+    ensures { (common : Plain) → unwrap_or (kept_tree result) common
         ≡ tree_at value.now common (items_of (plain_entries entries.entry.now)) }
 {
     match entries.get(value) {
@@ -148,7 +148,7 @@ fn state_in<'a>(entries: &'a Entries, value: &Value) -> State<'a>
 }
 
 fn left_of<'a>(knot: &'a Knot) -> State<'a>
-    ensures { held result ≡ Some (left knot.entry.now) }
+    ensures { kept_tree result ≡ Some (left knot.entry.now) }
 {
     match knot.node() {
         Node::Opt(_, state)
@@ -161,7 +161,7 @@ fn left_of<'a>(knot: &'a Knot) -> State<'a>
 }
 
 fn right_of<'a>(knot: &'a Knot) -> State<'a>
-    ensures { held result ≡ Some (right knot.entry.now) }
+    ensures { kept_tree result ≡ Some (right knot.entry.now) }
 {
     match knot.node() {
         Node::And(_, state) | Node::Couple(_, state) => State::At(state),

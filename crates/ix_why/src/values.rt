@@ -7,7 +7,7 @@ ghost use Rattle.ix_tree.specs.Order.{key};
 ghost use Rattle.ix_tree.specs.Plain.{items_of};
 ghost use Rattle.ix_tree.specs.PlainOf.{plain_entries};
 ghost use Rattle.ix_why.specs.Blames.{first_that};
-ghost use Rattle.ix_why.specs.inside.Held.{held, refuses_for, tried_held, entries_held};
+ghost use Rattle.ix_why.specs.inside.Held.{kept_tree, refuses_for, tried_held, entries_held};
 ghost use Rattle.ix_why.specs.inside.Held.{BodiesProper};
 
 use crate::ask::{Operand, refuses};
@@ -35,12 +35,12 @@ pub(crate) fn first_refusing(
     action: &Action,
 ) -> Option<Option<Value>>
     requires fits { FitsInside body.parameter.now (form_of body.expr.now) scope.now }
-    requires proper { BodiesProper (form_of body.expr.now) (held state) }
+    requires proper { BodiesProper (form_of body.expr.now) (kept_tree state) }
     ensures { result
         ≡ first_that
         (refuses_for body.entry.own body.entry.parameter.now
-        (form_of body.entry.expr.now) scope.now (held state.entry) action.now)
-        (tried_held action.now (held state.entry)) }
+        (form_of body.entry.expr.now) scope.now (kept_tree state.entry) action.now)
+        (tried_held action.now (kept_tree state.entry)) }
 {
     if let Some(value) = first_own(body, scope, state, action) {
         return Some(value);
@@ -64,10 +64,10 @@ fn refuses_for(
     value: Option<Value>,
 ) -> bool
     requires fits { FitsInside body.parameter.now (form_of body.expr.now) scope.now }
-    requires proper { BodiesProper (form_of body.expr.now) (held state) }
+    requires proper { BodiesProper (form_of body.expr.now) (kept_tree state) }
     ensures { result
         ≡ refuses_for body.entry.own body.entry.parameter.now
-        (form_of body.entry.expr.now) scope.now (held state.entry) action.now value }
+        (form_of body.entry.expr.now) scope.now (kept_tree state.entry) action.now value }
 {
     let state = state.at(&value);
     let inside = scope.with(body.parameter, value);
@@ -80,11 +80,11 @@ fn refuses_for(
 
 fn first_own(body: Body, scope: &Scope, state: State, action: &Action) -> Option<Option<Value>>
     requires fits { FitsInside body.parameter.now (form_of body.expr.now) scope.now }
-    requires proper { BodiesProper (form_of body.expr.now) (held state) }
+    requires proper { BodiesProper (form_of body.expr.now) (kept_tree state) }
     ensures { result
         ≡ first_that
         (refuses_for body.entry.own body.entry.parameter.now
-        (form_of body.entry.expr.now) scope.now (held state.entry) action.now)
+        (form_of body.entry.expr.now) scope.now (kept_tree state.entry) action.now)
         (map Some action.now.values) }
 {
     for value in action.values() {
@@ -97,12 +97,12 @@ fn first_own(body: Body, scope: &Scope, state: State, action: &Action) -> Option
 
 fn first_entry(body: Body, scope: &Scope, state: State, action: &Action) -> Option<Option<Value>>
     requires fits { FitsInside body.parameter.now (form_of body.expr.now) scope.now }
-    requires proper { BodiesProper (form_of body.expr.now) (held state) }
+    requires proper { BodiesProper (form_of body.expr.now) (kept_tree state) }
     ensures { result
         ≡ first_that
         (refuses_for body.entry.own body.entry.parameter.now
-        (form_of body.entry.expr.now) scope.now (held state.entry) action.now)
-        (map (λ x. Some (key x)) (entries_held (held state.entry))) }
+        (form_of body.entry.expr.now) scope.now (kept_tree state.entry) action.now)
+        (map (λ x. Some (key x)) (entries_held (kept_tree state.entry))) }
 {
     match state.entries() {
         Some(entries) => first_among(entries, body, scope, state, action),
@@ -118,11 +118,11 @@ fn first_among(
     action: &Action,
 ) -> Option<Option<Value>>
     requires fits { FitsInside body.parameter.now (form_of body.expr.now) scope.now }
-    requires proper { BodiesProper (form_of body.expr.now) (held state) }
+    requires proper { BodiesProper (form_of body.expr.now) (kept_tree state) }
     ensures { result
         ≡ first_that
         (refuses_for body.entry.own body.entry.parameter.now
-        (form_of body.entry.expr.now) scope.now (held state.entry) action.now)
+        (form_of body.entry.expr.now) scope.now (kept_tree state.entry) action.now)
         (map (λ x. Some (key x)) (items_of (plain_entries entries.now))) }
 {
     for entry in entries.iter() {

@@ -8,7 +8,7 @@ ghost use Rattle.ix_tree.specs.Order.{first_part};
 ghost use Rattle.ix_tree.specs.Plain.{items_of};
 ghost use Rattle.ix_can.specs.inside.CanAsk.{CanAsk};
 ghost use Rattle.ix_why.specs.Blames.{nodes, here, blames};
-ghost use Rattle.ix_why.specs.inside.Held.{held, tree_held, left_held, right_held, side_blames};
+ghost use Rattle.ix_why.specs.inside.Held.{kept_tree, tree_held, left_held, right_held, side_blames};
 ghost use Rattle.ix_why.specs.inside.Held.{both_blame, body_blames, owner_blames};
 ghost use Rattle.ix_why.specs.inside.Held.{BodiesProper, MapsProper};
 
@@ -45,12 +45,12 @@ pub(crate) fn walk(
 ) -> Result<(), AllocError>
     requires few { node + nodes (form_of expr.now) < 2 ^ 64 }
     requires ask { CanAsk (form_of expr.now) scope.now
-        (tree_held (form_of expr.now) (held state)) }
+        (tree_held (form_of expr.now) (kept_tree state)) }
     ensures { OnOk result
         (parts.new.items
         ≡ parts.old.items
         ++ blames node (form_of expr.now) scope.now
-        (tree_held (form_of expr.now) (held state.entry)) action.now) }
+        (tree_held (form_of expr.now) (kept_tree state.entry)) action.now) }
 {
     let env = scope.env();
     match expr {
@@ -115,12 +115,12 @@ fn walk_side(
 ) -> Result<(), AllocError>
     requires few { node + nodes (form_of operand.expr.now) < 2 ^ 64 }
     requires ask { CanAsk (form_of operand.expr.now) scope.now
-        (tree_held (form_of operand.expr.now) (held state)) }
+        (tree_held (form_of operand.expr.now) (kept_tree state)) }
     ensures { OnOk result
         (parts.new.items
         ≡ parts.old.items
         ++ side_blames operand.entry.own node (form_of operand.entry.expr.now) scope.now
-        (tree_held (form_of operand.entry.expr.now) (held state.entry)) action.now) }
+        (tree_held (form_of operand.entry.expr.now) (kept_tree state.entry)) action.now) }
 {
     if refuses(operand, scope, state, action) {
         walk(parts, node, operand.expr, scope, state, action)
@@ -141,14 +141,14 @@ fn walk_both(
     requires few { node + 1 + (nodes (form_of sides.left.now) + nodes (form_of sides.right.now))
         < 2 ^ 64 }
     requires left { CanAsk (form_of sides.left.now) scope.now
-        (left_held (form_of sides.left.now) (held state)) }
+        (left_held (form_of sides.left.now) (kept_tree state)) }
     requires right { CanAsk (form_of sides.right.now) scope.now
-        (right_held (form_of sides.right.now) (held state)) }
+        (right_held (form_of sides.right.now) (kept_tree state)) }
     ensures { OnOk result
         (parts.new.items
         ≡ parts.old.items
         ++ both_blame sides.entry.own node (form_of sides.entry.left.now)
-        (form_of sides.entry.right.now) scope.now (held state.entry) action.now) }
+        (form_of sides.entry.right.now) scope.now (kept_tree state.entry) action.now) }
 {
     let own = sides.own;
     let left = Operand {
@@ -175,12 +175,12 @@ fn walk_body(
 ) -> Result<(), AllocError>
     requires few { node + 1 + nodes (form_of body.expr.now) < 2 ^ 64 }
     requires fits { FitsInside body.parameter.now (form_of body.expr.now) scope.now }
-    requires proper { BodiesProper (form_of body.expr.now) (held state) }
+    requires proper { BodiesProper (form_of body.expr.now) (kept_tree state) }
     ensures { OnOk result
         (parts.new.items
         ≡ parts.old.items
         ++ body_blames body.entry.own node body.entry.parameter.now
-        (form_of body.entry.expr.now) scope.now (held state.entry) action.now) }
+        (form_of body.entry.expr.now) scope.now (kept_tree state.entry) action.now) }
 {
     match first_refusing(body, scope, state, action) {
         Some(value) => {
@@ -203,12 +203,12 @@ fn walk_owner(
 ) -> Result<(), AllocError>
     requires few { node + 1 + nodes (form_of body.expr.now) < 2 ^ 64 }
     requires fits { FitsInside body.parameter.now (form_of body.expr.now) scope.now }
-    requires proper { MapsProper (form_of body.expr.now) (held state) }
+    requires proper { MapsProper (form_of body.expr.now) (kept_tree state) }
     ensures { OnOk result
         (parts.new.items
         ≡ parts.old.items
         ++ owner_blames node body.entry.parameter.now (form_of body.entry.expr.now)
-        scope.now (held state.entry) action.now) }
+        scope.now (kept_tree state.entry) action.now) }
 {
     let Some(value) = owner(body, scope, action) else {
         return tell(parts, node, scope);

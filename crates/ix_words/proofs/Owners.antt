@@ -4,7 +4,7 @@ use Rattle.std.proofs.Common.{◌≡◌, ◌≢◌, inl, inr, ℕ, suc, ◌<◌,
 use Rattle.std.specs.Cmp.{both_ways}
 use Rattle.ix_words.specs.Each.{Each, no_item, item, Member, here, there, EachPair, no_pair, pair}
 use Rattle.ix_words.specs.Parts.{part, joined}
-use Rattle.ix_words.specs.Words.{Repeated, Numbered, Owned, Gives}
+use Rattle.ix_words.specs.Words.{Repeated, Numbered, Owned, GivesEach}
 use Rattle.ix_words.proofs.Each.{Each-head, Each-tail, Each-member, Each-members}
 use Rattle.ix_words.proofs.Parts.{cond_rest, cond_first}
 use Rattle.ix_words.proofs.Canon.{Member-cases}
@@ -128,7 +128,7 @@ module _ {K A : Type 0} {G : K → A → Type 0} where
       (owned_pairs same s owners w (omega arith) (λ v. cond_rest (same v k) a _ (h v)))
 
   -- where the items of what has Q v have to do with v, each owner has to do with its item
-  pub Owned-pairs : {same : K → K → Bool} {Q : K → List A → Type 0} → ((v : K) → same v v ≡ true) → ((v : K) → Gives (G v) (Q v)) → (w : List A) (h : Owned same Q w) → EachPair G h.owners w
+  pub Owned-pairs : {same : K → K → Bool} {Q : K → List A → Type 0} → ((v : K) → same v v ≡ true) → ((v : K) → GivesEach (G v) (Q v)) → (w : List A) (h : Owned same Q w) → EachPair G h.owners w
   Owned-pairs {same = same} s q w h = owned_pairs same s h.owners w h.as_long (λ v. q v _ (h.each_has v))
 
 -- Pieces that are not empty

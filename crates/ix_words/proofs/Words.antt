@@ -3,7 +3,7 @@
 use Rattle.std.proofs.Common.{◌≡◌, ℕ, ◌⊎◌, inl, inr, Bool, true, false, not, ◌==◌, List, [], ◌∷◌, ◌++◌, length, append_assoc, refl, sym, ap, ◌∙◌, subst, arith, eq-eqb}
 use Rattle.ix_words.specs.Each.{Each, no_item, item, Member, here, there}
 use Rattle.ix_words.specs.Parts.{part, joined, Projection, ended, kept, left_out}
-use Rattle.ix_words.specs.Words.{Joined, Repeated, Split, Numbered, Shared, Owned, Projected, Closed, Gives}
+use Rattle.ix_words.specs.Words.{Joined, Repeated, Split, Numbered, Shared, Owned, Projected, Closed, GivesEach}
 use Rattle.ix_words.specs.inside.Leads.{Leads}
 use Rattle.ix_words.proofs.Each.{Each-append, Each-left, Each-right, Each-same, Each-head, Each-tail, Each-weaker, Each-member, Each-joined, Each-pieces}
 use Rattle.ix_words.proofs.Parts.{cut, part-append, part-each, cond_rest, cond_first, projection_cut, Projection-each}
@@ -198,13 +198,13 @@ module _ {A : Type 0} where
       let k = projection_cut u v h.projection in
       record { rest = k.first; projection = k.first_is; rest_has = c _ k.second (subst Q k.whole h.rest_has) }
 
--- Gives
+-- GivesEach
 
 module _ {A : Type 0} {G : A → Type 0} where
-  pub Joined-gives : {Q R : List A → Type 0} → Gives G Q → Gives G R → Gives G (Joined Q R)
+  pub Joined-gives : {Q R : List A → Type 0} → GivesEach G Q → GivesEach G R → GivesEach G (Joined Q R)
   Joined-gives q r u h = Each-same (sym h.whole) (Each-append (q h.front h.front_has) (r h.back h.back_has))
 
-  pub Repeated-gives : {Q : List A → Type 0} → Gives G Q → Gives G (Repeated Q)
+  pub Repeated-gives : {Q : List A → Type 0} → GivesEach G Q → GivesEach G (Repeated Q)
   Repeated-gives q u h = Each-same (sym h.whole) (Each-joined (Each-weaker q h.each_has))
 
   pub marked : (marks : List Bool) (w : List A) → length marks ≡ length w → Each G (part (λ mark. mark) marks w) → Each G (part not marks w) → Each G w
@@ -214,7 +214,7 @@ module _ {A : Type 0} {G : A → Type 0} where
   marked (true ∷ marks) (a ∷ w) e l r = item (Each-head l) (marked marks w (omega arith) (Each-tail l) r)
   marked (false ∷ marks) (a ∷ w) e l r = item (Each-head r) (marked marks w (omega arith) l (Each-tail r))
 
-  pub Split-gives : {Q R : List A → Type 0} → Gives G Q → Gives G R → Gives G (Split Q R)
+  pub Split-gives : {Q R : List A → Type 0} → GivesEach G Q → GivesEach G R → GivesEach G (Split Q R)
   Split-gives q r u h = marked h.marks u h.as_long (q _ h.left_has) (r _ h.right_has)
 
   pub numbered : (owners : List ℕ) (w : List A) → length owners ≡ length w → ((k : ℕ) → Member k owners → Each G (part (λ other. k == other) owners w)) → Each G w
@@ -226,10 +226,10 @@ module _ {A : Type 0} {G : A → Type 0} where
       (cond_first (k == k) a _ (eq-eqb k k refl) (h k here))
       (numbered owners w (omega arith) (λ j m. cond_rest (j == k) a _ (h j (there m))))
 
-  pub Numbered-gives : {Q : List A → Type 0} → Gives G Q → Gives G (Numbered Q)
+  pub Numbered-gives : {Q : List A → Type 0} → GivesEach G Q → GivesEach G (Numbered Q)
   Numbered-gives q u h = numbered h.owners u h.as_long (λ k m. q _ (Each-member h.each_has m))
 
-  pub Shared-gives : {n : ℕ} {Q : List A → Type 0} → Gives G Q → Gives G (Shared n Q)
+  pub Shared-gives : {n : ℕ} {Q : List A → Type 0} → GivesEach G Q → GivesEach G (Shared n Q)
   Shared-gives q u h = numbered h.owners u h.as_long (λ k m. q _ (h.each_has k (Each-member h.below m)))
 
 module _ {A : Type 0} {In G : A → Type 0} where
@@ -238,7 +238,7 @@ module _ {A : Type 0} {In G : A → Type 0} where
   Projection-gives (kept i p) h = item (λ j. Each-head h) (Projection-gives p (Each-tail h))
   Projection-gives (left_out o p) h = item (λ i. absurd (o i)) (Projection-gives p h)
 
-  pub Projected-gives : {Q : List A → Type 0} → Gives G Q → Gives (λ a. In a → G a) (Projected In Q)
+  pub Projected-gives : {Q : List A → Type 0} → GivesEach G Q → GivesEach (λ a. In a → G a) (Projected In Q)
   Projected-gives q u h = Projection-gives h.projection (q h.rest h.rest_has)
 
 module _ {A V : Type 0} {G : V → A → Type 0} where
@@ -251,7 +251,7 @@ module _ {A V : Type 0} {G : V → A → Type 0} where
       (k, cond_first (same k k) a _ (s k) (h k))
       (owned same s owners w (omega arith) (λ v. cond_rest (same v k) a _ (h v)))
 
-  pub Owned-gives : {same : V → V → Bool} {Q : V → List A → Type 0} → ((v : V) → same v v ≡ true) → ((v : V) → Gives (G v) (Q v)) → Gives (λ a. (v : V) × G v a) (Owned same Q)
+  pub Owned-gives : {same : V → V → Bool} {Q : V → List A → Type 0} → ((v : V) → same v v ≡ true) → ((v : V) → GivesEach (G v) (Q v)) → GivesEach (λ a. (v : V) × G v a) (Owned same Q)
   Owned-gives {same = same} s q u h = owned same s h.owners u h.as_long (λ v. q v _ (h.each_has v))
 
 -- The empty word

@@ -4,7 +4,7 @@ use Rattle.std.specs.Prelude.{List, [], ◌∷◌, ◌++◌, map, flat_map, filt
 use Rattle.std.specs.declared.cmp.Ordering.{Ordering}
 use Rattle.ix_words.specs.Each.{Each, Member, EachPair}
 use Rattle.ix_words.specs.Parts.{part, joined, Projection}
-use Rattle.ix_words.specs.Words.{Joined, Split, Numbered, Shared, Owned, Projected, Closed, Gives}
+use Rattle.ix_words.specs.Words.{Joined, Split, Numbered, Shared, Owned, Projected, Closed, GivesEach}
 use Rattle.ix_words.specs.Words.{Repeated}
 use Rattle.ix_words.specs.Canon.{IsStrictOrder, Ascending, SameMembers, put_once, canon, cuts}
 use Rattle.ix_words.specs.Canon.{splits, with_end, give_end}
@@ -44,34 +44,34 @@ JoinedGrow A = (pieces : List (List A)) (piece : List A)
     → joined (pieces ++ piece ∷ []) ≡ joined pieces ++ piece
 
 -- the words that pass a test
-abbrev pub Passes : {A : Type 0} → (List A → Bool) → List A → Type 0
-Passes test w = IsTrue (test w)
+abbrev pub PassesTest : {A : Type 0} → (List A → Bool) → List A → Type 0
+PassesTest test w = IsTrue (test w)
 
 -- fronts of split, numbered, shared, owned and projected words are such words, where fronts of what
 -- the parts pass pass
 abbrev pub SplitsClosed : Type 0 → Type 0
-SplitsClosed A = (q r : List A → Bool) → Closed (Passes q) → Closed (Passes r)
-    → Closed (Split (Passes q) (Passes r))
+SplitsClosed A = (q r : List A → Bool) → Closed (PassesTest q) → Closed (PassesTest r)
+    → Closed (Split (PassesTest q) (PassesTest r))
 
 abbrev pub NumberedClosed : Type 0 → Type 0
-NumberedClosed A = (q : List A → Bool) → Closed (Passes q) → Closed (Numbered (Passes q))
+NumberedClosed A = (q : List A → Bool) → Closed (PassesTest q) → Closed (Numbered (PassesTest q))
 
 abbrev pub SharedClosed : Type 0 → Type 0
-SharedClosed A = (n : ℕ) (q : List A → Bool) → Closed (Passes q) → Closed (Shared n (Passes q))
+SharedClosed A = (n : ℕ) (q : List A → Bool) → Closed (PassesTest q) → Closed (Shared n (PassesTest q))
 
 abbrev pub OwnedClosed : Type 0 → Type 0 → Type 0
-OwnedClosed V A = (same : V → V → Bool) (q : V → List A → Bool) → ((v : V) → Closed (Passes (q v)))
-    → Closed (Owned same (λ v. Passes (q v)))
+OwnedClosed V A = (same : V → V → Bool) (q : V → List A → Bool) → ((v : V) → Closed (PassesTest (q v)))
+    → Closed (Owned same (λ v. PassesTest (q v)))
 
 abbrev pub ProjectedClosed : Type 0 → Type 0
-ProjectedClosed A = (test : A → Bool) (q : List A → Bool) → Closed (Passes q)
-    → Closed (Projected (λ a. IsTrue (test a)) (Passes q))
+ProjectedClosed A = (test : A → Bool) (q : List A → Bool) → Closed (PassesTest q)
+    → Closed (Projected (λ a. IsTrue (test a)) (PassesTest q))
 
 -- a front of a joined word is a front of its front, or its front and a front of its back
 abbrev pub JoinedFronts : Type 0 → Type 0
-JoinedFronts A = (q r : List A → Bool) (u v : List A) → Closed (Passes r)
-    → Joined (Passes q) (Passes r) (u ++ v)
-    → ((t : List A) × Passes q (u ++ t)) ⊎ Joined (Passes q) (Passes r) u
+JoinedFronts A = (q r : List A → Bool) (u v : List A) → Closed (PassesTest r)
+    → Joined (PassesTest q) (PassesTest r) (u ++ v)
+    → ((t : List A) × PassesTest q (u ++ t)) ⊎ Joined (PassesTest q) (PassesTest r) u
 
 -- each way to cut w is listed, and no other
 abbrev pub CutsAll : Type 0 → Type 0
@@ -129,17 +129,17 @@ CanonEach A B = (compare : A → A → Ordering) (order : B → B → Ordering) 
 
 -- owner numbers below the length of the word suffice
 abbrev pub NumbersBelowTheLength : Type 0 → Type 0
-NumbersBelowTheLength A = (q : List A → Bool) (w : List A) → Numbered (Passes q) w
-    → (n : Numbered (Passes q) w) × Each (λ k. k < length w) n.owners
+NumbersBelowTheLength A = (q : List A → Bool) (w : List A) → Numbered (PassesTest q) w
+    → (n : Numbered (PassesTest q) w) × Each (λ k. k < length w) n.owners
 
 -- where the items of what passes for v have to do with v, each owner has to do with its item
 abbrev pub OwnersOfTheirItems : Type 0 → Type 0 → Type 0
 OwnersOfTheirItems V A = (same : V → V → Bool) (q : V → List A → Bool) (own : V → A → Bool)
-    → ((v : V) → same v v ≡ true) → ((v : V) → Gives (λ a. IsTrue (own v a)) (Passes (q v))) →
-    (w : List A) (h : Owned same (λ v. Passes (q v)) w)
+    → ((v : V) → same v v ≡ true) → ((v : V) → GivesEach (λ a. IsTrue (own v a)) (PassesTest (q v))) →
+    (w : List A) (h : Owned same (λ v. PassesTest (q v)) w)
     → EachPair (λ v a. IsTrue (own v a)) h.owners w
 
 -- pieces that aren't empty suffice
 abbrev pub PiecesAreFilled : Type 0 → Type 0
-PiecesAreFilled A = (q : List A → Bool) (w : List A) → Repeated (Passes q) w
-    → (r : Repeated (Passes q) w) × Each (λ piece. piece ≢ []) r.pieces
+PiecesAreFilled A = (q : List A → Bool) (w : List A) → Repeated (PassesTest q) w
+    → (r : Repeated (PassesTest q) w) × Each (λ piece. piece ≢ []) r.pieces

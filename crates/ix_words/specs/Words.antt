@@ -57,5 +57,5 @@ abbrev pub Closed : {A : Type 0} → (List A → Type 0) → Type 0
 Closed {A} Q = (u v : List A) → Q (u ++ v) → Q u
 
 -- each item of a word with Q has G
-abbrev pub Gives : {A : Type 0} → (A → Type 0) → (List A → Type 0) → Type 0
-Gives {A} G Q = (u : List A) → Q u → Each G u
+abbrev pub GivesEach : {A : Type 0} → (A → Type 0) → (List A → Type 0) → Type 0
+GivesEach {A} G Q = (u : List A) → Q u → Each G u

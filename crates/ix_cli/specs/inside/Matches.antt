@@ -52,7 +52,7 @@ HasNumber rows name = (text : Text) × (one_of name rows ≡ Some text)
 
 -- The command takes the words, these are its matches of them, and each of its arguments that takes
 -- one value has it, and it is a number in the argument's range where there is one.
-pub record Matches (command : App) (words : List Text) (m : ArgMatches) : Type 0 where
+pub record MatchesWords (command : App) (words : List Text) (m : ArgMatches) : Type 0 where
   pub taken : fault_of command words ≡ []
   pub rows : rows_of (found_of m) ≡ matches_of command words
   pub texts : (rule : Rule) → Contains command.top.rules rule → takes_one rule ≡ true

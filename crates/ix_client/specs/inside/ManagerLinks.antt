@@ -17,7 +17,7 @@ use Rattle.ix_manager.specs.Machine.{MachineState}
 use Rattle.ix_manager.specs.inside.OverSite.{FitsSite}
 use Rattle.ix_client.specs.Grants.{same_ticket}
 use Rattle.ix_client.specs.Links.{LinkState, Told}
-use Rattle.ix_client.specs.Sound.{pairs_of}
+use Rattle.ix_client.specs.Sound.{all_pairs}
 
 -- the text of the expression, the limit of Size, the manager, unless none could be started, its
 -- site, the calls that are told to fail, and the link's counts and line
@@ -33,14 +33,14 @@ pub record ManagerLinkState : Type 0 where
   pub balks : ℕ
 
 -- there is a ticket, and it is this one
-abbrev pub is_of : Ticket → Option Ticket → Bool
-is_of ticket None = false
-is_of ticket (Some other) = same_ticket ticket other
+abbrev pub names_ticket : Ticket → Option Ticket → Bool
+names_ticket ticket None = false
+names_ticket ticket (Some other) = same_ticket ticket other
 
 -- no pair has the ticket, where there is one
 abbrev pub is_absent : Option Ticket → PlainHistory → Bool
 is_absent None others = true
-is_absent (Some ticket) others = list_all (λ (spent : Spent). not (is_of ticket spent.0)) others
+is_absent (Some ticket) others = list_all (λ (spent : Spent). not (names_ticket ticket spent.0)) others
 
 -- no ticket stands in two pairs
 abbrev pub are_apart : PlainHistory → Bool
@@ -56,8 +56,8 @@ is_granted boot number (Some ticket) =
 -- the state is sound: the same as a test
 abbrev pub is_sound : MachineState → Bool
 is_sound s = (nat_lt 0 s.boot && nat_lt 0 s.number)
-    && (are_apart (pairs_of s)
-    && list_all (λ (spent : Spent). is_granted s.boot s.number spent.0) (pairs_of s))
+    && (are_apart (all_pairs s)
+    && list_all (λ (spent : Spent). is_granted s.boot s.number spent.0) (all_pairs s))
 
 abbrev pub told_where : Bool → Told → Option Told
 told_where true told = Some told
@@ -103,7 +103,7 @@ HasTime s = (ticket : Ticket) (a : PlainAction) (deadline : ℕ) → s.slot ≡ 
     → deadline < 2 ^ 64
 
 -- the manager fits its site, and holds no unfinished line of connection 0
-pub record IsOver (m : ManagerState) (site : MemorySiteState) : Type 0 where
+pub record IsRunEnded (m : ManagerState) (site : MemorySiteState) : Type 0 where
   pub fits : FitsSite m (state_of site) (crashes_of site)
   pub held : held_at 0 m.lines ≡ unfinished []
   pub time : HasTime m.machine
@@ -113,7 +113,7 @@ pub record IsManagerOf (text : List ℕ) (limit : ℕ) (m : ManagerState) (site 
     : Type 0 where
   pub stands : StandsFor text m.form
   pub limit_is : m.limit ≡ limit
-  pub over : IsOver m site
+  pub over : IsRunEnded m site
 
 abbrev pub IsManagerWhere : List ℕ → ℕ → Option ManagerState → MemorySiteState → Type 0
 IsManagerWhere text limit None site = ⊤

@@ -17,7 +17,7 @@ use Rattle.ix_manager.specs.Refusals.{disk}
 use Rattle.ix_manager.specs.Runs.{opening_of}
 use Rattle.ix_client.specs.Links.{Answers, IsLineWith}
 use Rattle.ix_lines.specs.Cutting.{HasNoEnd}
-use Rattle.ix_client.specs.inside.ManagerLinks.{IsManagerOf, IsOver, ManagerLinkState}
+use Rattle.ix_client.specs.inside.ManagerLinks.{IsManagerOf, IsRunEnded, ManagerLinkState}
 use Rattle.ix_client.specs.declared.manager_link.Passed.{Passed}
 use Rattle.ix_client.specs.declared.manager_link.Passed.TheVariants.{Answered, Ended, Lost}
 
@@ -40,7 +40,7 @@ pub record AnswersOver (asked : PlainRequest) (line : List ℕ) (old new : Manag
     (after : MemorySiteState) : Type 0 where
   pub form : new.form ≡ old.form
   pub limit : new.limit ≡ old.limit
-  pub over : IsOver new after
+  pub over : IsRunEnded new after
   pub later : after.told ≡ true → Later old.form old.machine new.machine
   pub reply : after.told ≡ true → IsLineWith
       (λ told. Answers asked told old.form old.limit old.machine new.machine) line
@@ -52,14 +52,14 @@ TellsDisk asked = IsLineWith
 
 -- what is kept of a manager to which a request was passed on: itself where it answered, and else
 -- nothing; what starts from the file comes later than its state before, where the site tells that
-abbrev pub Keeps : PlainRequest → Passed → Option ManagerState → List ℕ → ManagerState
+abbrev pub KeepsAsked : PlainRequest → Passed → Option ManagerState → List ℕ → ManagerState
     → MemorySiteState → Type 0
-Keeps asked Answered (Some new) line old after = AnswersOver asked line old new after
-Keeps asked Answered None line old after = ⊥
-Keeps asked Ended kept line old after = (kept ≡ None)
+KeepsAsked asked Answered (Some new) line old after = AnswersOver asked line old new after
+KeepsAsked asked Answered None line old after = ⊥
+KeepsAsked asked Ended kept line old after = (kept ≡ None)
     × (after.told ≡ true → TellsDisk asked line)
     × (after.told ≡ true → StartsAgain old.form old.machine after.image)
-Keeps asked Lost kept line old after =
+KeepsAsked asked Lost kept line old after =
     (kept ≡ None) × (after.told ≡ true → StartsAgain old.form old.machine after.image)
 
 -- a manager that was started from the text over the site, where its contents are told
@@ -82,4 +82,4 @@ pub record ExchangesOver (asked : PlainRequest) (passed : Passed) (line : List �
     (m : ManagerState) (old new : ManagerLinkState) : Type 0 where
   pub manages : IsManagerOf old.text old.limit m old.site
   pub told : new.site.told ≡ true → old.site.told ≡ true
-  pub keeps : Keeps asked passed new.manager line m new.site
+  pub keeps : KeepsAsked asked passed new.manager line m new.site

@@ -12,8 +12,8 @@ use Rattle.ix_manager.specs.Granted.{IsGranted, WasGranted}
 use Rattle.ix_manager.specs.Handled.{ManagerState}
 use Rattle.ix_manager.specs.Machine.{IsAbsent, MachineState}
 use Rattle.ix_client.specs.Grants.{same_ticket}
-use Rattle.ix_client.specs.Sound.{AreApart, IsSound, IsSoundWhereTold, pairs_of}
-use Rattle.ix_client.specs.inside.ManagerLinks.{ManagerLinkState, are_apart, is_absent, is_granted, is_of, is_sound, link_state, told_by, told_where}
+use Rattle.ix_client.specs.Sound.{AreApart, IsSound, IsSoundWhereTold, all_pairs}
+use Rattle.ix_client.specs.inside.ManagerLinks.{ManagerLinkState, are_apart, is_absent, is_granted, names_ticket, is_sound, link_state, told_by, told_where}
 
 same_is : (ticket : Ticket) → same_ticket ticket ticket ≡ true
 same_is ticket =
@@ -23,10 +23,10 @@ same_is ticket =
 absent_is : (ticket : Ticket) (others : PlainHistory) → is_absent (Some ticket) others ≡ true → IsAbsent ticket others
 absent_is ticket [] is = no_item
 absent_is ticket (spent ∷ others) is =
-    let both = and_parts (not (is_of ticket spent.0)) (is_absent (Some ticket) others) is in
+    let both = and_parts (not (names_ticket ticket spent.0)) (is_absent (Some ticket) others) is in
     item
-    (λ same. both_ways (is_of ticket spent.0) (not-true (is_of ticket spent.0) both.0)
-    (ap (is_of ticket) same ∙ same_is ticket))
+    (λ same. both_ways (names_ticket ticket spent.0) (not-true (names_ticket ticket spent.0) both.0)
+    (ap (names_ticket ticket) same ∙ same_is ticket))
     (absent_is ticket others both.1)
 
 apart_is : (pairs : PlainHistory) → are_apart pairs ≡ true → AreApart pairs
@@ -62,14 +62,14 @@ each_is boot number (spent ∷ others) is =
 pub sound_is : (s : MachineState) → is_sound s ≡ true → IsSound s
 sound_is s is =
     let both = and_parts (nat_lt 0 s.boot && nat_lt 0 s.number)
-    (are_apart (pairs_of s) && list_all (λ (spent : Spent). is_granted s.boot s.number spent.0) (pairs_of s)) is in
+    (are_apart (all_pairs s) && list_all (λ (spent : Spent). is_granted s.boot s.number spent.0) (all_pairs s)) is in
     let numbers = and_parts (nat_lt 0 s.boot) (nat_lt 0 s.number) both.0 in
-    let pairs = and_parts (are_apart (pairs_of s)) (list_all (λ (spent : Spent). is_granted s.boot s.number spent.0) (pairs_of s)) both.1 in
+    let pairs = and_parts (are_apart (all_pairs s)) (list_all (λ (spent : Spent). is_granted s.boot s.number spent.0) (all_pairs s)) both.1 in
     record {
       boot = ltb-true 0 s.boot numbers.0;
       number = ltb-true 0 s.number numbers.1;
-      apart = apart_is (pairs_of s) pairs.0;
-      granted = each_is s.boot s.number (pairs_of s) pairs.1;
+      apart = apart_is (all_pairs s) pairs.0;
+      granted = each_is s.boot s.number (all_pairs s) pairs.1;
     }
 
 told_sound : (tells sound : Bool) (m : ManagerState) → (sound ≡ true → IsSound m.machine)

@@ -16,9 +16,9 @@ pub record EngineState : Type 0 where
   pub limit : ℕ
   pub spare : ℕ
 
--- the history extended by the action
-abbrev pub extended : EngineState → PlainAction → Word
-extended s a = s.history ++ a ∷ []
+-- the history extended_by by the action
+abbrev pub extended_by : EngineState → PlainAction → Word
+extended_by s a = s.history ++ a ∷ []
 
 -- the action is permitted after the engine's history
 abbrev pub Permits : EngineState → PlainAction → Type 0
@@ -28,10 +28,10 @@ Permits s a = IsPermitted s.form s.history a
 abbrev pub Allows : EngineState → PlainAction → Type 0
 Allows s a = IsAllowed s.form s.limit s.history a
 
--- a prepared action follows the engine: there is room for it, and the tree is that of the history extended by it, live and
+-- a prepared action follows the engine: there is room for it, and the tree is that of the history extended_by by it, live and
 -- within the limit
-pub record Follows (s : EngineState) (a : PlainAction) (t : Plain) : Type 0 where
+pub record IsTreeAfter (s : EngineState) (a : PlainAction) (t : Plain) : Type 0 where
   pub room : length s.history < 1000000
-  pub tree : t ≡ tree_of s.form [] (extended s a)
+  pub tree : t ≡ tree_of s.form [] (extended_by s a)
   pub live : is_dead t ≡ false
   pub within : size_of t ≤ s.limit

@@ -12,7 +12,7 @@ abbrev pub KeysAscend : {K T : Type 0} → (K → K → Ordering) → List (K ×
 KeysAscend cmp entries = IsStrictlySortedBy cmp (keys_of entries)
 
 -- the keys ascend strictly, and no item equals the common one
-pub record IsProper {K T : Type 0} (cmp : K → K → Ordering) (eq : T → T → Bool) (common : T) (entries : List (K × T)) : Type 0 where
+pub record AreProperEntries {K T : Type 0} (cmp : K → K → Ordering) (eq : T → T → Bool) (common : T) (entries : List (K × T)) : Type 0 where
   pub ascending : KeysAscend cmp entries
   pub differing : All (λ item. eq item common ≡ false) (values_of entries)
 

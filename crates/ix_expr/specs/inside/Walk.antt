@@ -7,13 +7,13 @@ use Rattle.ix_expr.specs.Form.{PlainAtom}
 use Rattle.ix_expr.specs.FormFaults.{Binder, Node, atom_head, quantifier_head, operator_head, fault_at}
 
 -- the code that tells a cause
-abbrev pub code_of : Cause → ℕ
-code_of cause.Unbound = 5
-code_of cause.BoundTwice = 6
-code_of cause.AllWithoutParameter = 7
-code_of cause.TooManyNodes = 8
-code_of cause.TooDeep = 9
-code_of cause.TooManyQuantifiers = 13
+abbrev pub walk_code : Cause → ℕ
+walk_code cause.Unbound = 5
+walk_code cause.BoundTwice = 6
+walk_code cause.AllWithoutParameter = 7
+walk_code cause.TooManyNodes = 8
+walk_code cause.TooDeep = 9
+walk_code cause.TooManyQuantifiers = 13
 
 -- the node of an atom
 abbrev pub atom_node : ℕ → List Binder → PlainAtom → Node

@@ -4,8 +4,8 @@ use Rattle.ix_journal.specs.declared.header.Head.TheVariants.{Unfinished, Unopen
 use Rattle.ix_journal.specs.Kinds.{Kind, unfinished, unopened, foreign, ready}
 
 -- the kind that is told
-abbrev pub kind_of : Head → Kind
-kind_of Unfinished = unfinished
-kind_of (Unopened text) = unopened text.now
-kind_of Foreign = foreign
-kind_of (Ready text gate) = ready text.now gate
+abbrev pub kind_told : Head → Kind
+kind_told Unfinished = unfinished
+kind_told (Unopened text) = unopened text.now
+kind_told Foreign = foreign
+kind_told (Ready text gate) = ready text.now gate

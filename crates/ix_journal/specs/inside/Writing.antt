@@ -8,11 +8,11 @@ use Rattle.ix_journal.specs.declared.writing.Version.{Version}
 use Rattle.ix_journal.specs.declared.writing.Version.TheVariants as version
 
 -- what it says
-abbrev pub entry_of : Record → Entry
-entry_of (written.Renewed actions boots) = entry.Renewed actions boots
-entry_of (written.Boot number) = entry.Boot number
-entry_of (written.Spent ticket action) = entry.Spent ticket action.now
-entry_of (written.Plain action) = entry.Plain action.now
+abbrev pub entry_written : Record → Entry
+entry_written (written.Renewed actions boots) = entry.Renewed actions boots
+entry_written (written.Boot number) = entry.Boot number
+entry_written (written.Spent ticket action) = entry.Spent ticket action.now
+entry_written (written.Plain action) = entry.Plain action.now
 
 -- the numbers of a renewal fit
 abbrev pub CanBeWritten : Record → Type 0

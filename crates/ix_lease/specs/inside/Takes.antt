@@ -13,9 +13,9 @@ IsOpenUntil Free moment deadline = ⊥
 IsOpenUntil (Held ticket action end) moment deadline = (end ≡ deadline) × (moment < end)
 
 -- what a slot that was old and is new answers to this ticket at this moment
-abbrev pub Takes : Slot → Ticket → ℕ → Take → Slot → Type 0
-Takes old ticket moment (Taken action) new =
+abbrev pub TakesSlot : Slot → Ticket → ℕ → Take → Slot → Type 0
+TakesSlot old ticket moment (Taken action) new =
     (deadline : ℕ) × (old ≡ Held ticket action deadline) × (moment < deadline) × (new ≡ Free)
-Takes old ticket moment Expired new =
+TakesSlot old ticket moment Expired new =
     HasTicket old ticket × (¬ IsOpenAt old moment) × (new ≡ old)
-Takes old ticket moment NoSuch new = (¬ HasTicket old ticket) × (new ≡ old)
+TakesSlot old ticket moment NoSuch new = (¬ HasTicket old ticket) × (new ≡ old)

@@ -19,13 +19,13 @@ abbrev pub HoldsAfter : MutBor UnfinishedLine → List ℕ → Fml
 HoldsAfter lines bytes = Rests the_row lines (λ new. new ≡ holds_after lines.now bytes)
 
 -- no line is skipped
-abbrev pub IsOpen : UnfinishedLine → Type 0
-IsOpen (unfinished part) = Unit {0}
-IsOpen skipping = ⊥
+abbrev pub IsTaking : UnfinishedLine → Type 0
+IsTaking (unfinished part) = Unit {0}
+IsTaking skipping = ⊥
 
 -- the bytes of a piece before the place completed nothing, and no line is skipped there
 pub record ResumesAt (old : UnfinishedLine) (piece : List ℕ) (place : ℕ) (new : UnfinishedLine) : Type 0 where
   pub within : place ≤ length piece
   pub before : (count : ℕ) → count ≤ place → completes old (take count piece) ≡ []
   pub after : new ≡ holds_after old (take place piece)
-  pub open_there : IsOpen new
+  pub open_there : IsTaking new

@@ -13,7 +13,7 @@ use Rattle.ix_outside.specs.SiteState.{SiteState}
 use Rattle.ix_follow.specs.declared.answers.Fed.{Fed}
 use Rattle.ix_follow.specs.declared.answers.FollowFault.{FollowFault}
 use Rattle.ix_follow.specs.declared.answers.FollowFault.TheVariants as fault
-use Rattle.ix_follow.specs.Following.{Feeds}
+use Rattle.ix_follow.specs.Following.{FollowsLine}
 use Rattle.ix_manage.specs.Around.{around_of}
 use Rattle.ix_manage.specs.Ends.{JobEnds}
 use Rattle.ix_manage.specs.FollowLines.{FollowEnds, fed_line}
@@ -41,19 +41,19 @@ follow_end why = Refused (refusal_of why)
 -- a line was refused, and nothing was put; or the put of its answer failed
 abbrev pub StopsFed : EngineState → List ℕ → Word → SinkState → SinkState → EarlyEnd → Type 0
 StopsFed s bytes after old new (Refused refusal) =
-    (why : FollowFault) × Feeds s.form s.limit s.history bytes (Err why) after
+    (why : FollowFault) × FollowsLine s.form s.limit s.history bytes (Err why) after
     × (refusal ≡ refusal_of why) × (new.written ≡ old.written)
 StopsFed s bytes after old new (Words text) = ⊥
 StopsFed s bytes after old new (OtherExpression kept) = ⊥
 StopsFed s bytes after old new Output =
-    (answer : Fed) × Feeds s.form s.limit s.history bytes (Ok answer) after
+    (answer : Fed) × FollowsLine s.form s.limit s.history bytes (Ok answer) after
     × AppendsPart old.written (fed_line answer) new.written × Rose old.faults new.faults
 
 -- a line was fed, and its answer put, or it stopped there
 abbrev pub PutsFed : {T : Type 0} → EngineState → List ℕ → Word → SinkState → SinkState
     → Result T EarlyEnd → Type 0
 PutsFed s bytes after old new (Ok done) =
-    (answer : Fed) × Feeds s.form s.limit s.history bytes (Ok answer) after
+    (answer : Fed) × FollowsLine s.form s.limit s.history bytes (Ok answer) after
     × (new.written ≡ append_known old.written (fed_line answer))
 PutsFed s bytes after old new (Err stop) = StopsFed s bytes after old new stop
 

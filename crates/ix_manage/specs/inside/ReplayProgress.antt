@@ -70,8 +70,8 @@ player site_state sink_state it = record {
 }
 
 -- what it tells
-abbrev pub told_by : Player → Contents
-told_by player = record {
+abbrev pub player_told : Player → Contents
+player_told player = record {
   given = Some player.given;
   sends = None;
   text = player.sink.written;
@@ -112,7 +112,7 @@ pub record PlaysEvent (old : ManagerState) (was : Player) (new : ManagerState) (
   pub next : IsNextPiece 4096 was.script was.given (given_event event piece)
   pub fits : FitsEvent event piece
   pub handled : Handles old event piece ending new
-      (told_by (record was { given = now.given })) (told_by now)
+      (player_told (record was { given = now.given })) (player_told now)
   pub tickets : new.machine.number ≤ old.machine.number + length piece
   pub outcome_is : IsEventOutcome now.failed ending event.kind outcome
   pub fault : now.failed ≡ true → Rose was.sink.faults now.sink.faults

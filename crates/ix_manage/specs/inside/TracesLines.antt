@@ -9,7 +9,7 @@ use Rattle.ix_values.specs.PlainAction.{PlainAction, Word}
 use Rattle.ix_expr.specs.Form.{Form}
 use Rattle.ix_manage.specs.ActionLines.{HasActions}
 use Rattle.ix_manage.specs.Session.{Session}
-use Rattle.ix_manage.specs.Trace.{Answers, Traces}
+use Rattle.ix_manage.specs.Trace.{TraceAnswers, Traces}
 use Rattle.ix_manage.specs.declared.refusal.Refusal.TheVariants.{Memory}
 use Rattle.ix_manage.specs.declared.early_end.EarlyEnd.{EarlyEnd}
 use Rattle.ix_manage.specs.declared.early_end.EarlyEnd.TheVariants.{Refused, Words, OtherExpression}
@@ -25,7 +25,7 @@ pub record TracesLines (x : Form) (limit : ℕ) (bytes : List ℕ) (status : ℕ
 -- an action's line, and the history after it
 abbrev pub AnswersOne : EngineState → PlainAction → List ℕ → Word → Type 0
 AnswersOne engine action text after =
-    Answers engine.form engine.limit engine.history (action ∷ []) text after
+    TraceAnswers engine.form engine.limit engine.history (action ∷ []) text after
 
 -- some front of a text was put, and this is left of it
 abbrev pub PutsFront : List ℕ → List ℕ → SinkState → SinkState → Type 0

@@ -5,7 +5,7 @@ use Rattle.ix_values.specs.PlainAction.{PlainAction}
 use Rattle.ix_expr.specs.Form.{Form}
 use Rattle.ix_watch.specs.inside.Watches.{PlainWatch, changes_of}
 use Rattle.ix_proto.specs.Requests.{PlainRequest, IsRequest, confirm, poll, stop}
-use Rattle.ix_proto.specs.inside.Lends.{Lends}
+use Rattle.ix_proto.specs.inside.Lends.{LendsRequest}
 use Rattle.ix_proto.specs.inside.ReplyTexts.{CanBeTold}
 use Rattle.ix_proto.specs.declared.reply.Reply.{Reply}
 use Rattle.ix_proto.specs.declared.reply.Reply.TheVariants as reply
@@ -23,8 +23,8 @@ pub record Core : Type 0 where
   pub noted : List PlainWatch
 
 -- a watch without what was noted of it
-abbrev pub watch_of : PlainWatch → MachineWatch
-watch_of watch = record { name = watch.name; action = watch.action; told = watch.told }
+abbrev pub core_watch : PlainWatch → MachineWatch
+core_watch watch = record { name = watch.name; action = watch.action; told = watch.told }
 
 -- of each watch of this name it is noted whether its action is allowed
 abbrev pub IsRefreshed : Core → List ℕ → Type 0
@@ -40,12 +40,12 @@ change_replies changes = map (λ (change : PlainAction × Bool). reply.Change ch
 -- yet; or the run ends, by which nothing changes.
 abbrev pub MachineAnswers : Core → Request → Answer → Core → Type 0
 MachineAnswers old request (answer.One one) new =
-    ((plain : PlainRequest) → IsRequest plain → Lends request plain → Step old.form old.limit old.state plain (one ∷ []) new.state)
-    × (¬ Lends request stop)
+    ((plain : PlainRequest) → IsRequest plain → LendsRequest request plain → Step old.form old.limit old.state plain (one ∷ []) new.state)
+    × (¬ LendsRequest request stop)
     × CanBeTold one
-MachineAnswers old request (answer.Poll name) new = Lends request (poll name) × (new.state ≡ old.state) × IsRefreshed new name
-MachineAnswers old request (answer.Confirm ticket) new = Lends request (confirm ticket) × (new ≡ old)
-MachineAnswers old request answer.Stop new = Lends request stop × (new ≡ old)
+MachineAnswers old request (answer.Poll name) new = LendsRequest request (poll name) × (new.state ≡ old.state) × IsRefreshed new name
+MachineAnswers old request (answer.Confirm ticket) new = LendsRequest request (confirm ticket) × (new ≡ old)
+MachineAnswers old request answer.Stop new = LendsRequest request stop × (new ≡ old)
 
 -- a poll of a name was told
 pub record TellsPoll (old : Core) (name : List ℕ) (new : Core) : Type 0 where

@@ -14,7 +14,7 @@ use Rattle.ix_outside.specs.SiteState.{SiteState}
 use Rattle.ix_outside.specs.inside.DiskCalls.{KeepsOpened, LeavesOnly}
 use Rattle.ix_outside.specs.declared.event.Event.{Event}
 use Rattle.ix_lease.specs.declared.Slot.TheVariants.{Held}
-use Rattle.ix_store.specs.inside.Keeping.{Fits}
+use Rattle.ix_store.specs.inside.Keeping.{FitsFile}
 use Rattle.ix_store.specs.Keeping.{Keeping}
 use Rattle.ix_manager.specs.declared.faults.Go.{Go}
 use Rattle.ix_manager.specs.declared.faults.Go.TheVariants.{More, Stopped}
@@ -44,7 +44,7 @@ pub record TicketsGoOn (marks : Marks) (s : MachineState) : Type 0 where
 pub record FitsWith (x : Form) (s : MachineState) (store : Keeping)
     (site : SiteState) (crashes : Crashes) : Type 0 where
   pub works : store.failed ≡ false
-  pub fits : Fits site crashes store (canonical_text x) s.history
+  pub fits : FitsFile site crashes store (canonical_text x) s.history
   pub tickets : TicketsGoOn store.marks s
 
 -- the manager's store fits the site with its expression and its machine

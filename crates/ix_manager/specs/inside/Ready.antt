@@ -8,7 +8,7 @@ use Rattle.ix_values.specs.PlainAction.{PlainAction}
 use Rattle.ix_values.specs.declared.tickets.Ticket.{Ticket}
 use Rattle.ix_journal.specs.declared.entries.Renewed.{Renewed}
 use Rattle.ix_can.specs.TreeOf.{tree_size}
-use Rattle.ix_engine.specs.inside.Engine.{EngineState, Follows, Permits, extended}
+use Rattle.ix_engine.specs.inside.Engine.{EngineState, IsTreeAfter, Permits, extended_by}
 use Rattle.ix_engine.specs.declared.next.Next.{Next}
 use Rattle.ix_lease.specs.declared.Slot.{Slot}
 use Rattle.ix_lease.specs.declared.Slot.TheVariants.{Free, Held}
@@ -18,14 +18,14 @@ use Rattle.ix_manager.specs.Refusals as refused
 -- the prepared action is this one and follows the engine, which has the memory for it
 pub record IsPrepared (engine : EngineState) (action : PlainAction) (next : Next) : Type 0 where
   pub same : next.action ≡ action
-  pub follows : Follows engine next.action next.tree
+  pub follows : IsTreeAfter engine next.action next.tree
   pub spare : 1 ≤ engine.spare
 
 -- where the slot is held, its action is prepared, and there is memory for a ticket more
-abbrev pub IsReady : EngineState → Vec (Option Ticket) Global → Slot → Option Next → Type 0
-IsReady engine tickets Free pending = Unit {0}
-IsReady engine tickets (Held ticket action deadline) None = ⊥
-IsReady engine tickets (Held ticket action deadline) (Some next) =
+abbrev pub IsReadyFor : EngineState → Vec (Option Ticket) Global → Slot → Option Next → Type 0
+IsReadyFor engine tickets Free pending = Unit {0}
+IsReadyFor engine tickets (Held ticket action deadline) None = ⊥
+IsReadyFor engine tickets (Held ticket action deadline) (Some next) =
     IsPrepared engine action next × (vec_len tickets < vec_capacity tickets)
 
 -- no more actions are carried than they stand for, which fit
@@ -38,7 +38,7 @@ pub record IsSoundRenewal (renewed : Renewed) : Type 0 where
 pub record IsMachine (engine : EngineState) (tickets : Vec (Option Ticket) Global) (slot : Slot)
     (pending : Option Next) (renewed : Renewed) : Type 0 where
   pub each : length tickets.items ≡ length engine.history
-  pub ready : IsReady engine tickets slot pending
+  pub ready : IsReadyFor engine tickets slot pending
   pub stands : IsSoundRenewal renewed
 
 -- the pair's ticket is this one
@@ -47,15 +47,15 @@ has_ticket ticket None = false
 has_ticket ticket (Some kept) = if kept.boot == ticket.boot then kept.seq == ticket.seq else false
 
 -- the refusals of an action that isn't prepared
-pub data Refuses (engine : EngineState) (action : PlainAction) : Reply → Type 0 where
-  not_permitted : ¬ Permits engine action → Refuses engine action refused.not_permitted
+pub data RefusesAsk (engine : EngineState) (action : PlainAction) : Reply → Type 0 where
+  not_permitted : ¬ Permits engine action → RefusesAsk engine action refused.not_permitted
   full : Permits engine action → length engine.history ≡ 1000000
-      → Refuses engine action refused.full
+      → RefusesAsk engine action refused.full
   large : Permits engine action → length engine.history < 1000000
-      → engine.limit < tree_size engine.form (extended engine action)
-      → Refuses engine action (refused.above engine.limit)
+      → engine.limit < tree_size engine.form (extended_by engine action)
+      → RefusesAsk engine action (refused.above engine.limit)
   memory : Permits engine action → length engine.history < 1000000
-      → Refuses engine action refused.no_memory
+      → RefusesAsk engine action refused.no_memory
 
 -- open at the moment, up to this deadline
 abbrev pub IsOpenUpTo : Slot → ℕ → ℕ → Type 0

@@ -9,7 +9,7 @@ use Rattle.ix_expr.specs.Form.{Form}
 use Rattle.ix_lease.specs.declared.Slot.{Slot}
 use Rattle.ix_lease.specs.declared.Slot.TheVariants.{Held}
 use Rattle.ix_lease.specs.declared.Take.{Take}
-use Rattle.ix_lease.specs.inside.Takes.{Takes}
+use Rattle.ix_lease.specs.inside.Takes.{TakesSlot}
 use Rattle.ix_outside.specs.Counts.{Rose}
 use Rattle.ix_outside.specs.Crashes.{Crashes, Passes, LeavesTheSame, Stretch}
 use Rattle.ix_outside.specs.SiteState.{SiteState}
@@ -93,7 +93,7 @@ SavesRun ending old new stretch =
 
 -- what the reservation of a ticket is found to be
 abbrev pub Finds : Core → Ticket → Take → Type 0
-Finds core ticket take = (slot : Slot) × Takes core.state.slot ticket core.state.moment take slot
+Finds core ticket take = (slot : Slot) × TakesSlot core.state.slot ticket core.state.moment take slot
 
 -- the open reservation's confirm made its step
 abbrev pub Commits : Core → Ticket → Reply → Core → Type 0

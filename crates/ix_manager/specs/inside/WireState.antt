@@ -11,7 +11,7 @@ use Rattle.ix_outside.specs.inside.DiskCalls.{span}
 use Rattle.ix_proto.specs.declared.reply.Reply.{Reply}
 use Rattle.ix_proto.specs.declared.reply.Reply.TheVariants as reply
 use Rattle.ix_proto.specs.Requests.{PlainRequest, IsRequest, request_words}
-use Rattle.ix_proto.specs.inside.Lends.{Lends}
+use Rattle.ix_proto.specs.inside.Lends.{LendsRequest}
 use Rattle.ix_proto.specs.declared.request.Request.{Request}
 use Rattle.ix_manager.specs.Runs.{Ending, ItemStep, Steps}
 use Rattle.ix_manager.specs.Wire.{SendsInOrder, reply_line, all_replies}
@@ -61,12 +61,12 @@ poll_replies changes = reply.Changes (length (change_replies changes)) ∷ chang
 
 -- the request lends a request's texts
 abbrev pub IsPlain : Request → Type 0
-IsPlain request = (plain : PlainRequest) × IsRequest plain × Lends request plain
+IsPlain request = (plain : PlainRequest) × IsRequest plain × LendsRequest request plain
 
 -- each line of a request whose texts are lent makes its step, and the replies are sent
 pub record AnswersRequest (conn : ℕ) (request : Request) (ending : Ending) (replies : List Reply)
     (old new : Core) (before after : WireState) : Type 0 where
-  pub step : (plain : PlainRequest) → IsRequest plain → Lends request plain
+  pub step : (plain : PlainRequest) → IsRequest plain → LendsRequest request plain
       → (bytes : List ℕ) → words_of bytes ≡ request_words plain
       → ItemStep old.form old.limit old.state (line bytes) replies new.state ending
   pub sends : SendsAll conn replies before after

@@ -8,8 +8,8 @@ pub record HoldState : Type 0 where
   pub in_turn : Bool
 
 -- behind a grant on this connection
-abbrev pub held : ℕ → HoldState → HoldState
-held place hold = cond hold.in_turn (record { holder = Some place; in_turn = false }) hold
+abbrev pub held_by : ℕ → HoldState → HoldState
+held_by place hold = cond hold.in_turn (record { holder = Some place; in_turn = false }) hold
 
 -- nobody is the holder behind an event; and where nobody was, the event came in its turn
 abbrev pub ComesByHold : HoldState → HoldState → Type 0

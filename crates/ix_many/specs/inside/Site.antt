@@ -4,7 +4,7 @@ use Rattle.ix_outside.specs.SiteState.{SiteState}
 use Rattle.ix_outside.specs.declared.event.Event.{Event}
 use Rattle.ix_real.specs.inside.Untold.{RealSiteState, untold_site}
 use Rattle.ix_outside.specs.Event.{IsPiece}
-use Rattle.ix_many.specs.inside.Streams.{ComesOnly, IsFree, KeepsStreams, Streams, WireState}
+use Rattle.ix_many.specs.inside.Streams.{ComesOnly, IsFree, KeepsStreams, Streams, StreamsState}
 
 -- the counts, whether a file is attached, and which stream has which number
 pub record ManySiteState : Type 0 where
@@ -12,7 +12,7 @@ pub record ManySiteState : Type 0 where
   pub streams : Streams
 
 -- the streams of a wire; none, where nothing is listened to
-abbrev pub streams_of : Option WireState → Streams
+abbrev pub streams_of : Option StreamsState → Streams
 streams_of None = []
 streams_of (Some wire) = wire.streams
 

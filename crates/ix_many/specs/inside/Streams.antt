@@ -10,7 +10,7 @@ abbrev pub Streams : Type 0
 Streams = List (Option ℤ)
 
 -- the streams of a wire, and its holder
-pub record WireState : Type 0 where
+pub record StreamsState : Type 0 where
   pub streams : Streams
   pub hold : HoldState
 

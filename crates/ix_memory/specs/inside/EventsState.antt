@@ -18,8 +18,8 @@ abbrev pub event_of : List ℕ → Piece → GivenEvent
 event_of bytes piece = record { event = piece.event; bytes = piece_of piece.event.kind (drop piece.start bytes) }
 
 -- the events of pieces, from the bytes of all of them
-abbrev pub events_of : List ℕ → List Piece → List GivenEvent
-events_of bytes pieces = map (event_of bytes) pieces
+abbrev pub events_from : List ℕ → List Piece → List GivenEvent
+events_from bytes pieces = map (event_of bytes) pieces
 
 -- an event's bytes are at least one and within so many bytes; an end has connection 0
 abbrev pub KindIsKept : ℕ → ℕ → ℕ → EventKind → Type 0

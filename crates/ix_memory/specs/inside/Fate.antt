@@ -31,10 +31,10 @@ pub record TellsFate (plan : PlanState) (cost : ℕ) (fails full : Bool) : Type 
   pub of_room : is_full plan cost ≡ full
 
 -- a call that works doesn't fail, one that fails as it is told to has room, and the others have none
-abbrev pub Tells : Fate → PlanState → ℕ → Type 0
-Tells Works plan cost = TellsFate plan cost false false
-Tells Fails plan cost = TellsFate plan cost true false
-Tells Full plan cost = TellsFate plan cost true true
+abbrev pub TellsPlanned : Fate → PlanState → ℕ → Type 0
+TellsPlanned Works plan cost = TellsFate plan cost false false
+TellsPlanned Fails plan cost = TellsFate plan cost true false
+TellsPlanned Full plan cost = TellsFate plan cost true true
 
 -- a call that doesn't work has no effect
 abbrev pub effect_where : Fate → Effect → Effect

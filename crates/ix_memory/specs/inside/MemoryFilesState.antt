@@ -13,18 +13,18 @@ pub record MemoryFilesState : Type 0 where
   pub faults : ℕ
 
 -- the files as every contract of their trait sees them; the object was lent nothing
-abbrev pub state_of : MemoryFilesState → FilesState
-state_of state = record { contents = Some state.files; faults = state.faults; held = free }
+abbrev pub memory_files_state : MemoryFilesState → FilesState
+memory_files_state state = record { contents = Some state.files; faults = state.faults; held = free }
 
 -- the names with the bytes of their files
 abbrev pub listing_of : List (String Global × Vec ℕ Global) → Listing
 listing_of files = map (λ file. (string_bytes file.0, file.1.items)) files
 
 -- no file has this name
-abbrev pub IsAbsent : Listing → List ℕ → Type 0
-IsAbsent [] name = ⊤
-IsAbsent (file ∷ files) name = (file.0 ≢ name) × IsAbsent files name
+abbrev pub HasNoFile : Listing → List ℕ → Type 0
+HasNoFile [] name = ⊤
+HasNoFile (file ∷ files) name = (file.0 ≢ name) × HasNoFile files name
 
 -- a load fails: it is told to, or no file has the name
 abbrev pub FailsToLoad : MemoryFilesState → List ℕ → Type 0
-FailsToLoad state name = (is_told state.calls ≡ true) ⊎ IsAbsent state.files name
+FailsToLoad state name = (is_told state.calls ≡ true) ⊎ HasNoFile state.files name

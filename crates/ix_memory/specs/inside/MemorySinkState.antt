@@ -12,8 +12,8 @@ pub record MemorySinkState : Type 0 where
   pub faults : ℕ
 
 -- the sink as every contract of its trait sees it; it was lent nothing
-abbrev pub state_of : MemorySinkState → SinkState
-state_of state = record { written = Some state.bytes; faults = state.faults; held = free }
+abbrev pub memory_sink_state : MemorySinkState → SinkState
+memory_sink_state state = record { written = Some state.bytes; faults = state.faults; held = free }
 
 -- a put of so many bytes fails: it is told to, or the room is passed
 abbrev pub fails_to_put : MemorySinkState → ℕ → Bool

@@ -13,7 +13,7 @@ use Rattle.ix_memory.specs.PlanState.{PlanState, fresh_plan}
 use Rattle.ix_memory.specs.Plan.{plan_after}
 use Rattle.ix_memory.specs.inside.SentState.{no_sends}
 use Rattle.ix_memory.specs.inside.CanCome.{last_moment}
-use Rattle.ix_memory.specs.inside.Moments.{Leaves, LeftSince}
+use Rattle.ix_memory.specs.inside.Moments.{LeavesImage, LeftSince}
 use Rattle.ix_memory.specs.inside.PastCalls.{PastCall}
 use Rattle.ix_memory.specs.declared.past.Effect.{Effect}
 use Rattle.ix_memory.specs.declared.past.Effect.TheVariants.{Kept, Wrote, Cut, Synced, Attached}
@@ -97,7 +97,7 @@ state_of site = record {
 -- what a crash may leave
 abbrev pub crashes_of : MemorySiteState → Crashes
 crashes_of site = record {
-  now = Leaves site.past site.image;
+  now = LeavesImage site.past site.image;
   left = λ t image.
       (sent : List SentBytes)
       × LeftSince site.past site.image site.sends.sent t (record { image = image; sent = sent });

@@ -25,17 +25,17 @@ Pending (call ∷ calls) image =
     (Pending calls) image
 
 -- what a crash may leave behind these calls, where the file reads so
-abbrev pub Leaves : List PastCall → List ℕ → List ℕ → Type 0
-Leaves calls file image = (image ≡ file) ⊎ Pending calls image
+abbrev pub LeavesImage : List PastCall → List ℕ → List ℕ → Type 0
+LeavesImage calls file image = (image ≡ file) ⊎ Pending calls image
 
 -- what a crash may leave at a moment, where it isn't before this tick, and what had been sent then
-abbrev pub LeavesThen : ℕ → ℕ → (List ℕ → Type 0) → (List SentBytes → Type 0) → Left → Type 0
-LeavesThen t moment Image Sent left = (t ≤ moment) × Image left.image × Sent left.sent
+abbrev pub LeavesAt : ℕ → ℕ → (List ℕ → Type 0) → (List SentBytes → Type 0) → Left → Type 0
+LeavesAt t moment Image Sent left = (t ≤ moment) × Image left.image × Sent left.sent
 
 -- what a crash since a tick may have left: before the last of these calls, within it or behind it
 abbrev pub LeftSince : List PastCall → List ℕ → List SentBytes → ℕ → Left → Type 0
-LeftSince [] file sent t left = LeavesThen t 0 (Leaves [] file) (λ then. then ≡ sent) left
+LeftSince [] file sent t left = LeavesAt t 0 (LeavesImage [] file) (λ then. then ≡ sent) left
 LeftSince (call ∷ calls) file sent t left =
     LeftSince calls call.file call.sent t left
-    ⊎ LeavesThen t (length calls) (Leaves (call ∷ calls) file) (IsSentByThen call.sent sent) left
-    ⊎ LeavesThen t (length (call ∷ calls)) (Leaves (call ∷ calls) file) (λ then. then ≡ sent) left
+    ⊎ LeavesAt t (length calls) (LeavesImage (call ∷ calls) file) (IsSentByThen call.sent sent) left
+    ⊎ LeavesAt t (length (call ∷ calls)) (LeavesImage (call ∷ calls) file) (λ then. then ≡ sent) left

@@ -19,9 +19,9 @@ rest_piece room Closed piece = []
 rest_piece room End piece = []
 
 -- the next piece, and at last the end
-abbrev pub next_piece : ℕ → ℕ → List Piece → Piece
-next_piece room last [] = record { event = record { conn = 0; moment = last; kind = End }; start = 0 }
-next_piece room last (piece ∷ later) = front_piece room piece
+abbrev pub next_piece_told : ℕ → ℕ → List Piece → Piece
+next_piece_told room last [] = record { event = record { conn = 0; moment = last; kind = End }; start = 0 }
+next_piece_told room last (piece ∷ later) = front_piece room piece
 
 -- the pieces to come behind it
 abbrev pub then_pieces : ℕ → List Piece → List Piece

@@ -3,7 +3,7 @@ use Rattle.std.specs.Prelude.{ℕ, List, [], ◌∷◌, ◌++◌, map}
 use Rattle.ix_outside.specs.Contents.{SentBytes, Sends}
 use Rattle.ix_memory.specs.declared.sent.Pair.{Pair}
 use Rattle.ix_memory.specs.declared.sent.Span.{Span}
-use Rattle.ix_memory.specs.inside.Spans.{text_at, IsWithin, AreWithin}
+use Rattle.ix_memory.specs.inside.Spans.{text_at, IsSpanWithin, AreWithin}
 
 -- the sends, the name of the file, and how many more bytes and how many more sends have their
 -- memory already
@@ -30,4 +30,4 @@ sends_of bytes pairs gone heard =
 pub record AreKept (count : ℕ) (pairs : List Pair) (heard : List Span) (name : Span) : Type 0 where
   pub of_pairs : AreWithin count (map (λ (pair : Pair). pair.span) pairs)
   pub of_heard : AreWithin count heard
-  pub of_name : IsWithin count name
+  pub of_name : IsSpanWithin count name

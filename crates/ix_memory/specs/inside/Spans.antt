@@ -7,11 +7,11 @@ abbrev pub text_at : List ℕ → Span → List ℕ
 text_at bytes span = take (span.end - span.start) (drop span.start bytes)
 
 -- the ends are in order and within so many bytes
-pub record IsWithin (count : ℕ) (span : Span) : Type 0 where
+pub record IsSpanWithin (count : ℕ) (span : Span) : Type 0 where
   pub in_order : span.start ≤ span.end
   pub within : span.end ≤ count
 
 -- each of them is within so many bytes
 abbrev pub AreWithin : ℕ → List Span → Type 0
 AreWithin count [] = ⊤
-AreWithin count (span ∷ spans) = IsWithin count span × AreWithin count spans
+AreWithin count (span ∷ spans) = IsSpanWithin count span × AreWithin count spans

@@ -8,7 +8,7 @@ use Rattle.ix_outside.specs.Crashes.{Left, AreLawful}
 use Rattle.ix_outside.specs.Disk.{HasNothingOpened, Opened, OfFile}
 use Rattle.ix_memory.specs.inside.MemorySiteState.{MemorySiteState, told_contents, told_disk}
 use Rattle.ix_memory.specs.inside.MemorySiteState.{opened_where, state_of, crashes_of}
-use Rattle.ix_memory.specs.inside.Moments.{Leaves, LeftSince}
+use Rattle.ix_memory.specs.inside.Moments.{LeavesImage, LeftSince}
 use Rattle.ix_memory.specs.inside.PastCalls.{PastCall}
 
 -- a tick since which something was left isn't above the last one
@@ -37,7 +37,7 @@ LeftSince-earlier (call ∷ calls) file sent t u left le (inr (inr behind)) =
 -- since this very tick just what may be left now is, beside all that was sent
 pub LeftSince-now : (calls : List PastCall) (file : List ℕ) (sent : List SentBytes) (left : Left)
     → LeftSince calls file sent (length calls) left
-    → Leaves calls file left.image × (left.sent ≡ sent)
+    → LeavesImage calls file left.image × (left.sent ≡ sent)
 LeftSince-now [] file sent left since = (since.1, since.2)
 LeftSince-now (call ∷ calls) file sent left (inl before) =
     let le : length (call ∷ calls) ≤ length calls =
@@ -47,7 +47,7 @@ LeftSince-now (call ∷ calls) file sent left (inr (inl within)) =
 LeftSince-now (call ∷ calls) file sent left (inr (inr behind)) = (behind.1, behind.2)
 
 pub now-LeftSince : (calls : List PastCall) (file : List ℕ) (sent : List SentBytes) (left : Left)
-    → Leaves calls file left.image → left.sent ≡ sent
+    → LeavesImage calls file left.image → left.sent ≡ sent
     → LeftSince calls file sent (length calls) left
 now-LeftSince [] file sent left leaves all = (omega arith, leaves, all)
 now-LeftSince (call ∷ calls) file sent left leaves all = inr (inr (omega arith, leaves, all))
@@ -75,7 +75,7 @@ told_nothing_opened false attached file name calls none = tt
 pub memory_is_lawful : (site : MemorySiteState) → AreLawful (state_of site) (crashes_of site)
 memory_is_lawful site = record {
   unattached = told_nothing_opened site.told site.attached site.image site.name site.past;
-  file = told_file site.told (Leaves site.past site.image) site.image _ (inl refl);
+  file = told_file site.told (LeavesImage site.past site.image) site.image _ (inl refl);
   left_now = λ image. (
     (λ left. (LeftSince-now site.past site.image site.sends.sent _ left.1).0),
     (λ now. (site.sends.sent, now-LeftSince site.past site.image site.sends.sent _ now refl)),

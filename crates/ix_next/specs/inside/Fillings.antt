@@ -15,11 +15,11 @@ use Rattle.ix_next.specs.declared.trial.Test.{Test}
 use Rattle.ix_next.specs.Given.{given_for}
 use Rattle.ix_next.specs.Candidates.{PlainCandidate, candidate_of, candidate_eq, fillings}
 use Rattle.ix_next.specs.Candidates.{new_behind, once}
-use Rattle.ix_next.specs.inside.Trials.{passes}
+use Rattle.ix_next.specs.inside.Trials.{passes_filter}
 
 -- no place is filled
-abbrev pub begun : List ℕ → Filling
-begun name = record { candidate = candidate_of name []; chosen = []; news = 0 }
+abbrev pub begun_filling : List ℕ → Filling
+begun_filling name = record { candidate = candidate_of name []; chosen = []; news = 0 }
 
 -- the candidate with a term more
 abbrev pub with_term : PlainCandidate → Term → PlainCandidate
@@ -48,8 +48,8 @@ abbrev pub with_first : Filling → List ℕ → Term → Filling
 with_first f p t = with_param f p None t
 
 -- the candidate with these terms behind its own
-abbrev pub extended : PlainCandidate → List Term → PlainCandidate
-extended c ts = candidate_of c.name (c.terms ++ ts)
+abbrev pub with_terms : PlainCandidate → List Term → PlainCandidate
+with_terms c ts = candidate_of c.name (c.terms ++ ts)
 
 -- the values that a parameter gets
 abbrev pub pool : Scope → List ℕ → List (List ℕ)
@@ -57,7 +57,7 @@ pool s p = once text_eq (given_for p s.given.now ++ s.fixed.now)
 
 -- the candidates that come of a filling by filling the places of these arguments too
 abbrev pub filled : Scope → List Arg → Filling → List PlainCandidate
-filled s arguments f = each (extended f.candidate)
+filled s arguments f = each (with_terms f.candidate)
     (fillings s.new (pool s) arguments f.chosen f.news)
 
 -- the same with each of these terms in the place before them
@@ -66,7 +66,7 @@ filled_with s arguments f p terms = flat_map (λ t. filled s arguments (with_fir
 
 -- what is found with the candidate too, if it is kept
 abbrev pub keep : Test → List PlainCandidate → PlainCandidate → List PlainCandidate
-keep test found c = if passes test c then insert_key candidate_eq found c else found
+keep test found c = if passes_filter test c then insert_key candidate_eq found c else found
 
 -- the tray has taken these candidates
 pub record Took (s : Scope) (old new : Tray) (candidates : List PlainCandidate) : Type 0 where
@@ -76,4 +76,4 @@ pub record Took (s : Scope) (old new : Tray) (candidates : List PlainCandidate) 
 
 -- the candidates of these atoms
 abbrev pub filled_atoms : Scope → List PlainAtom → List PlainCandidate
-filled_atoms s atoms = flat_map (λ a. filled s a.arguments (begun a.name)) atoms
+filled_atoms s atoms = flat_map (λ a. filled s a.arguments (begun_filling a.name)) atoms

@@ -2,7 +2,7 @@
 use Rattle.std.specs.Prelude.{ℕ, ◌-◌, Bool, true, false, List, [], ◌∷◌, get_or}
 use Rattle.ix_can.specs.Laws.{IsProper}
 use Rattle.ix_can.specs.May.{may}
-use Rattle.ix_next.specs.Candidates.{PlainCandidate, action_of}
+use Rattle.ix_next.specs.Candidates.{PlainCandidate, action_with}
 use Rattle.ix_next.specs.declared.trial.Trial.{Trial}
 use Rattle.ix_next.specs.declared.trial.Test.{Test}
 use Rattle.ix_next.specs.declared.trial.Test.TheVariants.{Nothing, Everything, MayCome}
@@ -12,14 +12,14 @@ abbrev pub new_of : List (List ℕ) → ℕ → List ℕ
 new_of values n = get_or values (n - 1) (48 ∷ [])
 
 -- whether the action of the candidate, with these new values, may come
-abbrev pub may_come : Trial → PlainCandidate → Bool
-may_come trial c = may trial.expression.now [] trial.tree.now (action_of (new_of trial.new.now) c)
+abbrev pub may_come_next : Trial → PlainCandidate → Bool
+may_come_next trial c = may trial.expression.now [] trial.tree.now (action_with (new_of trial.new.now) c)
 
 -- whether the candidate is kept
-abbrev pub passes : Test → PlainCandidate → Bool
-passes Nothing c = false
-passes Everything c = true
-passes (MayCome trial) c = may_come trial c
+abbrev pub passes_filter : Test → PlainCandidate → Bool
+passes_filter Nothing c = false
+passes_filter Everything c = true
+passes_filter (MayCome trial) c = may_come_next trial c
 
 -- the tree can be asked
 abbrev pub CanAskTrial : Trial → Type 0

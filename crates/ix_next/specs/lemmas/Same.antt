@@ -72,10 +72,10 @@ hashed (Known v) = v
 hashed (New n) = n ∷ []
 
 -- what is hashed of a candidate: its name and its terms
-abbrev pub hash_input_of : PlainCandidate → List (List ℕ)
-hash_input_of c = c.name ∷ each hashed c.terms
+abbrev pub candidate_input : PlainCandidate → List (List ℕ)
+candidate_input c = c.name ∷ each hashed c.terms
 
 -- equal candidates are hashed alike
-pub hash_input_of-respects_eq : (c d : PlainCandidate) → IsTrue (candidate_eq c d)
-    → hash_input_of c ≡ hash_input_of d
-hash_input_of-respects_eq c d same = λ i. hash_input_of (candidate_eq-tells c d same i)
+pub candidate_input-respects_eq : (c d : PlainCandidate) → IsTrue (candidate_eq c d)
+    → candidate_input c ≡ candidate_input d
+candidate_input-respects_eq c d same = λ i. candidate_input (candidate_eq-tells c d same i)

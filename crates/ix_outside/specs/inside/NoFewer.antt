@@ -3,7 +3,7 @@ use Rattle.std.specs.Prelude.{◌≤◌}
 use Rattle.ix_outside.specs.Counts.{Counts}
 
 -- no count fell
-pub record NoFewer (before now : Counts) : Type 0 where
+pub record NoFewerCalls (before now : Counts) : Type 0 where
   pub disk : before.disk ≤ now.disk
   pub wire : before.wire ≤ now.wire
   pub send : before.send ≤ now.send

@@ -24,11 +24,11 @@ abbrev pub config_of : Reader → machine.Config
 config_of r = record { stack = stack_of r.stack.items; mode = mode_of r.mode }
 
 -- the atom that is being read has a name and at most four arguments
-abbrev pub IsSound : machine.Mode → Type 0
-IsSound (name_read at w) = class_of w ≡ Names
-IsSound (argument_wanted at w args) = (class_of w ≡ Names) × (length args < 4)
-IsSound (argument_read at w args) = (class_of w ≡ Names) × (length args ≤ 4)
-IsSound _ = Unit {0}
+abbrev pub IsModeSound : machine.Mode → Type 0
+IsModeSound (name_read at w) = class_of w ≡ Names
+IsModeSound (argument_wanted at w args) = (class_of w ≡ Names) × (length args < 4)
+IsModeSound (argument_read at w args) = (class_of w ≡ Names) × (length args ≤ 4)
+IsModeSound _ = Unit {0}
 
 -- a word is a value and a parameter has a name
 abbrev pub IsReadable : Symbol → Type 0

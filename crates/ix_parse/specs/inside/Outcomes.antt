@@ -2,7 +2,7 @@
 use Rattle.std.specs.Prelude.{◌≡◌, ℕ, List, [], ◌∷◌, Option, Some, None, Result, Ok, Err, length, slice_get}
 use Rattle.ix_expr.specs.FormFaults.{nodes_of, IsWellFormed, IsFirstFormFault}
 use Rattle.ix_lex.specs.Lexing.{PlainToken, Piece}
-use Rattle.ix_lex.specs.inside.Items.{plain_token, piece_of, pieces_left}
+use Rattle.ix_lex.specs.inside.Items.{plain_token, item_piece, pieces_left}
 use Rattle.ix_lex.specs.declared.Token.{Token}
 use Rattle.ix_lex.specs.declared.LexFault.{LexFault}
 use Rattle.ix_lex.specs.declared.Tokens.{Tokens}
@@ -31,13 +31,13 @@ piece_follower (Some (Err fault)) = followers.Neither
 -- the pieces that are still to come, where one was taken already
 abbrev pub pending : Option (Result Token LexFault) → Tokens → List Piece
 pending None tokens = []
-pending (Some item) tokens = piece_of item ∷ pieces_left tokens
+pending (Some item) tokens = item_piece item ∷ pieces_left tokens
 
 -- a token was taken, or met this fault
-abbrev pub IsTaken : Config → ℕ → PlainToken → Follower → Result Reading TextFault → Type 0
-IsTaken c n t next (Ok r) = (judged c n (symbol_of t) next ≡ None) × (step c (symbol_of t) ≡ Some (config_of r.reader)) × (r.nodes ≡ nodes_after c n (symbol_of t))
-IsTaken c n t next (Err (Bad code at)) = (f : Fault) × (judged c n (symbol_of t) next ≡ Some f) × (code ≡ code_of f) × (at ≡ t.start)
-IsTaken c n t next (Err Memory) = Unit {0}
+abbrev pub IsStepTaken : Config → ℕ → PlainToken → Follower → Result Reading TextFault → Type 0
+IsStepTaken c n t next (Ok r) = (judged c n (symbol_of t) next ≡ None) × (step c (symbol_of t) ≡ Some (config_of r.reader)) × (r.nodes ≡ nodes_after c n (symbol_of t))
+IsStepTaken c n t next (Err (Bad code at)) = (f : Fault) × (judged c n (symbol_of t) next ≡ Some f) × (code ≡ code_of f) × (at ≡ t.start)
+IsStepTaken c n t next (Err Memory) = Unit {0}
 
 -- the first fault of the text
 abbrev pub IsFaultOf : List ℕ → TextFault → Type 0

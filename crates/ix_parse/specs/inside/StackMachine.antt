@@ -7,7 +7,7 @@ use Rattle.ix_parse.specs.declared.signs.Prefix.{Prefix}
 use Rattle.ix_parse.specs.declared.signs.Quantifier.{Quantifier}
 use Rattle.ix_parse.specs.declared.signs.WordClass.{WordClass}
 use Rattle.ix_parse.specs.declared.signs.WordClass.TheVariants.{Quantifies, Counts, Names, Other}
-use Rattle.ix_parse.specs.Symbols.{Symbol, word, param, opening, closing, comma, before, between, class_of, level, Meaning, joined, prefixed, quantified, counted, named, argument_of}
+use Rattle.ix_parse.specs.Symbols.{Symbol, word, param, opening, closing, comma, before, between, class_of, level, Meaning, joined_meaning, prefixed, quantified, counted, named, argument_of}
 
 -- the number from 2 to k + 1 that the word stands for
 abbrev pub number_below : ℕ → List ℕ → Option ℕ
@@ -54,29 +54,29 @@ pub record WithOperand : Type 0 where
   pub stack : List Entry
   pub operand : Meaning
 
-abbrev pub held : List Entry → Meaning → WithOperand
-held s x = record { stack = s; operand = x }
+abbrev pub operand_held : List Entry → Meaning → WithOperand
+operand_held s x = record { stack = s; operand = x }
 
 abbrev pub config : List Entry → Mode → Config
 config s mode = record { stack = s; mode = mode }
 
 -- the operand takes the prefixes in front of it
 abbrev pub closed : List Entry → Meaning → WithOperand
-closed [] x = held [] x
-closed (group ∷ s) x = held (group ∷ s) x
+closed [] x = operand_held [] x
+closed (group ∷ s) x = operand_held (group ∷ s) x
 closed (sign at p ∷ s) x = closed s (prefixed p at x)
 closed (binder at q p ∷ s) x = closed s (quantified q at p x)
 closed (counter at n ∷ s) x = closed s (counted n at x)
-closed (left at o y ∷ s) x = held (left at o y ∷ s) x
+closed (left at o y ∷ s) x = operand_held (left at o y ∷ s) x
 
--- the operand is joined to the left operands of operators that bind at least as tightly as the level
+-- the operand is joined_meaning to the left operands of operators that bind at least as tightly as the level
 abbrev pub reduced : ℕ → List Entry → Meaning → WithOperand
-reduced k [] x = held [] x
-reduced k (group ∷ s) x = held (group ∷ s) x
-reduced k (sign at p ∷ s) x = held (sign at p ∷ s) x
-reduced k (binder at q p ∷ s) x = held (binder at q p ∷ s) x
-reduced k (counter at n ∷ s) x = held (counter at n ∷ s) x
-reduced k (left at o y ∷ s) x = if nat_le k (level o) then reduced k s (joined o at y x) else held (left at o y ∷ s) x
+reduced k [] x = operand_held [] x
+reduced k (group ∷ s) x = operand_held (group ∷ s) x
+reduced k (sign at p ∷ s) x = operand_held (sign at p ∷ s) x
+reduced k (binder at q p ∷ s) x = operand_held (binder at q p ∷ s) x
+reduced k (counter at n ∷ s) x = operand_held (counter at n ∷ s) x
+reduced k (left at o y ∷ s) x = if nat_le k (level o) then reduced k s (joined_meaning o at y x) else operand_held (left at o y ∷ s) x
 
 -- an operand was read
 abbrev pub with_operand : WithOperand → Config
@@ -135,13 +135,13 @@ step_quantifier s at q (param p) = Some (config (binder at q p ∷ s) wanted)
 step_quantifier s at q _ = None
 
 -- the number behind `times`
-abbrev pub with_number : List Entry → ℕ → Option ℕ → Option Config
-with_number s at None = None
-with_number s at (Some n) = Some (config (counter at n ∷ s) wanted)
+abbrev pub times_with_number : List Entry → ℕ → Option ℕ → Option Config
+times_with_number s at None = None
+times_with_number s at (Some n) = Some (config (counter at n ∷ s) wanted)
 
 -- a symbol behind the word `times`
 abbrev pub step_times : List Entry → ℕ → Symbol → Option Config
-step_times s at (word at' w) = with_number s at (number_of w)
+step_times s at (word at' w) = times_with_number s at (number_of w)
 step_times s at _ = None
 
 abbrev pub step_by : List Entry → Mode → Symbol → Option Config
@@ -158,26 +158,26 @@ abbrev pub step : Config → Symbol → Option Config
 step c t = step_by c.stack c.mode t
 
 -- the operand that was read, with what is open
-abbrev pub settled_by : List Entry → Mode → Option WithOperand
-settled_by s (name_read at w) = Some (closed s (named at w []))
-settled_by s (operand_read x) = Some (held s x)
-settled_by s _ = None
+abbrev pub settled_mode : List Entry → Mode → Option WithOperand
+settled_mode s (name_read at w) = Some (closed s (named at w []))
+settled_mode s (operand_read x) = Some (operand_held s x)
+settled_mode s _ = None
 
-abbrev pub settled : Config → Option WithOperand
-settled c = settled_by c.stack c.mode
+abbrev pub settled_config : Config → Option WithOperand
+settled_config c = settled_mode c.stack c.mode
 
 -- the operand, where nothing is open
-abbrev pub alone : List Entry → Meaning → Option Meaning
-alone [] x = Some x
-alone (e ∷ s) x = None
+abbrev pub joined_whole : List Entry → Meaning → Option Meaning
+joined_whole [] x = Some x
+joined_whole (e ∷ s) x = None
 
 abbrev pub joined_all : Option WithOperand → Option Meaning
 joined_all None = None
-joined_all (Some h) = alone (reduced 1 h.stack h.operand).stack (reduced 1 h.stack h.operand).operand
+joined_all (Some h) = joined_whole (reduced 1 h.stack h.operand).stack (reduced 1 h.stack h.operand).operand
 
 -- what was read, if it is whole
 abbrev pub whole : Config → Option Meaning
-whole c = joined_all (settled c)
+whole c = joined_all (settled_config c)
 
 -- the configuration at the begin
 abbrev pub start : Config

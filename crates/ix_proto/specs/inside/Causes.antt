@@ -4,11 +4,11 @@ use Rattle.ix_proto.specs.declared.request_fault.Cause.{Cause}
 use Rattle.ix_proto.specs.declared.request_fault.Cause.TheVariants as cause
 
 -- the code that tells a cause
-abbrev pub code_of : Cause → ℕ
-code_of cause.UnknownRequest = 11
-code_of cause.NoAction = 12
-code_of cause.NoTicket = 13
-code_of cause.NoNumber = 13
-code_of cause.LeaseOutOfRange = 14
-code_of cause.WordCount = 15
-code_of cause.NoName = 16
+abbrev pub cause_code : Cause → ℕ
+cause_code cause.UnknownRequest = 11
+cause_code cause.NoAction = 12
+cause_code cause.NoTicket = 13
+cause_code cause.NoNumber = 13
+cause_code cause.LeaseOutOfRange = 14
+cause_code cause.WordCount = 15
+cause_code cause.NoName = 16

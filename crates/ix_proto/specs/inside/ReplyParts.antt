@@ -1,4 +1,4 @@
--- A reply's text as its first word and what stands behind it.
+-- A reply's text as its first word and what stands reply_rest it.
 use Rattle.std.specs.Prelude.{◌≡◌, ℕ, ◌<◌, ◌^◌, Option, Some, None, List, ◌∷◌, ◌++◌, codes}
 use Rattle.std.specs.Fmt.{decimal}
 use Rattle.ix_values.specs.PlainAction.{text_of}
@@ -44,27 +44,27 @@ kind_of (Refused code number) = kind.Refused
 abbrev pub nodes_text : ℕ → List ℕ
 nodes_text nodes = codes "nodes " ++ decimal nodes
 
--- what stands behind the first word and a space
-abbrev pub behind : Reply → Option (List ℕ)
-behind (Granted ticket) = Some (ticket_text ticket)
-behind (Confirmed count) = Some (decimal count)
-behind (Cancelled ticket) = Some (ticket_text ticket)
-behind (Outcome outcome) = Some (outcome_text outcome)
-behind (May answer) = None
-behind (Watching answer) = Some (yes_or_no answer)
-behind Dropped = None
-behind (Changes count) = Some (decimal count)
-behind (Change answer action) = Some (text_of action)
-behind (Status complete count nodes) = Some (complete_or_partial complete ++ 32 ∷ (decimal count ++ 32 ∷ nodes_text nodes))
-behind (Entry place action) = Some (decimal place ++ 32 ∷ text_of action)
-behind Stopping = None
-behind (Refused code number) = Some (decimal code ++ 32 ∷ with_number (has_number code) (refusal_text code) number)
+-- what stands reply_rest the first word and a space
+abbrev pub reply_rest : Reply → Option (List ℕ)
+reply_rest (Granted ticket) = Some (ticket_text ticket)
+reply_rest (Confirmed count) = Some (decimal count)
+reply_rest (Cancelled ticket) = Some (ticket_text ticket)
+reply_rest (Outcome outcome) = Some (outcome_text outcome)
+reply_rest (May answer) = None
+reply_rest (Watching answer) = Some (yes_or_no answer)
+reply_rest Dropped = None
+reply_rest (Changes count) = Some (decimal count)
+reply_rest (Change answer action) = Some (text_of action)
+reply_rest (Status complete count nodes) = Some (complete_or_partial complete ++ 32 ∷ (decimal count ++ 32 ∷ nodes_text nodes))
+reply_rest (Entry place action) = Some (decimal place ++ 32 ∷ text_of action)
+reply_rest Stopping = None
+reply_rest (Refused code number) = Some (decimal code ++ 32 ∷ with_number (has_number code) (refusal_text code) number)
 
--- a reply of this first word, with this text behind it
+-- a reply of this first word, with this text reply_rest it
 pub record StandsBehind (kind : Kind) (rest : Option (List ℕ)) (reply : Reply) : Type 0 where
   pub valid : IsReply reply
   pub kind_is : kind_of reply ≡ kind
-  pub rest_is : behind reply ≡ rest
+  pub rest_is : reply_rest reply ≡ rest
 
 -- the text is that of the code, with the number where it has one
 pub record IsRefusalBehind (code : ℕ) (text : List ℕ) (number : ℕ) : Type 0 where

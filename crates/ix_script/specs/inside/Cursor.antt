@@ -22,7 +22,7 @@ abbrev pub left_of : Cursor → List GivenEvent
 left_of cursor = with_bytes cursor.moment cursor.conn (open_bytes cursor) (later_events cursor)
 
 -- the same events are to come, the first of them with bytes of the line that was begun
-pub record IsBegun (old new : Cursor) : Type 0 where
+pub record IsCursorAt (old new : Cursor) : Type 0 where
   pub same : left_of new ≡ left_of old
   pub some : 0 < length (open_bytes new)
 

@@ -29,13 +29,13 @@ abbrev pub conn_of : List ℕ → ℕ
 conn_of line = number_from 0 (before_space (behind_space line))
 
 -- a line's text
-abbrev pub text_of : List ℕ → List ℕ
-text_of line = behind_space (behind_space line)
+abbrev pub text_behind_two : List ℕ → List ℕ
+text_behind_two line = behind_space (behind_space line)
 
 -- the events of lines, and the end at the last one's moment, or at this one where there is none
 abbrev pub events_at : ℕ → List (List ℕ) → List GivenEvent
 events_at moment [] = end_event moment ∷ []
-events_at moment (line ∷ lines) = line_event (moment_of line) (conn_of line) (text_of line) ∷ events_at (moment_of line) lines
+events_at moment (line ∷ lines) = line_event (moment_of line) (conn_of line) (text_behind_two line) ∷ events_at (moment_of line) lines
 
 -- the events of a script
 abbrev pub events_of : List ℕ → List GivenEvent

@@ -2,7 +2,7 @@
 use Rattle.std.proofs.Common.{◌+◌, ◌*◌, ◌≡◌, ◌≤◌, [], map, length, take, drop, flat_map, ◌-◌}
 use Rattle.ix_expr.specs.inside.FormOf.{form_of}
 use Rattle.ix_values.specs.Order.{text_cmp}
-use Rattle.ix_entries.specs.inside.Entries.{IsProper}
+use Rattle.ix_entries.specs.inside.Entries.{AreProperEntries}
 use Rattle.ix_tree.specs.Plain.{listed}
 use Rattle.ix_tree.specs.PlainOf.{plain_pair, plain_bag, plain_map, plain_entry, plain_entries}
 use Rattle.ix_tree.specs.Size.{size_of}
@@ -142,7 +142,7 @@ decreases-quantifiers::advance_entries l = 8 * form_size (form_of l.body.expr.no
 
 abbrev pub invariant-quantifiers::advance_entries-loop-value : goal.invariant-quantifiers::advance_entries-loop-value
 invariant-quantifiers::advance_entries-loop-value l = record {
-  proper : IsProper text_cmp tree_ghosts.eq l.next l.built.items;
+  proper : AreProperEntries text_cmp tree_ghosts.eq l.next l.built.items;
   held : HoldTrees l.next (tree_after l.reach l.body.parameter.now (form_of l.body.expr.now) l.step.env.now l.step.action.now l.common (map plain_entry l.entries)) (take l.value-index l.value-items) l.built.items l.total;
   within : l.total ≤ l.step.limit;
 }
@@ -161,7 +161,7 @@ decreases-quantifiers::advance_own l = 8 * form_size (form_of l.body.expr.now) +
 
 abbrev pub invariant-quantifiers::advance_own-loop-value : goal.invariant-quantifiers::advance_own-loop-value
 invariant-quantifiers::advance_own-loop-value l = record {
-  proper : IsProper text_cmp tree_ghosts.eq l.common l.own;
+  proper : AreProperEntries text_cmp tree_ghosts.eq l.common l.own;
   given : GivesAll l.common (tree_after OwnAlphabet l.body.parameter.now (form_of l.body.expr.now) l.step.env.now l.step.action.now l.common (map plain_entry l.entries)) (drop l.value-index l.later) l.own;
   small : size_of (plain_entries l.own) ≤ 1000000 + (l.value-index + 1) * 2000011;
 }

@@ -4,7 +4,7 @@ use Rattle.ix_tree.specs.Plain.{Plain, listed, more}
 use Rattle.ix_tree.specs.PlainOf.{plain_entry, plain_entries}
 use Rattle.ix_tree.specs.Size.{size_of}
 use Rattle.ix_can.specs.TreeOf.{entries_of}
-use Rattle.ix_step.specs.inside.Makes.{IsOver, put_all}
+use Rattle.ix_step.specs.inside.Makes.{IsAboveLimit, put_all}
 use Rattle.ix_step.specs.declared.fault.Unbuilt.{Unbuilt}
 
 -- the entries of the values, put one after the other
@@ -20,4 +20,4 @@ pub record HoldTrees (common : Plain) (tree : List ℕ → Plain) (values : List
 abbrev pub EnterTrees : ℕ → Plain → (List ℕ → Plain) → List (List ℕ) → List (List ℕ × Plain) → Result ℕ Unbuilt → Type 0
 EnterTrees limit common tree values entries r =
     MatchResult r (λ total. HoldTrees common tree values entries total × (total ≤ limit))
-    (IsOver limit (more common (listed (entries_put common tree values))))
+    (IsAboveLimit limit (more common (listed (entries_put common tree values))))

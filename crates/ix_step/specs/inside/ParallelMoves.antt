@@ -18,12 +18,12 @@ use Rattle.ix_step.specs.inside.Moves.{begun}
 use Rattle.ix_step.specs.inside.Ready.{Ready}
 
 -- the pairs of two trees with one of them moved, each where the moved tree is live
-abbrev pub pairs_of : Plain → Plain → Plain → Plain → List Plain
-pairs_of x u left right = when (is_live left) (pair left u ∷ []) ++ when (is_live right) (pair x right ∷ [])
+abbrev pub pairs_moved : Plain → Plain → Plain → Plain → List Plain
+pairs_moved x u left right = when (is_live left) (pair left u ∷ []) ++ when (is_live right) (pair x right ∷ [])
 
 -- the pairs in which one of the two sides is moved
 abbrev pub pair_moves : Form → Form → Environment → PlainAction → Plain → List Plain
-pair_moves y z e a p = pairs_of (first_part p) (second_part p) (moved y e (first_part p) a) (moved z e (second_part p) a)
+pair_moves y z e a p = pairs_moved (first_part p) (second_part p) (moved y e (first_part p) a) (moved z e (second_part p) a)
 
 -- the runs and one more: where so many are wanted, one that is done stays among them; where any number is, it is left out
 abbrev pub more_runs : Option ℕ → Plain → List Plain → List Plain

@@ -17,7 +17,7 @@ use Rattle.ix_can.specs.Laws.{IsProper, ProperEntries}
 use Rattle.ix_can.specs.May.{may, moves_within, tree_at}
 use Rattle.ix_can.specs.inside.Moved.{moved, moved_inside, entry_with}
 use Rattle.ix_step.specs.inside.Limits.{most_size}
-use Rattle.ix_step.specs.inside.Makes.{IsOver}
+use Rattle.ix_step.specs.inside.Makes.{IsAboveLimit}
 use Rattle.ix_step.specs.declared.bodies.Reach.{Reach}
 use Rattle.ix_step.specs.declared.bodies.Reach.TheVariants.{All, Must, OwnAlphabet}
 use Rattle.ix_step.specs.declared.fault.Unbuilt.{Unbuilt}
@@ -79,20 +79,20 @@ pub record TakesIn (y : Form) (p : List ℕ) (a : PlainAction) (entries : List (
 -- the entries were made and are within the limit, or with the common tree they are above it, or memory ran out
 abbrev pub MakesEntries : ℕ → Plain → Plain → Result (List (List ℕ × Plain)) Unbuilt → Type 0
 MakesEntries limit common entries r =
-    MatchResult r (λ made. (plain_entries made ≡ entries) × (size_of entries ≤ limit)) (IsOver limit (more common entries))
+    MatchResult r (λ made. (plain_entries made ≡ entries) × (size_of entries ≤ limit)) (IsAboveLimit limit (more common entries))
 
 -- the common tree and the entries were made, or together they are above the limit, or memory ran out
 abbrev pub MakesParts : ℕ → Plain → Plain → Result (Plain × List (List ℕ × Plain)) Unbuilt → Type 0
 MakesParts limit common entries r =
     MatchResult r (λ parts. (parts.0 ≡ common) × (plain_entries parts.1 ≡ entries) × (size_of common ≤ limit) × (size_of entries ≤ limit))
-    (IsOver limit (more common entries))
+    (IsAboveLimit limit (more common entries))
 
 -- the entries were made and aren't large beyond measure, or with the common tree they are above the limit, or memory ran out
 abbrev pub MakesOwn : ℕ → Plain → Plain → Result (List (List ℕ × Plain)) Unbuilt → Type 0
 MakesOwn limit common entries r =
-    MatchResult r (λ made. (plain_entries made ≡ entries) × (size_of entries ≤ 10000000)) (IsOver limit (more common entries))
+    MatchResult r (λ made. (plain_entries made ≡ entries) × (size_of entries ≤ 10000000)) (IsAboveLimit limit (more common entries))
 
 -- the tree of one value was made and is within the limit, or the common tree and the entries are above it, or memory ran out
 abbrev pub MakesOne : ℕ → Plain → Plain → Plain → Result Plain Unbuilt → Type 0
 MakesOne limit tree common entries r =
-    MatchResult r (λ made. (made ≡ tree) × (size_of tree ≤ limit)) (IsOver limit (more common entries))
+    MatchResult r (λ made. (made ≡ tree) × (size_of tree ≤ limit)) (IsAboveLimit limit (more common entries))

@@ -14,7 +14,7 @@ use Rattle.ix_store.specs.Keeping.{Keeping}
 -- A store fits a site with a text and a history: it counts the actions, and where the disk is told,
 -- each image that a crash may leave now is their journal, with the store's marks, and closed where
 -- the store keeps its gate.
-pub record Fits (site : SiteState) (crashes : Crashes) (store : Keeping) (text : List ℕ)
+pub record FitsFile (site : SiteState) (crashes : Crashes) (store : Keeping) (text : List ℕ)
     (history : PlainHistory)
     : Type 0 where
   pub count : store.marks.actions ≡ length history

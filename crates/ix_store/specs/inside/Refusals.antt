@@ -8,14 +8,14 @@ use Rattle.ix_store.specs.Opening.{IsReadyWith}
 
 -- no journal; one of another text; or one of this text that is damaged, holds too many records, or
 -- has no room for a boot
-abbrev pub Refuses : List ℕ → List ℕ → OpenFault → Type 0
-Refuses file text fault.NotJournal = IsForeign file
-Refuses file text (fault.OtherExpression kept) =
+abbrev pub RefusesFileAs : List ℕ → List ℕ → OpenFault → Type 0
+RefusesFileAs file text fault.NotJournal = IsForeign file
+RefusesFileAs file text (fault.OtherExpression kept) =
     (IsUnopened file kept.items ⊎ IsReadyWith file kept.items) × (kept.items ≢ text)
-Refuses file text (fault.Damaged at) = IsReadyWith file text × IsDamaged file at
-Refuses file text fault.Many = IsReadyWith file text × (IsMany file ⊎ IsFullOfBoots file)
-Refuses file text fault.Disk = ⊤
-Refuses file text fault.Memory = ⊤
+RefusesFileAs file text (fault.Damaged at) = IsReadyWith file text × IsDamaged file at
+RefusesFileAs file text fault.Many = IsReadyWith file text × (IsMany file ⊎ IsFullOfBoots file)
+RefusesFileAs file text fault.Disk = ⊤
+RefusesFileAs file text fault.Memory = ⊤
 
 -- the fault tells nothing of the file: the disk failed, or memory ran out
 abbrev pub TellsNothing : OpenFault → Type 0

@@ -7,11 +7,11 @@ use Rattle.ix_outside.specs.Disk.{Disk, MakesFile, Stays}
 use Rattle.ix_outside.specs.inside.DiskCalls.{LeavesOnly}
 use Rattle.ix_journal.specs.declared.TheConstants.{CLOSED, OPEN}
 use Rattle.ix_journal.specs.Format.{header}
-use Rattle.ix_journal.specs.Recovery.{Keeps}
+use Rattle.ix_journal.specs.Recovery.{KeepsRecords}
 use Rattle.ix_store.specs.declared.fault.OpenFault.{OpenFault}
 use Rattle.ix_store.specs.declared.fault.OpenFault.TheVariants as fault
 use Rattle.ix_store.specs.Opening.{IsNew}
-use Rattle.ix_store.specs.inside.Opens.{IsOwn}
+use Rattle.ix_store.specs.inside.Opens.{IsOwnFile}
 use Rattle.ix_store.specs.inside.Refusals.{TellsNothing}
 
 -- What a crash during the start with this text may have left, where the file read so at its begin:
@@ -19,10 +19,10 @@ use Rattle.ix_store.specs.inside.Refusals.{TellsNothing}
 -- that it recovers the same history and holds as many boots; and if the file was unfinished or had
 -- this text, it is so too. A file that isn't to be made anew stays.
 pub record LeavesOnStart (text file : List ℕ) (stretch : Stretch) : Type 0 where
-  pub keeps : (entries : List Entry) → Keeps file entries
-      → LeavesOnly (λ image. stretch.was.now image ⊎ Keeps image entries) stretch
-  pub own : IsOwn file text
-      → LeavesOnly (λ image. stretch.was.now image ⊎ IsOwn image text) stretch
+  pub keeps : (entries : List Entry) → KeepsRecords file entries
+      → LeavesOnly (λ image. stretch.was.now image ⊎ KeepsRecords image entries) stretch
+  pub own : IsOwnFile file text
+      → LeavesOnly (λ image. stretch.was.now image ⊎ IsOwnFile image text) stretch
   pub stays : ¬ IsNew file text → MakesFile Stays stretch.before.disk stretch.after.disk
       × LeavesOnly stretch.was.now stretch
 

@@ -68,9 +68,9 @@ pub record IsSoundly (history : PlainHistory) (marks : Marks) (gate : ℕ) : Typ
   pub sound : AreSound marks
 
 -- so is what was found, and it has room for a boot
-abbrev pub IsSound : Found → Type 0
-IsSound (found.New head) = ⊤
-IsSound (found.Journal kept) =
+abbrev pub IsFoundSound : Found → Type 0
+IsFoundSound (found.New head) = ⊤
+IsFoundSound (found.Journal kept) =
     IsSoundly kept.history kept.marks kept.gate × HasBootRoom kept.marks
 
 -- the text that is kept, unless memory ran out

@@ -14,8 +14,8 @@ abbrev pub mark_at : List Bool → ℕ → Bool
 mark_at marks i = get_or marks i false
 
 -- each state that is marked can end
-abbrev pub AreSound : Form → Word → List State → List Bool → Type 0
-AreSound x moves states marks =
+abbrev pub AreMarked : Form → Word → List State → List Bool → Type 0
+AreMarked x moves states marks =
     (i : ℕ) (s : State) → At states i s → mark_at marks i ≡ true → CanEnd x moves s.tree
 
 -- each edge to a marked state comes from a marked one

@@ -7,9 +7,9 @@ use Rattle.ix_tree.specs.declared.entries.Held.{Held}
 use Rattle.ix_tree.specs.declared.entries.Held.TheVariants.{Few, Cut}
 
 -- the entries, in their order
-abbrev pub entries_of : Held → List (List ℕ × Plain)
-entries_of (Few entries) = entries.items
-entries_of (Cut pieces) = in_pieces pieces.items
+abbrev pub entries_kept : Held → List (List ℕ × Plain)
+entries_kept (Few entries) = entries.items
+entries_kept (Cut pieces) = in_pieces pieces.items
 
 -- a list of its own has no more than stand in a piece, and no piece is empty
 abbrev pub IsCutWell : Held → Type 0

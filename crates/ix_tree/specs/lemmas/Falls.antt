@@ -6,7 +6,7 @@ use denote.Param.Weighed.{most}
 use Rattle.ix_tree.specs.Plain.{Plain, listed}
 use Rattle.ix_tree.specs.Size.{size_of}
 use Rattle.ix_tree.specs.PlainOf.{plain_pair, plain_bag, plain_map, plain_entry, plain_entries}
-use Rattle.ix_tree.specs.inside.HeldEntries.{entries_of}
+use Rattle.ix_tree.specs.inside.HeldEntries.{entries_kept}
 use Rattle.ix_tree.specs.inside.PlainNode.{plain_node}
 use Rattle.ix_tree.specs.declared.node.Node.{Node}
 use Rattle.ix_tree.specs.declared.node.Node.TheVariants.{Dead, Start, Done, Opt, Seq, Star, Par, ParStar, Or, And, Couple, Any, Every, Sync, All, Times}
@@ -19,11 +19,11 @@ use Rattle.ix_tree.specs.declared.entries.Held.TheVariants.{Few, Cut}
 use Rattle.ix_tree.specs.declared.entries.Entries.TheShapes.{weighed-Held-Few-0-at-2}
 
 -- a knot counts one more than its measure
-abbrev above : Plain → ℕ
-above x = 2 * size_of x + 1
+abbrev size_and_more : Plain → ℕ
+size_and_more x = 2 * size_of x + 1
 
 -- the greatest of some knots counts at most one more than all of them
-knots : (xs : List Plain) → most above xs ≤ 2 * size_of (listed xs) + 1
+knots : (xs : List Plain) → most size_and_more xs ≤ 2 * size_of (listed xs) + 1
 knots [] = omega arith
 knots (x ∷ xs) = omega (arith, knots xs)
 
@@ -34,27 +34,27 @@ module _ {A : Type 0} (w : A → ℕ) (f : A → Plain) (h : (x : A) → w x ≤
   parts (x ∷ xs) = omega (arith, h x, parts xs)
 
 -- so with entries
-pub depth_le-piece : (es : List (List ℕ × Plain)) → max (most (weighed-Held-Few-0-at-2.weight Plain above) es) 0 ≤ 2 * size_of (plain_entries es)
-depth_le-piece es = omega (arith, parts (weighed-Held-Few-0-at-2.weight Plain above) plain_entry (λ e. omega arith) es)
+pub depth_le-piece : (es : List (List ℕ × Plain)) → max (most (weighed-Held-Few-0-at-2.weight Plain size_and_more) es) 0 ≤ 2 * size_of (plain_entries es)
+depth_le-piece es = omega (arith, parts (weighed-Held-Few-0-at-2.weight Plain size_and_more) plain_entry (λ e. omega arith) es)
 
 -- some entries and others behind them
-pub joined : (es fs : List (List ℕ × Plain)) → size_of (plain_entries (es ++ fs)) ≡ size_of (plain_entries es) + size_of (plain_entries fs)
-joined [] fs = omega arith
-joined (e ∷ es) fs = omega (arith, joined es fs)
+pub size_joined : (es fs : List (List ℕ × Plain)) → size_of (plain_entries (es ++ fs)) ≡ size_of (plain_entries es) + size_of (plain_entries fs)
+size_joined [] fs = omega arith
+size_joined (e ∷ es) fs = omega (arith, size_joined es fs)
 
 -- a piece counts at most as much as all of them
 pieces : (ps : List (List (List ℕ × Plain))) → most (λ p. 2 * size_of (plain_entries p) + 1) ps ≤ 2 * size_of (plain_entries (flat_map (λ p. p) ps)) + 1
 pieces [] = omega arith
-pieces (p ∷ ps) = omega (arith, pieces ps, joined p (flat_map (λ q. q) ps))
+pieces (p ∷ ps) = omega (arith, pieces ps, size_joined p (flat_map (λ q. q) ps))
 
 -- no knot among the entries of a list, and no piece of them, has as large a measure as the list
-pub depth_le-held : (h : Held) → max (deep-Held h) 0 ≤ 2 * size_of (plain_entries (entries_of h)) + 1
+pub depth_le-held : (h : Held) → max (deep-Held h) 0 ≤ 2 * size_of (plain_entries (entries_kept h)) + 1
 depth_le-held (Few es) = omega (arith, depth_le-piece es.items)
 depth_le-held (Cut ps) = omega (arith, pieces ps.items)
 
--- so with pairs
-pairs : (ps : List Pair) → most deep-Pair ps ≤ 2 * size_of (listed (each plain_pair ps))
-pairs ps = parts deep-Pair plain_pair (λ p. omega arith) ps
+-- so with pairs_fall
+pairs_fall : (ps : List Pair) → most deep-Pair ps ≤ 2 * size_of (listed (each plain_pair ps))
+pairs_fall ps = parts deep-Pair plain_pair (λ p. omega arith) ps
 
 -- so with bags
 bags : (bs : List Bag) → most deep-Bag bs ≤ 2 * size_of (listed (each plain_bag bs))
@@ -72,7 +72,7 @@ depth_le-size Done = omega arith
 depth_le-size (Opt empty x) = omega arith
 depth_le-size (Seq x ended xs) = omega (arith, knots xs.items)
 depth_le-size (Star again xs) = omega (arith, knots xs.items)
-depth_le-size (Par ps) = omega (arith, pairs ps.items)
+depth_le-size (Par ps) = omega (arith, pairs_fall ps.items)
 depth_le-size (ParStar bs) = omega (arith, bags bs.items)
 depth_le-size (Or x y) = omega arith
 depth_le-size (And x y) = omega arith

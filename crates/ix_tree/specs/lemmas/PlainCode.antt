@@ -6,29 +6,29 @@ use Rattle.ix_tree.specs.Plain.{Plain, dead, start, done, opt, seq, star, par, p
 use Rattle.ix_tree.specs.Order.{key, between}
 
 -- the place of each node and what stands in it beside trees, in the order of a reader
-abbrev written : Plain → List (ℕ × List ℕ)
-written none = (20, []) ∷ []
-written dead = (0, []) ∷ []
-written start = (1, []) ∷ []
-written done = (2, []) ∷ []
-written (opt b x) = (3, key (opt b x)) ∷ written x
-written (seq x b y) = (4, between (seq x b y)) ∷ (written x ++ written y)
-written (star b x) = (5, key (star b x)) ∷ written x
-written (par x) = (6, []) ∷ written x
-written (par_star x) = (7, []) ∷ written x
-written (or x y) = (8, []) ∷ (written x ++ written y)
-written (and x y) = (9, []) ∷ (written x ++ written y)
-written (couple x y) = (10, []) ∷ (written x ++ written y)
-written (any x y) = (11, []) ∷ (written x ++ written y)
-written (every x y) = (12, []) ∷ (written x ++ written y)
-written (sync x y) = (13, []) ∷ (written x ++ written y)
-written (all x) = (14, []) ∷ written x
-written (times x) = (15, []) ∷ written x
-written (pair x y) = (16, []) ∷ (written x ++ written y)
-written (bag x) = (17, []) ∷ written x
-written (map x) = (18, []) ∷ written x
-written (entry v x) = (19, v) ∷ written x
-written (more x y) = (21, []) ∷ (written x ++ written y)
+abbrev written_code : Plain → List (ℕ × List ℕ)
+written_code none = (20, []) ∷ []
+written_code dead = (0, []) ∷ []
+written_code start = (1, []) ∷ []
+written_code done = (2, []) ∷ []
+written_code (opt b x) = (3, key (opt b x)) ∷ written_code x
+written_code (seq x b y) = (4, between (seq x b y)) ∷ (written_code x ++ written_code y)
+written_code (star b x) = (5, key (star b x)) ∷ written_code x
+written_code (par x) = (6, []) ∷ written_code x
+written_code (par_star x) = (7, []) ∷ written_code x
+written_code (or x y) = (8, []) ∷ (written_code x ++ written_code y)
+written_code (and x y) = (9, []) ∷ (written_code x ++ written_code y)
+written_code (couple x y) = (10, []) ∷ (written_code x ++ written_code y)
+written_code (any x y) = (11, []) ∷ (written_code x ++ written_code y)
+written_code (every x y) = (12, []) ∷ (written_code x ++ written_code y)
+written_code (sync x y) = (13, []) ∷ (written_code x ++ written_code y)
+written_code (all x) = (14, []) ∷ written_code x
+written_code (times x) = (15, []) ∷ written_code x
+written_code (pair x y) = (16, []) ∷ (written_code x ++ written_code y)
+written_code (bag x) = (17, []) ∷ written_code x
+written_code (map x) = (18, []) ∷ written_code x
+written_code (entry v x) = (19, v) ∷ written_code x
+written_code (more x y) = (21, []) ∷ (written_code x ++ written_code y)
 
 -- the first of some trees
 abbrev top : List Plain → Plain
@@ -75,22 +75,22 @@ abbrev taken : ℕ → List ℕ → List Plain → List Plain
 taken n k xs =
     if leaf n then of_none n ∷ xs else (if single n then of_one n k (top xs) ∷ under xs else of_two n k (top xs) (top (under xs)) ∷ under (under xs))
 
--- the trees that are written there
+-- the trees that are written_code there
 abbrev read : List (ℕ × List ℕ) → List Plain
 read [] = []
 read (t ∷ ts) = taken t.0 t.1 (read ts)
 
 -- one part reads back
-one_reads : (n : ℕ) (k : List ℕ) (x : Plain) (ts : List (ℕ × List ℕ)) → read (written x ++ ts) ≡ x ∷ read ts → taken n k (read (written x ++ ts)) ≡ taken n k (x ∷ read ts)
+one_reads : (n : ℕ) (k : List ℕ) (x : Plain) (ts : List (ℕ × List ℕ)) → read (written_code x ++ ts) ≡ x ∷ read ts → taken n k (read (written_code x ++ ts)) ≡ taken n k (x ∷ read ts)
 one_reads n k x ts e = ap (taken n k) e
 
 -- two parts read back
-two_read : (n : ℕ) (k : List ℕ) (x y : Plain) (ts : List (ℕ × List ℕ)) → ((rest : List (ℕ × List ℕ)) → read (written x ++ rest) ≡ x ∷ read rest) → read (written y ++ ts) ≡ y ∷ read ts →
-    taken n k (read ((written x ++ written y) ++ ts)) ≡ taken n k (x ∷ y ∷ read ts)
-two_read n k x y ts f e = ap (λ l. taken n k (read l)) (append_assoc (written x) (written y) ts) ∙ ap (taken n k) (f (written y ++ ts) ∙ ap (λ l. x ∷ l) e)
+two_read : (n : ℕ) (k : List ℕ) (x y : Plain) (ts : List (ℕ × List ℕ)) → ((rest : List (ℕ × List ℕ)) → read (written_code x ++ rest) ≡ x ∷ read rest) → read (written_code y ++ ts) ≡ y ∷ read ts →
+    taken n k (read ((written_code x ++ written_code y) ++ ts)) ≡ taken n k (x ∷ y ∷ read ts)
+two_read n k x y ts f e = ap (λ l. taken n k (read l)) (append_assoc (written_code x) (written_code y) ts) ∙ ap (taken n k) (f (written_code y ++ ts) ∙ ap (λ l. x ∷ l) e)
 
 -- a tree reads back
-reads : (x : Plain) (ts : List (ℕ × List ℕ)) → read (written x ++ ts) ≡ x ∷ read ts
+reads : (x : Plain) (ts : List (ℕ × List ℕ)) → read (written_code x ++ ts) ≡ x ∷ read ts
 reads none ts = refl
 reads dead ts = refl
 reads start ts = refl
@@ -118,9 +118,9 @@ reads (entry v x) ts = one_reads 19 v x ts (reads x ts)
 reads (more x y) ts = two_read 21 [] x y ts (reads x) (reads y ts)
 
 -- one tree alone
-pub alone : (x : Plain) → top (read (written x)) ≡ x
-alone x = ap (λ l. top (read l)) (sym (append-nil (written x))) ∙ ap top (reads x [])
+pub alone : (x : Plain) → top (read (written_code x)) ≡ x
+alone x = ap (λ l. top (read l)) (sym (append-nil (written_code x))) ∙ ap top (reads x [])
 
 -- a plain tree is stored as its nodes
 abbrev pub plain_code : Coded Plain
-plain_code = code_by (List (ℕ × List ℕ)) (coded_list (coded× coded_ℕ (coded_list coded_ℕ))) written (λ ts. top (read ts)) alone
+plain_code = code_by (List (ℕ × List ℕ)) (coded_list (coded× coded_ℕ (coded_list coded_ℕ))) written_code (λ ts. top (read ts)) alone

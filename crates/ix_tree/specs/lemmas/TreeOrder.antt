@@ -1,4 +1,4 @@
--- The order of trees is total, and it tells trees apart.
+-- The order of trees is total, and it tells trees parts_apart.
 use Rattle.std.proofs.Common.{◌≡◌, ℕ, ◌==◌, Bool, true, false, not, ◌||◌, ◌&&◌, cond, List, [], ◌∷◌, refl, sym, ap, ◌∙◌, true≢false, Ordering, Less, Equal, Greater}
 use Rattle.std.specs.Prelude.{nat_le}
 use Rattle.std.specs.Cmp.{IsTotalOrder, nat_cmp_total, alike_right}
@@ -127,7 +127,7 @@ turns (entry v x) y = one_part (entry v x) y _ refl
 turns none y = no_part none y refl refl
 turns (more x xs) y = refl
 
--- Trees that aren't told apart
+-- Trees that aren't told parts_apart
 
 -- whether the first byte is 1
 is_one : List ℕ → Bool
@@ -156,10 +156,10 @@ made_again dead = refl
 made_again _ = refl
 
 -- both of two answers in turn are Equal where the whole is
-both_equal : (o p : Ordering) → ordering_then o p ≡ Equal → (o ≡ Equal) × (p ≡ Equal)
-both_equal Less p e = cc
-both_equal Equal p e = (refl, e)
-both_equal Greater p e = cc
+equal_both : (o p : Ordering) → ordering_then o p ≡ Equal → (o ≡ Equal) × (p ≡ Equal)
+equal_both Less p e = cc
+equal_both Equal p e = (refl, e)
+equal_both Greater p e = cc
 
 -- only x itself compares as equal to x
 abbrev Apart : Plain → Type 0
@@ -171,12 +171,12 @@ none_apart none e = refl
 none_apart _ e = cc
 
 -- so with a tree, where it holds of its parts
-apart : (x : Plain) → Apart (first_part x) → Apart (second_part x) → Apart x
-apart x f s y e =
-    let a = both_equal (nat_cmp (place x) (place y)) _ (sym (turns x y) ∙ e) in
-    let b = both_equal (text_cmp (key x) (key y)) _ a.1 in
-    let c = both_equal (tree_cmp (first_part x) (first_part y)) _ b.1 in
-    let d = both_equal (text_cmp (between x) (between y)) _ c.1 in
+parts_apart : (x : Plain) → Apart (first_part x) → Apart (second_part x) → Apart x
+parts_apart x f s y e =
+    let a = equal_both (nat_cmp (place x) (place y)) _ (sym (turns x y) ∙ e) in
+    let b = equal_both (text_cmp (key x) (key y)) _ a.1 in
+    let c = equal_both (tree_cmp (first_part x) (first_part y)) _ b.1 in
+    let d = equal_both (text_cmp (between x) (between y)) _ c.1 in
     let p : place x ≡ place y = nat_cmp-IsAntisymmetric (place x) (place y) a.0 in
     let k : key x ≡ key y = text_cmp-same (key x) (key y) b.0 in
     let g : first_part x ≡ first_part y = f (first_part y) c.0 in
@@ -186,7 +186,7 @@ apart x f s y e =
 
 -- trees that compare as equal are the same
 pub tree_cmp-same : (x y : Plain) → tree_cmp x y ≡ Equal → x ≡ y
-tree_cmp-same = induct Apart none_apart apart
+tree_cmp-same = induct Apart none_apart parts_apart
 
 -- The order the other way round
 

@@ -4,9 +4,9 @@ use Rattle.ix_values.specs.declared.faults.Cause.{Cause}
 use Rattle.ix_values.specs.declared.faults.Cause.TheVariants as cause
 
 -- the code that tells a cause
-abbrev pub code_of : Cause → ℕ
-code_of cause.Name = 1
-code_of cause.Argument = 2
-code_of cause.TooManyArguments = 3
-code_of cause.TooLong = 4
-code_of cause.Trailing = 5
+abbrev pub action_code : Cause → ℕ
+action_code cause.Name = 1
+action_code cause.Argument = 2
+action_code cause.TooManyArguments = 3
+action_code cause.TooLong = 4
+action_code cause.Trailing = 5

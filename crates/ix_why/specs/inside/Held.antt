@@ -1,4 +1,4 @@
--- States as the code holds them: a tree, or the tree of the empty word, which is held as none.
+-- States as the code holds them: a tree, or the tree of the empty word, which is kept_tree as none.
 use Rattle.std.specs.Prelude.{◌≡◌, ℕ, ◌+◌, Bool, not, ◌&&◌, ◌||◌, List, [], ◌∷◌, ◌++◌}
 use Rattle.std.specs.Prelude.{map as each, Option, Some, None}
 use Rattle.std.specs.Option.{unwrap_or}
@@ -21,18 +21,18 @@ use Rattle.ix_why.specs.Blames.{nodes, here, only, owner, first_that, made_of}
 use Rattle.ix_why.specs.Blames.{made_of_both, blames}
 use Rattle.ix_why.specs.Trees.{left, right, entries, owner_maps, tree_for}
 
--- the tree that is held, or none where it is that of the empty word
-abbrev pub held : State → Option Plain
-held Initial = None
-held Done = Some done
-held (At knot) = Some knot.now
+-- the tree that is kept_tree, or none where it is that of the empty word
+abbrev pub kept_tree : State → Option Plain
+kept_tree Initial = None
+kept_tree Done = Some done
+kept_tree (At knot) = Some knot.now
 
--- what is held of an operand
+-- what is kept_tree of an operand
 abbrev pub of_held : (Plain → Plain) → Option Plain → Option Plain
 of_held f None = None
 of_held f (Some t) = Some (f t)
 
--- the tree of an expression of which this is held
+-- the tree of an expression of which this is kept_tree
 abbrev pub tree_held : Form → Option Plain → Plain
 tree_held x s = unwrap_or s (tree_of x [] [])
 
@@ -69,7 +69,7 @@ pub record BodiesProper (y : Form) (s : Option Plain) : Type 0 where
   pub ascending : AscendByValue (entries_held s)
   pub each : (v : Option (List ℕ)) → IsProper y (tree_held y (of_held (tree_for v) s))
 
--- what is held of the value in the only map
+-- what is kept_tree of the value in the only map
 pub record IsOwned (v : List ℕ) (maps : List Plain) (s : Option Plain) : Type 0 where
   pub in_map : Plain
   pub alone : only maps ≡ Some in_map

@@ -2,7 +2,7 @@
 use Rattle.std.proofs.Common.{◌≡◌, ◌+◌, ◌∷◌, ◌++◌, ℕ, List, Option, length, refl, sym, ap, ◌∙◌, subst}
 use Rattle.ix_expr.specs.declared.expr.Expr.{Expr}
 use Rattle.ix_expr.specs.inside.FormOf.{form_of}
-use Rattle.ix_bound.specs.Refusals.{code_of, codes_of, refused_among}
+use Rattle.ix_bound.specs.Refusals.{refusal_code, codes_of, refused_among}
 use Rattle.ix_bound.proofs.Found.{found_in_two}
 use Rattle.ix_bound.proofs.Walks.{two}
 use Rattle.ix_bound.proofs.refused.+collect.Goals as goal
@@ -25,7 +25,7 @@ returns-in_ok-collect-in-Seq-clause-all t c =
     subst (λ o. new ≡ left ++ refused_among m (codes_of (form_of o))) c.deref-in-Seq.ensures c.in_ok-collect-in-Seq.ensures.all in
     let ys : List (Option ℕ) = codes_of (form_of y) in
     let zs : List (Option ℕ) = codes_of (form_of z) in
-    let whole : codes_of (form_of x) ≡ code_of (form_of x) ∷ (ys ++ zs) =
-    two (λ o. codes_of (form_of o) ≡ code_of (form_of o) ∷ (ys ++ zs)) refl refl refl refl refl c.in-Seq.is in
-    found_in_two old looked left new (code_of (form_of x)) ys zs n m c.in_ok-look.ensures first next second
+    let whole : codes_of (form_of x) ≡ refusal_code (form_of x) ∷ (ys ++ zs) =
+    two (λ o. codes_of (form_of o) ≡ refusal_code (form_of o) ∷ (ys ++ zs)) refl refl refl refl refl c.in-Seq.is in
+    found_in_two old looked left new (refusal_code (form_of x)) ys zs n m c.in_ok-look.ensures first next second
     ∙ ap (λ w. old ++ refused_among n w) (sym whole)

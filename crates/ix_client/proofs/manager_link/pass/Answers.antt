@@ -8,7 +8,7 @@ use Rattle.ix_manager.specs.Handled.{ManagerState}
 use Rattle.ix_manager.specs.declared.faults.Stop.{Stop}
 use Rattle.ix_manager.specs.declared.faults.Stop.TheVariants.{Disk}
 use Rattle.ix_manager.specs.inside.OverSite.{HandlesOver}
-use Rattle.ix_client.specs.inside.ManagerLinks.{IsOver}
+use Rattle.ix_client.specs.inside.ManagerLinks.{IsRunEnded}
 use Rattle.ix_client.specs.inside.Passing.{EndsInLine, StartsAgain, TellsDisk}
 use Rattle.ix_client.proofs.OverLemmas.{IsWholeLine, answers_over, ends_again, event_for, fits_again, lost_again, tells_disk, whole_line}
 use Rattle.ix_client.proofs.manager_link.pass.Goals as goal
@@ -35,7 +35,7 @@ returns-in-Ok-clause-keeps c = λ asked of.
 
 -- the disk failed, and its reply came whole
 ends : (apart : TextsTellTicketsApart) (asked : PlainRequest) (bytes line : List ℕ) (whole : IsWholeLine asked bytes line) (m new : ManagerState)
-    (before after : MemorySiteState) (over : IsOver m before) (stop : Stop)
+    (before after : MemorySiteState) (over : IsRunEnded m before) (stop : Stop)
     → HandlesOver m (event_for line) line (Err stop) new (stretch_of state_of crashes_of before after)
     → Passes (stretch_of state_of crashes_of before after)
     → after.told ≡ true → StartsAgain m.form m.machine after.image
@@ -43,7 +43,7 @@ ends apart asked bytes line whole m new before after over Disk handled passes to
     ends_again apart asked bytes line whole m new before after over handled passes told
 
 tells : (apart : TextsTellTicketsApart) (asked : PlainRequest) (bytes line result : List ℕ) (whole : IsWholeLine asked bytes line) (m new : ManagerState)
-    (before after : MemorySiteState) (over : IsOver m before) (stop : Stop)
+    (before after : MemorySiteState) (over : IsRunEnded m before) (stop : Stop)
     → HandlesOver m (event_for line) line (Err stop) new (stretch_of state_of crashes_of before after)
     → EndsInLine (length before.sends.sent) after.sends result → after.told ≡ true → TellsDisk asked result
 tells apart asked bytes line result whole m new before after over Disk handled in_line told =

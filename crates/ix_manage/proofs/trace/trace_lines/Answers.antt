@@ -5,7 +5,7 @@ use Rattle.ix_values.specs.Faults.{IsActionText}
 use Rattle.ix_outside.specs.Sink.{AppendsPart}
 use Rattle.ix_outside.proofs.Counting.{Rose-earlier}
 use Rattle.ix_manage.specs.Puts.{put, lost}
-use Rattle.ix_manage.specs.Trace.{Answers, done}
+use Rattle.ix_manage.specs.Trace.{TraceAnswers, done}
 use Rattle.ix_manage.specs.declared.early_end.EarlyEnd.TheVariants.{Output}
 use Rattle.ix_manage.proofs.Answering.{answers_join, answers_same, verdict_same}
 use Rattle.ix_manage.proofs.Devices.{still, then}
@@ -25,7 +25,7 @@ loop-rest-init g c =
         front_start c.args.actions.now,
         (
           [],
-          subst (λ text. Answers engine.form engine.limit [] [] text engine.history) (sym c.new-held.ensures) (subst (Answers engine.form engine.limit [] [] []) (sym c.requires.empty) done),
+          subst (λ text. TraceAnswers engine.form engine.limit [] [] text engine.history) (sym c.new-held.ensures) (subst (TraceAnswers engine.form engine.limit [] [] []) (sym c.requires.empty) done),
           append_nothing _,
         ),
       ),
@@ -62,7 +62,7 @@ loop-rest-preserved g c =
             c.first_line-first.ensures.lines c.of_text-action.ensures.valid c.of_text-action.ensures.same so_far.1,
         (
           so_far.2.0 ++ more.2.0,
-          subst (λ text. Answers engine.form engine.limit [] (so_far.0 ++ c.of_text-action.result ∷ []) text c.answer.new.engine.history)
+          subst (λ text. TraceAnswers engine.form engine.limit [] (so_far.0 ++ c.of_text-action.result ∷ []) text c.answer.new.engine.history)
               (held_on so_far.2.0 c.loop-rest.held.items more.0 more.2.0 c.answer.new.held.items more.2.1)
               (answers_join so_far.2.1
               (answers_same c.loop-rest.invariant.2 c.loop-rest.invariant.3 more.1)),

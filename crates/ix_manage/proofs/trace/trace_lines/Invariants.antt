@@ -5,7 +5,7 @@ use Rattle.ix_values.specs.Faults.{IsActionText}
 use Rattle.ix_values.specs.PlainAction.{Word}
 use Rattle.ix_outside.specs.SinkState.{OnlyPuts}
 use Rattle.ix_lines.specs.TextLines.{lines_of}
-use Rattle.ix_manage.specs.Trace.{Answers}
+use Rattle.ix_manage.specs.Trace.{TraceAnswers}
 use Rattle.ix_manage.proofs.Tracing.{StandBefore}
 use Rattle.ix_manage.proofs.trace.trace_lines.Given as goal
 
@@ -17,7 +17,7 @@ invariant-loop-rest g l =
     × (l.engine.form ≡ l.fn.engine.form)
     × (l.engine.limit ≡ l.fn.engine.limit)
     × ((front : Word) × StandBefore l.actions l.rest front
-    × ((put : List ℕ) × Answers l.fn.engine.form l.fn.engine.limit [] front (put ++ l.held.items) l.engine.history
+    × ((put : List ℕ) × TraceAnswers l.fn.engine.form l.fn.engine.limit [] front (put ++ l.held.items) l.engine.history
     × ((g.K.Sink.state l.out).written ≡ append_known (g.K.Sink.state l.fn.out).written put)))
 
 abbrev pub decreases-loop-rest : goal.decreases-loop-rest

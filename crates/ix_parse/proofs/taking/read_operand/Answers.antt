@@ -1,5 +1,5 @@
 use Rattle.std.proofs.Common.{Some, sym, ap, ◌∙◌, subst}
-use Rattle.ix_lex.specs.inside.Items.{plain_token, pieces_of}
+use Rattle.ix_lex.specs.inside.Items.{plain_token, item_pieces}
 use Rattle.ix_parse.specs.inside.Progress.{Progress}
 use Rattle.ix_parse.specs.inside.Configs.{config_of}
 use Rattle.ix_parse.specs.inside.Outcomes.{pending, IsFaultOf}
@@ -13,7 +13,7 @@ loop-ahead-init c =
 pub returns-in-Err : goal.returns-in-Err
 returns-in-Err c =
     let text = c.args.text.now in
-    let here = at-bad (pieces_of 0 text) c.loop-ahead.ahead c.loop-ahead.tokens c.in-Err.fault (config_of c.loop-ahead.reading.reader) c.loop-ahead.reading.nodes c.loop-ahead.invariant (c.in-Some.is ∙ ap Some c.in-Err.is) in
+    let here = at-bad (item_pieces 0 text) c.loop-ahead.ahead c.loop-ahead.tokens c.in-Err.fault (config_of c.loop-ahead.reading.reader) c.loop-ahead.reading.nodes c.loop-ahead.invariant (c.in-Some.is ∙ ap Some c.in-Err.is) in
     subst (λ fault. IsFaultOf text fault) (sym c.fault_at.ensures)
     (round-bad text _ c.in-Err.fault.at (config_of c.loop-ahead.reading.reader) c.loop-ahead.reading.nodes c.requires here)
 
@@ -22,7 +22,7 @@ take-requires-clause-may c =
     let text = c.args.text.now in
     let r = c.next-ahead-in-Some.result in
     let t = c.next-ahead-in-Some.new.self in
-    let here = at-token (pieces_of 0 text) c.loop-ahead.ahead r c.loop-ahead.tokens t c.in-Ok.token (config_of c.loop-ahead.reading.reader) c.loop-ahead.reading.nodes c.loop-ahead.invariant (c.in-Some.is ∙ ap Some c.in-Ok.is) c.next-ahead-in-Some.ensures.steps in
+    let here = at-token (item_pieces 0 text) c.loop-ahead.ahead r c.loop-ahead.tokens t c.in-Ok.token (config_of c.loop-ahead.reading.reader) c.loop-ahead.reading.nodes c.loop-ahead.invariant (c.in-Some.is ∙ ap Some c.in-Ok.is) c.next-ahead-in-Some.ensures.steps in
     round-may text (pending r t) (plain_token c.in-Ok.token) (config_of c.loop-ahead.reading.reader) c.loop-ahead.reading.nodes c.follower.result here (follower-pending r t ∙ sym c.follower.ensures)
 
 pub take-requires-clause-readable : goal.take-requires-clause-readable
@@ -30,7 +30,7 @@ take-requires-clause-readable c =
     let text = c.args.text.now in
     let r = c.next-ahead-in-Some.result in
     let t = c.next-ahead-in-Some.new.self in
-    let here = at-token (pieces_of 0 text) c.loop-ahead.ahead r c.loop-ahead.tokens t c.in-Ok.token (config_of c.loop-ahead.reading.reader) c.loop-ahead.reading.nodes c.loop-ahead.invariant (c.in-Some.is ∙ ap Some c.in-Ok.is) c.next-ahead-in-Some.ensures.steps in
+    let here = at-token (item_pieces 0 text) c.loop-ahead.ahead r c.loop-ahead.tokens t c.in-Ok.token (config_of c.loop-ahead.reading.reader) c.loop-ahead.reading.nodes c.loop-ahead.invariant (c.in-Some.is ∙ ap Some c.in-Ok.is) c.next-ahead-in-Some.ensures.steps in
     round-readable text (pending r t) (plain_token c.in-Ok.token) (config_of c.loop-ahead.reading.reader) c.loop-ahead.reading.nodes c.follower.result here (follower-pending r t ∙ sym c.follower.ensures)
 
 pub take-requires-clause-sound : goal.take-requires-clause-sound
@@ -41,7 +41,7 @@ returns-in-Err-take c =
     let text = c.args.text.now in
     let r = c.next-ahead-in-Some.result in
     let t = c.next-ahead-in-Some.new.self in
-    let here = at-token (pieces_of 0 text) c.loop-ahead.ahead r c.loop-ahead.tokens t c.in-Ok.token (config_of c.loop-ahead.reading.reader) c.loop-ahead.reading.nodes c.loop-ahead.invariant (c.in-Some.is ∙ ap Some c.in-Ok.is) c.next-ahead-in-Some.ensures.steps in
+    let here = at-token (item_pieces 0 text) c.loop-ahead.ahead r c.loop-ahead.tokens t c.in-Ok.token (config_of c.loop-ahead.reading.reader) c.loop-ahead.reading.nodes c.loop-ahead.invariant (c.in-Some.is ∙ ap Some c.in-Ok.is) c.next-ahead-in-Some.ensures.steps in
     round-err text (pending r t) (plain_token c.in-Ok.token) (config_of c.loop-ahead.reading.reader) c.loop-ahead.reading.nodes c.follower.result c.in-Err-take.fault here (follower-pending r t ∙ sym c.follower.ensures) c.requires c.in-Err-take.ensures
 
 pub loop-ahead-preserved : goal.loop-ahead-preserved
@@ -49,9 +49,9 @@ loop-ahead-preserved c =
     let text = c.args.text.now in
     let r = c.next-ahead-in-Some.result in
     let t = c.next-ahead-in-Some.new.self in
-    let here = at-token (pieces_of 0 text) c.loop-ahead.ahead r c.loop-ahead.tokens t c.in-Ok.token (config_of c.loop-ahead.reading.reader) c.loop-ahead.reading.nodes c.loop-ahead.invariant (c.in-Some.is ∙ ap Some c.in-Ok.is) c.next-ahead-in-Some.ensures.steps in
+    let here = at-token (item_pieces 0 text) c.loop-ahead.ahead r c.loop-ahead.tokens t c.in-Ok.token (config_of c.loop-ahead.reading.reader) c.loop-ahead.reading.nodes c.loop-ahead.invariant (c.in-Some.is ∙ ap Some c.in-Ok.is) c.next-ahead-in-Some.ensures.steps in
     let next = config_of c.in-Ok-take.reading.reader in
-    subst (λ n. Progress (pieces_of 0 text) (pending r t) next n) (sym c.in-Ok-take.ensures.2)
+    subst (λ n. Progress (item_pieces 0 text) (pending r t) next n) (sym c.in-Ok-take.ensures.2)
     (round-step text (pending r t) (plain_token c.in-Ok.token) (config_of c.loop-ahead.reading.reader) c.loop-ahead.reading.nodes c.follower.result here (follower-pending r t ∙ sym c.follower.ensures) next c.in-Ok-take.ensures.0 c.in-Ok-take.ensures.1)
 
 pub finish-requires : goal.finish-requires
@@ -61,5 +61,5 @@ pub returns : goal.returns
 returns c =
     let text = c.args.text.now in
     round-end text (config_of c.loop-ahead.reading.reader) c.loop-ahead.reading.nodes c.finish.result c.requires
-    (at-end (pieces_of 0 text) c.loop-ahead.ahead c.loop-ahead.tokens (config_of c.loop-ahead.reading.reader) c.loop-ahead.reading.nodes c.loop-ahead.invariant c.in_default.is)
+    (at-end (item_pieces 0 text) c.loop-ahead.ahead c.loop-ahead.tokens (config_of c.loop-ahead.reading.reader) c.loop-ahead.reading.nodes c.loop-ahead.invariant c.in_default.is)
     c.finish.ensures

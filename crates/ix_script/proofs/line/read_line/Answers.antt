@@ -1,5 +1,5 @@
 use Rattle.std.proofs.Common.{◌≡◌, [], ◌∷◌, subst, rules}
-use Rattle.ix_lines.specs.Numbers.{BeginsWith}
+use Rattle.ix_lines.specs.Numbers.{BeginsWithNumber}
 use Rattle.ix_script.specs.Grammar.{no_moment, no_connection, no_text}
 use Rattle.ix_script.proofs.line.read_line.Goals as goal
 
@@ -13,4 +13,4 @@ pub returns-then-eq : goal.returns-then-eq
 returns-then-eq c =
     let conn = c.in-Some-number_and.conn in
     let same : conn.rest.now ≡ 92 ∷ [] = search rules in
-    no_text c.in-Some.ensures (subst (BeginsWith 64 c.in-Some.moment.rest.now conn.number) same c.in-Some-number_and.ensures)
+    no_text c.in-Some.ensures (subst (BeginsWithNumber 64 c.in-Some.moment.rest.now conn.number) same c.in-Some-number_and.ensures)

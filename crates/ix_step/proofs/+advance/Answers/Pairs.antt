@@ -10,7 +10,7 @@ use Rattle.ix_tree.specs.Size.{size_of}
 use Rattle.ix_tree.proofs.Alternatives.{weight_of-list}
 use Rattle.ix_can.specs.inside.Moved.{moved}
 use Rattle.ix_step.specs.inside.Makes.{Makes, put_all}
-use Rattle.ix_step.specs.inside.ParallelMoves.{pairs_of, pair_moves, IsReadyPair}
+use Rattle.ix_step.specs.inside.ParallelMoves.{pairs_moved, pair_moves, IsReadyPair}
 use Rattle.ix_step.specs.inside.Pruned.{pruned}
 use Rattle.ix_step.proofs.Exits.{exit_over}
 use Rattle.ix_step.proofs.Gathered.{size_all}
@@ -71,7 +71,7 @@ parallel::advance_pairs-returns-in_err-right t c =
 
 pub parallel::advance_pairs-returns-in_err-put_pairs : goal.parallel::advance_pairs-returns-in_err-put_pairs
 parallel::advance_pairs-returns-in_err-put_pairs t c =
-    let same = ap (λ l. size_all (put_all l (map plain_pair c.loop-pair.set.items))) (ap (λ x. pairs_of c.pair-item.result.first c.pair-item.result.second x c.in_ok-right.right) c.in_ok-left.ensures.0 ∙ ap (λ x. pairs_of c.pair-item.result.first c.pair-item.result.second (moved (form_of c.args.y.now) c.args.step.env.now c.pair-item.result.first c.args.step.action.now) x) c.in_ok-right.ensures.0) in
+    let same = ap (λ l. size_all (put_all l (map plain_pair c.loop-pair.set.items))) (ap (λ x. pairs_moved c.pair-item.result.first c.pair-item.result.second x c.in_ok-right.right) c.in_ok-left.ensures.0 ∙ ap (λ x. pairs_moved c.pair-item.result.first c.pair-item.result.second (moved (form_of c.args.y.now) c.args.step.env.now c.pair-item.result.first c.args.step.action.now) x) c.in_ok-right.ensures.0) in
     exit_over _ c.from_residual-in_err-put_pairs.result _ c.from_residual-in_err-put_pairs.ensures.1 c.in_err-put_pairs.ensures.gathers (λ lt.
     lot_over (pair_moves (form_of c.args.y.now) (form_of c.args.z.now) c.args.step.env.now c.args.step.action.now) c.args.step.limit (map plain_pair c.args.pairs.now) c.loop-pair.pair-index (plain_pair c.pair-item.result) [] (map plain_pair c.loop-pair.set.items) (omega (arith, length-map c.args.pairs.now plain_pair, c.loop-pair-test.true)) (image_at plain_pair c.args.pairs.now c.loop-pair.pair-index c.pair-item.result c.pair-item.is) c.loop-pair.invariant.items
     (omega (arith, same, lt, c.loop-pair.invariant.budget)))
@@ -80,7 +80,7 @@ pub parallel::advance_pairs-loop-pair-preserved : goal.parallel::advance_pairs-l
 parallel::advance_pairs-loop-pair-preserved t c =
     record {
       items = lots_more (pair_moves (form_of c.args.y.now) (form_of c.args.z.now) c.args.step.env.now c.args.step.action.now) (map plain_pair c.args.pairs.now) c.loop-pair.pair-index (plain_pair c.pair-item.result) [] (map plain_pair c.loop-pair.set.items) (map plain_pair c.put_pairs.new.set.items) (omega (arith, length-map c.args.pairs.now plain_pair, c.loop-pair-test.true)) (image_at plain_pair c.args.pairs.now c.loop-pair.pair-index c.pair-item.result c.pair-item.is) c.loop-pair.invariant.items
-          (c.in_ok-put_pairs.ensures.gathers ∙ ap (λ l. put_all l (map plain_pair c.loop-pair.set.items)) (ap (λ x. pairs_of c.pair-item.result.first c.pair-item.result.second x c.in_ok-right.right) c.in_ok-left.ensures.0 ∙ ap (λ x. pairs_of c.pair-item.result.first c.pair-item.result.second (moved (form_of c.args.y.now) c.args.step.env.now c.pair-item.result.first c.args.step.action.now) x) c.in_ok-right.ensures.0));
+          (c.in_ok-put_pairs.ensures.gathers ∙ ap (λ l. put_all l (map plain_pair c.loop-pair.set.items)) (ap (λ x. pairs_moved c.pair-item.result.first c.pair-item.result.second x c.in_ok-right.right) c.in_ok-left.ensures.0 ∙ ap (λ x. pairs_moved c.pair-item.result.first c.pair-item.result.second (moved (form_of c.args.y.now) c.args.step.env.now c.pair-item.result.first c.args.step.action.now) x) c.in_ok-right.ensures.0));
       within = omega (arith, c.put_pairs.ensures.within, c.loop-pair.invariant.budget);
       budget = c.put_pairs.ensures.budget ∙ c.loop-pair.invariant.budget;
     }

@@ -6,7 +6,7 @@ use Rattle.std.proofs.lemmas.Bool.{cases_lt}
 use Rattle.ix_store.specs.declared.fault.OpenFault.TheVariants as fault
 use Rattle.ix_store.specs.declared.find.Found.TheVariants as found
 use Rattle.ix_store.specs.inside.Reading.{IsHeadOf}
-use Rattle.ix_store.specs.inside.Refusals.{Refuses}
+use Rattle.ix_store.specs.inside.Refusals.{RefusesFileAs}
 use Rattle.ix_store.specs.inside.Steps.{ClosesWith, IsFound, IsJudged}
 use Rattle.ix_store.proofs.Opened.{full_read, new_read, refusal_read, refuses_any}
 use Rattle.ix_store.proofs.Told.{made, of_told, to_told}
@@ -15,7 +15,7 @@ use Rattle.ix_store.proofs.find.find.Goals as goal
 -- the front wasn't read
 pub returns-in-Err-clause-file : goal.returns-in-Err-clause-file
 returns-in-Err-clause-file g c =
-    to_told (λ file. Refuses file c.args.text.now c.in-Err.fault)
+    to_told (λ file. RefusesFileAs file c.args.text.now c.in-Err.fault)
     (g.S.Site.state c.args.site.now).disk (λ told is.
     refuses_any c.in-Err.fault told.file c.args.text.now c.in-Err.ensures.fault)
 
@@ -32,7 +32,7 @@ returns-in-Ok-None-clause-file g c =
 
 pub returns-in-Err-judge-clause-file : goal.returns-in-Err-judge-clause-file
 returns-in-Err-judge-clause-file g c =
-    to_told (λ file. Refuses file c.args.text.now c.in-Err-judge.fault)
+    to_told (λ file. RefusesFileAs file c.args.text.now c.in-Err-judge.fault)
     (g.S.Site.state c.args.site.now).disk (λ told is.
     let is_head = of_told _ _ told is c.in-Ok.ensures.head in
     let same : IsHeadOf c.deref.result.now told.file =
@@ -45,7 +45,7 @@ returns-then-not-has_room-clause-file g c =
     let text = c.args.text.now in
     let front = c.deref.result.now in
     let kept = c.in-Ok-read_records.kept in
-    to_told (λ file. Refuses file text fault.Many)
+    to_told (λ file. RefusesFileAs file text fault.Many)
     (g.S.Site.state c.args.site.now).disk (λ told is.
     let there = made _ _ _ told is c.in-Ok.ensures.reads.stays in
     let is_head = of_told _ _ told is c.in-Ok.ensures.head in

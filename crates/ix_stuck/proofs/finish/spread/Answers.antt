@@ -2,7 +2,7 @@ use Rattle.std.proofs.Common.{◌≡◌, ◌<◌, ◌-◌, true, List, Bool, len
 use Rattle.std.proofs.lemmas.List.{length-set, get_or_default}
 use Rattle.ix_stuck.specs.declared.graph.Edge.{Edge}
 use Rattle.ix_stuck.specs.inside.Graphs.{At}
-use Rattle.ix_stuck.specs.inside.Marks.{mark_at, AreSound}
+use Rattle.ix_stuck.specs.inside.Marks.{mark_at, AreMarked}
 use Rattle.ix_stuck.specs.inside.Ruled.{form}
 use Rattle.ix_stuck.proofs.Places.{each_at}
 use Rattle.ix_stuck.proofs.Spreading.{one_more}
@@ -20,5 +20,5 @@ loop-index-preserved-then-not-is_marked c =
     let at : At edges j e = record { within = within; is = get_or_default edges j (record { from = 0; by = 0; to = 0 }) e within } in
     let m : mark_at marks e.to ≡ true = sym (ap (λ (w : List Bool). mark_at w e.to) c.deref.ensures.value) ∙ sym c.is_marked.ensures ∙ c.if-is_marked.true in (
       ap length c.mark.ensures ∙ length-set marks e.from true ∙ c.loop-index.invariant.0,
-      subst (AreSound x moves c.args.states.now) (sym c.mark.ensures) (one_more x moves c.args.states.now e marks (each_at c.requires.edges at) c.loop-index.invariant.1 m),
+      subst (AreMarked x moves c.args.states.now) (sym c.mark.ensures) (one_more x moves c.args.states.now e marks (each_at c.requires.edges at) c.loop-index.invariant.1 m),
     )

@@ -1,7 +1,7 @@
 use Rattle.std.proofs.Common.{◌≡◌, [], length, sym, ap, ◌∙◌, subst, arith}
 use Rattle.ix_tree.specs.Plain.{is_dead}
 use Rattle.ix_can.specs.TreeOf.{tree_of}
-use Rattle.ix_stuck.specs.inside.Marks.{AreSound, NoneNearer, LeadsTo}
+use Rattle.ix_stuck.specs.inside.Marks.{AreMarked, NoneNearer, LeadsTo}
 use Rattle.ix_stuck.specs.inside.Ruled.{form}
 use Rattle.ix_stuck.proofs.Ends.{never, first_stuck, run_start}
 use Rattle.ix_stuck.proofs.Steps.{fits_of}
@@ -18,7 +18,7 @@ returns-in_default-clause-answer c =
     let marks = c.as_slice-marks.result.now in
     let slice = c.as_slice-marks.ensures.value in
     let all = c.in_default.ensures in
-    let sound : AreSound x r.moves.now states marks = subst (AreSound x r.moves.now states) (sym slice) c.in_ok-found.ensures.sound in
+    let sound : AreMarked x r.moves.now states marks = subst (AreMarked x r.moves.now states) (sym slice) c.in_ok-found.ensures.sound in
     let long : length marks ≡ length states = ap length slice ∙ c.in_ok-found.ensures.as_many in
     never x (fits_of x c.requires.ready.formed) r.moves.now r.limits.nodes r.start.now states c.args.edges.now c.requires.whole c.requires.begun marks sound
     (λ i s at. let within = at.within in all i (omega (arith, within, long)))
@@ -30,7 +30,7 @@ returns-clause-answer c =
     let fits = fits_of x c.requires.ready.formed in
     let states = c.args.states.now in
     let marks = c.as_slice-marks.result.now in
-    let sound : AreSound x r.moves.now states marks = subst (AreSound x r.moves.now states) (sym c.as_slice-marks.ensures.value) c.in_ok-found.ensures.sound in
+    let sound : AreMarked x r.moves.now states marks = subst (AreMarked x r.moves.now states) (sym c.as_slice-marks.ensures.value) c.in_ok-found.ensures.sound in
     let told = c.in_ok-word.field-0 in
     let word = told.word.items in
     let stands = c.in_ok-word.ensures.stands in

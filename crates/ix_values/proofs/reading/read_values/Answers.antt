@@ -1,6 +1,6 @@
 use Rattle.std.proofs.Common.{◌∙◌, sym, ap, subst, arith, length, true≢false}
 use Rattle.ix_values.specs.Texts.{IsAction}
-use Rattle.ix_values.specs.inside.Causes.{code_of}
+use Rattle.ix_values.specs.inside.Causes.{action_code}
 use Rattle.ix_values.proofs.ReadingSteps.{told, no_word_at, value_read, next_within, closed_front, comma_front, other_fault}
 use Rattle.ix_values.proofs.Stuck.{fault_no_value}
 use Rattle.ix_values.proofs.TextsOfActions.{IsAction-push}
@@ -39,7 +39,7 @@ returns-then-not-goes_on c =
     let value = c.in-Some.value in
     let read = value_read c.args.text.now c.loop-value.at action.name action.values value c.bytes.result.now kept.within kept.before c.in-Some.ensures.0 c.bytes.ensures.value in
     told c.args.text.now _ _ c.fault-then-not-goes_on.result c.fault-then-not-goes_on.ensures
-    (other_fault c.args.text.now _ action.name action.values value c.byte_at-next.result (length c.values.result.now) (code_of c.cause_after_value.result) read kept.valid.name kept.valid.values kept.few c.bytes.ensures.valid
+    (other_fault c.args.text.now _ action.name action.values value c.byte_at-next.result (length c.values.result.now) (action_code c.cause_after_value.result) read kept.valid.name kept.valid.values kept.few c.bytes.ensures.valid
     c.byte_at-next.ensures (ap length c.values.ensures.value ∙ ap (λ a. length a.values) c.push.ensures)
     (λ e. true≢false (sym (c.closes.ensures.1 e) ∙ c.if-closes.false))
     (λ e. true≢false (sym (c.goes_on.ensures.1 e) ∙ c.if-not-goes_on.true))

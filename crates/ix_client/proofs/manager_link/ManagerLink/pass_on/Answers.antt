@@ -4,7 +4,7 @@ use Rattle.ix_client.specs.Links.{Calls, IsExpected, IsLineWith}
 use Rattle.ix_client.specs.inside.ManagerLinks.{link_state}
 use Rattle.ix_client.specs.inside.ManagerCalls.{CountsCall, CountsNone}
 use Rattle.ix_client.specs.inside.ManagerLinks.{ManagerLinkState}
-use Rattle.ix_client.specs.inside.Passing.{Keeps}
+use Rattle.ix_client.specs.inside.Passing.{KeepsAsked}
 use Rattle.ix_client.proofs.CallCounts.{answered_counts, answered_kept, ended_counts, failed_counts}
 use Rattle.ix_client.proofs.LinkLemmas.{answers_line, ends_in_disk, expected_of, fails_again}
 use Rattle.ix_client.proofs.manager_link.ManagerLink.pass_on.Goals as goal
@@ -49,7 +49,7 @@ returns-in-Answered-clause-went c = λ m there asked of.
     (answered_counts asked line old new
     (ap is_some c.answer.ensures.manager
     ∙ answered_kept asked mid.manager line m mid.site
-    (subst (λ p. Keeps asked p mid.manager line m mid.site) c.in-Answered.is (c.exchange.ensures.keeps m there asked of).keeps))
+    (subst (λ p. KeepsAsked asked p mid.manager line m mid.site) c.in-Answered.is (c.exchange.ensures.keeps m there asked of).keeps))
     (c.answer.ensures.faults ∙ c.exchange.ensures.faults)
     (λ with_.
     c.answer.ensures.stay asked of (subst (IsLineWith (IsExpected asked)) (sym c.as_slice.ensures.value) with_)

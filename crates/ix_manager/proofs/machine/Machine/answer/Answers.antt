@@ -1,6 +1,6 @@
 use Rattle.std.proofs.Common.{[], ◌∷◌, refl, sym, subst}
 use Rattle.ix_proto.specs.Requests.{PlainRequest, stop}
-use Rattle.ix_proto.specs.inside.Lends.{Lends}
+use Rattle.ix_proto.specs.inside.Lends.{LendsRequest}
 use Rattle.ix_proto.specs.declared.request.Request.{Request}
 use Rattle.ix_proto.specs.declared.reply.Reply.{Reply}
 use Rattle.ix_manager.specs.Machine.{Step}
@@ -15,7 +15,7 @@ StepsTo old one new plain = Step old.form old.limit old.state plain (one ∷ [])
 
 -- a request that isn't `stop`
 abbrev EndsNoRun : Request → Type 0
-EndsNoRun request = ¬ Lends request stop
+EndsNoRun request = ¬ LendsRequest request stop
 
 pub returns-in-Ask-clause-answers : goal.returns-in-Ask-clause-answers
 returns-in-Ask-clause-answers c =
@@ -57,7 +57,7 @@ returns-in-Drop-clause-answers c =
     )
 
 pub returns-in-Stop-clause-answers : goal.returns-in-Stop-clause-answers
-returns-in-Stop-clause-answers c = (subst (λ (r : Request). Lends r stop) (sym c.in-Stop.is) tt, refl)
+returns-in-Stop-clause-answers c = (subst (λ (r : Request). LendsRequest r stop) (sym c.in-Stop.is) tt, refl)
 
 -- none of these changes the history
 pub returns-in-Ask-clause-history : goal.returns-in-Ask-clause-history

@@ -7,10 +7,10 @@ use Rattle.ix_outside.proofs.Passing.{DiskCalls-none, DiskCalls-join}
 use Rattle.ix_values.specs.PlainAction.{Word}
 use Rattle.ix_journal.specs.Entries.{renewed_of}
 use Rattle.ix_journal.specs.History.{PlainHistory, Spent, actions_of}
-use Rattle.ix_store.specs.inside.Keeping.{Fits}
+use Rattle.ix_store.specs.inside.Keeping.{FitsFile}
 use Rattle.ix_store.specs.inside.KeptBy.{kept}
 use Rattle.ix_store.specs.inside.Opens.{Opens}
-use Rattle.ix_store.specs.inside.Refusals.{Refuses}
+use Rattle.ix_store.specs.inside.Refusals.{RefusesFileAs}
 use Rattle.ix_store.specs.inside.Starting.{LeavesOnStart}
 use Rattle.ix_outside.specs.Crashes.{stretch_of}
 use Rattle.ix_manager.specs.Images.{IsStartable}
@@ -54,7 +54,7 @@ returns-in-Err-start-clause-not_large g c = λ small disk is.
     let why = c.in-Err-start.fault in
     subst (λ (fault : StartFault). IsStartFault c.args.expression c.args.limit disk.file fault) (sym c.open_fault.ensures)
     (open_fault c.args.expression c.args.limit disk.file why
-    (subst (λ (t : List ℕ). Refuses disk.file t why) text (c.in-Err-start.ensures.refused disk is)))
+    (subst (λ (t : List ℕ). RefusesFileAs disk.file t why) text (c.in-Err-start.ensures.refused disk is)))
 
 pub returns-in-Err-start-clause-leaves : goal.returns-in-Err-start-clause-leaves
 returns-in-Err-start-clause-leaves g c = λ disk is.
@@ -114,8 +114,8 @@ start_machine-requires-clause-fits g c =
     zipped history c.into_parts-tickets.result.0.items engine.history tickets (c.in-Ok-resume.ensures.history ∙ words) in
     let site = c.start.new.site in
     let store = kept c.in-Ok-start.opened.0 in
-    subst (λ (h : PlainHistory). Fits (g.S.Site.state site) (g.S.Site.crashes site) store (canonical_text engine.form) h) (sym pairs)
-    (subst (λ (t : List ℕ). Fits (g.S.Site.state site) (g.S.Site.crashes site) store t history) (text ∙ ap canonical_text (sym form))
+    subst (λ (h : PlainHistory). FitsFile (g.S.Site.state site) (g.S.Site.crashes site) store (canonical_text engine.form) h) (sym pairs)
+    (subst (λ (t : List ℕ). FitsFile (g.S.Site.state site) (g.S.Site.crashes site) store t history) (text ∙ ap canonical_text (sym form))
     c.in-Ok-start.ensures.fits)
 
 pub returns-in-Ok-start_machine-clause-not_large : goal.returns-in-Ok-start_machine-clause-not_large

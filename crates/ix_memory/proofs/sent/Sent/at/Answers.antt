@@ -2,7 +2,7 @@
 use Rattle.std.proofs.Common.{◌≡◌, ◌<◌, ℕ, List, length, map, get_or, slice_get, Some, sym, subst, arith}
 use Rattle.std.proofs.lemmas.List.{length-map}
 use Rattle.ix_memory.specs.declared.sent.Pair.{Pair}
-use Rattle.ix_memory.specs.inside.Spans.{IsWithin, AreWithin}
+use Rattle.ix_memory.specs.inside.Spans.{IsSpanWithin, AreWithin}
 use Rattle.ix_memory.specs.inside.SentState.{sent_of}
 use Rattle.ix_memory.proofs.Spanning.{pair_within, sent_at}
 use Rattle.ix_memory.proofs.sent.Sent.at.Goals as goal
@@ -10,9 +10,9 @@ use Rattle.ix_memory.proofs.sent.Sent.at.Goals as goal
 -- a pair that is the one at a place lies within the bytes
 within : (bytes : List ℕ) (pairs : List Pair) (at : ℕ) (pair : Pair)
     → at < length pairs → pair ≡ get_or pairs at pair
-    → AreWithin (length bytes) (map (λ (p : Pair). p.span) pairs) → IsWithin (length bytes) pair.span
+    → AreWithin (length bytes) (map (λ (p : Pair). p.span) pairs) → IsSpanWithin (length bytes) pair.span
 within bytes pairs at pair below is kept =
-    let P : Pair → Type 0 = λ p. IsWithin (length bytes) p.span in
+    let P : Pair → Type 0 = λ p. IsSpanWithin (length bytes) p.span in
     subst P (sym is) (pair_within (length bytes) pairs at pair below kept)
 
 pub text-requires-clause-in_order : goal.text-requires-clause-in_order

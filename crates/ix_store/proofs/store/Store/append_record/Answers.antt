@@ -3,7 +3,7 @@ use Rattle.std.proofs.lemmas.List.{length-append}
 use Rattle.ix_journal.specs.Entries.{behind}
 use Rattle.ix_journal.specs.Format.{farthest_gate, record_of}
 use Rattle.ix_journal.specs.inside.Counting.{AreNotMany, AreSound}
-use Rattle.ix_journal.specs.inside.Writing.{entry_of}
+use Rattle.ix_journal.specs.inside.Writing.{entry_written}
 use Rattle.ix_journal.proofs.OrderLemmas.{entry_near, sound-behind}
 use Rattle.ix_store.specs.inside.KeptBy.{kept}
 use Rattle.ix_store.proofs.Appended.{place_behind, place_gate, recorded_images, gated_images}
@@ -22,7 +22,7 @@ returns-in_err-write_through-clause-images g c text history fits =
     recorded_images _ _ _ _ first.ensures.calls
     (g.met.S.Site.lawful c.args.site.now) (g.met.S.Site.lawful first.new.site)
     (kept c.args.self.now) text history fits c.as_slice.result.now first.ensures.images
-    (entry_of c.args.written.now)
+    (entry_written c.args.written.now)
 
 -- the gate is opened
 pub write_through-requires-2-clause-place : goal.write_through-requires-2-clause-place
@@ -41,7 +41,7 @@ returns-in_err-write_through-2-clause-images g c text history fits disk told =
     gated_images _ _ _ _ first.ensures.calls
     (g.met.S.Site.lawful c.args.site.now) (g.met.S.Site.lawful first.new.site)
     (kept c.args.self.now) text history fits c.as_slice.result.now first.ensures.images
-    (entry_of c.args.written.now) (record {
+    (entry_written c.args.written.now) (record {
       valid = c.record_bytes.ensures.valid;
       follows = c.requires.follows;
       few = c.requires.few;
@@ -56,7 +56,7 @@ returns-clause-images g c text history fits disk told =
     gated_images _ _ _ _ first.ensures.calls
     (g.met.S.Site.lawful c.args.site.now) (g.met.S.Site.lawful first.new.site)
     (kept c.args.self.now) text history fits c.as_slice.result.now first.ensures.images
-    (entry_of c.args.written.now) (record {
+    (entry_written c.args.written.now) (record {
       valid = c.record_bytes.ensures.valid;
       follows = c.requires.follows;
       few = c.requires.few;
@@ -73,7 +73,7 @@ returns-clause-appended g c text history fits =
     fits_more _ _ _ _ first.ensures.calls
     (g.met.S.Site.lawful c.args.site.now) (g.met.S.Site.lawful first.new.site)
     (kept c.args.self.now) text history fits c.as_slice.result.now first.ensures.images
-    (entry_of c.args.written.now) (record {
+    (entry_written c.args.written.now) (record {
       valid = c.record_bytes.ensures.valid;
       follows = c.requires.follows;
       few = c.requires.few;
@@ -86,7 +86,7 @@ returns-clause-appended g c text history fits =
 
 pub invariant_of-self-2 : goal.invariant_of-self-2
 invariant_of-self-2 g c =
-    let entry = entry_of c.args.written.now in
+    let entry = entry_written c.args.written.now in
     let old = c.args.self.now in
     let near = old.near in
     let bytes = ap length c.record_bytes.ensures.bytes in

@@ -1,7 +1,7 @@
 use Rattle.std.proofs.Common.{subst}
 use Rattle.std.proofs.lemmas.List.{append-nil}
 use Rattle.ix_journal.specs.History.{PlainHistory}
-use Rattle.ix_store.specs.inside.Keeping.{Fits}
+use Rattle.ix_store.specs.inside.Keeping.{FitsFile}
 use Rattle.ix_store.specs.inside.KeptBy.{kept}
 use Rattle.ix_store.proofs.Histories.{booted_or_not}
 use Rattle.ix_store.proofs.store.Store.boot.Goals as goal
@@ -9,7 +9,7 @@ use Rattle.ix_store.proofs.store.Store.boot.Goals as goal
 pub returns-in-Ok-clause-fits : goal.returns-in-Ok-clause-fits
 returns-in-Ok-clause-fits g c text history fits =
     let site = c.append_record.new.site in
-    subst (λ (h : PlainHistory). Fits (g.S.Site.state site) (g.S.Site.crashes site)
+    subst (λ (h : PlainHistory). FitsFile (g.S.Site.state site) (g.S.Site.crashes site)
     (kept c.append_record.new.self) text h)
     (append-nil history) (c.in-Ok.ensures.appended text history fits)
 

@@ -4,7 +4,7 @@ use Rattle.std.specs.Ordering.{eq_by_cmp}
 use Rattle.ix_values.specs.Order.{text_cmp}
 use Rattle.ix_entries.specs.inside.Entries.{KeysAscend, with_entry}
 use Rattle.ix_tree.specs.Order.{tree_cmp}
-use Rattle.ix_tree.specs.inside.HeldEntries.{IsCutWell, entries_of}
+use Rattle.ix_tree.specs.inside.HeldEntries.{IsCutWell, entries_kept}
 use Rattle.ix_tree.specs.inside.Pieces.{HasEntries, in_pieces}
 use Rattle.ix_tree.proofs.Parted.{parted, parts_around, pieces_again, some_before, some_behind, some_both, with_parts}
 use Rattle.ix_tree.proofs.entries.Entries.with.Goals as goal
@@ -12,13 +12,13 @@ use Rattle.ix_tree.proofs.entries.Entries.with.Goals as goal
 pub around_piece-requires : goal.around_piece-requires
 around_piece-requires c =
     let later = c.deref-in-Cut.ensures.value in
-    let whole = ap in_pieces later ∙ sym (ap entries_of c.in-Cut.is) ∙ c.self.view_is in
+    let whole = ap in_pieces later ∙ sym (ap entries_kept c.in-Cut.is) ∙ c.self.view_is in
     parted c.args.value c.deref-in-Cut.result.now (subst (AllByRecursion HasEntries) (sym later) (subst IsCutWell c.in-Cut.is c.self.invariant)) (subst (KeysAscend text_cmp) (sym whole) c.requires)
 
 pub entries_with-requires-in-Some : goal.entries_with-requires-in-Some
 entries_with-requires-in-Some c =
     let later = c.deref-in-Cut.ensures.value in
-    let whole = ap in_pieces later ∙ sym (ap entries_of c.in-Cut.is) ∙ c.self.view_is in
+    let whole = ap in_pieces later ∙ sym (ap entries_kept c.in-Cut.is) ∙ c.self.view_is in
     let parts = parts_around c.args.value c.deref-in-Cut.result.now c.in-Some.before.now c.in-Some.piece.now c.in-Some.behind.now
     (subst (KeysAscend text_cmp) (sym whole) c.requires) (subst (AllByRecursion HasEntries) (sym later) (subst IsCutWell c.in-Cut.is c.self.invariant)) c.in-Some.ensures in
     rw c.entries.ensures parts.ascending
@@ -36,7 +36,7 @@ invariant_of-result c =
 pub returns-in_ok-push_shared_pieces-in-Some-2 : goal.returns-in_ok-push_shared_pieces-in-Some-2
 returns-in_ok-push_shared_pieces-in-Some-2 c =
     let later = c.deref-in-Cut.ensures.value in
-    let whole = ap in_pieces later ∙ sym (ap entries_of c.in-Cut.is) ∙ c.self.view_is in
+    let whole = ap in_pieces later ∙ sym (ap entries_kept c.in-Cut.is) ∙ c.self.view_is in
     let parts = parts_around c.args.value c.deref-in-Cut.result.now c.in-Some.before.now c.in-Some.piece.now c.in-Some.behind.now
     (subst (KeysAscend text_cmp) (sym whole) c.requires) (subst (AllByRecursion HasEntries) (sym later) (subst IsCutWell c.in-Cut.is c.self.invariant)) c.in-Some.ensures in
     let pushed = c.in_ok-push_shared_pieces-in-Some.ensures ∙ ap (λ l. l ++ c.in-Some.before.now) c.in_ok-all-in-Some.ensures.items in

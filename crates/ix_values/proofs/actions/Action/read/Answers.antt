@@ -1,5 +1,5 @@
 use Rattle.std.proofs.Common.{◌∙◌, ap, Some}
-use Rattle.ix_values.specs.inside.Causes.{code_of}
+use Rattle.ix_values.specs.inside.Causes.{action_code}
 use Rattle.ix_values.proofs.Stuck.{fault_name}
 use Rattle.ix_values.proofs.ReadingSteps.{told, next_within, name_read, name_only, opened_front, name_fault}
 use Rattle.ix_values.proofs.actions.Action.read.Goals as goal
@@ -25,4 +25,4 @@ pub returns-in-Some-byte_at : goal.returns-in-Some-byte_at
 returns-in-Some-byte_at c =
     let read = name_read c.args.text.now c.in-Some.name c.bytes-at.result.now c.in-Some.ensures.0 c.bytes-at.ensures.value in
     told c.args.text.now _ _ c.fault-in-Some-byte_at.result c.fault-in-Some-byte_at.ensures
-    (name_fault c.args.text.now _ c.in-Some.name c.byte_at.result c.in-Some-byte_at.byte (code_of c.cause_after_name.result) read c.in-Some.ensures.1 c.byte_at.ensures c.in-Some-byte_at.is c.in-Some-byte_at.byte-test.1 c.cause_after_name.ensures)
+    (name_fault c.args.text.now _ c.in-Some.name c.byte_at.result c.in-Some-byte_at.byte (action_code c.cause_after_name.result) read c.in-Some.ensures.1 c.byte_at.ensures c.in-Some-byte_at.is c.in-Some-byte_at.byte-test.1 c.cause_after_name.ensures)
