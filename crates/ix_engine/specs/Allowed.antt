@@ -1,5 +1,6 @@
 -- Which actions may come next.
 use Rattle.std.specs.Prelude.{ℕ, ◌<◌, ◌≤◌, [], ◌∷◌, ◌++◌, length}
+use Rattle.ix_engine.specs.Limits.{most_actions}
 use Rattle.ix_values.specs.PlainAction.{PlainAction, Word}
 use Rattle.ix_expr.specs.Form.{Form}
 use Rattle.ix_expr.specs.Meaning.{IsPartial}
@@ -13,5 +14,5 @@ IsPermitted x history a = IsPartial x [] (history ++ a ∷ [])
 -- extended history is within the limit
 pub record IsAllowed (x : Form) (limit : ℕ) (history : Word) (a : PlainAction) : Type 0 where
   pub permitted : IsPermitted x history a
-  pub room : length history < 1000000
+  pub room : length history < most_actions
   pub within : tree_size x (history ++ a ∷ []) ≤ limit

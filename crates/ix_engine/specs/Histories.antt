@@ -1,5 +1,6 @@
 -- Which actions are taken as a history, and which is the first that isn't.
 use Rattle.std.specs.Prelude.{◌≡◌, ℕ, ◌+◌, ◌<◌, [], ◌∷◌, ◌++◌, length}
+use Rattle.ix_engine.specs.Limits.{most_actions}
 use Rattle.ix_values.specs.PlainAction.{PlainAction, Word}
 use Rattle.ix_expr.specs.Form.{Form}
 use Rattle.ix_can.specs.TreeOf.{tree_size}
@@ -12,11 +13,11 @@ use Rattle.ix_engine.specs.declared.faults.ResumeFault.{ResumeFault}
 -- which there is room
 abbrev pub IsRefused : Form → ℕ → Word → PlainAction → PrepareFault → Type 0
 IsRefused x limit history a NotPartial = ¬ IsPermitted x history a
-IsRefused x limit history a Full = IsPermitted x history a × (length history ≡ 1000000)
+IsRefused x limit history a Full = IsPermitted x history a × (length history ≡ most_actions)
 IsRefused x limit history a (Over l) =
-    (l ≡ limit) × IsPermitted x history a × (length history < 1000000)
+    (l ≡ limit) × IsPermitted x history a × (length history < most_actions)
     × (limit < tree_size x (history ++ a ∷ []))
-IsRefused x limit history a Memory = IsPermitted x history a × (length history < 1000000)
+IsRefused x limit history a Memory = IsPermitted x history a × (length history < most_actions)
 
 -- each action of the list is allowed behind those in front of it
 pub data AreAllowed (x : Form) (limit : ℕ) : Word → Type 0 where

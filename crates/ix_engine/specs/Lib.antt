@@ -1,3 +1,4 @@
+pub mod Limits
 pub mod Allowed
 pub mod Histories
 pub mod inside

@@ -2,6 +2,7 @@
 
 ghost use Rattle.std.specs.Prelude.{◌≡◌, ◌<◌, ◌≤◌, ◌↔◌, ℕ, [], ◌∷◌, ◌++◌, length};
 ghost use Rattle.std.specs.Prelude.{IsTrue, IfOk, IfErr, OnOk, OnErr};
+ghost use Rattle.ix_engine.specs.Limits.{most_actions};
 ghost use Rattle.ix_expr.specs.Meaning.{IsComplete};
 ghost use Rattle.ix_tree.specs.Size.{size_of};
 ghost use Rattle.ix_can.specs.TreeOf.{tree_of, tree_size};
@@ -32,6 +33,7 @@ pub struct Engine {
 }
 
 impl Model for Engine {
+    ghost use Rattle.ix_engine.specs.Limits.{most_actions};
     ghost use Rattle.ix_engine.specs.inside.Engine.{EngineState};
     ghost use Rattle.ix_expr.specs.lemmas.FormCode.{form_code};
     ghost use Rattle.std.specs.Coded.{codes};
@@ -55,7 +57,7 @@ impl Model for Engine {
     // The tree is that of the history, both are within their limits, and the environment has no
     // parameter in it.
     ghost invariant = { λ s. (s.tree ≡ tree_of s.expression [] s.history.items)
-        × (length s.history.items ≤ 1000000)
+        × (length s.history.items ≤ most_actions)
         × (size_of s.tree ≤ s.limit)
         × (s.limit ≤ 1000000)
         × (s.env ≡ []) };
@@ -197,11 +199,11 @@ impl Engine {
         ensures not_partial { (result ≡ Err PrepareFault.NotPartial)
             ↔ ¬ Permits self.now action.now }
         ensures full { (result ≡ Err PrepareFault.Full)
-            ↔ (Permits self.now action.now × (length self.now.history ≡ 1000000)) }
+            ↔ (Permits self.now action.now × (length self.now.history ≡ most_actions)) }
         ensures over { (l : ℕ) → result ≡ Err (PrepareFault.Over l)
             → (l ≡ self.now.limit)
             × Permits self.now action.now
-            × (length self.now.history < 1000000)
+            × (length self.now.history < most_actions)
             × (self.now.limit < tree_size self.now.form (extended_by self.now action.now)) }
         ensures refused { IfErr result
             (λ why. IsRefused self.now.form self.now.limit self.now.history action.now why) }

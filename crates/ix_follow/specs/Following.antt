@@ -1,6 +1,7 @@
 -- What a follower of the log answers to a line, and what its history is then.
 use Rattle.std.specs.Prelude.{◌≡◌, ◌≢◌, ℕ, ◌+◌, ◌-◌, ◌<◌, ◌≤◌, List, [], ◌∷◌, ◌++◌, length}
 use Rattle.std.specs.Prelude.{slice_get, Result, Ok, Err, Some}
+use Rattle.ix_engine.specs.Limits.{most_actions}
 use Rattle.ix_values.specs.PlainAction.{PlainAction, Word}
 use Rattle.ix_expr.specs.Form.{Form}
 use Rattle.ix_can.specs.TreeOf.{tree_size}
@@ -45,12 +46,12 @@ Meets x limit history n a (Err (Differs m)) =
 Meets x limit history n a (Err (NotPartial m)) =
     (m ≡ n) × IsNextNumber history n × ¬ IsPermitted x history a
 Meets x limit history n a (Err (Full m)) =
-    (m ≡ n) × IsNextNumber history n × IsPermitted x history a × (length history ≡ 1000000)
+    (m ≡ n) × IsNextNumber history n × IsPermitted x history a × (length history ≡ most_actions)
 Meets x limit history n a (Err (Over m most)) =
     (m ≡ n) × (most ≡ limit) × IsNextNumber history n × IsPermitted x history a
-    × (length history < 1000000) × (limit < tree_size x (history ++ a ∷ []))
+    × (length history < most_actions) × (limit < tree_size x (history ++ a ∷ []))
 Meets x limit history n a (Err Memory) =
-    IsNextNumber history n × IsPermitted x history a × (length history < 1000000)
+    IsNextNumber history n × IsPermitted x history a × (length history < most_actions)
 
 -- the history behind the answer: a taken action is appended, and nothing else changes
 abbrev pub LeavesFollowed : Word → PlainAction → Result Fed FollowFault → Word → Type 0

@@ -1,6 +1,8 @@
 -- What `why`, `next` and `stuck` answer, and why they don't.
 use Rattle.std.specs.Prelude.{◌≡◌, ℕ, ◌<◌, ◌≤◌, List, [], ◌++◌, Option, Some, codes, length}
 use Rattle.std.specs.Prelude.{true, false, ⊤}
+use Rattle.ix_next.specs.declared.menu.TheConstants.{CANDIDATE_LIMIT, MOVE_LIMIT}
+use Rattle.ix_manage.specs.Limits.{most_file_bytes}
 use Rattle.ix_words.specs.Each.{Each}
 use Rattle.ix_lines.specs.TextLines.{lines_of}
 use Rattle.ix_expr.specs.Form.{Form}
@@ -54,9 +56,9 @@ StartsWithin job x = (actions : List ℕ) → history_file_of job ≡ Some actio
 
 -- the file of given values has this fault
 pub data HasBadValues (files : Option Listing) (name : List ℕ) : ℕ → ℕ → Type 0 where
-  too_long : HasLonger files name 67108864 → HasBadValues files name 71 67108864
+  too_long : HasLonger files name most_file_bytes → HasBadValues files name 71 most_file_bytes
   bad_line : {code at : ℕ} (bytes : List ℕ)
-      → HasFile files name bytes → length bytes ≤ 67108864 → HasBadLine bytes code at
+      → HasFile files name bytes → length bytes ≤ most_file_bytes → HasBadLine bytes code at
       → HasBadValues files name code at
 
 -- the file of this name has these given values, one at least
@@ -64,7 +66,7 @@ pub record ReadsValues (files : Option Listing) (name : List ℕ) (given : List 
     : Type 0 where
   pub bytes : List ℕ
   pub file : HasFile files name bytes
-  pub short : length bytes ≤ 67108864
+  pub short : length bytes ≤ most_file_bytes
   pub good : AreGood (lines_of bytes) given
   pub some : 0 < length given
 
@@ -106,7 +108,7 @@ pub data IsAnswered (files : Option Listing) (x : Meaning) : Job → ℕ → Lis
   many : {expression actions : List ℕ} {values : List (List ℕ)} {limit : ℕ} {word : Word}
       (given : List PlainGiven)
       → ReadsActions files actions word → AreAllowed x.form limit word → AreGiven values given
-      → 1000000 < length (candidates true x.form given)
+      → CANDIDATE_LIMIT < length (candidates true x.form given)
       → IsAnswered files x (next expression actions values limit) 3
       (line (codes "refused candidates"))
   menu : {expression actions last : List ℕ} {values : List (List ℕ)} {limit : ℕ} {word : Word}
@@ -115,7 +117,7 @@ pub data IsAnswered (files : Option Listing) (x : Meaning) : Job → ℕ → Lis
       → IsMenu x.form word given offered → Verdict x.form word last
       → IsAnswered files x (next expression actions values limit) 0 (menu_lines offered ++ last)
   many_moves : {expression values : List ℕ} {limit states : ℕ} (given : List PlainGiven)
-      → ReadsValues files values given → 100000 < length (candidates false x.form given)
+      → ReadsValues files values given → MOVE_LIMIT < length (candidates false x.form given)
       → IsAnswered files x (stuck expression values limit states) 3
       (line (codes "refused candidates"))
   searched : {expression values : List ℕ} {limit states : ℕ} (given : List PlainGiven)

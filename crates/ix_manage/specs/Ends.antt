@@ -1,5 +1,6 @@
 -- How a run ends, by the words and the files.
 use Rattle.std.specs.Prelude.{◌≡◌, ◌⊎◌, ℕ, List, [], Option, None, Some, codes, length, ⊤}
+use Rattle.ix_manage.specs.Limits.{most_file_bytes}
 use Rattle.ix_values.specs.PlainAction.{Word}
 use Rattle.ix_expr.specs.CanonicalText.{canonical_text}
 use Rattle.ix_expr.specs.Form.{Form}
@@ -161,9 +162,9 @@ pub data JobEnds (around : Around)
       → JobEnds around (bound expression count) status whole part None
   long_lines : {expression lines : List ℕ} {limit : ℕ} {x : Form} {status : ℕ}
       {whole part : List ℕ}
-      → Starts around.files expression limit x → HasLonger around.files lines 67108864
+      → Starts around.files expression limit x → HasLonger around.files lines most_file_bytes
       → SiteRests around
-      → LastLine 3 [] (fault_line (codes "lines") 7 67108864) status whole part
+      → LastLine 3 [] (fault_line (codes "lines") 7 most_file_bytes) status whole part
       → JobEnds around (follow expression lines limit) status whole part None
   lost_lines : {expression lines : List ℕ} {limit : ℕ} {x : Form} {status : ℕ}
       {whole part : List ℕ}

@@ -1,6 +1,7 @@
 -- What `follow` puts.
 use Rattle.std.specs.Prelude.{◌≡◌, ℕ, ◌≤◌, List, [], ◌∷◌, ◌++◌, length, Option, codes, decimal}
 use Rattle.std.specs.Prelude.{Ok, Err}
+use Rattle.ix_manage.specs.Limits.{most_file_bytes}
 use Rattle.ix_values.specs.PlainAction.{Word}
 use Rattle.ix_expr.specs.Form.{Form}
 use Rattle.ix_outside.specs.Files.{Listing, HasFile}
@@ -71,4 +72,4 @@ pub data FollowEnds (x : Form) (limit : ℕ) (lines : List (List ℕ)) : ℕ →
 -- the file of this name has these bytes, within the length of a file of lines
 pub record ReadsLines (files : Option Listing) (name bytes : List ℕ) : Type 0 where
   pub file : HasFile files name bytes
-  pub short : length bytes ≤ 67108864
+  pub short : length bytes ≤ most_file_bytes

@@ -1,3 +1,4 @@
+pub mod Limits
 pub mod Command
 pub mod Around
 pub mod ActionLines

@@ -1,5 +1,6 @@
 -- What `replay` puts.
 use Rattle.std.specs.Prelude.{◌≡◌, ℕ, ◌≤◌, List, [], ◌∷◌, ◌++◌, length, Option}
+use Rattle.ix_manage.specs.Limits.{most_file_bytes}
 use Rattle.ix_words.specs.Each.{Each}
 use Rattle.ix_manager.specs.Runs.{Opening}
 use Rattle.ix_outside.specs.Contents.{GivenEvent, send_text}
@@ -17,15 +18,15 @@ pub record ReadsEvents (files : Option Listing) (name : List ℕ)
     (events : List GivenEvent) : Type 0 where
   pub bytes : List ℕ
   pub file : HasFile files name bytes
-  pub short : length bytes ≤ 67108864
+  pub short : length bytes ≤ most_file_bytes
   pub has : HasEvents bytes events
 
 -- the script of this name has this fault: its length, or that of its first line that isn't in the
 -- grammar
 pub data HasBadScript (files : Option Listing) (name : List ℕ) : ℕ → ℕ → Type 0 where
-  too_long : HasLonger files name 67108864 → HasBadScript files name 34 67108864
+  too_long : HasLonger files name most_file_bytes → HasBadScript files name 34 most_file_bytes
   bad_line : {bytes : List ℕ} {code at : ℕ}
-      → HasFile files name bytes → length bytes ≤ 67108864 → IsFirstScriptFault bytes code at
+      → HasFile files name bytes → length bytes ≤ most_file_bytes → IsFirstScriptFault bytes code at
       → HasBadScript files name code at
 
 -- these are the first events, in pieces of at most 4,096 bytes

@@ -1,5 +1,7 @@
 -- What `trace` puts.
 use Rattle.std.specs.Prelude.{◌≡◌, ℕ, ◌<◌, ◌≤◌, List, [], ◌∷◌, ◌++◌, length, Option, codes, decimal}
+use Rattle.ix_manage.specs.Limits.{most_file_bytes}
+use Rattle.ix_engine.specs.Limits.{most_actions}
 use Rattle.ix_values.specs.PlainAction.{PlainAction, Word}
 use Rattle.ix_expr.specs.Form.{Form}
 use Rattle.ix_expr.specs.Meaning.{IsComplete}
@@ -22,16 +24,16 @@ pub data TraceAnswers (x : Form) (limit : ℕ) : Word → Word → List ℕ → 
       → TraceAnswers x limit history actions text after
       → TraceAnswers x limit history (action ∷ actions) (line (codes "no") ++ text) after
   full : {history actions after : Word} {action : PlainAction} {text : List ℕ}
-      → IsPermitted x history action → length history ≡ 1000000
+      → IsPermitted x history action → length history ≡ most_actions
       → TraceAnswers x limit history actions text after
       → TraceAnswers x limit history (action ∷ actions) (line (codes "full") ++ text) after
   large : {history actions after : Word} {action : PlainAction} {text : List ℕ}
-      → IsPermitted x history action → length history < 1000000
+      → IsPermitted x history action → length history < most_actions
       → limit < tree_size x (history ++ action ∷ [])
       → TraceAnswers x limit history actions text after
       → TraceAnswers x limit history (action ∷ actions) (line (codes "large") ++ text) after
   yes : {history actions after : Word} {action : PlainAction} {text : List ℕ}
-      → IsPermitted x history action → length history < 1000000
+      → IsPermitted x history action → length history < most_actions
       → tree_size x (history ++ action ∷ []) ≤ limit
       → TraceAnswers x limit (history ++ action ∷ []) actions text after
       → TraceAnswers x limit history (action ∷ actions) (line (codes "yes") ++ text) after
@@ -68,7 +70,7 @@ pub record StartsAbove (files : Option Listing) (name : List ℕ) (limit : ℕ) 
 pub record ReadsActions (files : Option Listing) (name : List ℕ) (actions : Word) : Type 0 where
   pub bytes : List ℕ
   pub file : HasFile files name bytes
-  pub short : length bytes ≤ 67108864
+  pub short : length bytes ≤ most_file_bytes
   pub has : HasActions bytes actions
 
 -- the text of the expression file of this name has this fault
@@ -81,9 +83,9 @@ pub data HasBadText (files : Option Listing) (name : List ℕ) : ℕ → ℕ →
 -- the actions file of this name has this fault: its length, or that of its first line that is no
 -- action's text
 pub data HasBadActions (files : Option Listing) (name : List ℕ) : ℕ → ℕ → Type 0 where
-  too_long : HasLonger files name 67108864 → HasBadActions files name 6 67108864
+  too_long : HasLonger files name most_file_bytes → HasBadActions files name 6 most_file_bytes
   bad_line : {bytes : List ℕ} {code at : ℕ}
-      → HasFile files name bytes → length bytes ≤ 67108864 → IsFirstActionFault bytes code at
+      → HasFile files name bytes → length bytes ≤ most_file_bytes → IsFirstActionFault bytes code at
       → HasBadActions files name code at
 
 -- the line that says which of the two files has a fault, and which

@@ -2,6 +2,7 @@
 
 ghost use Rattle.std.specs.Prelude.{◌≡◌, ◌≢◌, ◌-◌, ◌^◌, ◌<◌, length};
 ghost use Rattle.std.specs.Prelude.{IfOk, IfErr, OnOk, IfSome, IfNone, vec_capacity};
+ghost use Rattle.ix_engine.specs.Limits.{most_actions};
 ghost use Rattle.ix_values.specs.PlainAction.{PlainAction};
 ghost use Rattle.ix_engine.specs.inside.Engine.{Allows};
 ghost use Rattle.ix_lease.specs.Slots.{IsOpenAt};
@@ -54,7 +55,7 @@ impl Machine {
     pub(crate) fn reserved(&self, ticket: Ticket) -> Take
         ensures takes { Finds self.now ticket result }
         ensures room { (a : PlainAction) → result ≡ Take.Taken a
-            → length self.now.state.history < 1000000 }
+            → length self.now.state.history < most_actions }
     {
         let mut slot = self.slot;
         slot.take(ticket, self.moment)

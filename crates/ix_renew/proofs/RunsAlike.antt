@@ -26,7 +26,8 @@ use Rattle.ix_manager.specs.Refusals as refused
 use Rattle.ix_manager.specs.Runs.{Ending, Opening, Run, opening_of}
 use Rattle.ix_manager.proofs.AnsweredLemmas.{run_renewed}
 use Rattle.ix_manager.proofs.TicketLemmas.{held_with}
-use Rattle.ix_renew.specs.Carried.{IsCarriedFor, most_actions}
+use Rattle.ix_renew.specs.Carried.{IsCarriedFor}
+use Rattle.ix_engine.specs.Limits.{most_actions}
 use Rattle.ix_renew.specs.LaterRenewals.{without_tickets}
 use Rattle.ix_renew.specs.RunsAlike as alikes
 use Rattle.ix_renew.specs.RunsAlike.{AnswerAlike, AnswerEventsAlike, AnswerItemsAlike, OnlyOldTells, NewRunsAreMet, OldRunsAreMet, RenewedRunsAnswerAlike, StartBeside}

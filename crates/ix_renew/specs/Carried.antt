@@ -1,13 +1,10 @@
 -- What word may stand in place of a history.
 use Rattle.std.specs.Prelude.{◌≡◌, ℕ, ◌≤◌, [], length}
+use Rattle.ix_engine.specs.Limits.{most_actions}
 use Rattle.ix_values.specs.PlainAction.{Word}
 use Rattle.ix_expr.specs.Form.{Form}
 use Rattle.ix_can.specs.TreeOf.{tree_of}
 use Rattle.ix_engine.specs.Histories.{AreAllowed}
-
--- the most actions of a history
-abbrev pub most_actions : ℕ
-most_actions = 1000000
 
 -- the word may be carried in place of the history: each of its actions is allowed behind those in
 -- front of it, its tree is the history's, and it has no more actions

@@ -6,7 +6,8 @@ use Rattle.ix_expr.specs.FormFaults.{IsWellFormed}
 use Rattle.ix_expr.specs.Meaning.{IsComplete, IsPartial}
 use Rattle.ix_can.specs.TreeOf.{tree_of}
 use Rattle.ix_engine.specs.Allowed.{IsAllowed}
-use Rattle.ix_renew.specs.Carried.{IsCarriedFor, most_actions}
+use Rattle.ix_renew.specs.Carried.{IsCarriedFor}
+use Rattle.ix_engine.specs.Limits.{most_actions}
 
 -- the two words are answered alike: both are partial or neither is, both are complete or neither
 -- is, their trees are equal, and an action is allowed behind both or behind neither while the

@@ -18,7 +18,7 @@ use Rattle.ix_manager.specs.Images.{IsStartable}
 use Rattle.ix_manager.specs.Machine.{MachineState, ahead_of, count}
 use Rattle.ix_manager.specs.Refusals as refused
 use Rattle.ix_manager.specs.Runs.{Completes, Ending, Opening, Run, text_behind}
-use Rattle.ix_renew.specs.Carried.{most_actions}
+use Rattle.ix_engine.specs.Limits.{most_actions}
 use Rattle.ix_renew.specs.Renewal.{IsRenewal}
 
 -- a start from the journal in this file, and one from the journal that a renewal made of it, both

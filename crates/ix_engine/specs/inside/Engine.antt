@@ -1,5 +1,6 @@
 -- An engine as contracts see it, and what follows it.
 use Rattle.std.specs.Prelude.{◌≡◌, ℕ, ◌<◌, ◌≤◌, false, [], ◌∷◌, ◌++◌, length}
+use Rattle.ix_engine.specs.Limits.{most_actions}
 use Rattle.ix_values.specs.PlainAction.{PlainAction, Word}
 use Rattle.ix_expr.specs.Form.{Form}
 use Rattle.ix_tree.specs.Plain.{Plain}
@@ -31,7 +32,7 @@ Allows s a = IsAllowed s.form s.limit s.history a
 -- a prepared action follows the engine: there is room for it, and the tree is that of the history extended_by by it, live and
 -- within the limit
 pub record IsTreeAfter (s : EngineState) (a : PlainAction) (t : Plain) : Type 0 where
-  pub room : length s.history < 1000000
+  pub room : length s.history < most_actions
   pub tree : t ≡ tree_of s.form [] (extended_by s a)
   pub live : is_dead t ≡ false
   pub within : size_of t ≤ s.limit

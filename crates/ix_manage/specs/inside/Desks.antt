@@ -1,5 +1,6 @@
 -- How a `why`, a `next` and a `stuck` may end.
 use Rattle.std.specs.Prelude.{◌≡◌, ℕ, ◌<◌, List, ◌++◌, Option, length, true, false, ⊤}
+use Rattle.ix_next.specs.declared.menu.TheConstants.{CANDIDATE_LIMIT, MOVE_LIMIT}
 use Rattle.ix_values.specs.PlainAction.{Word}
 use Rattle.ix_expr.specs.Form.{Form}
 use Rattle.ix_outside.specs.FilesState.{FilesState}
@@ -52,7 +53,7 @@ pub record IsOffer (x : Form) (w : Word) (given : List PlainGiven) (lines : List
 
 -- why there is no menu
 abbrev pub RefusesOffer : Form → List PlainGiven → Refusal → Type 0
-RefusesOffer x given Candidates = 1000000 < length (candidates true x given)
+RefusesOffer x given Candidates = CANDIDATE_LIMIT < length (candidates true x given)
 RefusesOffer x given Memory = ⊤
 RefusesOffer x given _ = ⊥
 
@@ -64,6 +65,6 @@ pub record IsSearch (x : Meaning) (moves : Word) (limit states : ℕ) (lines : L
 
 -- why there are no moves
 abbrev pub RefusesMoves : Form → List PlainGiven → Refusal → Type 0
-RefusesMoves x given Candidates = 100000 < length (candidates false x given)
+RefusesMoves x given Candidates = MOVE_LIMIT < length (candidates false x given)
 RefusesMoves x given Memory = ⊤
 RefusesMoves x given _ = ⊥

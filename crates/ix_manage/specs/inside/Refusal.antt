@@ -1,5 +1,6 @@
 -- Why a run ends before it has its answer, and what it puts then.
 use Rattle.std.specs.Prelude.{◌≡◌, ℕ, ◌<◌, List, [], ◌++◌, codes, decimal, ⊤, Option}
+use Rattle.ix_manage.specs.Limits.{most_file_bytes}
 use Rattle.ix_manage.specs.declared.refusal.Refusal.{Refusal}
 use Rattle.ix_manage.specs.declared.refusal.Input.{Input}
 use Rattle.ix_manage.specs.declared.refusal.Input.TheVariants.{Expression, Actions, Script, Lines}
@@ -134,7 +135,7 @@ RefusesScript old new name _ = ⊥
 
 -- a file of lines of this name is too long
 pub data HasLongLines (files : Option Listing) (name : List ℕ) : ℕ → ℕ → Type 0 where
-  longer : HasLonger files name 67108864 → HasLongLines files name 7 67108864
+  longer : HasLonger files name most_file_bytes → HasLongLines files name 7 most_file_bytes
 
 -- why a file of lines of this name is refused
 abbrev pub RefusesLines : FilesState → FilesState → List ℕ → Refusal → Type 0

@@ -4,6 +4,7 @@ use Rattle.std.specs.Prelude.{Vec}
 use Rattle.std.specs.Prelude.{if◌then◌else◌}
 use Rattle.std.specs.Vec.{vec_capacity, vec_len}
 use Rattle.std.specs.declared.alloc.Global.{Global}
+use Rattle.ix_engine.specs.Limits.{most_actions}
 use Rattle.ix_values.specs.PlainAction.{PlainAction}
 use Rattle.ix_values.specs.declared.tickets.Ticket.{Ticket}
 use Rattle.ix_journal.specs.declared.entries.Renewed.{Renewed}
@@ -49,12 +50,12 @@ has_ticket ticket (Some kept) = if kept.boot == ticket.boot then kept.seq == tic
 -- the refusals of an action that isn't prepared
 pub data RefusesAsk (engine : EngineState) (action : PlainAction) : Reply → Type 0 where
   not_permitted : ¬ Permits engine action → RefusesAsk engine action refused.not_permitted
-  full : Permits engine action → length engine.history ≡ 1000000
+  full : Permits engine action → length engine.history ≡ most_actions
       → RefusesAsk engine action refused.full
-  large : Permits engine action → length engine.history < 1000000
+  large : Permits engine action → length engine.history < most_actions
       → engine.limit < tree_size engine.form (extended_by engine action)
       → RefusesAsk engine action (refused.above engine.limit)
-  memory : Permits engine action → length engine.history < 1000000
+  memory : Permits engine action → length engine.history < most_actions
       → RefusesAsk engine action refused.no_memory
 
 -- open at the moment, up to this deadline

@@ -11,7 +11,8 @@ use Rattle.ix_can.specs.TreeOf.{tree_of, tree_size}
 use Rattle.ix_step.specs.inside.Limits.{most_size}
 use Rattle.ix_engine.specs.Allowed.{IsPermitted}
 use Rattle.ix_renew.specs.declared.rules.Rules.{Rules}
-use Rattle.ix_renew.specs.Carried.{IsCarriedFor, most_actions}
+use Rattle.ix_renew.specs.Carried.{IsCarriedFor}
+use Rattle.ix_engine.specs.Limits.{most_actions}
 
 -- the expression of the rules
 abbrev pub rules_form : Rules → Form
