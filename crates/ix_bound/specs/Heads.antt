@@ -6,8 +6,8 @@ use Rattle.ix_expr.specs.Form.{Form, atom, opt, seq, or, and, any, every}
 use Rattle.ix_can.specs.Tests.{accepts_empty}
 use Rattle.ix_bound.specs.Names.{atoms, has_name}
 
--- whether heads and a rest are defined: for atoms, `?`, `any`, `every`, `|` and `&`, and for `y - z`
--- where y doesn't accept the empty word
+-- whether heads and a rest are defined: for atoms, `?`, `any`, `every`, `|` and `&`, and for `y -
+-- z` where y doesn't accept the empty word
 abbrev pub has_heads : Form → Bool
 has_heads (atom x) = true
 has_heads (opt y) = has_heads y

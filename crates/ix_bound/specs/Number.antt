@@ -7,8 +7,8 @@ use Rattle.ix_expr.specs.Form.{any, every, sync, all, times}
 abbrev pub with_values : ℕ → ℕ → ℕ
 with_values k b = 1 + b + k * (1 + b)
 
--- the bound over k different values; `#` and `times` have none, and their rows are never used, since
--- they are refused
+-- the bound over k different values; `#` and `times` have none, and their rows are never used,
+-- since they are refused
 abbrev pub bound_of : Form → ℕ → ℕ
 bound_of (atom x) k = 1
 bound_of (opt y) k = 1 + bound_of y k

@@ -1,5 +1,6 @@
 -- The nodes of trees: how each is made of its parts, and when it is dead or done instead.
-use Rattle.std.specs.Prelude.{ℕ, ◌==◌, length, Bool, false, not, ◌&&◌, ◌||◌, List, [], ◌∷◌, if◌then◌else◌, filter}
+use Rattle.std.specs.Prelude.{ℕ, ◌==◌, length, Bool, false, not, ◌&&◌, ◌||◌, List, [], ◌∷◌}
+use Rattle.std.specs.Prelude.{if◌then◌else◌, filter}
 use Rattle.std.specs.List.{list_any, list_all}
 use Rattle.std.specs.Ordering.{is_eq, is_gt}
 use Rattle.ix_words.specs.Canon.{canon, when}

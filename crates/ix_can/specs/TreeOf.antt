@@ -1,5 +1,6 @@
 -- The tree of a word: what the engine keeps, said of the whole word at once and without any step.
-use Rattle.std.specs.Prelude.{true, false, ℕ, ◌==◌, length, Bool, not, ◌&&◌, ◌||◌, List, [], ◌∷◌, map, flat_map}
+use Rattle.std.specs.Prelude.{true, false, ℕ, ◌==◌, length, Bool, not, ◌&&◌, ◌||◌, List, [], ◌∷◌}
+use Rattle.std.specs.Prelude.{map, flat_map}
 use Rattle.std.specs.Prelude.{filter, Some, None, if◌then◌else◌}
 use Rattle.std.specs.List.{list_any, list_all}
 use Rattle.ix_values.specs.Order.{text_eq}
@@ -12,7 +13,8 @@ use Rattle.ix_expr.specs.Environment.{Environment, bind}
 use Rattle.ix_tree.specs.Plain.{Plain, dead, start, done, opt as opt_of, seq as seq_of}
 use Rattle.ix_tree.specs.Plain.{star as star_of, par as par_of, par_star as par_star_of}
 use Rattle.ix_tree.specs.Plain.{or as or_of, and as and_of, couple as couple_of, any as any_of}
-use Rattle.ix_tree.specs.Plain.{every as every_of, sync as sync_of, all as all_of, times as times_of, pair as pair_of}
+use Rattle.ix_tree.specs.Plain.{every as every_of, sync as sync_of, all as all_of}
+use Rattle.ix_tree.specs.Plain.{times as times_of, pair as pair_of}
 use Rattle.ix_tree.specs.Plain.{bag as bag_of, map as map_of, entry as entry_of}
 use Rattle.ix_tree.specs.Order.{first_part, second_part}
 use Rattle.ix_tree.specs.Size.{size_of}

@@ -17,7 +17,8 @@ ghost use Rattle.ix_client.specs.inside.ManagerCalls.{CallsManager, CountsCall, 
 ghost use Rattle.ix_client.specs.inside.ManagerCalls.{FailsToStart, MakesNone};
 ghost use Rattle.ix_client.specs.inside.ManagerLinks.{IsManagerWhere, IsRunEnded, NotesStay};
 ghost use Rattle.ix_client.specs.inside.ManagerLinks.{link_state, call_noted, told_at, told_by};
-ghost use Rattle.ix_client.specs.inside.Passing.{EndsInLine, ExchangesOver, IsShortLine, KeepsAsked};
+ghost use Rattle.ix_client.specs.inside.Passing.{EndsInLine, ExchangesOver, IsShortLine};
+ghost use Rattle.ix_client.specs.inside.Passing.{KeepsAsked};
 ghost use Rattle.ix_client.specs.inside.Passing.{StartedFrom};
 ghost use Rattle.ix_client.specs.inside.Starting.{TellsStarted};
 ghost use Rattle.ix_client.specs.lemmas.SoundTold.{told_is_sound};

@@ -7,7 +7,8 @@ ghost use Rattle.std.specs.BTreeMap.{is_at, insert_entry};
 ghost use Rattle.std.specs.List.Sorted.{IsBinarySearchResult, IsSearchInRange};
 ghost use Rattle.std.specs.Map.{remove_entry};
 ghost use Rattle.std.specs.Ordering.{is_eq};
-ghost use Rattle.ix_entries.specs.inside.Entries.{KeysAscend, AreProperEntries, item_at, with_entry};
+ghost use Rattle.ix_entries.specs.inside.Entries.{KeysAscend, AreProperEntries, item_at};
+ghost use Rattle.ix_entries.specs.inside.Entries.{with_entry};
 
 use std::alloc::AllocError;
 use std::cmp::Ordering;

@@ -1,5 +1,6 @@
 -- The canonical text of an expression.
-use Rattle.std.specs.Prelude.{ℕ, List, [], ◌∷◌, codes, decimal, ◌++◌, Bool, if◌then◌else◌, nat_lt, nat_le}
+use Rattle.std.specs.Prelude.{ℕ, List, [], ◌∷◌, codes, decimal, ◌++◌, Bool, if◌then◌else◌, nat_lt}
+use Rattle.std.specs.Prelude.{nat_le}
 use Rattle.ix_expr.specs.declared.arg.Arg.{Arg}
 use Rattle.ix_expr.specs.declared.arg.Arg.TheVariants.{Fixed, Param}
 use Rattle.ix_expr.specs.Form.{PlainAtom, Form, atom, opt, seq, star, par, par_star, or, and}

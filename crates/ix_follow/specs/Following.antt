@@ -40,7 +40,8 @@ Meets x limit history n a (Ok Other) = ⊥
 Meets x limit history n a (Ok LeftOut) = ⊥
 Meets x limit history n a (Ok (Early m)) = (m ≡ n) × (length history + 1 < n)
 Meets x limit history n a (Ok (Old m)) = (m ≡ n) × HasAt history n a
-Meets x limit history n a (Ok (Taken m)) = (m ≡ n) × IsNextNumber history n × IsAllowed x limit history a
+Meets x limit history n a (Ok (Taken m)) =
+    (m ≡ n) × IsNextNumber history n × IsAllowed x limit history a
 Meets x limit history n a (Err (Differs m)) =
     (m ≡ n) × ((kept : PlainAction) × HasAt history n kept × (kept ≢ a))
 Meets x limit history n a (Err (NotPartial m)) =

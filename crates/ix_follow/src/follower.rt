@@ -122,7 +122,8 @@ impl Follower {
     /// A line that is a reply's text.
     fn hear(&mut self, alloc: Global, reply: &Reply) -> Result<Fed, FollowFault>
         ensures hears { (line : List ℕ) → IsReply reply.now → reply_text reply.now ≡ line
-            → FollowsLine self.old.form self.old.limit self.old.history line result self.new.history }
+            → FollowsLine self.old.form self.old.limit self.old.history line result
+            self.new.history }
         ensures form { self.new.form ≡ self.old.form }
         ensures limit { self.new.limit ≡ self.old.limit }
     {

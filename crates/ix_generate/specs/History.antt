@@ -4,7 +4,8 @@ use Rattle.std.specs.Prelude.{find}
 use Rattle.std.specs.Prelude.{option_and_then, reverse}
 use Rattle.rand_pcg.specs.Lcg.{Lcg, advance}
 use Rattle.rand_pcg.specs.Pcg.{multiplier_64, pcg32}
-use Rattle.ix_generate.specs.Workload.{Ask, PlainWorkload, ask_for, begun_workload, behind_draw, call, drawn}
+use Rattle.ix_generate.specs.Workload.{Ask, PlainWorkload, ask_for, begun_workload, behind_draw}
+use Rattle.ix_generate.specs.Workload.{call, drawn}
 use Rattle.ix_generate.specs.Workload.{perform, with_granted}
 
 -- the ask is one for this patient

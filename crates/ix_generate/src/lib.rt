@@ -50,7 +50,8 @@ impl Model for Workload {
 
 impl Workload {
     ghost use Rattle.std.specs.Prelude.{ℕ};
-    ghost use Rattle.ix_generate.specs.Workload.{Ask, IsAsk, PlainWorkload, asked_action, begun_workload};
+    ghost use Rattle.ix_generate.specs.Workload.{Ask, IsAsk, PlainWorkload, asked_action};
+    ghost use Rattle.ix_generate.specs.Workload.{begun_workload};
     ghost use Rattle.ix_generate.specs.Workload.{behind_draw, drawn, with_granted};
 
     /// The workload of a seed, in which no call is open.

@@ -51,7 +51,8 @@ GivesRecord old (Some (Err damage)) new =
 pub data LendsRecords : Standing → List (List ℕ) → Standing → Type 0 where
   at_end : (old new : Standing) → GivesRecord old None new → LendsRecords old [] new
   going_on : (old next new : Standing) (text : Bor (List ℕ)) (texts : List (List ℕ))
-      → GivesRecord old (Some (Ok text)) next → LendsRecords next texts new → LendsRecords old (text.now ∷ texts) new
+      → GivesRecord old (Some (Ok text)) next → LendsRecords next texts new
+      → LendsRecords old (text.now ∷ texts) new
 
 -- step after step the records give these texts, and then they stand there
 pub data PassesRecords : Standing → List (List ℕ) → Standing → Type 0 where

@@ -18,7 +18,8 @@ use Rattle.ix_journal.specs.declared.slide.Slid.{Slid}
 use Rattle.ix_journal.specs.Answers.{Standing, at_gate, LendsRecords, PassesRecords}
 use Rattle.ix_journal.specs.Kept.{Kept}
 use Rattle.ix_journal.specs.Slide.{ComesTo, TellsSlid, RecordsGive}
-use Rattle.ix_journal.specs.Recovery.{IsJournal, IsDamaged, IsMany, KeepsRecords, Recovers, HoldsBoots}
+use Rattle.ix_journal.specs.Recovery.{IsJournal, IsDamaged, IsMany, KeepsRecords, Recovers}
+use Rattle.ix_journal.specs.Recovery.{HoldsBoots}
 use Rattle.ix_journal.specs.Recovery.{IsJournalWith}
 
 -- a file has one kind at most

@@ -1,5 +1,5 @@
--- `apart`: a `&` of which one side has an atom whose name and number of arguments no atom of the other
--- has.
+-- `apart`: a `&` of which one side has an atom whose name and number of arguments no atom of the
+-- other has.
 use Rattle.std.specs.Prelude.{Bool, false, List, [], ◌∷◌, ◌++◌, length, Option, Some, None}
 use Rattle.std.specs.Prelude.{if◌then◌else◌}
 use Rattle.std.specs.List.{list_any, flat_map}

@@ -11,8 +11,8 @@ use Rattle.ix_lint.specs.Names.{each_names}
 abbrev pub has_iteration : Form → Bool
 has_iteration x = list_any is_iteration (forms x)
 
--- whether it is an `all`, or a `sync` all of whose atoms name the parameter, over a body without `*`
--- and `#`
+-- whether it is an `all`, or a `sync` all of whose atoms name the parameter, over a body without
+-- `*` and `#`
 abbrev pub is_kept : Form → Bool
 is_kept (sync p y) = each_names p y && not (has_iteration y)
 is_kept (all p y) = not (has_iteration y)

@@ -75,7 +75,8 @@ ValueStays p y e w v = Member
     (entry v (tree_of y (bind p (Some v) e) (filter (in_alphabet y (bind p (Some v) e)) w)))
     (items_of (second_part (tree_of (sync p y) e w)))
 
--- where `keeps` is told of a `sync`, each value that has an action of a partial word in its alphabet
+-- where `keeps` is told of a `sync`, each value that has an action of a partial word in its
+-- alphabet
 abbrev pub ValuesStay : Type 0
 ValuesStay = (p : List ℕ) (y : Form) (e : Environment) (w : Word) (v : List ℕ) (a : PlainAction)
     → Fits (sync p y) e → IsTrue (is_kept (sync p y)) → IsPartial (sync p y) e w → Member a w

@@ -1,4 +1,5 @@
--- Which atoms name a parameter; and `unused`: a quantifier whose parameter no atom of its body names.
+-- Which atoms name a parameter; and `unused`: a quantifier whose parameter no atom of its body
+-- names.
 use Rattle.std.specs.Prelude.{ℕ, Bool, false, not, List, Option, Some, None, if◌then◌else◌}
 use Rattle.std.specs.List.{list_any, list_all}
 use Rattle.ix_expr.specs.Form.{Form, atom}

@@ -9,10 +9,10 @@ use Rattle.ix_lint.specs.declared.finding.FindingKind.{FindingKind}
 use Rattle.ix_lint.specs.declared.finding.FindingKind.TheVariants.{Never}
 use Rattle.ix_lint.specs.Names.{each_names}
 
--- whether no word is complete, by form: an `all` over a body that the empty word doesn't complete; a
--- `sync` or an `every` over such a body, all of whose atoms name the parameter; a `-`, `+`, `&` or
--- `@` with an operand of which no word is complete; a `|` of two such; and an `any`, an `every`, a
--- `sync` and a `times` (of one run at least) over one
+-- whether no word is complete, by form: an `all` over a body that the empty word doesn't complete;
+-- a `sync` or an `every` over such a body, all of whose atoms name the parameter; a `-`, `+`, `&`
+-- or `@` with an operand of which no word is complete; a `|` of two such; and an `any`, an `every`,
+-- a `sync` and a `times` (of one run at least) over one
 abbrev pub is_never : Form → Bool
 is_never (atom x) = false
 is_never (opt y) = false

@@ -23,8 +23,8 @@ pub record Held : Type 0 where
   pub atom : PlainAtom
 
 -- whether one action is matched by the first atom with the parameter p given one value and by the
--- second with p given another: a parameter that a node above an atom binds is its own, and all others
--- are the same for both
+-- second with p given another: a parameter that a node above an atom binds is its own, and all
+-- others are the same for both
 abbrev pub can_share : List ℕ → Held → Held → Bool
 can_share p s t = text_eq s.atom.name t.atom.name
     && (length s.atom.arguments == length t.atom.arguments)

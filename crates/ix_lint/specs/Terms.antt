@@ -1,5 +1,5 @@
--- Whether two atoms can match one action with one parameter given different values: by unifying their
--- arguments.
+-- Whether two atoms can match one action with one parameter given different values: by unifying
+-- their arguments.
 use Rattle.std.specs.Prelude.{Bool, true, false, not, ◌&&◌, List, [], ◌∷◌, if◌then◌else◌}
 use Rattle.std.specs.List.{list_any}
 use Rattle.ix_values.specs.Order.{text_eq}
@@ -10,8 +10,8 @@ use Rattle.ix_lint.specs.declared.terms.Term.{Term}
 use Rattle.ix_lint.specs.declared.terms.Term.TheVariants.{Value, Shared, OfFirst, OfSecond}
 use Rattle.ix_lint.specs.Nodes.{binds}
 
--- an argument of the first atom below these nodes: a value, a parameter that one of them binds, which
--- is the first atom's own, or a parameter that both atoms share
+-- an argument of the first atom below these nodes: a value, a parameter that one of them binds,
+-- which is the first atom's own, or a parameter that both atoms share
 abbrev pub first_term : List Form → Arg → Term
 first_term above (Fixed v) = Value v
 first_term above (Param q) = if list_any (binds q) above then OfFirst q else Shared q
@@ -41,7 +41,8 @@ resolved (pair ∷ before) t =
     if same_term (resolved before t) pair.0 then pair.1 else resolved before t
 
 -- whether the terms of each of these pairs can be made equal and those of the last pair different,
--- where parameters can be given any values: a parameter is replaced by the term that it has to equal
+-- where parameters can be given any values: a parameter is replaced by the term that it has to
+-- equal
 abbrev pub can_differ : List (Term × Term) → List (Term × Term) → Term × Term → Bool
 can_differ replaced [] last = not (same_term (resolved replaced last.0) (resolved replaced last.1))
 can_differ replaced (pair ∷ pairs) last =

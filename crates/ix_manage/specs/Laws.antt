@@ -43,7 +43,8 @@ use Rattle.ix_manage.specs.FollowLines.{FollowsTo, ReadsLines}
 use Rattle.ix_manage.specs.Replay.{EndsWithin, Plays, ReadsEvents, session_text}
 use Rattle.ix_manage.specs.Renewals.{CanBeRenewed, IsMade, ReadsJournal, renewed_line}
 use Rattle.ix_manage.specs.Session.{IsOver, Session, Takes, history_line}
-use Rattle.ix_manage.specs.Trace.{TraceAnswers, ReadsActions, ReadsForm, ReadsPlaced, Starts, Verdict}
+use Rattle.ix_manage.specs.Trace.{TraceAnswers, ReadsActions, ReadsForm, ReadsPlaced, Starts}
+use Rattle.ix_manage.specs.Trace.{Verdict}
 use Rattle.ix_manage.specs.Work.{Asked, history_of, work_line}
 
 -- a run can start from a file: one that was absent, and has no bytes, or one that is startable

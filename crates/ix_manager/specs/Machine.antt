@@ -1,5 +1,6 @@
 -- The protocol machine: its state, and what each request answers and makes of it.
-use Rattle.std.specs.Prelude.{◌≡◌, ◌≢◌, ◌⊎◌, ℕ, ◌+◌, ◌-◌, ◌^◌, ◌<◌, ◌≤◌, min, Bool, true, false, not}
+use Rattle.std.specs.Prelude.{◌≡◌, ◌≢◌, ◌⊎◌, ℕ, ◌+◌, ◌-◌, ◌^◌, ◌<◌, ◌≤◌, min, Bool, true, false}
+use Rattle.std.specs.Prelude.{not}
 use Rattle.std.specs.Prelude.{List, [], ◌∷◌, ◌++◌, length, Some}
 use Rattle.ix_engine.specs.Limits.{most_actions}
 use Rattle.ix_words.specs.Each.{Each}
@@ -133,10 +134,12 @@ pub data Step (x : Form) (limit : ℕ) (s : MachineState) : PlainRequest → Lis
       → Step x limit s (request.ask a lease) (refused.not_permitted ∷ [])
       (record s { slot = slot.Free })
   full : {a : PlainAction} {lease : ℕ}
-      → (IsOpenAt s.slot s.moment → ⊥) → IsPermitted x (word_of s) a → length s.history ≡ most_actions
+      → (IsOpenAt s.slot s.moment → ⊥) → IsPermitted x (word_of s) a
+      → length s.history ≡ most_actions
       → Step x limit s (request.ask a lease) (refused.full ∷ []) (record s { slot = slot.Free })
   large : {a : PlainAction} {lease : ℕ}
-      → (IsOpenAt s.slot s.moment → ⊥) → IsPermitted x (word_of s) a → length s.history < most_actions
+      → (IsOpenAt s.slot s.moment → ⊥) → IsPermitted x (word_of s) a
+      → length s.history < most_actions
       → limit < tree_size x (word_of s ++ a ∷ [])
       → Step x limit s (request.ask a lease) (refused.above limit ∷ [])
       (record s { slot = slot.Free })
@@ -148,7 +151,8 @@ pub data Step (x : Form) (limit : ℕ) (s : MachineState) : PlainRequest → Lis
         number = s.number + 1;
       })
   ask_memory : {a : PlainAction} {lease : ℕ}
-      → (IsOpenAt s.slot s.moment → ⊥) → IsPermitted x (word_of s) a → length s.history < most_actions
+      → (IsOpenAt s.slot s.moment → ⊥) → IsPermitted x (word_of s) a
+      → length s.history < most_actions
       → Step x limit s (request.ask a lease) (refused.no_memory ∷ [])
       (record s { slot = slot.Free })
   confirmed : {ticket : Ticket} (a : PlainAction) (deadline : ℕ)

@@ -26,4 +26,5 @@ pub data WaitsFor (mine : ℕ) : ℕ → List ℕ → Type 0 where
 
 -- whoever wants a turn waits for at most 63 turns of others
 abbrev pub NobodyIsPassedOver : Type 0
-NobodyIsPassedOver = (mine from : ℕ) (others : List ℕ) → WaitsFor mine from others → length others ≤ 63
+NobodyIsPassedOver =
+    (mine from : ℕ) (others : List ℕ) → WaitsFor mine from others → length others ≤ 63

@@ -5,7 +5,8 @@ ghost use Rattle.ix_outside.specs.Files.{HasFile, HasLonger, Lists};
 ghost use Rattle.ix_outside.specs.FilesState.{OnlyFaults};
 ghost use Rattle.ix_memory.specs.Calls.{next_call};
 ghost use Rattle.ix_outside.specs.Counts.{one_more};
-ghost use Rattle.ix_memory.specs.inside.MemoryFilesState.{memory_files_state, FailsToLoad, HasNoFile};
+ghost use Rattle.ix_memory.specs.inside.MemoryFilesState.{memory_files_state, FailsToLoad};
+ghost use Rattle.ix_memory.specs.inside.MemoryFilesState.{HasNoFile};
 ghost use Rattle.ix_memory.specs.inside.MemoryFilesState.{listing_of};
 
 use crate::calls::Calls;

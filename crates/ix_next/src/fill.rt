@@ -7,7 +7,8 @@ ghost use Rattle.ix_expr.specs.declared.arg.Arg.TheVariants.{Fixed, Param};
 ghost use Rattle.ix_next.specs.Candidates.{terms_for, term_of};
 ghost use Rattle.ix_next.specs.declared.menu.MenuFault.TheVariants.{Many};
 ghost use Rattle.ix_next.specs.declared.term.Term.TheVariants.{Known, New};
-ghost use Rattle.ix_next.specs.inside.Fillings.{Took, begun_filling, filled, filled_atoms, filled_with};
+ghost use Rattle.ix_next.specs.inside.Fillings.{Took, begun_filling, filled, filled_atoms};
+ghost use Rattle.ix_next.specs.inside.Fillings.{filled_with};
 ghost use Rattle.ix_next.specs.inside.Fillings.{keep, pool};
 ghost use Rattle.ix_next.specs.inside.Trials.{CanTry};
 

@@ -131,8 +131,8 @@ abbrev pub LeavesBy : {T E : Type 0} → (List ℕ → List ℕ → Type 0) → 
 LeavesBy Step (Ok done) was is = LeavesJust Step was is
 LeavesBy Step (Err fault) was is = LeavesAtMost Step was is × LeavesNoLess was is
 
--- after a sync, or an attach, just the file may be left; one that failed changes nothing of what may
--- be left
+-- after a sync, or an attach, just the file may be left; one that failed changes nothing of what
+-- may be left
 abbrev pub Settles : {T E : Type 0} → Result T E → Option Disk → (List ℕ → Type 0)
     → (List ℕ → Type 0) → Type 0
 Settles (Ok done) disk was is = LeavesTheFile disk is

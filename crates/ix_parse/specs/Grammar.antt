@@ -22,7 +22,8 @@ pub data Stands : ℕ → List Symbol → Meaning → Type 0 where
   tighter : (n : ℕ) (ts : List Symbol) (x : Meaning) → n ≤ 5 → Stands (suc n) ts x → Stands n ts x
   -- an operator, which groups to the left
   binary : (at : ℕ) (o : Operator) (ts us : List Symbol) (x y : Meaning) → Stands (level o) ts x
-      → Stands (suc (level o)) us y → Stands (level o) (ts ++ between at o ∷ us) (joined_meaning o at x y)
+      → Stands (suc (level o)) us y
+      → Stands (level o) (ts ++ between at o ∷ us) (joined_meaning o at x y)
   -- `?`, `*` or `#`
   prefixes : (at : ℕ) (sign : Prefix) (ts : List Symbol) (x : Meaning) → Stands 6 ts x
       → Stands 6 (before at sign ∷ ts) (prefixed sign at x)
@@ -53,17 +54,21 @@ pub record CanGoOn (ts : List Symbol) : Type 0 where
 -- a text of level n, cut before an operand of level m, where d levels are open
 pub data CutAtOperand : ℕ → ℕ → ℕ → List Symbol → Type 0 where
   here : (n : ℕ) → CutAtOperand n n 0 []
-  tighter : (n m d : ℕ) (ts : List Symbol) → n ≤ 5 → CutAtOperand (suc n) m d ts → CutAtOperand n m d ts
+  tighter : (n m d : ℕ) (ts : List Symbol) → n ≤ 5 → CutAtOperand (suc n) m d ts
+      → CutAtOperand n m d ts
   binary : (at : ℕ) (o : Operator) (m d : ℕ) (ts us : List Symbol) (x : Meaning)
       → Stands (level o) ts x → CutAtOperand (suc (level o)) m d us
       → CutAtOperand (level o) m d (ts ++ between at o ∷ us)
   prefixes : (at : ℕ) (sign : Prefix) (m d : ℕ) (ts : List Symbol) → CutAtOperand 6 m d ts
       → CutAtOperand 6 m (suc d) (before at sign ∷ ts)
   quantifies : (at : ℕ) (w : List ℕ) (q : Quantifier) (p : List ℕ) (m d : ℕ) (ts : List Symbol)
-      → class_of w ≡ Quantifies q → CutAtOperand 6 m d ts → CutAtOperand 6 m (suc d) (word at w ∷ param p ∷ ts)
+      → class_of w ≡ Quantifies q → CutAtOperand 6 m d ts
+      → CutAtOperand 6 m (suc d) (word at w ∷ param p ∷ ts)
   counts : (at at' : ℕ) (w v : List ℕ) (n m d : ℕ) (ts : List Symbol) → class_of w ≡ Counts
-      → IsNumberWord v n → CutAtOperand 6 m d ts → CutAtOperand 6 m (suc d) (word at w ∷ word at' v ∷ ts)
-  group : (m d : ℕ) (ts : List Symbol) → CutAtOperand 1 m d ts → CutAtOperand 6 m (suc d) (opening ∷ ts)
+      → IsNumberWord v n → CutAtOperand 6 m d ts
+      → CutAtOperand 6 m (suc d) (word at w ∷ word at' v ∷ ts)
+  group : (m d : ℕ) (ts : List Symbol) → CutAtOperand 1 m d ts
+      → CutAtOperand 6 m (suc d) (opening ∷ ts)
 
 -- an operand is wanted after these symbols, where d levels are open
 pub record Wanted (d : ℕ) (ts : List Symbol) : Type 0 where

@@ -105,7 +105,8 @@ quantified_form quantifiers.All p x = forms.all p x
 
 -- an operator between two operands
 abbrev pub joined_meaning : Operator → ℕ → Meaning → Meaning → Meaning
-joined_meaning o at x y = record { form = joined_form o x.form y.form; places = at ∷ x.places ++ y.places }
+joined_meaning o at x y =
+    record { form = joined_form o x.form y.form; places = at ∷ x.places ++ y.places }
 
 -- a prefix in front of an operand
 abbrev pub prefixed : Prefix → ℕ → Meaning → Meaning

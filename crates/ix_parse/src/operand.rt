@@ -97,7 +97,8 @@ impl Operand {
         right: Operand,
     ) -> Result<Operand, AllocError>
         ensures { IfOk result
-            (λ x. meaning_of x ≡ spec.joined_meaning operator at (meaning_of self) (meaning_of right)) }
+            (λ x. meaning_of x ≡ spec.joined_meaning operator at (meaning_of self)
+            (meaning_of right)) }
     {
         let Operand { expr, mut places } = self;
         let Operand {

@@ -326,7 +326,8 @@ fn whole_operand(
 ) -> Result<Option<Operand>, AllocError>
     ensures { IfOk result
         (λ x. option_map meaning_of x
-        ≡ machine.joined_all (Some (machine.operand_held (stack_of stack.items) (meaning_of operand)))) }
+        ≡ machine.joined_all
+        (Some (machine.operand_held (stack_of stack.items) (meaning_of operand)))) }
 {
     let mut stack = stack;
     let whole = reduced(alloc, &mut stack, 1, operand)?;

@@ -22,7 +22,8 @@ const LONGEST_LEASE: u64 = 86_400_000;
 pub(crate) fn no_words(rest: Option<&[u8]>) -> Result<(), Cause>
     ensures { MatchResult result
         (λ _. words_behind (option_copied rest.entry) ≡ [])
-        (λ cause. (length (words_behind (option_copied rest.entry)) ≢ 0) × (cause_code cause ≡ 15)) }
+        (λ cause. (length (words_behind (option_copied rest.entry)) ≢ 0)
+        × (cause_code cause ≡ 15)) }
 {
     match rest {
         None => Ok(()),
@@ -36,7 +37,8 @@ pub(crate) fn no_words(rest: Option<&[u8]>) -> Result<(), Cause>
 pub(crate) fn one_word(rest: Option<&[u8]>) -> Result<&[u8], Cause>
     ensures { MatchResult result
         (λ word. words_behind (option_copied rest.entry) ≡ word.now ∷ [])
-        (λ cause. (length (words_behind (option_copied rest.entry)) ≢ 1) × (cause_code cause ≡ 15)) }
+        (λ cause. (length (words_behind (option_copied rest.entry)) ≢ 1)
+        × (cause_code cause ≡ 15)) }
 {
     let Some(text) = rest else {
         return Err(Cause::WordCount);
@@ -49,7 +51,8 @@ pub(crate) fn one_word(rest: Option<&[u8]>) -> Result<&[u8], Cause>
 pub(crate) fn two_words(rest: Option<&[u8]>) -> Result<(&[u8], &[u8]), Cause>
     ensures { MatchResult result
         (λ words. words_behind (option_copied rest.entry) ≡ words.0.now ∷ words.1.now ∷ [])
-        (λ cause. (length (words_behind (option_copied rest.entry)) ≢ 2) × (cause_code cause ≡ 15)) }
+        (λ cause. (length (words_behind (option_copied rest.entry)) ≢ 2)
+        × (cause_code cause ≡ 15)) }
 {
     let Some(text) = rest else {
         return Err(Cause::WordCount);

@@ -34,9 +34,9 @@ pub record IsAboveMost (x : Form) (file : List ℕ) : Type 0 where
   pub journal : IsJournalOf x file history marks
   pub above : (most_counted < count_of (renewed_of marks) history) ⊎ (most_counted < marks.boots)
 
--- The word, which is of actions, may be carried in place of the history of the journal in this file,
--- each prefix of which is within the limit; it stands for these actions and boots, which are the
--- journal's count and the number of its last boot.
+-- The word, which is of actions, may be carried in place of the history of the journal in this
+-- file, each prefix of which is within the limit; it stands for these actions and boots, which are
+-- the journal's count and the number of its last boot.
 pub record IsRenewal (x : Form) (limit : ℕ) (file : List ℕ) (carried : Word) (actions boots : ℕ)
     : Type 0 where
   pub history : PlainHistory

@@ -29,11 +29,13 @@ pub(crate) fn put_tree(
     tree: Knot,
     limit: usize,
 ) -> Result<usize, Unbuilt>
-    requires proper { AreProperEntries text_cmp ⟦<Knot as PartialEq>⟧.eq common.now entries.old.items }
+    requires proper { AreProperEntries text_cmp ⟦<Knot as PartialEq>⟧.eq common.now
+        entries.old.items }
     requires small { size_of tree ≤ most_limit }
     requires within { total ≤ limit }
     requires bounded { limit ≤ most_limit }
-    ensures proper { AreProperEntries text_cmp ⟦<Knot as PartialEq>⟧.eq common.now entries.new.items }
+    ensures proper { AreProperEntries text_cmp ⟦<Knot as PartialEq>⟧.eq common.now
+        entries.new.items }
     ensures entered { (trees : List ℕ → Plain) (values : List (List ℕ))
         → HoldTrees common.now trees values entries.old.items total
         → tree ≡ trees value

@@ -42,7 +42,8 @@ impl Store {
     ghost use Rattle.ix_outside.specs.Disk.{MakesFile};
     ghost use Rattle.ix_outside.specs.inside.DiskCalls.{DiskCalls, LeavesOnly};
     ghost use Rattle.ix_store.specs.inside.Opens.{Opens};
-    ghost use Rattle.ix_store.specs.inside.Keeping.{FitsFile, IsBootedOrNot, IsWithOrWithout, booted};
+    ghost use Rattle.ix_store.specs.inside.Keeping.{FitsFile, IsBootedOrNot, IsWithOrWithout};
+    ghost use Rattle.ix_store.specs.inside.Keeping.{booted};
     ghost use Rattle.ix_store.specs.inside.KeptBy.{kept};
     ghost use Rattle.ix_store.specs.inside.Refusals.{RefusesFileAs};
     ghost use Rattle.ix_store.specs.inside.Starting.{CountsOpening, LeavesOnStart, MakesNew};

@@ -5,7 +5,8 @@ use Rattle.std.specs.declared.cmp.Ordering.TheVariants.{Equal}
 use Rattle.std.specs.Ordering.{nat_cmp, ordering_then}
 use Rattle.ix_values.specs.Order.{text_cmp}
 use Rattle.ix_tree.specs.Plain.{Plain, dead, start, done, opt, seq, star, par, par_star, or, and}
-use Rattle.ix_tree.specs.Plain.{couple, any, every, sync, all, times, pair, bag, map, entry, none, more}
+use Rattle.ix_tree.specs.Plain.{couple, any, every, sync, all, times, pair, bag, map, entry, none}
+use Rattle.ix_tree.specs.Plain.{more}
 
 -- the place of a form; the empty list stands before every other
 abbrev pub place : Plain → ℕ

@@ -1,7 +1,8 @@
 -- Size, the number of nodes that a tree counts as.
 use Rattle.std.specs.Prelude.{ℕ, ◌+◌}
 use Rattle.ix_tree.specs.Plain.{Plain, dead, start, done, opt, seq, star, par, par_star, or, and}
-use Rattle.ix_tree.specs.Plain.{couple, any, every, sync, all, times, pair, bag, map, entry, none, more}
+use Rattle.ix_tree.specs.Plain.{couple, any, every, sync, all, times, pair, bag, map, entry, none}
+use Rattle.ix_tree.specs.Plain.{more}
 
 -- a node counts 1 and its parts; a pair, a bag, a map and an entry count 1 and their trees; a list
 -- counts its items

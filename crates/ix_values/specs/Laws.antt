@@ -18,5 +18,6 @@ TextsTellTicketsApart = (s t : Ticket) → IsTicket s → IsTicket t → ticket_
 
 -- a text has at most one fault, at one place
 abbrev pub ActionTextsHaveOneFault : Type 0
-ActionTextsHaveOneFault = (text : List ℕ) (c d at other : ℕ) → IsFault text c at → IsFault text d other
+ActionTextsHaveOneFault =
+    (text : List ℕ) (c d at other : ℕ) → IsFault text c at → IsFault text d other
     → (c ≡ d) × (at ≡ other)

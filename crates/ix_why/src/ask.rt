@@ -21,7 +21,8 @@ pub(crate) struct Operand<'a> {
 
 /// Whether the word of the state, extended by the action, is partial.
 pub(crate) fn takes(expr: &Expr, scope: &Scope, state: State, action: &Action) -> bool
-    requires { CanAsk (form_of expr.now) scope.now (tree_held (form_of expr.now) (kept_tree state)) }
+    requires { CanAsk (form_of expr.now) scope.now
+        (tree_held (form_of expr.now) (kept_tree state)) }
     ensures { result
         ≡ may (form_of expr.now) scope.now (tree_held (form_of expr.now) (kept_tree state.entry))
         action.now }

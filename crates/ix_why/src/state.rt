@@ -76,7 +76,8 @@ impl<'a> State<'a> {
 
     /// That of the value in the only map, or None where there isn't exactly one.
     pub(crate) fn owned(self, value: &Value) -> Option<State<'a>>
-        requires { Each (λ m. AscendByValue (items_of (first_part m))) (maps_held (kept_tree self)) }
+        requires { Each (λ m. AscendByValue (items_of (first_part m)))
+            (maps_held (kept_tree self)) }
         ensures { MatchOption result (only (maps_held (kept_tree self.entry)) ≡ None)
             (λ s. IsOwned value.now (maps_held (kept_tree self.entry)) (kept_tree s)) }
     {

@@ -8,7 +8,8 @@ ghost use Rattle.ix_tree.specs.Order.{first_part};
 ghost use Rattle.ix_tree.specs.Plain.{items_of};
 ghost use Rattle.ix_can.specs.inside.CanAsk.{CanAsk};
 ghost use Rattle.ix_why.specs.Blames.{nodes, here, blames};
-ghost use Rattle.ix_why.specs.inside.Held.{kept_tree, tree_held, left_held, right_held, side_blames};
+ghost use Rattle.ix_why.specs.inside.Held.{kept_tree, tree_held, left_held, right_held};
+ghost use Rattle.ix_why.specs.inside.Held.{side_blames};
 ghost use Rattle.ix_why.specs.inside.Held.{both_blame, body_blames, owner_blames};
 ghost use Rattle.ix_why.specs.inside.Held.{BodiesProper, MapsProper};
 

@@ -4,7 +4,8 @@ use Rattle.std.specs.Prelude.{List, [], ◌∷◌, ◌++◌, map, flat_map, filt
 use Rattle.std.specs.declared.cmp.Ordering.{Ordering}
 use Rattle.ix_words.specs.Each.{Each, Member, EachPair}
 use Rattle.ix_words.specs.Parts.{part, joined, Projection}
-use Rattle.ix_words.specs.Words.{Joined, Split, Numbered, Shared, Owned, Projected, Closed, GivesEach}
+use Rattle.ix_words.specs.Words.{Joined, Split, Numbered, Shared, Owned, Projected, Closed}
+use Rattle.ix_words.specs.Words.{GivesEach}
 use Rattle.ix_words.specs.Words.{Repeated}
 use Rattle.ix_words.specs.Canon.{IsStrictOrder, Ascending, SameMembers, put_once, canon, cuts}
 use Rattle.ix_words.specs.Canon.{splits, with_end, give_end}
@@ -57,10 +58,12 @@ abbrev pub NumberedClosed : Type 0 → Type 0
 NumberedClosed A = (q : List A → Bool) → Closed (PassesTest q) → Closed (Numbered (PassesTest q))
 
 abbrev pub SharedClosed : Type 0 → Type 0
-SharedClosed A = (n : ℕ) (q : List A → Bool) → Closed (PassesTest q) → Closed (Shared n (PassesTest q))
+SharedClosed A = (n : ℕ) (q : List A → Bool) → Closed (PassesTest q)
+    → Closed (Shared n (PassesTest q))
 
 abbrev pub OwnedClosed : Type 0 → Type 0 → Type 0
-OwnedClosed V A = (same : V → V → Bool) (q : V → List A → Bool) → ((v : V) → Closed (PassesTest (q v)))
+OwnedClosed V A = (same : V → V → Bool) (q : V → List A → Bool)
+    → ((v : V) → Closed (PassesTest (q v)))
     → Closed (Owned same (λ v. PassesTest (q v)))
 
 abbrev pub ProjectedClosed : Type 0 → Type 0
@@ -135,7 +138,8 @@ NumbersBelowTheLength A = (q : List A → Bool) (w : List A) → Numbered (Passe
 -- where the items of what passes for v have to do with v, each owner has to do with its item
 abbrev pub OwnersOfTheirItems : Type 0 → Type 0 → Type 0
 OwnersOfTheirItems V A = (same : V → V → Bool) (q : V → List A → Bool) (own : V → A → Bool)
-    → ((v : V) → same v v ≡ true) → ((v : V) → GivesEach (λ a. IsTrue (own v a)) (PassesTest (q v))) →
+    → ((v : V) → same v v ≡ true) → ((v : V) → GivesEach (λ a. IsTrue (own v a)) (PassesTest (q v)))
+    →
     (w : List A) (h : Owned same (λ v. PassesTest (q v)) w)
     → EachPair (λ v a. IsTrue (own v a)) h.owners w
 

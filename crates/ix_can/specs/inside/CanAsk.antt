@@ -1,5 +1,7 @@
--- What the code asks on its way to an answer, and when it may ask: the operand fits, and the trees in it are proper.
-use Rattle.std.specs.Prelude.{◌≡◌, ℕ, Bool, true, false, not, ◌&&◌, ◌||◌, List, Some, None, if◌then◌else◌}
+-- What the code asks on its way to an answer, and when it may ask: the operand fits, and the trees
+-- in it are proper.
+use Rattle.std.specs.Prelude.{◌≡◌, ℕ, Bool, true, false, not, ◌&&◌, ◌||◌, List, Some, None}
+use Rattle.std.specs.Prelude.{if◌then◌else◌}
 use Rattle.std.specs.List.{list_all}
 use Rattle.ix_words.specs.Each.{Each}
 use Rattle.ix_entries.specs.inside.Entries.{KeysAscend}
@@ -19,7 +21,8 @@ use Rattle.ix_can.specs.May.{moves_within, may_first, may, tree_at}
 use Rattle.ix_can.specs.Nodes.{is_dead, items_of}
 use Rattle.ix_can.specs.Tests.{in_alphabet}
 
--- whether the word of this one action is partial or, where standing still counts, the action is outside the alphabet
+-- whether the word of this one action is partial or, where standing still counts, the action is
+-- outside the alphabet
 abbrev pub first_or_stays : Bool → Form → Environment → PlainAction → Bool
 first_or_stays stays y e a = moves_within (not stays || in_alphabet y e a) (may_first y e a)
 
@@ -30,7 +33,8 @@ may_or_stays stays y e t a = moves_within (not stays || in_alphabet y e a) (may 
 -- whether the value goes on in a map with these entries, or begins where the map has none for it
 abbrev pub may_own : Form → List ℕ → Environment → PlainAction → List Plain → List ℕ → Bool
 may_own y p e a entries v =
-    if is_dead (tree_at v dead entries) then may_first y (bind p (Some v) e) a else may y (bind p (Some v) e) (tree_at v dead entries) a
+    if is_dead (tree_at v dead entries) then may_first y (bind p (Some v) e) a
+    else may y (bind p (Some v) e) (tree_at v dead entries) a
 
 -- the expression fits the environment, and the tree is proper
 pub record CanAsk (x : Form) (e : Environment) (t : Plain) : Type 0 where
@@ -48,17 +52,22 @@ stays Refused = false
 stays Stays = true
 
 -- whether the common tree, each entry's and that of each of the action's values go on, or stay
-abbrev pub each_may_or_stays : Bool → Form → List ℕ → Environment → PlainAction → Plain → List Plain → Bool
+abbrev pub each_may_or_stays : Bool → Form → List ℕ → Environment → PlainAction → Plain → List Plain
+    → Bool
 each_may_or_stays stays y p e a common entries =
     may_or_stays stays y (bind p None e) common a
     && (list_all (λ x. may_or_stays stays y (bind p (Some (key x)) e) (first_part x) a) entries
-    && list_all (λ v. may_or_stays stays y (bind p (Some v) e) (tree_at v common entries) a) a.values)
+    && list_all (λ v. may_or_stays stays y (bind p (Some v) e) (tree_at v common entries) a)
+    a.values)
 
 -- of each value that no atom sees the answer on the first action is b
 abbrev pub UnseenFirst : Bool → Bool → Form → List ℕ → Environment → PlainAction → Type 0
-UnseenFirst b stays y p e a = (v : List ℕ) → ¬ Sees y p v a → first_or_stays stays y (bind p (Some v) e) a ≡ b
+UnseenFirst b stays y p e a =
+    (v : List ℕ) → ¬ Sees y p v a → first_or_stays stays y (bind p (Some v) e) a ≡ b
 
 -- of each value that no atom sees the answer is b
-abbrev pub UnseenAnswer : Bool → Bool → Form → List ℕ → Environment → PlainAction → Plain → List Plain → Type 0
+abbrev pub UnseenAnswer : Bool → Bool → Form → List ℕ → Environment → PlainAction → Plain
+    → List Plain → Type 0
 UnseenAnswer b stays y p e a common entries =
-    (v : List ℕ) → ¬ Sees y p v a → may_or_stays stays y (bind p (Some v) e) (tree_at v common entries) a ≡ b
+    (v : List ℕ) → ¬ Sees y p v a
+    → may_or_stays stays y (bind p (Some v) e) (tree_at v common entries) a ≡ b

@@ -40,7 +40,8 @@ names_ticket ticket (Some other) = same_ticket ticket other
 -- no pair has the ticket, where there is one
 abbrev pub is_absent : Option Ticket → PlainHistory → Bool
 is_absent None others = true
-is_absent (Some ticket) others = list_all (λ (spent : Spent). not (names_ticket ticket spent.0)) others
+is_absent (Some ticket) others =
+    list_all (λ (spent : Spent). not (names_ticket ticket spent.0)) others
 
 -- no ticket stands in two pairs
 abbrev pub are_apart : PlainHistory → Bool

@@ -9,8 +9,8 @@ use Rattle.ix_can.specs.Nodes.{is_dead}
 use Rattle.ix_can.specs.TreeOf.{tree_of}
 use Rattle.ix_engine.specs.Allowed.{IsAllowed, IsPermitted}
 
--- the expression, the confirmed actions, the most that the Size of their tree may be, and how many more actions have
--- their memory already
+-- the expression, the confirmed actions, the most that the Size of their tree may be, and how many
+-- more actions have their memory already
 pub record EngineState : Type 0 where
   pub form : Form
   pub history : Word
@@ -29,8 +29,8 @@ Permits s a = IsPermitted s.form s.history a
 abbrev pub Allows : EngineState → PlainAction → Type 0
 Allows s a = IsAllowed s.form s.limit s.history a
 
--- a prepared action follows the engine: there is room for it, and the tree is that of the history extended_by by it, live and
--- within the limit
+-- a prepared action follows the engine: there is room for it, and the tree is that of the history
+-- extended_by by it, live and within the limit
 pub record IsTreeAfter (s : EngineState) (a : PlainAction) (t : Plain) : Type 0 where
   pub room : length s.history < most_actions
   pub tree : t ≡ tree_of s.form [] (extended_by s a)

@@ -12,7 +12,8 @@ abbrev pub KeysAscend : {K T : Type 0} → (K → K → Ordering) → List (K ×
 KeysAscend cmp entries = IsStrictlySortedBy cmp (keys_of entries)
 
 -- the keys ascend strictly, and no item equals the common one
-pub record AreProperEntries {K T : Type 0} (cmp : K → K → Ordering) (eq : T → T → Bool) (common : T) (entries : List (K × T)) : Type 0 where
+pub record AreProperEntries {K T : Type 0} (cmp : K → K → Ordering) (eq : T → T
+    → Bool) (common : T) (entries : List (K × T)) : Type 0 where
   pub ascending : KeysAscend cmp entries
   pub differing : All (λ item. eq item common ≡ false) (values_of entries)
 
@@ -20,7 +21,10 @@ pub record AreProperEntries {K T : Type 0} (cmp : K → K → Ordering) (eq : T 
 abbrev pub item_at : {K T : Type 0} → (K → K → Ordering) → List (K × T) → T → K → T
 item_at cmp entries common key = unwrap_or (lookup (is_at (cmp key)) entries) common
 
--- the entries with this item at the key, and with no entry for it where the item equals the common one
-abbrev pub with_entry : {K T : Type 0} → (K → K → Ordering) → (T → T → Bool) → T → List (K × T) → K → T → List (K × T)
+-- the entries with this item at the key, and with no entry for it where the item equals the common
+-- one
+abbrev pub with_entry : {K T : Type 0} → (K → K → Ordering) → (T → T → Bool) → T → List (K × T) → K
+    → T → List (K × T)
 with_entry cmp eq common entries key item =
-    cond (eq item common) (remove_entry (is_at (cmp key)) entries) (insert_entry cmp entries key item)
+    cond (eq item common) (remove_entry (is_at (cmp key)) entries)
+    (insert_entry cmp entries key item)

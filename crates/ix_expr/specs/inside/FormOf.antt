@@ -1,6 +1,8 @@
 -- The plain data that an expression in memory stands for.
-use Rattle.ix_expr.specs.Form.{Form, atom, opt, seq, star, par, par_star, or, and, couple, any, every, sync, all, times}
-use Rattle.ix_expr.specs.declared.expr.Expr.{Expr, Atom, Opt', Seq', Star', Par', ParStar', Or', And', Couple', Any', Every', Sync', All', Times'}
+use Rattle.ix_expr.specs.Form.{Form, atom, opt, seq, star, par, par_star, or, and, couple, any}
+use Rattle.ix_expr.specs.Form.{every, sync, all, times}
+use Rattle.ix_expr.specs.declared.expr.Expr.{Expr, Atom, Opt', Seq', Star', Par', ParStar', Or'}
+use Rattle.ix_expr.specs.declared.expr.Expr.{And', Couple', Any', Every', Sync', All', Times'}
 
 -- the form of an expression
 abbrev pub form_of : Expr → Form

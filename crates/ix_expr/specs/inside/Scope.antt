@@ -6,4 +6,5 @@ use Rattle.ix_expr.specs.declared.scope.Scope.{Scope, Whole, Inside'}
 -- the inmost first
 abbrev pub binders : Scope → List Binder
 binders Whole = []
-binders (Inside' is_all parameter place outer) = record { is_all = is_all; parameter = parameter.now } ∷ binders outer
+binders (Inside' is_all parameter place outer) =
+    record { is_all = is_all; parameter = parameter.now } ∷ binders outer

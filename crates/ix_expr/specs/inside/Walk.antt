@@ -1,10 +1,12 @@
 -- What a walk over nodes that are numbered from n answers.
-use Rattle.std.specs.Prelude.{◌≡◌, ℕ, suc, ◌+◌, ◌≤◌, List, [], ◌∷◌, length, Result, Ok, Err, Some, None}
+use Rattle.std.specs.Prelude.{◌≡◌, ℕ, suc, ◌+◌, ◌≤◌, List, [], ◌∷◌, length, Result, Ok, Err, Some}
+use Rattle.std.specs.Prelude.{None}
 use Rattle.ix_expr.specs.declared.expression.FormFault.{FormFault}
 use Rattle.ix_expr.specs.declared.walk.Cause.{Cause}
 use Rattle.ix_expr.specs.declared.walk.Cause.TheVariants as cause
 use Rattle.ix_expr.specs.Form.{PlainAtom}
-use Rattle.ix_expr.specs.FormFaults.{Binder, Node, atom_head, quantifier_head, operator_head, fault_at}
+use Rattle.ix_expr.specs.FormFaults.{Binder, Node, atom_head, quantifier_head, operator_head}
+use Rattle.ix_expr.specs.FormFaults.{fault_at}
 
 -- the code that tells a cause
 abbrev pub walk_code : Cause → ℕ
@@ -30,12 +32,15 @@ operator_node d around = record { depth = d; around = around; head = operator_he
 -- no node has a fault
 pub data FreeFrom : ℕ → List Node → Type 0 where
   free_end : {n : ℕ} → FreeFrom n []
-  free_node : {n : ℕ} {node : Node} {nodes : List Node} → fault_at n node ≡ None → FreeFrom (suc n) nodes → FreeFrom n (node ∷ nodes)
+  free_node : {n : ℕ} {node : Node} {nodes : List Node} → fault_at n node ≡ None
+      → FreeFrom (suc n) nodes → FreeFrom n (node ∷ nodes)
 
 -- the first node that has a fault has this code and this number
 pub data FaultFrom : ℕ → List Node → ℕ → ℕ → Type 0 where
-  fault_here : {n code : ℕ} {node : Node} {nodes : List Node} → fault_at n node ≡ Some code → FaultFrom n (node ∷ nodes) code n
-  fault_later : {n code number : ℕ} {node : Node} {nodes : List Node} → fault_at n node ≡ None → FaultFrom (suc n) nodes code number → FaultFrom n (node ∷ nodes) code number
+  fault_here : {n code : ℕ} {node : Node} {nodes : List Node} → fault_at n node ≡ Some code
+      → FaultFrom n (node ∷ nodes) code n
+  fault_later : {n code number : ℕ} {node : Node} {nodes : List Node} → fault_at n node ≡ None
+      → FaultFrom (suc n) nodes code number → FaultFrom n (node ∷ nodes) code number
 
 -- no fault, and the number behind the last node
 pub record Passed (n : ℕ) (nodes : List Node) (next : ℕ) : Type 0 where

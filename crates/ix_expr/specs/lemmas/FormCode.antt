@@ -4,9 +4,11 @@ use Rattle.std.specs.Coded.{Coded, code_by}
 use Rattle.std.proofs.Common.{ap, refl}
 use Rattle.std.specs.Ptr.{null_ptr}
 use Rattle.std.specs.Global.{Box}
-use Rattle.ix_expr.specs.Form.{Form, atom, opt, seq, star, par, par_star, or, and, couple, any, every, sync, all, times}
+use Rattle.ix_expr.specs.Form.{Form, atom, opt, seq, star, par, par_star, or, and, couple, any}
+use Rattle.ix_expr.specs.Form.{every, sync, all, times}
 use Rattle.ix_expr.specs.inside.FormOf.{form_of}
-use Rattle.ix_expr.specs.declared.expr.Expr.{Expr, Atom, Opt', Seq', Star', Par', ParStar', Or', And', Couple', Any', Every', Sync', All', Times'}
+use Rattle.ix_expr.specs.declared.expr.Expr.{Expr, Atom, Opt', Seq', Star', Par', ParStar', Or'}
+use Rattle.ix_expr.specs.declared.expr.Expr.{And', Couple', Any', Every', Sync', All', Times'}
 use Rattle.ix_expr.specs.contracts.expr.Expr.{the_row}
 
 -- a place with nothing behind it

@@ -1,5 +1,6 @@
 -- What `Tokens` has left, as a list that computes, and how its items are seen.
-use Rattle.std.specs.Prelude.{ℕ, suc, List, [], ◌∷◌, drop, Option, Some, None, Ok, Err, Result, if◌then◌else◌, ◌==◌}
+use Rattle.std.specs.Prelude.{ℕ, suc, List, [], ◌∷◌, drop, Option, Some, None, Ok, Err, Result}
+use Rattle.std.specs.Prelude.{if◌then◌else◌, ◌==◌}
 use Rattle.ix_lex.specs.declared.TokenKind.{TokenKind}
 use Rattle.ix_lex.specs.declared.TokenKind.TheVariants.{Word, Param}
 use Rattle.ix_lex.specs.declared.Token.{Token}
@@ -12,19 +13,23 @@ use Rattle.ix_lex.specs.Lexing.{PlainToken, Piece, token, bad_byte}
 -- a byte put in front of the token that begins next
 abbrev pub grown : TokenKind → ℕ → ℕ → List Piece → List Piece
 grown kind at b [] = []
-grown kind at b (token t ∷ pieces) = token (record { kind = kind; bytes = b ∷ t.bytes; start = at; end = t.end }) ∷ pieces
+grown kind at b (token t ∷ pieces) =
+    token (record { kind = kind; bytes = b ∷ t.bytes; start = at; end = t.end }) ∷ pieces
 grown kind at b (bad_byte at' ∷ pieces) = []
 
 -- a byte that is a token by itself, unless it is none
 abbrev pub single_fault : Option TokenKind → ℕ → ℕ → List Piece → List Piece
 single_fault None at b pieces = bad_byte at ∷ []
-single_fault (Some kind) at b pieces = token (record { kind = kind; bytes = b ∷ []; start = at; end = suc at }) ∷ pieces
+single_fault (Some kind) at b pieces =
+    token (record { kind = kind; bytes = b ∷ []; start = at; end = suc at }) ∷ pieces
 
 -- a byte put in front of a text whose pieces are known
 abbrev pub with_byte : ℕ → ℕ → List ℕ → List Piece → List Piece
 with_byte at b rest pieces =
-    if is_word_byte b then (if begins is_word_byte rest then grown Word at b pieces else single_fault (Some Word) at b pieces)
-    else (if b == 36 then (if begins is_letter rest then grown Param at b pieces else single_fault None at b pieces)
+    if is_word_byte b then (if begins is_word_byte rest then grown Word at b pieces
+    else single_fault (Some Word) at b pieces)
+    else (if b == 36 then (if begins is_letter rest then grown Param at b pieces
+    else single_fault None at b pieces)
     else (if is_blank b then pieces
     else single_fault (sign_of b) at b pieces))
 

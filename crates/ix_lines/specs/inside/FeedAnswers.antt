@@ -24,7 +24,8 @@ IsTaking (unfinished part) = Unit {0}
 IsTaking skipping = ⊥
 
 -- the bytes of a piece before the place completed nothing, and no line is skipped there
-pub record ResumesAt (old : UnfinishedLine) (piece : List ℕ) (place : ℕ) (new : UnfinishedLine) : Type 0 where
+pub record ResumesAt (old : UnfinishedLine) (piece : List ℕ) (place : ℕ)
+    (new : UnfinishedLine) : Type 0 where
   pub within : place ≤ length piece
   pub before : (count : ℕ) → count ≤ place → completes old (take count piece) ≡ []
   pub after : new ≡ holds_after old (take place piece)

@@ -1,4 +1,5 @@
--- What a search through the nodes of an expression answers, and the pairs by which terms are replaced.
+-- What a search through the nodes of an expression answers, and the pairs by which terms are
+-- replaced.
 use Rattle.std.specs.Prelude.{◌≡◌, ℕ, ◌+◌, List, [], ◌∷◌, Some, None}
 use Rattle.ix_lint.specs.declared.owners.Partner.{Partner}
 use Rattle.ix_lint.specs.declared.owners.Partner.TheVariants as partner

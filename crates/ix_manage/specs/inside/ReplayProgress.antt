@@ -120,14 +120,16 @@ pub record PlaysEvent (old : ManagerState) (was : Player) (new : ManagerState) (
 
 -- a manager that took the events given so far, none of them the end, and put its replies behind
 -- what was known before; it may go on
-pub record HasPlayed (opening : Opening) (known : Option (List ℕ)) (m : ManagerState) (player : Player)
+pub record HasPlayed (opening : Opening) (known : Option (List ℕ)) (m : ManagerState)
+    (player : Player)
     (stretch : Stretch) : Type 0 where
   pub answers : List (List (List Reply))
   pub follows : FollowsRun opening player.given answers m
   pub marks : m.marks ≡ unmarked
   pub tickets : m.machine.number ≤ 1 + 4096 * length player.given
   pub open_sink : player.failed ≡ false
-  pub first : (events : List GivenEvent) → HasEvents player.script events → AreFirst events player.given
+  pub first : (events : List GivenEvent) → HasEvents player.script events
+      → AreFirst events player.given
   pub no_end : Each IsNoEnd player.given
   pub text : player.sink.written ≡ append_known known (run_text player.given answers)
   pub saves : SavesFrom opening going m.machine m.store stretch

@@ -69,7 +69,8 @@ pub record HasServed (opening : Opening) (taken : List GivenEvent) (m : ManagerS
   pub saves : SavesFrom opening going m.machine m.store stretch
 
 -- the manager took an event of the site, its replies were sent, and the journal kept its history
-pub record TakesOver (old new : ManagerState) (stretch : Stretch) (outcome : EventOutcome) : Type 0 where
+pub record TakesOver (old new : ManagerState) (stretch : Stretch) (outcome : EventOutcome) : Type
+    0 where
   pub event : Event
   pub piece : List ℕ
   pub ending : Ending
@@ -107,7 +108,8 @@ pub data ServesEvent (old new : ManagerState) (stretch : Stretch) : EventOutcome
       old.marks
       stretch.after stretch.is)
       → ServesEvent old new stretch Cut
-  took : {outcome : EventOutcome} → TakesOver old new stretch outcome → ServesEvent old new stretch outcome
+  took : {outcome : EventOutcome} → TakesOver old new stretch outcome
+      → ServesEvent old new stretch outcome
 
 -- a session from the opening that ended in this state, and whose history the journal keeps
 pub record ServedSession (opening : Opening) (turns : ℕ) (last : MachineState) (stretch : Stretch)

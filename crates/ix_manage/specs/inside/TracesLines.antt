@@ -16,7 +16,8 @@ use Rattle.ix_manage.specs.declared.early_end.EarlyEnd.TheVariants.{Refused, Wor
 use Rattle.ix_manage.specs.declared.early_end.EarlyEnd.TheVariants.{Output}
 
 -- what `trace` may put for a form, a limit and the bytes of an actions file, by the status
-pub record TracesLines (x : Form) (limit : ℕ) (bytes : List ℕ) (status : ℕ) (whole part : List ℕ) (session : Option Session) : Type 0 where
+pub record TracesLines (x : Form) (limit : ℕ) (bytes : List ℕ) (status : ℕ) (whole part : List ℕ)
+    (session : Option Session) : Type 0 where
   pub actions : Word
   pub has : HasActions bytes actions
   pub traces : Traces x limit actions status whole part

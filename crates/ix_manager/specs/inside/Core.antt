@@ -15,7 +15,8 @@ use Rattle.ix_manager.specs.Machine.{MachineState, MachineWatch, Step, Tells, Po
 use Rattle.ix_manager.specs.declared.machine.Answer.{Answer}
 use Rattle.ix_manager.specs.declared.machine.Answer.TheVariants as answer
 
--- the expression, the limit of Size, the state, and the watches with what was last noted to hold of each
+-- the expression, the limit of Size, the state, and the watches with what was last noted to hold of
+-- each
 pub record Core : Type 0 where
   pub form : Form
   pub limit : ℕ
@@ -29,22 +30,28 @@ core_watch watch = record { name = watch.name; action = watch.action; told = wat
 -- of each watch of this name it is noted whether its action is allowed
 abbrev pub IsRefreshed : Core → List ℕ → Type 0
 IsRefreshed core name =
-    Each (λ (watch : PlainWatch). watch.name ≡ name → Tells (IsAllowed core.form core.limit (word_of core.state) watch.action) watch.now) core.noted
+    Each (λ (watch : PlainWatch). watch.name ≡ name
+    → Tells (IsAllowed core.form core.limit (word_of core.state) watch.action) watch.now)
+    core.noted
 
 -- the replies that tell changes
 abbrev pub change_replies : List (PlainAction × Bool) → List Reply
-change_replies changes = map (λ (change : PlainAction × Bool). reply.Change change.1 change.0) changes
+change_replies changes =
+    map (λ (change : PlainAction × Bool). reply.Change change.1 change.0) changes
 
 -- The machine's answer to a request: one reply, with its step, and the run goes on; or a poll is to
 -- be told, of which nothing is told yet; or a confirm is to be answered, by which nothing changed
 -- yet; or the run ends, by which nothing changes.
 abbrev pub MachineAnswers : Core → Request → Answer → Core → Type 0
 MachineAnswers old request (answer.One one) new =
-    ((plain : PlainRequest) → IsRequest plain → LendsRequest request plain → Step old.form old.limit old.state plain (one ∷ []) new.state)
+    ((plain : PlainRequest) → IsRequest plain → LendsRequest request plain
+    → Step old.form old.limit old.state plain (one ∷ []) new.state)
     × (¬ LendsRequest request stop)
     × CanBeTold one
-MachineAnswers old request (answer.Poll name) new = LendsRequest request (poll name) × (new.state ≡ old.state) × IsRefreshed new name
-MachineAnswers old request (answer.Confirm ticket) new = LendsRequest request (confirm ticket) × (new ≡ old)
+MachineAnswers old request (answer.Poll name) new =
+    LendsRequest request (poll name) × (new.state ≡ old.state) × IsRefreshed new name
+MachineAnswers old request (answer.Confirm ticket) new =
+    LendsRequest request (confirm ticket) × (new ≡ old)
 MachineAnswers old request answer.Stop new = LendsRequest request stop × (new ≡ old)
 
 -- a poll of a name was told

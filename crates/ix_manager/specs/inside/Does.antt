@@ -1,5 +1,6 @@
 -- What a call that answers one request makes of the machine.
-use Rattle.std.specs.Prelude.{◌≡◌, ◌⊎◌, ℕ, ◌+◌, ◌<◌, Bool, false, List, [], ◌∷◌, length, Result, Ok, Err}
+use Rattle.std.specs.Prelude.{◌≡◌, ◌⊎◌, ℕ, ◌+◌, ◌<◌, Bool, false, List, [], ◌∷◌, length, Result, Ok}
+use Rattle.std.specs.Prelude.{Err}
 use Rattle.ix_words.specs.Each.{Each}
 use Rattle.ix_engine.specs.inside.Engine.{EngineState, Allows}
 use Rattle.ix_values.specs.PlainAction.{PlainAction}
@@ -34,7 +35,8 @@ pub record Does (old : Core) (request : PlainRequest) (one : Reply) (new : Core)
   pub form : new.form ≡ old.form
   pub limit : new.limit ≡ old.limit
 
--- nothing changes but what is noted, and this is whether the actions of the name's watches are allowed
+-- nothing changes but what is noted, and this is whether the actions of the name's watches are
+-- allowed
 pub record Refreshes (old : Core) (name : List ℕ) (new : Core) : Type 0 where
   pub state : new.state ≡ old.state
   pub refreshed : IsRefreshed new name
@@ -50,17 +52,23 @@ PollAnswers old name answer.Stop new = ⊥
 
 -- of each watch of this name it is noted whether its action is permitted
 abbrev pub IsNoted : EngineState → List ℕ → List PlainWatch → Type 0
-IsNoted engine name watches = Each (λ (watch : PlainWatch). watch.name ≡ name → Tells (Allows engine watch.action) watch.now) watches
+IsNoted engine name watches =
+    Each (λ (watch : PlainWatch). watch.name ≡ name
+    → Tells (Allows engine watch.action) watch.now) watches
 
 -- a pair was added to distinct watches, of which whether its action is permitted is told
-pub record AddsTold (engine : EngineState) (name : List ℕ) (a : PlainAction) (old : List PlainWatch) (told : Bool) (new : List PlainWatch) : Type 0 where
+pub record AddsTold (engine : EngineState) (name : List ℕ) (a : PlainAction) (old : List PlainWatch)
+    (told : Bool) (new : List PlainWatch) : Type 0 where
   pub tells : Tells (Allows engine a) told
   pub distinct : AreDistinct old
   pub added : Added
   pub adds : Adds old name a told (Ok added) new
 
 -- what watching a pair answers, and what the watches are then
-abbrev pub WatchAnswers : EngineState → List ℕ → PlainAction → List PlainWatch → Result Bool WatchFault → List PlainWatch → Type 0
+abbrev pub WatchAnswers : EngineState → List ℕ → PlainAction → List PlainWatch
+    → Result Bool WatchFault → List PlainWatch → Type 0
 WatchAnswers engine name a old (Ok told) new = AddsTold engine name a old told new
-WatchAnswers engine name a old (Err Full) new = (is_watched name a old ≡ false) × (length old ≡ 4096) × (new ≡ old)
-WatchAnswers engine name a old (Err Memory) new = (is_watched name a old ≡ false → length old < 4096) × (new ≡ old)
+WatchAnswers engine name a old (Err Full) new =
+    (is_watched name a old ≡ false) × (length old ≡ 4096) × (new ≡ old)
+WatchAnswers engine name a old (Err Memory) new =
+    (is_watched name a old ≡ false → length old < 4096) × (new ≡ old)

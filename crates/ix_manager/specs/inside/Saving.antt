@@ -93,7 +93,8 @@ SavesRun ending old new stretch =
 
 -- what the reservation of a ticket is found to be
 abbrev pub Finds : Core → Ticket → Take → Type 0
-Finds core ticket take = (slot : Slot) × TakesSlot core.state.slot ticket core.state.moment take slot
+Finds core ticket take =
+    (slot : Slot) × TakesSlot core.state.slot ticket core.state.moment take slot
 
 -- the open reservation's confirm made its step
 abbrev pub Commits : Core → Ticket → Reply → Core → Type 0

@@ -46,9 +46,11 @@ pub record TakesBytes (conn : ℕ) (bytes : List ℕ) (ending : Ending) (replies
   pub answers : List (List Reply)
   pub all : replies ≡ all_replies answers
   pub marked : Bool
-  pub steps : Steps old.form old.limit old.machine (completes (held_at conn old.lines) bytes) answers new.machine ending
+  pub steps : Steps old.form old.limit old.machine (completes (held_at conn old.lines) bytes)
+      answers new.machine ending
   pub sends : SendsAll conn replies before (record after { gone = marked })
-  pub lines : ending ≡ going → new.lines ≡ set old.lines conn (holds_after (held_at conn old.lines) bytes)
+  pub lines : ending ≡ going
+      → new.lines ≡ set old.lines conn (holds_after (held_at conn old.lines) bytes)
   pub marks : new.marks ≡ set old.marks conn marked
   pub ended : new.ended ≡ has_ended ending
   pub form : new.form ≡ old.form

@@ -50,7 +50,8 @@ site_stretch wires = span wires.before.site wires.after.site wires.was wires.is
 
 -- replies are sent in order on a connection; it is newly marked only where the count of sends rose
 pub record SendsAll (conn : ℕ) (replies : List Reply) (old new : WireState) : Type 0 where
-  pub order : SendsInOrder (λ reply. SendsWhole conn (reply_line reply)) (λ reply. SendsPart conn (reply_line reply))
+  pub order : SendsInOrder (λ reply. SendsWhole conn (reply_line reply)) (λ reply.
+      SendsPart conn (reply_line reply))
       replies old.gone old.site.contents new.gone new.site.contents
   pub marks : old.gone ≡ false → new.gone ≡ true → Rose old.site.counts.send new.site.counts.send
   pub site : OnlyServes old.site new.site

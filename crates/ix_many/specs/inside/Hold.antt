@@ -1,8 +1,8 @@
 -- Who comes next out of turn.
 use Rattle.std.specs.Prelude.{◌≡◌, ℕ, Bool, true, false, cond, Option, None, Some}
 
--- the connection on which an action was granted just now, if there is one; and whether the last event
--- came in its turn
+-- the connection on which an action was granted just now, if there is one; and whether the last
+-- event came in its turn
 pub record HoldState : Type 0 where
   pub holder : Option ℕ
   pub in_turn : Bool

@@ -6,7 +6,8 @@ use Rattle.ix_outside.specs.declared.event.Event.{Event}
 use Rattle.ix_outside.specs.declared.event.EventKind.{EventKind}
 use Rattle.ix_outside.specs.declared.event.EventKind.TheVariants.{Bytes, Closed, End}
 
--- so many bytes, from 1 to 4,096, stand beside as many, and every other event beside none; an end has connection 0
+-- so many bytes, from 1 to 4,096, stand beside as many, and every other event beside none; an end
+-- has connection 0
 abbrev pub StandsBeside : EventKind → ℕ → List ℕ → Type 0
 StandsBeside (Bytes n) conn bytes = (length bytes ≡ n) × (0 < n) × (n ≤ 4096)
 StandsBeside Closed conn bytes = bytes ≡ []

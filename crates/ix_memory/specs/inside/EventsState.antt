@@ -5,8 +5,8 @@ use Rattle.ix_outside.specs.declared.event.EventKind.{EventKind}
 use Rattle.ix_outside.specs.declared.event.EventKind.TheVariants.{Bytes, Closed, End}
 use Rattle.ix_memory.specs.declared.events.Piece.{Piece}
 
--- the events to come and those that were given, the moment of the last event of all, and how many more events given have
--- their memory already
+-- the events to come and those that were given, the moment of the last event of all, and how many
+-- more events given have their memory already
 pub record EventsState : Type 0 where
   pub coming : List GivenEvent
   pub given : List GivenEvent
@@ -15,7 +15,8 @@ pub record EventsState : Type 0 where
 
 -- the event of a piece, with its bytes
 abbrev pub event_of : List ℕ → Piece → GivenEvent
-event_of bytes piece = record { event = piece.event; bytes = piece_of piece.event.kind (drop piece.start bytes) }
+event_of bytes piece =
+    record { event = piece.event; bytes = piece_of piece.event.kind (drop piece.start bytes) }
 
 -- the events of pieces, from the bytes of all of them
 abbrev pub events_from : List ℕ → List Piece → List GivenEvent
@@ -29,7 +30,8 @@ KindIsKept count start conn End = conn ≡ 0
 
 -- a piece has a connection from 0 to 63, and its bytes are within so many
 abbrev pub IsKept : ℕ → Piece → Type 0
-IsKept count piece = (piece.event.conn < 64) × KindIsKept count piece.start piece.event.conn piece.event.kind
+IsKept count piece =
+    (piece.event.conn < 64) × KindIsKept count piece.start piece.event.conn piece.event.kind
 
 -- each piece is kept
 abbrev pub AreEventsKept : ℕ → List Piece → Type 0

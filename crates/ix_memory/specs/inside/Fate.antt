@@ -8,7 +8,8 @@ use Rattle.ix_memory.specs.declared.plan.Fate.{Fate}
 use Rattle.ix_memory.specs.declared.plan.Fate.TheVariants.{Works, Fails, Full}
 use Rattle.ix_memory.specs.Plan.{is_spent_by, is_full, fails_at}
 
--- how the next call fares; a call for which there is no room changes nothing, whatever else is told of it
+-- how the next call fares; a call for which there is no room changes nothing, whatever else is told
+-- of it
 abbrev pub fate_of : PlanState → ℕ → Fate
 fate_of plan cost =
     if is_full plan cost then Full
@@ -30,7 +31,8 @@ pub record TellsFate (plan : PlanState) (cost : ℕ) (fails full : Bool) : Type 
   pub of_failing : fails_at plan cost ≡ fails
   pub of_room : is_full plan cost ≡ full
 
--- a call that works doesn't fail, one that fails as it is told to has room, and the others have none
+-- a call that works doesn't fail, one that fails as it is told to has room, and the others have
+-- none
 abbrev pub TellsPlanned : Fate → PlanState → ℕ → Type 0
 TellsPlanned Works plan cost = TellsFate plan cost false false
 TellsPlanned Fails plan cost = TellsFate plan cost true false

@@ -1,5 +1,6 @@
 -- Files in memory.
-use Rattle.std.specs.Prelude.{◌≢◌, ◌⊎◌, ◌≡◌, ℕ, List, [], ◌∷◌, map, string_bytes, true, ⊤, Some, String, Vec}
+use Rattle.std.specs.Prelude.{◌≢◌, ◌⊎◌, ◌≡◌, ℕ, List, [], ◌∷◌, map, string_bytes, true, ⊤, Some}
+use Rattle.std.specs.Prelude.{String, Vec}
 use Rattle.std.specs.declared.alloc.Global.{Global}
 use Rattle.ix_outside.specs.Files.{Listing}
 use Rattle.ix_outside.specs.FilesState.{FilesState}
@@ -14,7 +15,8 @@ pub record MemoryFilesState : Type 0 where
 
 -- the files as every contract of their trait sees them; the object was lent nothing
 abbrev pub memory_files_state : MemoryFilesState → FilesState
-memory_files_state state = record { contents = Some state.files; faults = state.faults; held = free }
+memory_files_state state =
+    record { contents = Some state.files; faults = state.faults; held = free }
 
 -- the names with the bytes of their files
 abbrev pub listing_of : List (String Global × Vec ℕ Global) → Listing

@@ -55,7 +55,8 @@ fresh_site image events room fail fuse = record {
 
 -- the events given and the sends, unless the site tells no contents
 abbrev pub told_contents : Bool → List GivenEvent → Sends → Contents
-told_contents true given sends = record { given = Some given; sends = Some sends; text = None; lost = None }
+told_contents true given sends =
+    record { given = Some given; sends = Some sends; text = None; lost = None }
 told_contents false given sends = nothing_told
 
 -- what a call with this effect attached, or else what was attached before
@@ -132,7 +133,8 @@ send_failed site = record site { counts = record site.counts { send = one_more s
 abbrev pub half_of : List ℕ → List ℕ
 half_of bytes = take (length bytes / 2) bytes
 
--- what a send that fails leaves: no contents are told where there is no room for it, and else the first half is sent
+-- what a send that fails leaves: no contents are told where there is no room for it, and else the
+-- first half is sent
 abbrev pub half_sent : Bool → ℕ → List ℕ → MemorySiteState → MemorySiteState
 half_sent true conn bytes site = record site { told = false }
 half_sent false conn bytes site = record site { sends = with_gone conn (half_of bytes) site.sends }

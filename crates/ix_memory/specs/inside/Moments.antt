@@ -38,4 +38,5 @@ LeftSince [] file sent t left = LeavesAt t 0 (LeavesImage [] file) (λ then. the
 LeftSince (call ∷ calls) file sent t left =
     LeftSince calls call.file call.sent t left
     ⊎ LeavesAt t (length calls) (LeavesImage (call ∷ calls) file) (IsSentByThen call.sent sent) left
-    ⊎ LeavesAt t (length (call ∷ calls)) (LeavesImage (call ∷ calls) file) (λ then. then ≡ sent) left
+    ⊎ LeavesAt t (length (call ∷ calls)) (LeavesImage (call ∷ calls) file) (λ then. then ≡ sent)
+    left

@@ -13,12 +13,20 @@ front_kind room End = End
 -- an event as it comes through a buffer
 abbrev pub front_of : ℕ → GivenEvent → GivenEvent
 front_of room given =
-    record { event = record given.event { kind = front_kind room given.event.kind }; bytes = take room given.bytes }
+    record {
+      event = record given.event { kind = front_kind room given.event.kind };
+      bytes =
+          take room given.bytes;
+    }
 
 -- what of an event is still to come behind that: the bytes that the buffer didn't take
 abbrev pub rest_of : ℕ → EventKind → GivenEvent → List GivenEvent
 rest_of room (Bytes n) given =
-    if nat_lt room n then record { event = record given.event { kind = Bytes (n - room) }; bytes = drop room given.bytes } ∷ []
+    if nat_lt room n then record {
+      event = record given.event { kind = Bytes (n - room) };
+      bytes =
+          drop room given.bytes;
+    } ∷ []
     else []
 rest_of room Closed given = []
 rest_of room End given = []

@@ -13,7 +13,8 @@ new_of values n = get_or values (n - 1) (48 ∷ [])
 
 -- whether the action of the candidate, with these new values, may come
 abbrev pub may_come_next : Trial → PlainCandidate → Bool
-may_come_next trial c = may trial.expression.now [] trial.tree.now (action_with (new_of trial.new.now) c)
+may_come_next trial c =
+    may trial.expression.now [] trial.tree.now (action_with (new_of trial.new.now) c)
 
 -- whether the candidate is kept
 abbrev pub passes_filter : Test → PlainCandidate → Bool

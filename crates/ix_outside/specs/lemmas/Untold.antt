@@ -8,7 +8,8 @@ use Rattle.ix_outside.specs.SiteState.{SiteState}
 none_is_not_some : {A : Type 0} (P : Type 0) (o : Option A) (x : A) → o ≡ None → o ≡ Some x → P
 none_is_not_some P o x none some = absurd (let e : None ≡ Some x = sym none ∙ some in cc)
 
-pub untold_is_lawful : (site : SiteState) → site.disk ≡ None → site.contents.sends ≡ None → AreLawful site nothing_left
+pub untold_is_lawful : (site : SiteState) → site.disk ≡ None → site.contents.sends ≡ None
+    → AreLawful site nothing_left
 untold_is_lawful site disk sends = record {
   unattached = λ none. subst HasNothingOpened (sym disk) tt;
   file = let P : Option Disk → Type 0 = OfFile nothing_left.now in subst P (sym disk) tt;

@@ -2,12 +2,15 @@
 use Rattle.std.specs.Prelude.{◌≡◌, ◌<◌, ◌≤◌, length}
 use Rattle.ix_values.specs.Texts.{IsName, IsValue}
 use Rattle.ix_parse.specs.declared.reader.Mode.{Mode}
-use Rattle.ix_parse.specs.declared.reader.Mode.TheVariants.{Wanted, NameRead, ArgumentWanted, ArgumentRead, QuantifierRead, TimesRead, OperandRead}
+use Rattle.ix_parse.specs.declared.reader.Mode.TheVariants.{Wanted, NameRead, ArgumentWanted}
+use Rattle.ix_parse.specs.declared.reader.Mode.TheVariants.{ArgumentRead, QuantifierRead, TimesRead}
+use Rattle.ix_parse.specs.declared.reader.Mode.TheVariants.{OperandRead}
 use Rattle.ix_parse.specs.declared.reader.Reader.{Reader}
 use Rattle.ix_parse.specs.declared.signs.WordClass.TheVariants.{Names}
 use Rattle.ix_parse.specs.Symbols.{Symbol, word, param, class_of}
 use Rattle.ix_parse.specs.inside.StackMachine as machine
-use Rattle.ix_parse.specs.inside.StackMachine.{wanted, name_read, argument_wanted, argument_read, quantifier_read, times_read, operand_read}
+use Rattle.ix_parse.specs.inside.StackMachine.{wanted, name_read, argument_wanted, argument_read}
+use Rattle.ix_parse.specs.inside.StackMachine.{quantifier_read, times_read, operand_read}
 use Rattle.ix_parse.specs.inside.Operands.{meaning_of}
 use Rattle.ix_parse.specs.inside.Stack.{stack_of}
 

@@ -1,5 +1,6 @@
 -- Which fault the next symbol meets, as tests of what the machine holds.
-use Rattle.std.specs.Prelude.{ℕ, Bool, true, false, not, ◌&&◌, List, [], ◌∷◌, length, Option, Some, None, is_some, if◌then◌else◌, nat_lt, nat_le, ◌==◌}
+use Rattle.std.specs.Prelude.{ℕ, Bool, true, false, not, ◌&&◌, List, [], ◌∷◌, length, Option, Some}
+use Rattle.std.specs.Prelude.{None, is_some, if◌then◌else◌, nat_lt, nat_le, ◌==◌}
 use Rattle.ix_parse.specs.declared.faults.Fault.{Fault}
 use Rattle.ix_parse.specs.declared.faults.Fault.TheVariants as faults
 use Rattle.ix_parse.specs.declared.signs.Follower.{Follower}
@@ -7,8 +8,11 @@ use Rattle.ix_parse.specs.declared.signs.Follower.TheVariants as followers
 use Rattle.ix_parse.specs.declared.signs.WordClass.{WordClass}
 use Rattle.ix_parse.specs.declared.signs.WordClass.TheVariants.{Quantifies, Counts, Names, Other}
 use Rattle.ix_lex.specs.Lexing.{Piece, token, bad_byte}
-use Rattle.ix_parse.specs.Symbols.{symbol_of, Symbol, word, param, opening, closing, comma, before, between, class_of}
-use Rattle.ix_parse.specs.inside.StackMachine.{Mode, wanted, name_read, argument_wanted, argument_read, quantifier_read, times_read, operand_read, Config, number_of, levels, groups}
+use Rattle.ix_parse.specs.Symbols.{symbol_of, Symbol, word, param, opening, closing, comma, before}
+use Rattle.ix_parse.specs.Symbols.{between, class_of}
+use Rattle.ix_parse.specs.inside.StackMachine.{Mode, wanted, name_read, argument_wanted}
+use Rattle.ix_parse.specs.inside.StackMachine.{argument_read, quantifier_read, times_read}
+use Rattle.ix_parse.specs.inside.StackMachine.{operand_read, Config, number_of, levels, groups}
 
 abbrev pub is_wanted : Mode → Bool
 is_wanted wanted = true

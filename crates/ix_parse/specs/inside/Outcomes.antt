@@ -1,5 +1,6 @@
 -- What the calls of the reader's loop answer.
-use Rattle.std.specs.Prelude.{◌≡◌, ℕ, List, [], ◌∷◌, Option, Some, None, Result, Ok, Err, length, slice_get}
+use Rattle.std.specs.Prelude.{◌≡◌, ℕ, List, [], ◌∷◌, Option, Some, None, Result, Ok, Err, length}
+use Rattle.std.specs.Prelude.{slice_get}
 use Rattle.ix_expr.specs.FormFaults.{nodes_of, IsWellFormed, IsFirstFormFault}
 use Rattle.ix_lex.specs.Lexing.{PlainToken, Piece}
 use Rattle.ix_lex.specs.inside.Items.{plain_token, item_piece, pieces_left}
@@ -35,8 +36,11 @@ pending (Some item) tokens = item_piece item ∷ pieces_left tokens
 
 -- a token was taken, or met this fault
 abbrev pub IsStepTaken : Config → ℕ → PlainToken → Follower → Result Reading TextFault → Type 0
-IsStepTaken c n t next (Ok r) = (judged c n (symbol_of t) next ≡ None) × (step c (symbol_of t) ≡ Some (config_of r.reader)) × (r.nodes ≡ nodes_after c n (symbol_of t))
-IsStepTaken c n t next (Err (Bad code at)) = (f : Fault) × (judged c n (symbol_of t) next ≡ Some f) × (code ≡ code_of f) × (at ≡ t.start)
+IsStepTaken c n t next (Ok r) =
+    (judged c n (symbol_of t) next ≡ None) × (step c (symbol_of t) ≡ Some (config_of r.reader))
+    × (r.nodes ≡ nodes_after c n (symbol_of t))
+IsStepTaken c n t next (Err (Bad code at)) =
+    (f : Fault) × (judged c n (symbol_of t) next ≡ Some f) × (code ≡ code_of f) × (at ≡ t.start)
 IsStepTaken c n t next (Err Memory) = Unit {0}
 
 -- the first fault of the text
@@ -63,5 +67,6 @@ HasPlaces x = length x.places ≡ length (nodes_of x.form)
 abbrev pub IsPlacedOr : Meaning → Result Placed TextFault → Type 0
 IsPlacedOr x (Ok placed) =
     (placed.expression ≡ x.form) × (placed.places.items ≡ x.places) × IsWellFormed x.form
-IsPlacedOr x (Err (Bad code at)) = (number : ℕ) × IsFirstFormFault x.form code number × (slice_get x.places number ≡ Some at)
+IsPlacedOr x (Err (Bad code at)) =
+    (number : ℕ) × IsFirstFormFault x.form code number × (slice_get x.places number ≡ Some at)
 IsPlacedOr x (Err Memory) = ⊥

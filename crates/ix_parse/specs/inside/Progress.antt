@@ -6,7 +6,8 @@ use Rattle.ix_parse.specs.Symbols.{Symbol}
 use Rattle.ix_parse.specs.inside.StackMachine.{Config, run, start}
 use Rattle.ix_parse.specs.inside.Judged.{is_node, is_wanted}
 
--- of the pieces, those that are pending are still to be read; the others led to the configuration and to so many nodes, and met no fault
+-- of the pieces, those that are pending are still to be read; the others led to the configuration
+-- and to so many nodes, and met no fault
 pub record Progress (pieces pending : List Piece) (c : Config) (nodes : ℕ) : Type 0 where
   pub before : List PlainToken
   pub split : pieces ≡ map token before ++ pending

@@ -1,5 +1,6 @@
 -- The stack machine that the reader runs: it reads the grammar without recursion.
-use Rattle.std.specs.Prelude.{ℕ, zero, suc, ◌+◌, List, [], ◌∷◌, ◌++◌, length, Option, Some, None, if◌then◌else◌, nat_le, nat_lt, decimal}
+use Rattle.std.specs.Prelude.{ℕ, zero, suc, ◌+◌, List, [], ◌∷◌, ◌++◌, length, Option, Some, None}
+use Rattle.std.specs.Prelude.{if◌then◌else◌, nat_le, nat_lt, decimal}
 use Rattle.ix_values.specs.Order.{text_eq}
 use Rattle.ix_expr.specs.declared.arg.Arg.{Arg}
 use Rattle.ix_parse.specs.declared.signs.Operator.{Operator}
@@ -7,7 +8,9 @@ use Rattle.ix_parse.specs.declared.signs.Prefix.{Prefix}
 use Rattle.ix_parse.specs.declared.signs.Quantifier.{Quantifier}
 use Rattle.ix_parse.specs.declared.signs.WordClass.{WordClass}
 use Rattle.ix_parse.specs.declared.signs.WordClass.TheVariants.{Quantifies, Counts, Names, Other}
-use Rattle.ix_parse.specs.Symbols.{Symbol, word, param, opening, closing, comma, before, between, class_of, level, Meaning, joined_meaning, prefixed, quantified, counted, named, argument_of}
+use Rattle.ix_parse.specs.Symbols.{Symbol, word, param, opening, closing, comma, before, between}
+use Rattle.ix_parse.specs.Symbols.{class_of, level, Meaning, joined_meaning, prefixed, quantified}
+use Rattle.ix_parse.specs.Symbols.{counted, named, argument_of}
 
 -- the number from 2 to k + 1 that the word stands for
 abbrev pub number_below : ℕ → List ℕ → Option ℕ
@@ -69,14 +72,17 @@ closed (binder at q p ∷ s) x = closed s (quantified q at p x)
 closed (counter at n ∷ s) x = closed s (counted n at x)
 closed (left at o y ∷ s) x = operand_held (left at o y ∷ s) x
 
--- the operand is joined_meaning to the left operands of operators that bind at least as tightly as the level
+-- the operand is joined_meaning to the left operands of operators that bind at least as tightly as
+-- the level
 abbrev pub reduced : ℕ → List Entry → Meaning → WithOperand
 reduced k [] x = operand_held [] x
 reduced k (group ∷ s) x = operand_held (group ∷ s) x
 reduced k (sign at p ∷ s) x = operand_held (sign at p ∷ s) x
 reduced k (binder at q p ∷ s) x = operand_held (binder at q p ∷ s) x
 reduced k (counter at n ∷ s) x = operand_held (counter at n ∷ s) x
-reduced k (left at o y ∷ s) x = if nat_le k (level o) then reduced k s (joined_meaning o at y x) else operand_held (left at o y ∷ s) x
+reduced k (left at o y ∷ s) x =
+    if nat_le k (level o) then reduced k s (joined_meaning o at y x)
+    else operand_held (left at o y ∷ s) x
 
 -- an operand was read
 abbrev pub with_operand : WithOperand → Config
@@ -114,8 +120,10 @@ step_wanted s _ = None
 -- a symbol behind the name of an atom
 abbrev pub step_name : List Entry → ℕ → List ℕ → Symbol → Option Config
 step_name s at w opening = Some (config s (argument_wanted at w []))
-step_name s at w closing = step_operand (closed s (named at w [])).stack (closed s (named at w [])).operand closing
-step_name s at w (between at' o) = step_operand (closed s (named at w [])).stack (closed s (named at w [])).operand (between at' o)
+step_name s at w closing =
+    step_operand (closed s (named at w [])).stack (closed s (named at w [])).operand closing
+step_name s at w (between at' o) =
+    step_operand (closed s (named at w [])).stack (closed s (named at w [])).operand (between at' o)
 step_name s at w _ = None
 
 -- an argument
@@ -126,7 +134,8 @@ with_argument s at w args (Some a) = Some (config s (argument_read at w (args ++
 -- a symbol behind an argument
 abbrev pub step_argument : List Entry → ℕ → List ℕ → List Arg → Symbol → Option Config
 step_argument s at w args closing = Some (with_operand (closed s (named at w args)))
-step_argument s at w args comma = if nat_lt (length args) 4 then Some (config s (argument_wanted at w args)) else None
+step_argument s at w args comma =
+    if nat_lt (length args) 4 then Some (config s (argument_wanted at w args)) else None
 step_argument s at w args _ = None
 
 -- a symbol behind the word of a quantifier
@@ -173,7 +182,8 @@ joined_whole (e ∷ s) x = None
 
 abbrev pub joined_all : Option WithOperand → Option Meaning
 joined_all None = None
-joined_all (Some h) = joined_whole (reduced 1 h.stack h.operand).stack (reduced 1 h.stack h.operand).operand
+joined_all (Some h) =
+    joined_whole (reduced 1 h.stack h.operand).stack (reduced 1 h.stack h.operand).operand
 
 -- what was read, if it is whole
 abbrev pub whole : Config → Option Meaning

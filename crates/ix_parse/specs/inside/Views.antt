@@ -1,7 +1,8 @@
 -- The symbol that a token without its place is, at a place.
 use Rattle.std.specs.Prelude.{ℕ}
 use Rattle.ix_parse.specs.declared.symbols.Sign.{Sign}
-use Rattle.ix_parse.specs.declared.symbols.Sign.TheVariants.{Word, Param, Opening, Closing, Comma, Before, Between}
+use Rattle.ix_parse.specs.declared.symbols.Sign.TheVariants.{Word, Param, Opening, Closing, Comma}
+use Rattle.ix_parse.specs.declared.symbols.Sign.TheVariants.{Before, Between}
 use Rattle.ix_parse.specs.Symbols.{Symbol, word, param, opening, closing, comma, before, between}
 
 abbrev pub symbol_at : ℕ → Sign → Symbol

@@ -3,9 +3,12 @@ use Rattle.std.specs.Prelude.{◌≡◌, ℕ, ◌<◌, ◌^◌, Option, Some, No
 use Rattle.std.specs.Fmt.{decimal}
 use Rattle.ix_values.specs.PlainAction.{text_of}
 use Rattle.ix_values.specs.Tickets.{ticket_text}
-use Rattle.ix_proto.specs.Replies.{IsReply, IsRefusal, outcome_text, yes_or_no, complete_or_partial, with_number, has_number, refusal_text}
+use Rattle.ix_proto.specs.Replies.{IsReply, IsRefusal, outcome_text, yes_or_no, complete_or_partial}
+use Rattle.ix_proto.specs.Replies.{with_number, has_number, refusal_text}
 use Rattle.ix_proto.specs.declared.reply.Reply.{Reply}
-use Rattle.ix_proto.specs.declared.reply.Reply.TheVariants.{Granted, Confirmed, Cancelled, Outcome, May, Watching, Dropped, Changes, Change, Status, Entry, Stopping, Refused}
+use Rattle.ix_proto.specs.declared.reply.Reply.TheVariants.{Granted, Confirmed, Cancelled, Outcome}
+use Rattle.ix_proto.specs.declared.reply.Reply.TheVariants.{May, Watching, Dropped, Changes, Change}
+use Rattle.ix_proto.specs.declared.reply.Reply.TheVariants.{Status, Entry, Stopping, Refused}
 use Rattle.ix_proto.specs.declared.reply_read.Kind.{Kind}
 use Rattle.ix_proto.specs.declared.reply_read.Kind.TheVariants as kind
 
@@ -55,10 +58,12 @@ reply_rest (Watching answer) = Some (yes_or_no answer)
 reply_rest Dropped = None
 reply_rest (Changes count) = Some (decimal count)
 reply_rest (Change answer action) = Some (text_of action)
-reply_rest (Status complete count nodes) = Some (complete_or_partial complete ++ 32 ∷ (decimal count ++ 32 ∷ nodes_text nodes))
+reply_rest (Status complete count nodes) =
+    Some (complete_or_partial complete ++ 32 ∷ (decimal count ++ 32 ∷ nodes_text nodes))
 reply_rest (Entry place action) = Some (decimal place ++ 32 ∷ text_of action)
 reply_rest Stopping = None
-reply_rest (Refused code number) = Some (decimal code ++ 32 ∷ with_number (has_number code) (refusal_text code) number)
+reply_rest (Refused code number) =
+    Some (decimal code ++ 32 ∷ with_number (has_number code) (refusal_text code) number)
 
 -- a reply of this first word, with this text reply_rest it
 pub record StandsBehind (kind : Kind) (rest : Option (List ℕ)) (reply : Reply) : Type 0 where

@@ -42,8 +42,10 @@ with_fault disk = record disk { faults = one_more disk.faults }
 
 -- with one more failed call of the wire
 abbrev pub with_wire_fault : RealSiteState → RealSiteState
-with_wire_fault site = record site { counts = record site.counts { wire = one_more site.counts.wire } }
+with_wire_fault site =
+    record site { counts = record site.counts { wire = one_more site.counts.wire } }
 
 -- with one more failed send
 abbrev pub with_send_fault : RealSiteState → RealSiteState
-with_send_fault site = record site { counts = record site.counts { send = one_more site.counts.send } }
+with_send_fault site =
+    record site { counts = record site.counts { send = one_more site.counts.send } }

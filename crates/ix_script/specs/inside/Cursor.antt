@@ -30,5 +30,6 @@ pub record IsCursorAt (old new : Cursor) : Type 0 where
 pub record IsBare (old : Cursor) (event : Event) (new : Cursor) : Type 0 where
   pub fits : (room : ℕ) → FitsBuffer room event
   pub none : (buf : List ℕ) → piece_of event.kind buf ≡ []
-  pub next : (room : ℕ) → next_piece room (left_of old) ≡ Some (record { event = event; bytes = [] })
+  pub next : (room : ℕ)
+      → next_piece room (left_of old) ≡ Some (record { event = event; bytes = [] })
   pub left : (room : ℕ) → left_of new ≡ left_after room (left_of old)

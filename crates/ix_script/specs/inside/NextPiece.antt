@@ -17,4 +17,5 @@ left_behind (piece ∷ pieces) events = left_behind pieces (left_after (length p
 -- the piece comes next in a script, for a buffer of this length, behind those given
 abbrev pub IsNextPiece : ℕ → List ℕ → List GivenEvent → GivenEvent → Type 0
 IsNextPiece room bytes given piece =
-    (events : List GivenEvent) → HasEvents bytes events → next_piece room (left_behind given events) ≡ Some piece
+    (events : List GivenEvent) → HasEvents bytes events
+    → next_piece room (left_behind given events) ≡ Some piece

@@ -1,5 +1,6 @@
 -- The events of a script as they are computed, and how far they were given.
-use Rattle.std.specs.Prelude.{ℕ, ◌+◌, ◌-◌, ◌*◌, Bool, true, false, ◌==◌, if◌then◌else◌, List, [], ◌∷◌}
+use Rattle.std.specs.Prelude.{ℕ, ◌+◌, ◌-◌, ◌*◌, Bool, true, false, ◌==◌, if◌then◌else◌, List, []}
+use Rattle.std.specs.Prelude.{◌∷◌}
 use Rattle.ix_outside.specs.Contents.{GivenEvent}
 use Rattle.ix_script.specs.Events.{bytes_event, end_event, line_event}
 use Rattle.ix_lines.specs.TextLines.{lines_of}
@@ -35,7 +36,9 @@ text_behind_two line = behind_space (behind_space line)
 -- the events of lines, and the end at the last one's moment, or at this one where there is none
 abbrev pub events_at : ℕ → List (List ℕ) → List GivenEvent
 events_at moment [] = end_event moment ∷ []
-events_at moment (line ∷ lines) = line_event (moment_of line) (conn_of line) (text_behind_two line) ∷ events_at (moment_of line) lines
+events_at moment (line ∷ lines) =
+    line_event (moment_of line) (conn_of line) (text_behind_two line)
+    ∷ events_at (moment_of line) lines
 
 -- the events of a script
 abbrev pub events_of : List ℕ → List GivenEvent
@@ -45,7 +48,8 @@ events_of bytes = events_at 0 (lines_of bytes)
 abbrev pub given_by : List ℕ → List GivenEvent → List GivenEvent
 given_by [] events = []
 given_by (room ∷ rooms) [] = []
-given_by (room ∷ rooms) (given ∷ later) = fitting room given ∷ given_by rooms (left_after room (given ∷ later))
+given_by (room ∷ rooms) (given ∷ later) =
+    fitting room given ∷ given_by rooms (left_after room (given ∷ later))
 
 -- what these buffers leave of the events
 abbrev pub left_by : List ℕ → List GivenEvent → List GivenEvent

@@ -12,12 +12,15 @@ abbrev pub entries_put : Plain → (List ℕ → Plain) → List (List ℕ) → 
 entries_put common tree values = put_all (entries_of common tree values) []
 
 -- the entries are those of the values, and together of this Size
-pub record HoldTrees (common : Plain) (tree : List ℕ → Plain) (values : List (List ℕ)) (entries : List (List ℕ × Plain)) (total : ℕ) : Type 0 where
+pub record HoldTrees (common : Plain) (tree : List ℕ
+    → Plain) (values : List (List ℕ)) (entries : List (List ℕ × Plain)) (total : ℕ) : Type 0 where
   pub items : map plain_entry entries ≡ entries_put common tree values
   pub counted : total ≡ size_of (plain_entries entries)
 
--- the entries of the values are there and within the limit, or with the common tree they are above it, or memory ran out
-abbrev pub EnterTrees : ℕ → Plain → (List ℕ → Plain) → List (List ℕ) → List (List ℕ × Plain) → Result ℕ Unbuilt → Type 0
+-- the entries of the values are there and within the limit, or with the common tree they are above
+-- it, or memory ran out
+abbrev pub EnterTrees : ℕ → Plain → (List ℕ → Plain) → List (List ℕ) → List (List ℕ × Plain)
+    → Result ℕ Unbuilt → Type 0
 EnterTrees limit common tree values entries r =
     MatchResult r (λ total. HoldTrees common tree values entries total × (total ≤ limit))
     (IsAboveLimit limit (more common (listed (entries_put common tree values))))

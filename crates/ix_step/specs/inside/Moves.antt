@@ -39,9 +39,11 @@ begun x e a = moved x e (tree_of x [] []) a
 abbrev pub begun_again : Bool → Form → Environment → PlainAction → Plain
 begun_again again x e a = if again then begun x e a else dead
 
--- the open alternatives of a second part: those that moved, and its beginning where the first part is complete
+-- the open alternatives of a second part: those that moved, and its beginning where the first part
+-- is complete
 abbrev pub second_parts : Form → Form → Environment → PlainAction → Plain → List Plain → List Plain
-second_parts y z e a first rest = open_moves z e a rest ++ when (is_final y first) (initial_tree z ∷ [])
+second_parts y z e a first rest =
+    open_moves z e a rest ++ when (is_final y first) (initial_tree z ∷ [])
 
 -- the open alternatives of the last run: those that moved, and one more that begins where it may
 abbrev pub last_runs : Form → Environment → PlainAction → Bool → List Plain → List Plain
@@ -49,4 +51,6 @@ last_runs y e a again rest = open_moves y e a rest ++ if_open (begun_again again
 
 -- whether an alternative for the last run is done or, being open, final
 abbrev pub runs_end : Form → Environment → PlainAction → Bool → List Plain → Bool
-runs_end y e a again rest = (some_ends y e a rest || is_done (begun_again again y e a)) || list_any (is_final y) (last_runs y e a again rest)
+runs_end y e a again rest =
+    (some_ends y e a rest || is_done (begun_again again y e a))
+    || list_any (is_final y) (last_runs y e a again rest)

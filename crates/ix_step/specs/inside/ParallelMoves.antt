@@ -1,5 +1,7 @@
--- The alternatives of `+`, of `#` and of `times` after an action, and what is asked before their parts are moved.
-use Rattle.std.specs.Prelude.{◌≡◌, ℕ, ◌+◌, ◌≤◌, Bool, true, List, [], ◌∷◌, ◌++◌, ◌==◌, ◌&&◌, not, flat_map, get_or, length, nat_lt, Option, Some, None}
+-- The alternatives of `+`, of `#` and of `times` after an action, and what is asked before their
+-- parts are moved.
+use Rattle.std.specs.Prelude.{◌≡◌, ℕ, ◌+◌, ◌≤◌, Bool, true, List, [], ◌∷◌, ◌++◌, ◌==◌, ◌&&◌, not}
+use Rattle.std.specs.Prelude.{flat_map, get_or, length, nat_lt, Option, Some, None}
 use Rattle.ix_words.specs.Each.{Each}
 use Rattle.ix_words.specs.Canon.{when}
 use Rattle.ix_values.specs.PlainAction.{PlainAction}
@@ -19,13 +21,17 @@ use Rattle.ix_step.specs.inside.Ready.{Ready}
 
 -- the pairs of two trees with one of them moved, each where the moved tree is live
 abbrev pub pairs_moved : Plain → Plain → Plain → Plain → List Plain
-pairs_moved x u left right = when (is_live left) (pair left u ∷ []) ++ when (is_live right) (pair x right ∷ [])
+pairs_moved x u left right =
+    when (is_live left) (pair left u ∷ []) ++ when (is_live right) (pair x right ∷ [])
 
 -- the pairs in which one of the two sides is moved
 abbrev pub pair_moves : Form → Form → Environment → PlainAction → Plain → List Plain
-pair_moves y z e a p = pairs_moved (first_part p) (second_part p) (moved y e (first_part p) a) (moved z e (second_part p) a)
+pair_moves y z e a p =
+    pairs_moved (first_part p) (second_part p) (moved y e (first_part p) a)
+    (moved z e (second_part p) a)
 
--- the runs and one more: where so many are wanted, one that is done stays among them; where any number is, it is left out
+-- the runs and one more: where so many are wanted, one that is done stays among them; where any
+-- number is, it is left out
 abbrev pub more_runs : Option ℕ → Plain → List Plain → List Plain
 more_runs None x runs = put_unless_done x runs
 more_runs (Some n) x runs = put_in x runs
@@ -57,7 +63,9 @@ begun_runs wanted first runs = when (has_room wanted runs) (runs_with wanted fir
 
 -- the bags in which one of the trees is moved or one more begins
 abbrev pub bag_moves : Option ℕ → Form → Environment → PlainAction → Plain → List Plain
-bag_moves wanted y e a b = pick_moves wanted y e a (items_of (first_part b)) ++ begun_runs wanted (begun y e a) (items_of (first_part b))
+bag_moves wanted y e a b =
+    pick_moves wanted y e a (items_of (first_part b))
+    ++ begun_runs wanted (begun y e a) (items_of (first_part b))
 
 -- it is the tree of a run that begins, if some bag has room for one
 abbrev pub IsFirstRun : Option ℕ → Form → Environment → PlainAction → List Plain → Plain → Type 0
@@ -70,8 +78,11 @@ IsReadyPair y z e p = Ready y e (first_part p) × Ready z e (second_part p)
 
 -- each tree of the bag is ready, and the bag isn't too large and rises
 abbrev pub IsReadyBag : Form → Environment → Plain → Type 0
-IsReadyBag y e b = Each (Ready y e) (items_of (first_part b)) × (size_of b ≤ most_size) × IsRising (items_of (first_part b))
+IsReadyBag y e b = Each (Ready y e) (items_of (first_part b)) × (size_of b ≤ most_size)
+    × IsRising (items_of (first_part b))
 
 -- the tree at the place equals the one before it
 abbrev pub IsRepeat : List Plain → ℕ → Type 0
-IsRepeat trees place = (before : ℕ) × (place ≡ before + 1) × ((x : Plain) → get_or trees before x ≡ get_or trees place x)
+IsRepeat trees place =
+    (before : ℕ) × (place ≡ before + 1)
+    × ((x : Plain) → get_or trees before x ≡ get_or trees place x)

@@ -1,13 +1,17 @@
--- Where it is asked whether an action may come next before the parts are moved, and where the moved parts tell that the node is dead or done.
+-- Where it is asked whether an action may come next before the parts are moved, and where the moved
+-- parts tell that the node is dead or done.
 use Rattle.std.specs.Prelude.{Bool, true, false, not, ◌&&◌}
 use Rattle.ix_values.specs.PlainAction.{PlainAction}
 use Rattle.ix_expr.specs.Form.{Form, atom, and, couple, every, sync}
 use Rattle.ix_expr.specs.Environment.{Environment}
-use Rattle.ix_tree.specs.Plain.{Plain, is_dead, none, opt as opt_of, seq as seq_of, star as star_of, par as par_of, par_star as par_star_of, or as or_of, any as any_of, all as all_of, times as times_of}
+use Rattle.ix_tree.specs.Plain.{Plain, is_dead, none, opt as opt_of, seq as seq_of, star as star_of}
+use Rattle.ix_tree.specs.Plain.{par as par_of, par_star as par_star_of, or as or_of, any as any_of}
+use Rattle.ix_tree.specs.Plain.{all as all_of, times as times_of}
 use Rattle.ix_can.specs.Nodes.{dead_if, settled}
 use Rattle.ix_can.specs.May.{may}
 
--- whether the action may come next, as far as it is asked: of an atom, and of the forms of which each part must move
+-- whether the action may come next, as far as it is asked: of an atom, and of the forms of which
+-- each part must move
 abbrev pub passes : Form → Environment → Plain → PlainAction → Bool
 passes (atom x) e t a = may (atom x) e t a
 passes (and y z) e t a = may (and y z) e t a
@@ -21,7 +25,8 @@ abbrev pub is_none : Plain → Bool
 is_none none = true
 is_none t = false
 
--- whether no part of the node is live, where it is enough that one is; a flag tells of the parts that are done
+-- whether no part of the node is live, where it is enough that one is; a flag tells of the parts
+-- that are done
 abbrev pub has_died : Plain → Bool
 has_died (opt_of empty t) = is_dead t
 has_died (seq_of t ended rest) = is_dead t && (not ended && is_none rest)

@@ -8,9 +8,10 @@ use Rattle.ix_step.specs.declared.fault.Unbuilt.{Unbuilt}
 use Rattle.ix_step.specs.inside.Limits.{most_limit}
 use Rattle.ix_step.specs.inside.Makes.{IsAboveLimit}
 
--- the side was made: the next tree where the action is inside, else the tree t as it was; or the next tree is above the
--- limit, or memory ran out
+-- the side was made: the next tree where the action is inside, else the tree t as it was; or the
+-- next tree is above the limit, or memory ran out
 abbrev pub MakesSide : ℕ → Bool → Plain → Plain → Result Side Unbuilt → Type 0
 MakesSide limit inside next t r =
-    MatchResult r (λ side. (side.inside ≡ inside) × (side.tree ≡ moved_inside inside next t) × (size_of side.tree ≤ most_limit))
+    MatchResult r (λ side. (side.inside ≡ inside) × (side.tree ≡ moved_inside inside next t)
+    × (size_of side.tree ≤ most_limit))
     (IsAboveLimit limit next)

@@ -5,7 +5,8 @@ use Rattle.ix_tree.specs.Plain.{or, and, couple, any, every, sync, all, times, l
 use Rattle.ix_tree.specs.PlainOf.{plain_entries, plain_pair, plain_bag, plain_map}
 use Rattle.ix_tree.specs.declared.node.Node.{Node}
 use Rattle.ix_tree.specs.declared.node.Node.TheVariants.{Dead, Start, Done, Opt, Seq, Star, Par}
-use Rattle.ix_tree.specs.declared.node.Node.TheVariants.{ParStar, Or, And, Couple, Any, Every, Sync, All, Times}
+use Rattle.ix_tree.specs.declared.node.Node.TheVariants.{ParStar, Or, And, Couple, Any, Every, Sync}
+use Rattle.ix_tree.specs.declared.node.Node.TheVariants.{All, Times}
 
 -- the plain tree of a node
 abbrev pub plain_node : Node → Plain

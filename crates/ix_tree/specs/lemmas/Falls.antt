@@ -1,6 +1,8 @@
--- Each knot in a node, and each list of entries, has a smaller measure than the node: the measure of a tree is twice its
--- Size, and that of a list of entries is one more, so that a piece of it is below it.
-use Rattle.std.specs.Prelude.{◌≡◌, ℕ, ◌+◌, ◌*◌, ◌≤◌, max, List, [], ◌∷◌, ◌++◌, flat_map, map as each}
+-- Each knot in a node, and each list of entries, has a smaller measure than the node: the measure
+-- of a tree is twice its Size, and that of a list of entries is one more, so that a piece of it is
+-- below it.
+use Rattle.std.specs.Prelude.{◌≡◌, ℕ, ◌+◌, ◌*◌, ◌≤◌, max, List, [], ◌∷◌, ◌++◌, flat_map}
+use Rattle.std.specs.Prelude.{map as each}
 use Rattle.std.proofs.Common.{arith}
 use denote.Param.Weighed.{most}
 use Rattle.ix_tree.specs.Plain.{Plain, listed}
@@ -9,11 +11,14 @@ use Rattle.ix_tree.specs.PlainOf.{plain_pair, plain_bag, plain_map, plain_entry,
 use Rattle.ix_tree.specs.inside.HeldEntries.{entries_kept}
 use Rattle.ix_tree.specs.inside.PlainNode.{plain_node}
 use Rattle.ix_tree.specs.declared.node.Node.{Node}
-use Rattle.ix_tree.specs.declared.node.Node.TheVariants.{Dead, Start, Done, Opt, Seq, Star, Par, ParStar, Or, And, Couple, Any, Every, Sync, All, Times}
+use Rattle.ix_tree.specs.declared.node.Node.TheVariants.{Dead, Start, Done, Opt, Seq, Star, Par}
+use Rattle.ix_tree.specs.declared.node.Node.TheVariants.{ParStar, Or, And, Couple, Any, Every, Sync}
+use Rattle.ix_tree.specs.declared.node.Node.TheVariants.{All, Times}
 use Rattle.ix_tree.specs.declared.node.Pair.{Pair}
 use Rattle.ix_tree.specs.declared.node.Bag.{Bag}
 use Rattle.ix_tree.specs.declared.node.Map.{Map}
-use Rattle.ix_tree.specs.declared.entries.Entries.TheDeep.{deep-Node, deep-Pair, deep-Bag, deep-Map, deep-Held}
+use Rattle.ix_tree.specs.declared.entries.Entries.TheDeep.{deep-Node, deep-Pair, deep-Bag, deep-Map}
+use Rattle.ix_tree.specs.declared.entries.Entries.TheDeep.{deep-Held}
 use Rattle.ix_tree.specs.declared.entries.Held.{Held}
 use Rattle.ix_tree.specs.declared.entries.Held.TheVariants.{Few, Cut}
 use Rattle.ix_tree.specs.declared.entries.Entries.TheShapes.{weighed-Held-Few-0-at-2}
@@ -34,21 +39,31 @@ module _ {A : Type 0} (w : A → ℕ) (f : A → Plain) (h : (x : A) → w x ≤
   parts (x ∷ xs) = omega (arith, h x, parts xs)
 
 -- so with entries
-pub depth_le-piece : (es : List (List ℕ × Plain)) → max (most (weighed-Held-Few-0-at-2.weight Plain size_and_more) es) 0 ≤ 2 * size_of (plain_entries es)
-depth_le-piece es = omega (arith, parts (weighed-Held-Few-0-at-2.weight Plain size_and_more) plain_entry (λ e. omega arith) es)
+pub depth_le-piece : (es : List (List ℕ × Plain))
+    → max (most (weighed-Held-Few-0-at-2.weight Plain size_and_more) es) 0
+    ≤ 2 * size_of (plain_entries es)
+depth_le-piece es = omega (
+  arith,
+  parts (weighed-Held-Few-0-at-2.weight Plain size_and_more) plain_entry (λ e.
+      omega arith) es,
+)
 
 -- some entries and others behind them
-pub size_joined : (es fs : List (List ℕ × Plain)) → size_of (plain_entries (es ++ fs)) ≡ size_of (plain_entries es) + size_of (plain_entries fs)
+pub size_joined : (es fs : List (List ℕ × Plain))
+    → size_of (plain_entries (es ++ fs)) ≡ size_of (plain_entries es) + size_of (plain_entries fs)
 size_joined [] fs = omega arith
 size_joined (e ∷ es) fs = omega (arith, size_joined es fs)
 
 -- a piece counts at most as much as all of them
-pieces : (ps : List (List (List ℕ × Plain))) → most (λ p. 2 * size_of (plain_entries p) + 1) ps ≤ 2 * size_of (plain_entries (flat_map (λ p. p) ps)) + 1
+pieces : (ps : List (List (List ℕ × Plain)))
+    → most (λ p. 2 * size_of (plain_entries p) + 1) ps
+    ≤ 2 * size_of (plain_entries (flat_map (λ p. p) ps)) + 1
 pieces [] = omega arith
 pieces (p ∷ ps) = omega (arith, pieces ps, size_joined p (flat_map (λ q. q) ps))
 
 -- no knot among the entries of a list, and no piece of them, has as large a measure as the list
-pub depth_le-held : (h : Held) → max (deep-Held h) 0 ≤ 2 * size_of (plain_entries (entries_kept h)) + 1
+pub depth_le-held : (h : Held)
+    → max (deep-Held h) 0 ≤ 2 * size_of (plain_entries (entries_kept h)) + 1
 depth_le-held (Few es) = omega (arith, depth_le-piece es.items)
 depth_le-held (Cut ps) = omega (arith, pieces ps.items)
 

@@ -1,8 +1,11 @@
--- By which code a proof tells plain trees apart: the place of each node and what stands in it beside trees, before its parts.
+-- By which code a proof tells plain trees apart: the place of each node and what stands in it
+-- beside trees, before its parts.
 use Rattle.std.specs.Prelude.{◌≡◌, ℕ, ◌==◌, true, false, Bool, List, [], ◌∷◌, ◌++◌, if◌then◌else◌}
 use Rattle.std.specs.Coded.{Coded, code_by, coded×, coded_ℕ, coded_list}
 use Rattle.std.proofs.Common.{refl, sym, ap, ◌∙◌, append_assoc, append-nil}
-use Rattle.ix_tree.specs.Plain.{Plain, dead, start, done, opt, seq, star, par, par_star, or, and, couple, any, every, sync, all, times, pair, bag, map, entry, none, more}
+use Rattle.ix_tree.specs.Plain.{Plain, dead, start, done, opt, seq, star, par, par_star, or, and}
+use Rattle.ix_tree.specs.Plain.{couple, any, every, sync, all, times, pair, bag, map, entry, none}
+use Rattle.ix_tree.specs.Plain.{more}
 use Rattle.ix_tree.specs.Order.{key, between}
 
 -- the place of each node and what stands in it beside trees, in the order of a reader
@@ -48,14 +51,22 @@ flag (n ∷ ns) = n == 1
 -- a node of one part
 abbrev of_one : ℕ → List ℕ → Plain → Plain
 of_one n k x =
-    if n == 3 then opt (flag k) x else (if n == 5 then star (flag k) x else (if n == 6 then par x else (if n == 7 then par_star x else
-    (if n == 14 then all x else (if n == 15 then times x else (if n == 17 then bag x else (if n == 18 then map x else entry k x)))))))
+    if n == 3 then opt (flag k) x
+    else (if n == 5 then star (flag k) x
+    else (if n == 6 then par x else (if n == 7 then par_star x else
+    (if n == 14 then all x
+    else (if n == 15 then times x
+    else (if n == 17 then bag x else (if n == 18 then map x else entry k x)))))))
 
 -- a node of two parts
 abbrev of_two : ℕ → List ℕ → Plain → Plain → Plain
 of_two n k x y =
-    if n == 4 then seq x (flag k) y else (if n == 8 then or x y else (if n == 9 then and x y else (if n == 10 then couple x y else
-    (if n == 11 then any x y else (if n == 12 then every x y else (if n == 13 then sync x y else (if n == 16 then pair x y else more x y)))))))
+    if n == 4 then seq x (flag k) y
+    else (if n == 8 then or x y
+    else (if n == 9 then and x y else (if n == 10 then couple x y else
+    (if n == 11 then any x y
+    else (if n == 12 then every x y
+    else (if n == 13 then sync x y else (if n == 16 then pair x y else more x y)))))))
 
 -- how many parts the nodes of a place have
 abbrev leaf : ℕ → Bool
@@ -63,8 +74,11 @@ leaf n = if n == 0 then true else (if n == 1 then true else (if n == 2 then true
 
 abbrev single : ℕ → Bool
 single n =
-    if n == 3 then true else (if n == 5 then true else (if n == 6 then true else (if n == 7 then true else
-    (if n == 14 then true else (if n == 15 then true else (if n == 17 then true else (if n == 18 then true else n == 19)))))))
+    if n == 3 then true else (if n == 5 then true
+    else (if n == 6 then true else (if n == 7 then true else
+    (if n == 14 then true
+    else (if n == 15 then true
+    else (if n == 17 then true else (if n == 18 then true else n == 19)))))))
 
 -- a node without parts
 abbrev of_none : ℕ → Plain
@@ -73,7 +87,9 @@ of_none n = if n == 0 then dead else (if n == 1 then start else (if n == 2 then 
 -- the trees, after the node of one place and key took its parts from them
 abbrev taken : ℕ → List ℕ → List Plain → List Plain
 taken n k xs =
-    if leaf n then of_none n ∷ xs else (if single n then of_one n k (top xs) ∷ under xs else of_two n k (top xs) (top (under xs)) ∷ under (under xs))
+    if leaf n then of_none n ∷ xs
+    else (if single n then of_one n k (top xs) ∷ under xs
+    else of_two n k (top xs) (top (under xs)) ∷ under (under xs))
 
 -- the trees that are written_code there
 abbrev read : List (ℕ × List ℕ) → List Plain
@@ -81,13 +97,19 @@ read [] = []
 read (t ∷ ts) = taken t.0 t.1 (read ts)
 
 -- one part reads back
-one_reads : (n : ℕ) (k : List ℕ) (x : Plain) (ts : List (ℕ × List ℕ)) → read (written_code x ++ ts) ≡ x ∷ read ts → taken n k (read (written_code x ++ ts)) ≡ taken n k (x ∷ read ts)
+one_reads : (n : ℕ) (k : List ℕ) (x : Plain) (ts : List (ℕ × List ℕ))
+    → read (written_code x ++ ts) ≡ x ∷ read ts
+    → taken n k (read (written_code x ++ ts)) ≡ taken n k (x ∷ read ts)
 one_reads n k x ts e = ap (taken n k) e
 
 -- two parts read back
-two_read : (n : ℕ) (k : List ℕ) (x y : Plain) (ts : List (ℕ × List ℕ)) → ((rest : List (ℕ × List ℕ)) → read (written_code x ++ rest) ≡ x ∷ read rest) → read (written_code y ++ ts) ≡ y ∷ read ts →
+two_read : (n : ℕ) (k : List ℕ) (x y : Plain) (ts : List (ℕ × List ℕ))
+    → ((rest : List (ℕ × List ℕ)) → read (written_code x ++ rest) ≡ x ∷ read rest)
+    → read (written_code y ++ ts) ≡ y ∷ read ts →
     taken n k (read ((written_code x ++ written_code y) ++ ts)) ≡ taken n k (x ∷ y ∷ read ts)
-two_read n k x y ts f e = ap (λ l. taken n k (read l)) (append_assoc (written_code x) (written_code y) ts) ∙ ap (taken n k) (f (written_code y ++ ts) ∙ ap (λ l. x ∷ l) e)
+two_read n k x y ts f e =
+    ap (λ l. taken n k (read l)) (append_assoc (written_code x) (written_code y) ts) ∙ ap
+    (taken n k) (f (written_code y ++ ts) ∙ ap (λ l. x ∷ l) e)
 
 -- a tree reads back
 reads : (x : Plain) (ts : List (ℕ × List ℕ)) → read (written_code x ++ ts) ≡ x ∷ read ts
@@ -123,4 +145,5 @@ alone x = ap (λ l. top (read l)) (sym (append-nil (written_code x))) ∙ ap top
 
 -- a plain tree is stored as its nodes
 abbrev pub plain_code : Coded Plain
-plain_code = code_by (List (ℕ × List ℕ)) (coded_list (coded× coded_ℕ (coded_list coded_ℕ))) written_code (λ ts. top (read ts)) alone
+plain_code = code_by (List (ℕ × List ℕ)) (coded_list (coded× coded_ℕ (coded_list coded_ℕ)))
+    written_code (λ ts. top (read ts)) alone

@@ -1,5 +1,6 @@
 -- The order of trees is total, and it tells trees parts_apart.
-use Rattle.std.proofs.Common.{◌≡◌, ℕ, ◌==◌, Bool, true, false, not, ◌||◌, ◌&&◌, cond, List, [], ◌∷◌, refl, sym, ap, ◌∙◌, true≢false, Ordering, Less, Equal, Greater}
+use Rattle.std.proofs.Common.{◌≡◌, ℕ, ◌==◌, Bool, true, false, not, ◌||◌, ◌&&◌, cond, List, [], ◌∷◌}
+use Rattle.std.proofs.Common.{refl, sym, ap, ◌∙◌, true≢false, Ordering, Less, Equal, Greater}
 use Rattle.std.specs.Prelude.{nat_le}
 use Rattle.std.specs.Cmp.{IsTotalOrder, nat_cmp_total, alike_right}
 use Rattle.std.specs.Cmp.Lexicographic.{lists_total}
@@ -8,11 +9,14 @@ use Rattle.std.specs.Ordering.{nat_cmp, ordering_reverse, ordering_then}
 use Rattle.ix_words.specs.Canon.{IsStrictOrder}
 use Rattle.ix_values.specs.Order.{text_cmp}
 use Rattle.ix_values.specs.lemmas.Order.{text_cmp-same}
-use Rattle.ix_tree.specs.Plain.{Plain, dead, start, done, opt, seq, star, par, par_star, or, and, couple, any, every, sync, all, times, pair, bag, map, entry, none, more}
+use Rattle.ix_tree.specs.Plain.{Plain, dead, start, done, opt, seq, star, par, par_star, or, and}
+use Rattle.ix_tree.specs.Plain.{couple, any, every, sync, all, times, pair, bag, map, entry, none}
+use Rattle.ix_tree.specs.Plain.{more}
 use Rattle.ix_tree.specs.Order.{place, key, first_part, between, second_part, in_turn, tree_cmp}
 
 -- what holds of the empty list, and of a tree where it holds of its parts, holds of every tree
-induct : (P : Plain → Type 0) → P none → ((x : Plain) → P (first_part x) → P (second_part x) → P x) → (x : Plain) → P x
+induct : (P : Plain → Type 0) → P none → ((x : Plain) → P (first_part x) → P (second_part x) → P x)
+    → (x : Plain) → P x
 induct P n s dead = s dead n n
 induct P n s start = s start n n
 induct P n s done = s done n n
@@ -68,38 +72,52 @@ no_second (more x xs) e = absurd (true≢false e)
 no_second _ e = refl
 
 -- only what stands behind Equal counts
-turn_same : (r : Ordering) {o p : Ordering} → (r ≡ Equal → o ≡ p) → ordering_then r o ≡ ordering_then r p
+turn_same : (r : Ordering) {o p : Ordering} → (r ≡ Equal → o ≡ p)
+    → ordering_then r o ≡ ordering_then r p
 turn_same Less h = refl
 turn_same Equal h = h refl
 turn_same Greater h = refl
 
 -- of two trees of one form the order asks for the parts alone
-same_turn : (x y : Plain) (a b c d : Ordering) → (place x ≡ place y → a ≡ c) → (place x ≡ place y → b ≡ d) → in_turn x y a b ≡ in_turn x y c d
+same_turn : (x y : Plain) (a b c d : Ordering) → (place x ≡ place y → a ≡ c)
+    → (place x ≡ place y → b ≡ d) → in_turn x y a b ≡ in_turn x y c d
 same_turn x y a b c d f g =
     turn_same (nat_cmp (place x) (place y))
     (λ e. let same : place x ≡ place y = nat_cmp-IsAntisymmetric (place x) (place y) e in
-    ap (λ (o : Ordering). ordering_then (text_cmp (key x) (key y)) (ordering_then o (ordering_then (text_cmp (between x) (between y)) b))) (f same)
-    ∙ ap (λ (o : Ordering). ordering_then (text_cmp (key x) (key y)) (ordering_then c (ordering_then (text_cmp (between x) (between y)) o))) (g same))
+    ap (λ (o : Ordering).
+    ordering_then (text_cmp (key x) (key y))
+    (ordering_then o (ordering_then (text_cmp (between x) (between y)) b))) (f same)
+    ∙ ap (λ (o : Ordering).
+    ordering_then (text_cmp (key x) (key y))
+    (ordering_then c (ordering_then (text_cmp (between x) (between y)) o))) (g same))
 
 -- first parts of one form that has none are level
-level_first : (x y : Plain) → has_first (place x) ≡ false → place x ≡ place y → Equal ≡ tree_cmp none (first_part y)
+level_first : (x y : Plain) → has_first (place x) ≡ false → place x ≡ place y
+    → Equal ≡ tree_cmp none (first_part y)
 level_first x y e same = sym (ap (tree_cmp none) (no_first y (ap has_first (sym same) ∙ e)))
 
 -- second parts of one form that has none are level
-level_second : (x y : Plain) → has_second (place x) ≡ false → place x ≡ place y → Equal ≡ tree_cmp none (second_part y)
+level_second : (x y : Plain) → has_second (place x) ≡ false → place x ≡ place y
+    → Equal ≡ tree_cmp none (second_part y)
 level_second x y e same = sym (ap (tree_cmp none) (no_second y (ap has_second (sym same) ∙ e)))
 
 -- the order by the parts, whatever the form
 abbrev by_parts : Plain → Plain → Ordering
-by_parts x y = in_turn x y (tree_cmp (first_part x) (first_part y)) (tree_cmp (second_part x) (second_part y))
+by_parts x y = in_turn x y (tree_cmp (first_part x) (first_part y))
+    (tree_cmp (second_part x) (second_part y))
 
 -- a form with a first part alone
-one_part : (x y : Plain) (a : Ordering) → has_second (place x) ≡ false → in_turn x y a Equal ≡ in_turn x y a (tree_cmp none (second_part y))
-one_part x y a e = same_turn x y a Equal a (tree_cmp none (second_part y)) (λ s. refl) (level_second x y e)
+one_part : (x y : Plain) (a : Ordering) → has_second (place x) ≡ false
+    → in_turn x y a Equal ≡ in_turn x y a (tree_cmp none (second_part y))
+one_part x y a e = same_turn x y a Equal a (tree_cmp none (second_part y)) (λ s. refl)
+    (level_second x y e)
 
 -- a form with no parts
-no_part : (x y : Plain) → has_first (place x) ≡ false → has_second (place x) ≡ false → in_turn x y Equal Equal ≡ in_turn x y (tree_cmp none (first_part y)) (tree_cmp none (second_part y))
-no_part x y e f = same_turn x y Equal Equal (tree_cmp none (first_part y)) (tree_cmp none (second_part y)) (level_first x y e) (level_second x y f)
+no_part : (x y : Plain) → has_first (place x) ≡ false → has_second (place x) ≡ false
+    → in_turn x y Equal Equal
+    ≡ in_turn x y (tree_cmp none (first_part y)) (tree_cmp none (second_part y))
+no_part x y e f = same_turn x y Equal Equal (tree_cmp none (first_part y))
+    (tree_cmp none (second_part y)) (level_first x y e) (level_second x y f)
 
 -- the order goes by the parts
 turns : (x y : Plain) → tree_cmp x y ≡ by_parts x y
@@ -137,11 +155,17 @@ is_one (b ∷ v) = b == 1
 -- the tree of a form with these bytes and parts, and with these bytes between the parts
 made : ℕ → List ℕ → Plain → List ℕ → Plain → Plain
 made n k x b y =
-    cond (n == 0) dead (cond (n == 1) start (cond (n == 2) done (cond (n == 3) (opt (is_one k) x) (cond (n == 4) (seq x (is_one b) y)
-    (cond (n == 5) (star (is_one k) x) (cond (n == 6) (par x) (cond (n == 7) (par_star x) (cond (n == 8) (or x y)
-    (cond (n == 9) (and x y) (cond (n == 10) (couple x y) (cond (n == 11) (any x y) (cond (n == 12) (every x y)
-    (cond (n == 13) (sync x y) (cond (n == 14) (all x) (cond (n == 15) (times x) (cond (n == 16) (pair x y) (cond (n == 17) (bag x)
-    (cond (n == 18) (map x) (cond (n == 19) (entry k x) (cond (n == 20) none (more x y)))))))))))))))))))))
+    cond (n == 0) dead (cond (n == 1) start
+    (cond (n == 2) done (cond (n == 3) (opt (is_one k) x) (cond (n == 4) (seq x (is_one b) y)
+    (cond (n == 5) (star (is_one k) x)
+    (cond (n == 6) (par x) (cond (n == 7) (par_star x) (cond (n == 8) (or x y)
+    (cond (n == 9) (and x y)
+    (cond (n == 10) (couple x y) (cond (n == 11) (any x y) (cond (n == 12) (every x y)
+    (cond (n == 13) (sync x y)
+    (cond (n == 14) (all x)
+    (cond (n == 15) (times x) (cond (n == 16) (pair x y) (cond (n == 17) (bag x)
+    (cond (n == 18) (map x)
+    (cond (n == 19) (entry k x) (cond (n == 20) none (more x y)))))))))))))))))))))
 
 -- a tree is made of its form, bytes and parts
 made_again : (x : Plain) → made (place x) (key x) (first_part x) (between x) (second_part x) ≡ x
@@ -191,13 +215,15 @@ tree_cmp-same = induct Apart none_apart parts_apart
 -- The order the other way round
 
 -- answers in turn, the other way round
-turned_then : (o p : Ordering) → ordering_then (ordering_reverse o) (ordering_reverse p) ≡ ordering_reverse (ordering_then o p)
+turned_then : (o p : Ordering)
+    → ordering_then (ordering_reverse o) (ordering_reverse p) ≡ ordering_reverse (ordering_then o p)
 turned_then Less p = refl
 turned_then Equal p = refl
 turned_then Greater p = refl
 
 -- so with answers that are turned
-both_turned : (q r : Ordering) {o p : Ordering} → o ≡ ordering_reverse q → p ≡ ordering_reverse r → ordering_then o p ≡ ordering_reverse (ordering_then q r)
+both_turned : (q r : Ordering) {o p : Ordering} → o ≡ ordering_reverse q → p ≡ ordering_reverse r
+    → ordering_then o p ≡ ordering_reverse (ordering_then q r)
 both_turned q r e f = (λ i. ordering_then (e i) (f i)) ∙ turned_then q r
 
 -- x compares with y as y with x, the other way round
@@ -225,7 +251,8 @@ turned x f s y =
 -- Chains
 
 -- answers in turn that are below and below again are below
-chained : (o p q s t u : Ordering) → (o ≡ Less → p ≡ Less → q ≡ Less) → (o ≡ Equal → q ≡ p) → (p ≡ Equal → q ≡ o) → (s ≡ Less → t ≡ Less → u ≡ Less) →
+chained : (o p q s t u : Ordering) → (o ≡ Less → p ≡ Less → q ≡ Less) → (o ≡ Equal → q ≡ p)
+    → (p ≡ Equal → q ≡ o) → (s ≡ Less → t ≡ Less → u ≡ Less) →
     ordering_then o s ≡ Less → ordering_then p t ≡ Less → ordering_then q u ≡ Less
 chained Less Less q s t u f g h k d e = ap (λ (r : Ordering). ordering_then r u) (f refl refl)
 chained Less Equal q s t u f g h k d e = ap (λ (r : Ordering). ordering_then r u) (h refl)
@@ -257,7 +284,8 @@ tree_last x y z e = ap (tree_cmp x) (sym (tree_cmp-same y z e))
 chains : (x : Plain) → Chains (first_part x) → Chains (second_part x) → Chains x
 chains x f s y z d e =
     turns x z
-    ∙ chained (nat_cmp (place x) (place y)) (nat_cmp (place y) (place z)) (nat_cmp (place x) (place z)) _ _ _
+    ∙ chained (nat_cmp (place x) (place y)) (nat_cmp (place y) (place z))
+    (nat_cmp (place x) (place z)) _ _ _
     (nat_cmp_total.trans (place x) (place y) (place z))
     (nat_cmp_total.congr (place x) (place y) (place z))
     (λ c. sym (alike_right nat_cmp_total (place y) (place z) (place x) c))
@@ -265,11 +293,13 @@ chains x f s y z d e =
     (text_cmp-total.trans (key x) (key y) (key z))
     (text_cmp-total.congr (key x) (key y) (key z))
     (λ c. sym (alike_right text_cmp-total (key y) (key z) (key x) c))
-    (chained (tree_cmp (first_part x) (first_part y)) (tree_cmp (first_part y) (first_part z)) (tree_cmp (first_part x) (first_part z)) _ _ _
+    (chained (tree_cmp (first_part x) (first_part y)) (tree_cmp (first_part y) (first_part z))
+    (tree_cmp (first_part x) (first_part z)) _ _ _
     (f (first_part y) (first_part z))
     (tree_first (first_part x) (first_part y) (first_part z))
     (tree_last (first_part x) (first_part y) (first_part z))
-    (chained (text_cmp (between x) (between y)) (text_cmp (between y) (between z)) (text_cmp (between x) (between z)) _ _ _
+    (chained (text_cmp (between x) (between y)) (text_cmp (between y) (between z))
+    (text_cmp (between x) (between z)) _ _ _
     (text_cmp-total.trans (between x) (between y) (between z))
     (text_cmp-total.congr (between x) (between y) (between z))
     (λ c. sym (alike_right text_cmp-total (between y) (between z) (between x) c))

@@ -19,7 +19,8 @@ opened name values = name ++ 40 ∷ flat_map (λ value. value ++ 44 ∷ []) valu
 abbrev pub code_after_name : ℕ → ℕ
 code_after_name byte = if is_word_byte byte then 4 else 5
 
--- the code of what stands behind a value, where that is neither `)` nor a comma that may stand there
+-- the code of what stands behind a value, where that is neither `)` nor a comma that may stand
+-- there
 abbrev pub code_after_value : Option ℕ → ℕ
 code_after_value None = 2
 code_after_value (Some byte) = if byte == 44 then 3 else (if is_word_byte byte then 4 else 2)

@@ -1,5 +1,6 @@
 -- The watches as contracts see them, and what the calls make of them.
-use Rattle.std.specs.Prelude.{◌≡◌, ℕ, Bool, true, false, not, ◌&&◌, List, [], ◌∷◌, zero, suc, map, filter, if◌then◌else◌}
+use Rattle.std.specs.Prelude.{◌≡◌, ℕ, Bool, true, false, not, ◌&&◌, List, [], ◌∷◌, zero, suc, map}
+use Rattle.std.specs.Prelude.{filter, if◌then◌else◌}
 use Rattle.std.specs.List.{list_any, AllByRecursion}
 use Rattle.ix_values.specs.PlainAction.{PlainAction}
 use Rattle.ix_values.specs.Order.{text_eq}
@@ -27,11 +28,18 @@ is_watched name action watches = list_any (is_of name action) watches
 -- no pair is watched twice
 abbrev pub AreDistinct : List PlainWatch → Type 0
 AreDistinct [] = Unit {0}
-AreDistinct (watch ∷ watches) = AllByRecursion (λ other. is_of watch.name watch.action other ≡ false) watches × AreDistinct watches
+AreDistinct (watch ∷ watches) =
+    AllByRecursion (λ other. is_of watch.name watch.action other ≡ false) watches
+    × AreDistinct watches
 
 -- the watch of the pair keeps its place, and what is told holds now
 abbrev pub told_again : List ℕ → PlainAction → Bool → List PlainWatch → List PlainWatch
-told_again name action told watches = map (λ (watch : PlainWatch). if is_of name action watch then record watch { told = told; now = told } else watch) watches
+told_again name action told watches =
+    map (λ (watch : PlainWatch). if is_of name action watch then record watch {
+      told = told;
+      now =
+          told;
+    } else watch) watches
 
 -- the others, in their order
 abbrev pub without : List ℕ → PlainAction → List PlainWatch → List PlainWatch
@@ -51,7 +59,9 @@ noted (watch ∷ watches) (suc index) now = watch ∷ noted watches index now
 
 -- of this name, what holds now is told
 abbrev pub told_to : List ℕ → List PlainWatch → List PlainWatch
-told_to name watches = map (λ (watch : PlainWatch). if text_eq name watch.name then record watch { told = watch.now } else watch) watches
+told_to name watches =
+    map (λ (watch : PlainWatch). if text_eq name watch.name then record watch { told = watch.now }
+    else watch) watches
 
 -- whether two answers differ
 abbrev pub differ : Bool → Bool → Bool
@@ -62,6 +72,8 @@ differ false now = now
 abbrev pub has_changed : List ℕ → PlainWatch → Bool
 has_changed name watch = text_eq name watch.name && differ watch.told watch.now
 
--- the actions of this name of which what holds now isn't what was told, in order, with what holds now
+-- the actions of this name of which what holds now isn't what was told, in order, with what holds
+-- now
 abbrev pub changes_of : List ℕ → List PlainWatch → List (PlainAction × Bool)
-changes_of name watches = map (λ (watch : PlainWatch). (watch.action, watch.now)) (filter (has_changed name) watches)
+changes_of name watches =
+    map (λ (watch : PlainWatch). (watch.action, watch.now)) (filter (has_changed name) watches)

@@ -1,11 +1,13 @@
 -- Pairs of a name and an action, as keys of a map.
 use Rattle.std.specs.Prelude.{◌≡◌, ℕ, Bool, true, false, ◌&&◌, List, ◌∷◌, IsTrue, refl}
-use Rattle.std.specs.Cmp.{IsEquivalence, IsPartialEquivalence, and_equiv, on_equiv, partial_equiv_from_equiv, nat_eq_equiv}
+use Rattle.std.specs.Cmp.{IsEquivalence, IsPartialEquivalence, and_equiv, on_equiv}
+use Rattle.std.specs.Cmp.{partial_equiv_from_equiv, nat_eq_equiv}
 use Rattle.std.specs.Cmp.Lexicographic.{lists_equiv}
 use Rattle.std.specs.Ordering.{on, eq_of_both}
 use Rattle.ix_values.specs.Order.{text_eq}
 use Rattle.ix_values.specs.inside.ActionOrder.{action_eq}
-use Rattle.ix_values.specs.lemmas.Order.{both_true, action_eq-equiv, text_eq-decides, action_eq-decides}
+use Rattle.ix_values.specs.lemmas.Order.{both_true, action_eq-equiv, text_eq-decides}
+use Rattle.ix_values.specs.lemmas.Order.{action_eq-decides}
 use Rattle.ix_watch.specs.declared.pairs.Pair.{Pair}
 
 -- the names and the actions are equal
@@ -14,7 +16,8 @@ pair_eq = eq_of_both (on (λ p. p.name) text_eq) (on (λ p. p.action) action_eq)
 
 -- the laws of `Eq`
 pub pair_eq-equiv : IsEquivalence pair_eq
-pair_eq-equiv = and_equiv (on_equiv (λ p. p.name) (lists_equiv nat_eq_equiv)) (on_equiv (λ p. p.action) action_eq-equiv)
+pair_eq-equiv = and_equiv (on_equiv (λ p. p.name) (lists_equiv nat_eq_equiv))
+    (on_equiv (λ p. p.action) action_eq-equiv)
 
 -- the laws of `PartialEq`
 pub pair_eq-partial : IsPartialEquivalence pair_eq
@@ -31,7 +34,8 @@ pair_eq-decides x y same =
     ((text_eq-decides x.name y.name).0 parts.0, (action_eq-decides x.action y.action).0 parts.1)
 
 -- equal pairs are hashed alike
-pub hash_input_of-respects_eq : (x y : Pair) → IsTrue (pair_eq x y) → hash_input_of x ≡ hash_input_of y
+pub hash_input_of-respects_eq : (x y : Pair) → IsTrue (pair_eq x y)
+    → hash_input_of x ≡ hash_input_of y
 hash_input_of-respects_eq x y same =
     let parts = pair_eq-decides x y same in
     λ i. parts.0 i ∷ (parts.1 i).name ∷ (parts.1 i).values
