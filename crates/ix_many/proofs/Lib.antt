@@ -1,3 +1,4 @@
 mod Numbers
+mod Pieces
 mod Waiting
 mod Writing

@@ -18,5 +18,5 @@ mod site;
 mod turns;
 mod wire;
 
-pub use laws::nobody_is_passed_over;
+pub use laws::{nobody_is_passed_over, pieces_fit};
 pub use site::ManySite;
