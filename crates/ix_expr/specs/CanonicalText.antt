@@ -13,15 +13,7 @@ binding (and y z) = 2
 binding (couple y z) = 3
 binding (par y z) = 4
 binding (seq y z) = 5
-binding (atom x) = 6
-binding (opt y) = 6
-binding (star y) = 6
-binding (par_star y) = 6
-binding (any p y) = 6
-binding (every p y) = 6
-binding (sync p y) = 6
-binding (all p y) = 6
-binding (times n y) = 6
+binding _ = 6
 
 -- the text, in parentheses where the test holds
 abbrev pub enclosed : Bool → List ℕ → List ℕ

@@ -81,27 +81,23 @@ names_parameter p x = list_any (is_parameter p) x.arguments
 -- a quantifier inside eight others
 abbrev pub is_ninth_quantifier : List Binder → Head → Bool
 is_ninth_quantifier around (quantifier_head p) = nat_le 8 (length around)
-is_ninth_quantifier around (atom_head x) = false
-is_ninth_quantifier around operator_head = false
+is_ninth_quantifier around _ = false
 
 -- a quantifier whose parameter an enclosing one binds
 abbrev pub binds_twice : List Binder → Head → Bool
 binds_twice around (quantifier_head p) = is_bound around p
-binds_twice around (atom_head x) = false
-binds_twice around operator_head = false
+binds_twice around _ = false
 
 -- an atom with a parameter that no enclosing quantifier binds
 abbrev pub is_unbound : List Binder → Head → Bool
 is_unbound around (atom_head x) = not (list_all (is_bound_argument around) x.arguments)
-is_unbound around (quantifier_head p) = false
-is_unbound around operator_head = false
+is_unbound around _ = false
 
 -- an atom inside an `all` whose parameter it doesn't name
 abbrev pub misses_a_parameter : List Binder → Head → Bool
 misses_a_parameter around (atom_head x) = list_any
     (λ b. b.is_all && not (names_parameter b.parameter x)) around
-misses_a_parameter around (quantifier_head p) = false
-misses_a_parameter around operator_head = false
+misses_a_parameter around _ = false
 
 -- the first code whose test holds
 abbrev pub first_code : List (ℕ × Bool) → Option ℕ

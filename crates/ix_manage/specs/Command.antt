@@ -20,78 +20,30 @@ expression_of (renew expression journal new limit) = Some expression
 
 -- the file of the actions that it takes as a history, where it has one
 abbrev pub history_file_of : Job → Option (List ℕ)
-history_file_of (trace expression actions limit) = None
-history_file_of (replay expression journal script limit turns) = None
-history_file_of (serve expression journal socket limit turns) = None
-history_file_of (work count seed limit) = None
-history_file_of (simplify expression) = None
-history_file_of (bound expression count) = None
-history_file_of (follow expression lines limit) = None
-history_file_of (lint expression) = None
 history_file_of (why expression actions action limit) = Some actions
 history_file_of (next expression actions values limit) = Some actions
-history_file_of (stuck expression values limit states) = None
-history_file_of (renew expression journal new limit) = None
+history_file_of _ = None
 
 -- the file of its given values, where it has one
 abbrev pub values_file_of : Job → Option (List ℕ)
-values_file_of (trace expression actions limit) = None
-values_file_of (replay expression journal script limit turns) = None
-values_file_of (serve expression journal socket limit turns) = None
-values_file_of (work count seed limit) = None
-values_file_of (simplify expression) = None
-values_file_of (bound expression count) = None
-values_file_of (follow expression lines limit) = None
-values_file_of (lint expression) = None
-values_file_of (why expression actions action limit) = None
-values_file_of (next expression actions values limit) = None
 values_file_of (stuck expression values limit states) = Some values
-values_file_of (renew expression journal new limit) = None
+values_file_of _ = None
 
 -- the journal that its run keeps
 abbrev pub journal_of : Job → Option (List ℕ)
-journal_of (trace expression actions limit) = None
 journal_of (replay expression journal script limit turns) = Some journal
 journal_of (serve expression journal socket limit turns) = Some journal
-journal_of (work count seed limit) = None
-journal_of (simplify expression) = None
-journal_of (bound expression count) = None
-journal_of (follow expression lines limit) = None
-journal_of (lint expression) = None
-journal_of (why expression actions action limit) = None
-journal_of (next expression actions values limit) = None
-journal_of (stuck expression values limit states) = None
-journal_of (renew expression journal new limit) = None
+journal_of _ = None
 
 -- the file that it makes a renewed journal of
 abbrev pub new_file_of : Job → Option (List ℕ)
-new_file_of (trace expression actions limit) = None
-new_file_of (replay expression journal script limit turns) = None
-new_file_of (serve expression journal socket limit turns) = None
-new_file_of (work count seed limit) = None
-new_file_of (simplify expression) = None
-new_file_of (bound expression count) = None
-new_file_of (follow expression lines limit) = None
-new_file_of (lint expression) = None
-new_file_of (why expression actions action limit) = None
-new_file_of (next expression actions values limit) = None
-new_file_of (stuck expression values limit states) = None
 new_file_of (renew expression journal new limit) = Some new
+new_file_of _ = None
 
 -- the socket on which it takes connections
 abbrev pub socket_of : Job → Option (List ℕ)
-socket_of (trace expression actions limit) = None
-socket_of (replay expression journal script limit turns) = None
 socket_of (serve expression journal socket limit turns) = Some socket
-socket_of (work count seed limit) = None
-socket_of (simplify expression) = None
-socket_of (bound expression count) = None
-socket_of (follow expression lines limit) = None
-socket_of (lint expression) = None
-socket_of (why expression actions action limit) = None
-socket_of (next expression actions values limit) = None
-socket_of (stuck expression values limit states) = None
-socket_of (renew expression journal new limit) = None
+socket_of _ = None
 
 -- the limit of Size; 0 where it has none, as it makes no tree
 abbrev pub limit_of : Job → ℕ

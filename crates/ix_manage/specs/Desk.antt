@@ -26,8 +26,7 @@ use Rattle.ix_stuck.specs.declared.answer.Answer.{Answer}
 use Rattle.ix_desk.specs.WhyLines.{why_lines}
 use Rattle.ix_desk.specs.MenuLines.{menu_lines}
 use Rattle.ix_desk.specs.StuckLines.{stuck_lines}
-use Rattle.ix_cli.specs.Words.{Job, trace, replay, serve, work, simplify, bound, follow, lint}
-use Rattle.ix_cli.specs.Words.{why, next, stuck, renew}
+use Rattle.ix_cli.specs.Words.{Job, why, next, stuck}
 use Rattle.ix_manage.specs.ActionLines.{line}
 use Rattle.ix_manage.specs.Around.{Around, FilesFailed}
 use Rattle.ix_manage.specs.Command.{history_file_of, limit_of, values_file_of}
@@ -36,18 +35,9 @@ use Rattle.ix_manage.specs.Trace.{HasBadActions, ReadsActions, Verdict, fault_li
 -- the words of a job that `clap` takes as any text are what they must be: an action, and given
 -- values
 abbrev pub HasFitWords : Job → Type 0
-HasFitWords (trace expression actions limit) = ⊤
-HasFitWords (replay expression journal script limit turns) = ⊤
-HasFitWords (serve expression journal socket limit turns) = ⊤
-HasFitWords (work count seed limit) = ⊤
-HasFitWords (simplify expression) = ⊤
-HasFitWords (bound expression count) = ⊤
-HasFitWords (follow expression lines limit) = ⊤
-HasFitWords (lint expression) = ⊤
 HasFitWords (why expression actions action limit) = IsActionText action
 HasFitWords (next expression actions values limit) = Each IsGiven values
-HasFitWords (stuck expression values limit states) = ⊤
-HasFitWords (renew expression journal new limit) = ⊤
+HasFitWords _ = ⊤
 
 -- the initial tree of the expression is within the limit, where the job has a history
 abbrev pub StartsWithin : Job → Form → Type 0

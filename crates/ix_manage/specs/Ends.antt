@@ -21,7 +21,7 @@ use Rattle.ix_outside.specs.Crashes.{Crashes}
 use Rattle.ix_manager.specs.Runs.{Opening}
 use Rattle.ix_renew.specs.Renewal.{IsRenewal}
 use Rattle.ix_cli.specs.Words.{Job, Names, NamesNoJob, trace, replay, serve, work, simplify}
-use Rattle.ix_cli.specs.Words.{bound, follow, lint, why, next, stuck, renew}
+use Rattle.ix_cli.specs.Words.{bound, follow, lint, why, stuck, renew}
 use Rattle.ix_manage.specs.ActionLines.{line}
 use Rattle.ix_manage.specs.Around.{Around, DiskFailed, FilesFailed, SiteRests, WireFailed}
 use Rattle.ix_manage.specs.Command.{expression_of, journal_of, limit_of}
@@ -47,20 +47,15 @@ IsFrom x limit opening = (opening.form ≡ x) × (opening.limit ≡ limit)
 -- replay; and the journal of a renew was read. A simplify, a bound, a lint and a stuck aren't
 -- refused for it.
 abbrev pub ReadsRest : Option Listing → Job → Type 0
-ReadsRest files (trace expression actions limit) = ⊤
 ReadsRest files (replay expression journal script limit turns) =
     (events : List GivenEvent) × ReadsEvents files script events
-ReadsRest files (serve expression journal socket limit turns) = ⊤
-ReadsRest files (work count seed limit) = ⊤
 ReadsRest files (simplify expression) = ⊥
 ReadsRest files (bound expression count) = ⊥
-ReadsRest files (follow expression lines limit) = ⊤
 ReadsRest files (lint expression) = ⊥
-ReadsRest files (why expression actions action limit) = ⊤
-ReadsRest files (next expression actions values limit) = ⊤
 ReadsRest files (stuck expression values limit states) = ⊥
 ReadsRest files (renew expression journal new limit) =
     (bytes : List ℕ) × ReadsJournal files journal bytes
+ReadsRest files _ = ⊤
 
 -- a job of an expression keeps a journal, and its files are read
 pub record KeepsJournal (files : Option Listing) (job : Job) (expression : List ℕ) : Type 0 where

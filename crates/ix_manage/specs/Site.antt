@@ -1,8 +1,7 @@
 -- What a run may touch of a site.
 use Rattle.std.specs.Prelude.{◌≡◌, ◌≤◌}
 use Rattle.ix_outside.specs.SiteState.{SiteState, OnlyDisk}
-use Rattle.ix_cli.specs.Words.{Job, trace, replay, serve, work, simplify, bound, follow, lint}
-use Rattle.ix_cli.specs.Words.{why, next, stuck, renew}
+use Rattle.ix_cli.specs.Words.{Job, replay, serve, renew}
 
 -- nothing changed but the counts, none of which fell, the tick, whether a file is attached, and
 -- what the site tells of its connections and its disk
@@ -15,15 +14,7 @@ pub record OnlyCalls (old new : SiteState) : Type 0 where
 -- what a job may touch: a replay and a renew the disk, a serve also the wire, and the others
 -- nothing
 abbrev pub Touches : Job → SiteState → SiteState → Type 0
-Touches (trace expression actions limit) before after = after ≡ before
 Touches (replay expression journal script limit turns) before after = OnlyDisk before after
 Touches (serve expression journal socket limit turns) before after = OnlyCalls before after
-Touches (work count seed limit) before after = after ≡ before
-Touches (simplify expression) before after = after ≡ before
-Touches (bound expression count) before after = after ≡ before
-Touches (follow expression lines limit) before after = after ≡ before
-Touches (lint expression) before after = after ≡ before
-Touches (why expression actions action limit) before after = after ≡ before
-Touches (next expression actions values limit) before after = after ≡ before
-Touches (stuck expression values limit states) before after = after ≡ before
 Touches (renew expression journal new limit) before after = OnlyDisk before after
+Touches _ before after = after ≡ before

@@ -9,7 +9,7 @@ use Rattle.ix_parse.specs.declared.faults.Fault.TheVariants as faults
 use Rattle.ix_parse.specs.declared.signs.Quantifier.{Quantifier}
 use Rattle.ix_parse.specs.declared.signs.WordClass.{WordClass}
 use Rattle.ix_parse.specs.declared.signs.WordClass.TheVariants.{Quantifies, Counts, Names, Other}
-use Rattle.ix_parse.specs.Symbols.{Symbol, word, param, opening, closing, comma, before, between}
+use Rattle.ix_parse.specs.Symbols.{Symbol, word, param, opening, comma, before, between}
 use Rattle.ix_parse.specs.Symbols.{symbol_of, class_of, IsNumberWord, Meaning}
 use Rattle.ix_parse.specs.Grammar.{Stands, CanGoOn, Wanted, AfterTimes, AfterArgument}
 
@@ -66,22 +66,16 @@ TakesOperand Other = ⊥
 -- or `times`
 abbrev pub OpensLevel : Symbol → Type 0
 OpensLevel (word at w) = TakesOperand (class_of w)
-OpensLevel (param p) = ⊥
 OpensLevel opening = Unit {0}
-OpensLevel closing = ⊥
-OpensLevel comma = ⊥
 OpensLevel (before at sign) = Unit {0}
-OpensLevel (between at o) = ⊥
+OpensLevel _ = ⊥
 
 -- the symbol is a node's token: an operator, a prefix, or a word in the place of an operand
 abbrev pub IsNode : List Symbol → Symbol → Type 0
 IsNode ts (word at w) = (d : ℕ) × Wanted d ts
-IsNode ts (param p) = ⊥
-IsNode ts opening = ⊥
-IsNode ts closing = ⊥
-IsNode ts comma = ⊥
 IsNode ts (before at sign) = Unit {0}
 IsNode ts (between at o) = Unit {0}
+IsNode ts _ = ⊥
 
 -- of the symbols us, which stand behind ts, n are nodes' tokens
 pub data Nodes : List Symbol → List Symbol → ℕ → Type 0 where
@@ -95,11 +89,7 @@ pub data Nodes : List Symbol → List Symbol → ℕ → Type 0 where
 abbrev pub IsLong : Symbol → Type 0
 IsLong (word at w) = 32 < length w
 IsLong (param p) = 32 < length p
-IsLong opening = ⊥
-IsLong closing = ⊥
-IsLong comma = ⊥
-IsLong (before at sign) = ⊥
-IsLong (between at o) = ⊥
+IsLong _ = ⊥
 
 -- the fault is met after the symbols ts, at the first of the pieces or, where there is none, at the
 -- end

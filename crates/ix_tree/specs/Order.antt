@@ -40,25 +40,7 @@ key (opt false x) = 0 ∷ []
 key (star true xs) = 1 ∷ []
 key (star false xs) = 0 ∷ []
 key (entry v x) = v
-key dead = []
-key start = []
-key done = []
-key (seq x ended xs) = []
-key (par pairs) = []
-key (par_star bags) = []
-key (or x y) = []
-key (and x y) = []
-key (couple x y) = []
-key (any common entries) = []
-key (every common entries) = []
-key (sync common entries) = []
-key (all maps) = []
-key (times bags) = []
-key (pair x y) = []
-key (bag xs) = []
-key (map entries) = []
-key none = []
-key (more x xs) = []
+key _ = []
 
 -- the first tree or list in a node
 abbrev pub first_part : Plain → Plain
@@ -80,36 +62,13 @@ first_part (bag xs) = xs
 first_part (map entries) = entries
 first_part (entry v x) = x
 first_part (more x xs) = x
-first_part dead = none
-first_part start = none
-first_part done = none
-first_part none = none
+first_part _ = none
 
 -- what a node has between its two parts, as bytes
 abbrev pub between : Plain → List ℕ
 between (seq x true xs) = 1 ∷ []
 between (seq x false xs) = 0 ∷ []
-between dead = []
-between start = []
-between done = []
-between (opt empty x) = []
-between (star again xs) = []
-between (par pairs) = []
-between (par_star bags) = []
-between (or x y) = []
-between (and x y) = []
-between (couple x y) = []
-between (any common entries) = []
-between (every common entries) = []
-between (sync common entries) = []
-between (all maps) = []
-between (times bags) = []
-between (pair x y) = []
-between (bag xs) = []
-between (map entries) = []
-between (entry v x) = []
-between none = []
-between (more x xs) = []
+between _ = []
 
 -- the second tree or list in a node
 abbrev pub second_part : Plain → Plain
@@ -122,19 +81,7 @@ second_part (every common entries) = entries
 second_part (sync common entries) = entries
 second_part (pair x y) = y
 second_part (more x xs) = xs
-second_part (opt empty x) = none
-second_part (star again xs) = none
-second_part (par pairs) = none
-second_part (par_star bags) = none
-second_part (all maps) = none
-second_part (times bags) = none
-second_part (bag xs) = none
-second_part (map entries) = none
-second_part (entry v x) = none
-second_part dead = none
-second_part start = none
-second_part done = none
-second_part none = none
+second_part _ = none
 
 -- by form, then by what stands before the trees, then as the first parts compare, then by what
 -- stands between the parts, then as the second parts do
@@ -172,7 +119,4 @@ tree_cmp (map entries) y = in_turn (map entries) y (tree_cmp entries (first_part
 tree_cmp (entry v x) y = in_turn (entry v x) y (tree_cmp x (first_part y)) Equal
 tree_cmp (more x xs) y = in_turn (more x xs) y (tree_cmp x (first_part y))
     (tree_cmp xs (second_part y))
-tree_cmp dead y = in_turn dead y Equal Equal
-tree_cmp start y = in_turn start y Equal Equal
-tree_cmp done y = in_turn done y Equal Equal
-tree_cmp none y = in_turn none y Equal Equal
+tree_cmp x y = in_turn x y Equal Equal

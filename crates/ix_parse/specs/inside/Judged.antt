@@ -172,11 +172,7 @@ judged c n t next = first_met (meets c n t next)
 abbrev pub as_follower : Symbol → Follower
 as_follower (word at w) = followers.Word
 as_follower (param p) = followers.Param
-as_follower opening = followers.Neither
-as_follower closing = followers.Neither
-as_follower comma = followers.Neither
-as_follower (before at p) = followers.Neither
-as_follower (between at o) = followers.Neither
+as_follower _ = followers.Neither
 
 -- what follows, by the next pieces
 abbrev pub follower_of : List Piece → Follower

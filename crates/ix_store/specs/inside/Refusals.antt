@@ -19,9 +19,6 @@ RefusesFileAs file text fault.Memory = ⊤
 
 -- the fault tells nothing of the file: the disk failed, or memory ran out
 abbrev pub TellsNothing : OpenFault → Type 0
-TellsNothing fault.NotJournal = ⊥
-TellsNothing (fault.OtherExpression kept) = ⊥
-TellsNothing (fault.Damaged at) = ⊥
-TellsNothing fault.Many = ⊥
 TellsNothing fault.Disk = ⊤
 TellsNothing fault.Memory = ⊤
+TellsNothing _ = ⊥
