@@ -6,6 +6,11 @@ ghost use Rattle.ix_tree.specs.PlainOf.{plain_pair, plain_bag, plain_map, plain_
 ghost use Rattle.ix_tree.specs.PlainOf.{plain_entries};
 ghost use Rattle.ix_tree.specs.inside.PlainNode.{plain_node};
 ghost use Rattle.ix_tree.specs.Order.{tree_cmp, place};
+ghost use Rattle.std.specs.Ordering.{eq_by_cmp, as_partial_cmp, on};
+ghost use Rattle.std.specs.Cmp.{eq_by_cmp_equiv, partial_equiv_from_equiv};
+ghost use Rattle.std.specs.Cmp.{partial_order_from_total, on_total};
+ghost use Rattle.ix_tree.specs.lemmas.TreeOrder.{tree_cmp-total};
+ghost use Rattle.std.proofs.Common.{refl};
 
 use crate::entries::Entries;
 use crate::node::{Bag, Knot, Map, Node, Pair};
@@ -14,11 +19,6 @@ use ix_values::Value;
 use std::cmp::Ordering;
 
 impl PartialEq for Knot {
-    ghost use Rattle.std.specs.Ordering.{eq_by_cmp};
-    ghost use Rattle.std.specs.Cmp.{eq_by_cmp_equiv, partial_equiv_from_equiv};
-    ghost use Rattle.ix_tree.specs.Order.{tree_cmp};
-    ghost use Rattle.ix_tree.specs.lemmas.TreeOrder.{tree_cmp-total};
-
     ghost eq = { eq_by_cmp tree_cmp };
 
     ghost laws = { partial_equiv_from_equiv (eq_by_cmp_equiv tree_cmp-total) };
@@ -29,18 +29,10 @@ impl PartialEq for Knot {
 }
 
 impl Eq for Knot {
-    ghost use Rattle.std.specs.Cmp.{eq_by_cmp_equiv};
-    ghost use Rattle.ix_tree.specs.lemmas.TreeOrder.{tree_cmp-total};
-
     ghost laws = { eq_by_cmp_equiv tree_cmp-total };
 }
 
 impl PartialOrd for Knot {
-    ghost use Rattle.std.specs.Ordering.{as_partial_cmp};
-    ghost use Rattle.std.specs.Cmp.{partial_order_from_total};
-    ghost use Rattle.ix_tree.specs.Order.{tree_cmp};
-    ghost use Rattle.ix_tree.specs.lemmas.TreeOrder.{tree_cmp-total};
-
     ghost partial_cmp = { as_partial_cmp tree_cmp };
 
     ghost laws = { partial_order_from_total tree_cmp-total };
@@ -51,10 +43,6 @@ impl PartialOrd for Knot {
 }
 
 impl Ord for Knot {
-    ghost use Rattle.std.proofs.Common.{refl};
-    ghost use Rattle.ix_tree.specs.Order.{tree_cmp};
-    ghost use Rattle.ix_tree.specs.lemmas.TreeOrder.{tree_cmp-total};
-
     ghost cmp = { tree_cmp };
 
     ghost total = { tree_cmp-total };
@@ -69,11 +57,6 @@ impl Ord for Knot {
 }
 
 impl PartialEq for Tree {
-    ghost use Rattle.std.specs.Ordering.{eq_by_cmp};
-    ghost use Rattle.std.specs.Cmp.{eq_by_cmp_equiv, partial_equiv_from_equiv};
-    ghost use Rattle.ix_tree.specs.Order.{tree_cmp};
-    ghost use Rattle.ix_tree.specs.lemmas.TreeOrder.{tree_cmp-total};
-
     ghost eq = { eq_by_cmp tree_cmp };
 
     ghost laws = { partial_equiv_from_equiv (eq_by_cmp_equiv tree_cmp-total) };
@@ -84,18 +67,10 @@ impl PartialEq for Tree {
 }
 
 impl Eq for Tree {
-    ghost use Rattle.std.specs.Cmp.{eq_by_cmp_equiv};
-    ghost use Rattle.ix_tree.specs.lemmas.TreeOrder.{tree_cmp-total};
-
     ghost laws = { eq_by_cmp_equiv tree_cmp-total };
 }
 
 impl PartialOrd for Tree {
-    ghost use Rattle.std.specs.Ordering.{as_partial_cmp};
-    ghost use Rattle.std.specs.Cmp.{partial_order_from_total};
-    ghost use Rattle.ix_tree.specs.Order.{tree_cmp};
-    ghost use Rattle.ix_tree.specs.lemmas.TreeOrder.{tree_cmp-total};
-
     ghost partial_cmp = { as_partial_cmp tree_cmp };
 
     ghost laws = { partial_order_from_total tree_cmp-total };
@@ -106,10 +81,6 @@ impl PartialOrd for Tree {
 }
 
 impl Ord for Tree {
-    ghost use Rattle.std.proofs.Common.{refl};
-    ghost use Rattle.ix_tree.specs.Order.{tree_cmp};
-    ghost use Rattle.ix_tree.specs.lemmas.TreeOrder.{tree_cmp-total};
-
     ghost cmp = { tree_cmp };
 
     ghost total = { tree_cmp-total };
@@ -124,14 +95,6 @@ impl Ord for Tree {
 }
 
 impl PartialEq for Pair {
-    ghost use Rattle.std.specs.Ordering.{eq_by_cmp};
-    ghost use Rattle.std.specs.Cmp.{eq_by_cmp_equiv, partial_equiv_from_equiv};
-    ghost use Rattle.std.specs.Ordering.{on};
-    ghost use Rattle.ix_tree.specs.PlainOf.{plain_pair};
-    ghost use Rattle.std.specs.Cmp.{on_total};
-    ghost use Rattle.ix_tree.specs.Order.{tree_cmp};
-    ghost use Rattle.ix_tree.specs.lemmas.TreeOrder.{tree_cmp-total};
-
     ghost eq = { eq_by_cmp (on plain_pair tree_cmp) };
 
     ghost laws = { partial_equiv_from_equiv
@@ -143,24 +106,10 @@ impl PartialEq for Pair {
 }
 
 impl Eq for Pair {
-    ghost use Rattle.std.specs.Cmp.{eq_by_cmp_equiv};
-    ghost use Rattle.std.specs.Ordering.{on};
-    ghost use Rattle.ix_tree.specs.PlainOf.{plain_pair};
-    ghost use Rattle.std.specs.Cmp.{on_total};
-    ghost use Rattle.ix_tree.specs.lemmas.TreeOrder.{tree_cmp-total};
-
     ghost laws = { eq_by_cmp_equiv (on_total plain_pair tree_cmp-total) };
 }
 
 impl PartialOrd for Pair {
-    ghost use Rattle.std.specs.Ordering.{as_partial_cmp};
-    ghost use Rattle.std.specs.Cmp.{partial_order_from_total};
-    ghost use Rattle.std.specs.Ordering.{on};
-    ghost use Rattle.ix_tree.specs.PlainOf.{plain_pair};
-    ghost use Rattle.std.specs.Cmp.{on_total};
-    ghost use Rattle.ix_tree.specs.Order.{tree_cmp};
-    ghost use Rattle.ix_tree.specs.lemmas.TreeOrder.{tree_cmp-total};
-
     ghost partial_cmp = { as_partial_cmp (on plain_pair tree_cmp) };
 
     ghost laws = { partial_order_from_total (on_total plain_pair tree_cmp-total) };
@@ -171,13 +120,6 @@ impl PartialOrd for Pair {
 }
 
 impl Ord for Pair {
-    ghost use Rattle.std.proofs.Common.{refl};
-    ghost use Rattle.std.specs.Ordering.{on};
-    ghost use Rattle.ix_tree.specs.PlainOf.{plain_pair};
-    ghost use Rattle.std.specs.Cmp.{on_total};
-    ghost use Rattle.ix_tree.specs.Order.{tree_cmp};
-    ghost use Rattle.ix_tree.specs.lemmas.TreeOrder.{tree_cmp-total};
-
     ghost cmp = { on plain_pair tree_cmp };
 
     ghost total = { on_total plain_pair tree_cmp-total };
@@ -192,14 +134,6 @@ impl Ord for Pair {
 }
 
 impl PartialEq for Bag {
-    ghost use Rattle.std.specs.Ordering.{eq_by_cmp};
-    ghost use Rattle.std.specs.Cmp.{eq_by_cmp_equiv, partial_equiv_from_equiv};
-    ghost use Rattle.std.specs.Ordering.{on};
-    ghost use Rattle.ix_tree.specs.PlainOf.{plain_bag};
-    ghost use Rattle.std.specs.Cmp.{on_total};
-    ghost use Rattle.ix_tree.specs.Order.{tree_cmp};
-    ghost use Rattle.ix_tree.specs.lemmas.TreeOrder.{tree_cmp-total};
-
     ghost eq = { eq_by_cmp (on plain_bag tree_cmp) };
 
     ghost laws = { partial_equiv_from_equiv (eq_by_cmp_equiv (on_total plain_bag tree_cmp-total)) };
@@ -210,24 +144,10 @@ impl PartialEq for Bag {
 }
 
 impl Eq for Bag {
-    ghost use Rattle.std.specs.Cmp.{eq_by_cmp_equiv};
-    ghost use Rattle.std.specs.Ordering.{on};
-    ghost use Rattle.ix_tree.specs.PlainOf.{plain_bag};
-    ghost use Rattle.std.specs.Cmp.{on_total};
-    ghost use Rattle.ix_tree.specs.lemmas.TreeOrder.{tree_cmp-total};
-
     ghost laws = { eq_by_cmp_equiv (on_total plain_bag tree_cmp-total) };
 }
 
 impl PartialOrd for Bag {
-    ghost use Rattle.std.specs.Ordering.{as_partial_cmp};
-    ghost use Rattle.std.specs.Cmp.{partial_order_from_total};
-    ghost use Rattle.std.specs.Ordering.{on};
-    ghost use Rattle.ix_tree.specs.PlainOf.{plain_bag};
-    ghost use Rattle.std.specs.Cmp.{on_total};
-    ghost use Rattle.ix_tree.specs.Order.{tree_cmp};
-    ghost use Rattle.ix_tree.specs.lemmas.TreeOrder.{tree_cmp-total};
-
     ghost partial_cmp = { as_partial_cmp (on plain_bag tree_cmp) };
 
     ghost laws = { partial_order_from_total (on_total plain_bag tree_cmp-total) };
@@ -238,13 +158,6 @@ impl PartialOrd for Bag {
 }
 
 impl Ord for Bag {
-    ghost use Rattle.std.proofs.Common.{refl};
-    ghost use Rattle.std.specs.Ordering.{on};
-    ghost use Rattle.ix_tree.specs.PlainOf.{plain_bag};
-    ghost use Rattle.std.specs.Cmp.{on_total};
-    ghost use Rattle.ix_tree.specs.Order.{tree_cmp};
-    ghost use Rattle.ix_tree.specs.lemmas.TreeOrder.{tree_cmp-total};
-
     ghost cmp = { on plain_bag tree_cmp };
 
     ghost total = { on_total plain_bag tree_cmp-total };
@@ -259,14 +172,6 @@ impl Ord for Bag {
 }
 
 impl PartialEq for Map {
-    ghost use Rattle.std.specs.Ordering.{eq_by_cmp};
-    ghost use Rattle.std.specs.Cmp.{eq_by_cmp_equiv, partial_equiv_from_equiv};
-    ghost use Rattle.std.specs.Ordering.{on};
-    ghost use Rattle.ix_tree.specs.PlainOf.{plain_map};
-    ghost use Rattle.std.specs.Cmp.{on_total};
-    ghost use Rattle.ix_tree.specs.Order.{tree_cmp};
-    ghost use Rattle.ix_tree.specs.lemmas.TreeOrder.{tree_cmp-total};
-
     ghost eq = { eq_by_cmp (on plain_map tree_cmp) };
 
     ghost laws = { partial_equiv_from_equiv (eq_by_cmp_equiv (on_total plain_map tree_cmp-total)) };
@@ -277,24 +182,10 @@ impl PartialEq for Map {
 }
 
 impl Eq for Map {
-    ghost use Rattle.std.specs.Cmp.{eq_by_cmp_equiv};
-    ghost use Rattle.std.specs.Ordering.{on};
-    ghost use Rattle.ix_tree.specs.PlainOf.{plain_map};
-    ghost use Rattle.std.specs.Cmp.{on_total};
-    ghost use Rattle.ix_tree.specs.lemmas.TreeOrder.{tree_cmp-total};
-
     ghost laws = { eq_by_cmp_equiv (on_total plain_map tree_cmp-total) };
 }
 
 impl PartialOrd for Map {
-    ghost use Rattle.std.specs.Ordering.{as_partial_cmp};
-    ghost use Rattle.std.specs.Cmp.{partial_order_from_total};
-    ghost use Rattle.std.specs.Ordering.{on};
-    ghost use Rattle.ix_tree.specs.PlainOf.{plain_map};
-    ghost use Rattle.std.specs.Cmp.{on_total};
-    ghost use Rattle.ix_tree.specs.Order.{tree_cmp};
-    ghost use Rattle.ix_tree.specs.lemmas.TreeOrder.{tree_cmp-total};
-
     ghost partial_cmp = { as_partial_cmp (on plain_map tree_cmp) };
 
     ghost laws = { partial_order_from_total (on_total plain_map tree_cmp-total) };
@@ -305,13 +196,6 @@ impl PartialOrd for Map {
 }
 
 impl Ord for Map {
-    ghost use Rattle.std.proofs.Common.{refl};
-    ghost use Rattle.std.specs.Ordering.{on};
-    ghost use Rattle.ix_tree.specs.PlainOf.{plain_map};
-    ghost use Rattle.std.specs.Cmp.{on_total};
-    ghost use Rattle.ix_tree.specs.Order.{tree_cmp};
-    ghost use Rattle.ix_tree.specs.lemmas.TreeOrder.{tree_cmp-total};
-
     ghost cmp = { on plain_map tree_cmp };
 
     ghost total = { on_total plain_map tree_cmp-total };
