@@ -15,8 +15,8 @@ use Rattle.ix_expr.specs.Meaning.{InAlphabet}
 use Rattle.ix_expr.specs.Laws.{EachAtomNames}
 use Rattle.ix_expr.proofs.LawsOfMeaning.{bind-other, bind-own}
 use Rattle.ix_can.proofs.Lists.{itself, when_both, when_either, any_says, all_to}
-use Rattle.ix_bound.specs.Names.{atoms}
-use Rattle.ix_bound.specs.Keys.{is_at, are_alike, keeps_key, has_key, is_keyed}
+use Rattle.ix_expr.specs.Atoms.{atoms_of, are_alike}
+use Rattle.ix_bound.specs.Keys.{is_at, keeps_key, has_key, is_keyed}
 
 -- an atom of the list that matches the action in an environment where p is v
 pub record Matching (p v : List ℕ) (a : PlainAction) (xs : List PlainAtom) : Type 0 where
@@ -33,16 +33,16 @@ in_right : {p v : List ℕ} {a : PlainAction} {ys : List PlainAtom} → (xs : Li
 in_right xs h = record { which = h.which; among = Member-right xs h.among; around = h.around; value = h.value; matches = h.matches }
 
 -- where every atom names p, an action of the alphabet is matched by an atom with p's value
-pub matching : (p v : List ℕ) (y : Form) (e : Environment) (a : PlainAction) → EachAtomNames p y → value_in e p ≡ Some v → InAlphabet y e a → Matching p v a (atoms y)
+pub matching : (p v : List ℕ) (y : Form) (e : Environment) (a : PlainAction) → EachAtomNames p y → value_in e p ≡ Some v → InAlphabet y e a → Matching p v a (atoms_of y)
 matching p v (atom x) e a n h i = record { which = x; among = here; around = e; value = h; matches = i }
 matching p v (opt y) e a n h i = matching p v y e a n h i
-matching p v (seq y z) e a n h i = elim i [ inl k ↦ in_left (matching p v y e a n.0 h k) (atoms z) | inr k ↦ in_right (atoms y) (matching p v z e a n.1 h k) ]
+matching p v (seq y z) e a n h i = elim i [ inl k ↦ in_left (matching p v y e a n.0 h k) (atoms_of z) | inr k ↦ in_right (atoms_of y) (matching p v z e a n.1 h k) ]
 matching p v (star y) e a n h i = matching p v y e a n h i
-matching p v (par y z) e a n h i = elim i [ inl k ↦ in_left (matching p v y e a n.0 h k) (atoms z) | inr k ↦ in_right (atoms y) (matching p v z e a n.1 h k) ]
+matching p v (par y z) e a n h i = elim i [ inl k ↦ in_left (matching p v y e a n.0 h k) (atoms_of z) | inr k ↦ in_right (atoms_of y) (matching p v z e a n.1 h k) ]
 matching p v (par_star y) e a n h i = matching p v y e a n h i
-matching p v (or y z) e a n h i = elim i [ inl k ↦ in_left (matching p v y e a n.0 h k) (atoms z) | inr k ↦ in_right (atoms y) (matching p v z e a n.1 h k) ]
-matching p v (and y z) e a n h i = elim i [ inl k ↦ in_left (matching p v y e a n.0 h k) (atoms z) | inr k ↦ in_right (atoms y) (matching p v z e a n.1 h k) ]
-matching p v (couple y z) e a n h i = elim i [ inl k ↦ in_left (matching p v y e a n.0 h k) (atoms z) | inr k ↦ in_right (atoms y) (matching p v z e a n.1 h k) ]
+matching p v (or y z) e a n h i = elim i [ inl k ↦ in_left (matching p v y e a n.0 h k) (atoms_of z) | inr k ↦ in_right (atoms_of y) (matching p v z e a n.1 h k) ]
+matching p v (and y z) e a n h i = elim i [ inl k ↦ in_left (matching p v y e a n.0 h k) (atoms_of z) | inr k ↦ in_right (atoms_of y) (matching p v z e a n.1 h k) ]
+matching p v (couple y z) e a n h i = elim i [ inl k ↦ in_left (matching p v y e a n.0 h k) (atoms_of z) | inr k ↦ in_right (atoms_of y) (matching p v z e a n.1 h k) ]
 matching p v (any q y) e a n h i = matching p v y (bind q (Some i.0) e) a n.1 (bind-other p q (Some i.0) (Some v) e n.0 h) i.1
 matching p v (every q y) e a n h i = matching p v y (bind q (Some i.0) e) a n.1 (bind-other p q (Some i.0) (Some v) e n.0 h) i.1
 matching p v (sync q y) e a n h i = matching p v y (bind q (Some i.0) e) a n.1 (bind-other p q (Some i.0) (Some v) e n.0 h) i.1
@@ -86,10 +86,10 @@ kept p x y place h k =
 -- an action of a keyed `all` has one owner
 pub one_owner : (p : List ℕ) (y : Form) (e : Environment) (a : PlainAction) (v u : List ℕ) → is_keyed p y ≡ true → EachAtomNames p y → InAlphabet y (bind p (Some v) e) a → InAlphabet y (bind p (Some u) e) a → v ≡ u
 one_owner p y e a v u h n i j =
-    let first : Matching p v a (atoms y) = matching p v y (bind p (Some v) e) a n (bind-own p (Some v) e) i in
-    let second : Matching p u a (atoms y) = matching p u y (bind p (Some u) e) a n (bind-own p (Some u) e) j in
-    let key = (any_says (λ place. list_all (keeps_key p first.which place) (atoms y)) (0 ∷ 1 ∷ 2 ∷ 3 ∷ [])).0 (Each-member (all_to (has_key p (atoms y)) (atoms y) h) first.among) in
-    let keeps = all_to (keeps_key p first.which key.which) (atoms y) key.passes in
+    let first : Matching p v a (atoms_of y) = matching p v y (bind p (Some v) e) a n (bind-own p (Some v) e) i in
+    let second : Matching p u a (atoms_of y) = matching p u y (bind p (Some u) e) a n (bind-own p (Some u) e) j in
+    let key = (any_says (λ place. list_all (keeps_key p first.which place) (atoms_of y)) (0 ∷ 1 ∷ 2 ∷ 3 ∷ [])).0 (Each-member (all_to (has_key p (atoms_of y)) (atoms_of y) h) first.among) in
+    let keeps = all_to (keeps_key p first.which key.which) (atoms_of y) key.passes in
     let here_first = kept p first.which first.which key.which (alike first.which first.which first.around first.around a first.matches first.matches) (Each-member keeps first.among) in
     let here_second = kept p first.which second.which key.which (alike first.which second.which first.around second.around a first.matches second.matches) (Each-member keeps second.among) in
     sym (at_place first.around p v key.which first.which.arguments a.values here_first first.value first.matches.1)

@@ -16,7 +16,8 @@ use Rattle.ix_expr.proofs.LawsOfMeaning.{complete-partial, partial-alphabet}
 use Rattle.ix_can.specs.Tests.{accepts_empty}
 use Rattle.ix_can.proofs.Lists.{itself, when_both, when_either, any_from}
 use Rattle.ix_can.proofs.Testing.{empty_complete}
-use Rattle.ix_bound.specs.Names.{atoms, has_name, share_a_name}
+use Rattle.ix_expr.specs.Atoms.{atoms_of}
+use Rattle.ix_bound.specs.Names.{has_name, share_a_name}
 use Rattle.ix_bound.specs.Heads.{has_heads, is_head, is_in_rest, comes_again, is_headed}
 
 -- an atom of the list that has this name
@@ -32,16 +33,16 @@ in_right : {name : List ℕ} {ys : List PlainAtom} → (xs : List PlainAtom) →
 in_right xs h = record { which = h.which; among = Member-right xs h.among; same = h.same }
 
 -- an action of the alphabet has the name of an atom
-pub named : (x : Form) (e : Environment) (a : PlainAction) → InAlphabet x e a → NamedBy a.name (atoms x)
+pub named : (x : Form) (e : Environment) (a : PlainAction) → InAlphabet x e a → NamedBy a.name (atoms_of x)
 named (atom x) e a i = record { which = x; among = here; same = i.0 }
 named (opt y) e a i = named y e a i
-named (seq y z) e a i = elim i [ inl k ↦ in_left (named y e a k) (atoms z) | inr k ↦ in_right (atoms y) (named z e a k) ]
+named (seq y z) e a i = elim i [ inl k ↦ in_left (named y e a k) (atoms_of z) | inr k ↦ in_right (atoms_of y) (named z e a k) ]
 named (star y) e a i = named y e a i
-named (par y z) e a i = elim i [ inl k ↦ in_left (named y e a k) (atoms z) | inr k ↦ in_right (atoms y) (named z e a k) ]
+named (par y z) e a i = elim i [ inl k ↦ in_left (named y e a k) (atoms_of z) | inr k ↦ in_right (atoms_of y) (named z e a k) ]
 named (par_star y) e a i = named y e a i
-named (or y z) e a i = elim i [ inl k ↦ in_left (named y e a k) (atoms z) | inr k ↦ in_right (atoms y) (named z e a k) ]
-named (and y z) e a i = elim i [ inl k ↦ in_left (named y e a k) (atoms z) | inr k ↦ in_right (atoms y) (named z e a k) ]
-named (couple y z) e a i = elim i [ inl k ↦ in_left (named y e a k) (atoms z) | inr k ↦ in_right (atoms y) (named z e a k) ]
+named (or y z) e a i = elim i [ inl k ↦ in_left (named y e a k) (atoms_of z) | inr k ↦ in_right (atoms_of y) (named z e a k) ]
+named (and y z) e a i = elim i [ inl k ↦ in_left (named y e a k) (atoms_of z) | inr k ↦ in_right (atoms_of y) (named z e a k) ]
+named (couple y z) e a i = elim i [ inl k ↦ in_left (named y e a k) (atoms_of z) | inr k ↦ in_right (atoms_of y) (named z e a k) ]
 named (any p y) e a i = named y (bind p (Some i.0) e) a i.1
 named (every p y) e a i = named y (bind p (Some i.0) e) a i.1
 named (sync p y) e a i = named y (bind p (Some i.0) e) a i.1
@@ -51,13 +52,13 @@ named (times n y) e a i = named y e a i
 pub has_its_name : (x : Form) (e : Environment) (a : PlainAction) → InAlphabet x e a → has_name x a.name ≡ true
 has_its_name x e a i =
     let h = named x e a i in
-    any_from (λ b. text_eq b.name a.name) (atoms x) h.among ((text_eq-decides h.which.name a.name).1 h.same)
+    any_from (λ b. text_eq b.name a.name) (atoms_of x) h.among ((text_eq-decides h.which.name a.name).1 h.same)
 
 -- an action of both alphabets has a name that both have
 pub shares : (y z : Form) (e : Environment) (a : PlainAction) → InAlphabet y e a → InAlphabet z e a → share_a_name y z ≡ true
 shares y z e a i j =
     let h = named y e a i in
-    any_from (λ b. has_name z b.name) (atoms y) h.among (ap (has_name z) h.same ∙ has_its_name z e a j)
+    any_from (λ b. has_name z b.name) (atoms_of y) h.among (ap (has_name z) h.same ∙ has_its_name z e a j)
 
 -- a word of both alphabets is empty where no name is shared
 none_of_both : (y z : Form) (e : Environment) (w : Word) → share_a_name y z ≡ false → Each (InAlphabet y e) w → Each (InAlphabet z e) w → w ≡ []
@@ -181,15 +182,15 @@ headed (times n y) e a w h p = absurd (true≢false (sym h))
 no_return : (y : Form) (e : Environment) (a : PlainAction) → is_headed y ≡ true → InAlphabet y e a → is_head y a.name ≡ true → is_in_rest y a.name ≡ true → ⊥
 no_return y e a h i first behind =
     let found = named y e a i in
-    let k = (when_both (has_heads y) (not (list_any (λ b. comes_again y b.name) (atoms y))) itself itself).0 h in
+    let k = (when_both (has_heads y) (not (list_any (λ b. comes_again y b.name) (atoms_of y))) itself itself).0 h in
     let again : comes_again y found.which.name ≡ true = ap (comes_again y) found.same ∙ (when_both (is_head y a.name) (is_in_rest y a.name) itself itself).1 (first, behind) in
-    true≢false (sym k.1 ∙ ap not (any_from (λ b. comes_again y b.name) (atoms y) found.among again))
+    true≢false (sym k.1 ∙ ap not (any_from (λ b. comes_again y b.name) (atoms_of y) found.among again))
 
 nothing_before : (y : Form) (e : Environment) (m v t : Word) → is_headed y ≡ true → v ≡ m ++ t → IsPartial y e v → IsPartial y e t → t ≢ [] → m ≡ []
 nothing_before y e [] v t h r p q n = refl
 nothing_before y e (c ∷ m) v [] h r p q n = absurd (n refl)
 nothing_before y e (c ∷ m) v (b ∷ t) h r p q n =
-    let heads = ((when_both (has_heads y) (not (list_any (λ b. comes_again y b.name) (atoms y))) itself itself).0 h).0 in
+    let heads = ((when_both (has_heads y) (not (list_any (λ b. comes_again y b.name) (atoms_of y))) itself itself).0 h).0 in
     let late = (headed y e c (m ++ b ∷ t) heads (subst (IsPartial y e) r p)).1 in
     let first = (headed y e b t heads q).0 in
     absurd (no_return y e b h (Each-head (partial-alphabet y e (b ∷ t) q)) first (Each-head (Each-right m (b ∷ t) late)))

@@ -4,7 +4,8 @@ use Rattle.std.specs.List.{list_any}
 use Rattle.ix_values.specs.Order.{text_eq}
 use Rattle.ix_expr.specs.Form.{Form, atom, opt, seq, or, and, any, every}
 use Rattle.ix_can.specs.Tests.{accepts_empty}
-use Rattle.ix_bound.specs.Names.{atoms, has_name}
+use Rattle.ix_expr.specs.Atoms.{atoms_of}
+use Rattle.ix_bound.specs.Names.{has_name}
 
 -- whether heads and a rest are defined: for atoms, `?`, `any`, `every`, `|` and `&`, and for `y -
 -- z` where y doesn't accept the empty word
@@ -46,4 +47,4 @@ comes_again x name = is_head x name && is_in_rest x name
 
 -- whether heads and a rest are defined and share no name
 abbrev pub is_headed : Form → Bool
-is_headed x = has_heads x && not (list_any (λ a. comes_again x a.name) (atoms x))
+is_headed x = has_heads x && not (list_any (λ a. comes_again x a.name) (atoms_of x))

@@ -5,7 +5,7 @@ ghost use Rattle.std.specs.List.{list_any};
 ghost use Rattle.ix_expr.specs.inside.FormOf.{form_of};
 ghost use Rattle.ix_can.specs.Tests.{accepts_empty};
 ghost use Rattle.ix_bound.specs.Heads.{comes_again, has_heads, is_head, is_headed, is_in_rest};
-ghost use Rattle.ix_bound.specs.Names.{atoms};
+ghost use Rattle.ix_expr.specs.Atoms.{atoms_of};
 
 use crate::names::has_name;
 use ix_expr::Expr;
@@ -58,7 +58,7 @@ fn is_in_rest(expr: &Expr, name: &Name) -> bool
 /// Whether an atom of the part has a name that comes first in the whole and again behind it.
 fn some_come_again(whole: &Expr, part: &Expr) -> bool
     ensures { result ≡ list_any (λ a. comes_again (form_of whole.now) a.name)
-        (atoms (form_of part.now)) }
+        (atoms_of (form_of part.now)) }
 {
     match part {
         Expr::Atom(atom) => is_head(whole, atom.name()) && is_in_rest(whole, atom.name()),

@@ -3,10 +3,10 @@
 ghost use Rattle.std.specs.Prelude.{◌≡◌, ◌<◌, length};
 ghost use Rattle.std.specs.List.{list_all};
 ghost use Rattle.ix_expr.specs.inside.FormOf.{form_of};
-ghost use Rattle.ix_bound.specs.Keys.{are_alike, has_key, is_at, is_keyed, keeps_key};
-ghost use Rattle.ix_bound.specs.Names.{atoms};
+ghost use Rattle.ix_bound.specs.Keys.{has_key, is_at, is_keyed, keeps_key};
+ghost use Rattle.ix_expr.specs.Atoms.{atoms_of};
 
-use ix_expr::{Arg, Atom, Expr};
+use ix_expr::{Arg, Atom, Expr, are_alike};
 use ix_values::Name;
 
 /// Whether the argument in this place is the parameter.
@@ -16,17 +16,10 @@ fn is_at(parameter: &Name, place: usize, args: &[Arg]) -> bool
     place < args.len() && args[place].is_parameter(parameter)
 }
 
-/// Whether the two atoms match actions of one name and one number of values.
-fn are_alike(one: &Atom, other: &Atom) -> bool
-    ensures { result ≡ are_alike one.now other.now }
-{
-    one.name() == other.name() && one.args().len() == other.args().len()
-}
-
 /// Whether each atom of the expression that is alike holds the parameter in this place.
 fn all_keep(parameter: &Name, atom: &Atom, place: usize, expr: &Expr) -> bool
     ensures { result ≡ list_all (keeps_key parameter.now atom.now place)
-        (atoms (form_of expr.now)) }
+        (atoms_of (form_of expr.now)) }
 {
     match expr {
         Expr::Atom(other) => !are_alike(atom, other) || is_at(parameter, place, other.args()),
@@ -45,7 +38,7 @@ fn all_keep(parameter: &Name, atom: &Atom, place: usize, expr: &Expr) -> bool
 
 /// Whether there is one such place of the four.
 fn has_key(parameter: &Name, whole: &Expr, atom: &Atom) -> bool
-    ensures { result ≡ has_key parameter.now (atoms (form_of whole.now)) atom.now }
+    ensures { result ≡ has_key parameter.now (atoms_of (form_of whole.now)) atom.now }
 {
     all_keep(parameter, atom, 0, whole)
         || all_keep(parameter, atom, 1, whole)
@@ -55,8 +48,8 @@ fn has_key(parameter: &Name, whole: &Expr, atom: &Atom) -> bool
 
 /// Whether each atom of the part has one in the whole.
 fn all_have_keys(parameter: &Name, whole: &Expr, part: &Expr) -> bool
-    ensures { result ≡ list_all (has_key parameter.now (atoms (form_of whole.now)))
-        (atoms (form_of part.now)) }
+    ensures { result ≡ list_all (has_key parameter.now (atoms_of (form_of whole.now)))
+        (atoms_of (form_of part.now)) }
 {
     match part {
         Expr::Atom(atom) => has_key(parameter, whole, atom),

@@ -1,11 +1,12 @@
 pub mod Form
+pub mod Atoms
 pub mod Reserved
 pub mod Spelling
 pub mod Environment
 pub mod Meaning
+pub mod FormFaults
 pub mod Mentions
 pub mod Sees
-pub mod FormFaults
 pub mod CanonicalText
 pub mod Fitting
 pub mod Laws

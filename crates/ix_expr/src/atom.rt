@@ -4,6 +4,8 @@ ghost use Rattle.std.specs.Prelude.{◌≡◌, ◌<◌, ◌≤◌, ◌↔◌, �
 ghost use Rattle.std.specs.Prelude.{length, All};
 ghost use Rattle.ix_values.specs.inside.Padding.{padded};
 ghost use Rattle.ix_values.specs.Texts.{IsName};
+ghost use Rattle.ix_expr.specs.Atoms.{are_alike};
+ghost use Rattle.ix_expr.specs.FormFaults as faults;
 ghost use Rattle.ix_expr.specs.Form.{atom_of};
 ghost use Rattle.ix_expr.specs.Reserved as reserved;
 ghost use Rattle.ix_expr.specs.Spelling.{IsArgument, IsAtom};
@@ -81,6 +83,20 @@ impl Atom {
     {
         &self.args[..self.count as usize]
     }
+
+    /// Whether the parameter is one of the arguments.
+    pub fn names_parameter(&self, parameter: &Name) -> bool
+        ensures { result ≡ faults.names_parameter parameter.now self.now }
+    {
+        self.args().iter().any(|arg| arg.is_parameter(parameter))
+    }
+}
+
+/// Whether the two atoms match actions of one name and one number of values.
+pub fn are_alike(one: &Atom, other: &Atom) -> bool
+    ensures { result ≡ are_alike one.now other.now }
+{
+    one.name() == other.name() && one.args().len() == other.args().len()
 }
 
 fn is_reserved(name: &Name) -> bool

@@ -19,12 +19,12 @@ mod walk;
 
 pub use alphabet::contains;
 pub use arg::Arg;
-pub use atom::Atom;
+pub use atom::{Atom, are_alike};
 pub use empty_word::accepts_empty;
 pub use env::Env;
 pub use expr::Expr;
 pub use expression::{Expression, FormFault};
 pub use matching::matches;
-pub use names::mentions;
+pub use names::{mentions, some_names};
 pub use numbers::has_numbers;
 pub use seen::sees;

@@ -58,7 +58,7 @@ impl Scope<'_> {
                 is_all,
                 parameter,
                 outer,
-            } => (*is_all && !names_parameter(atom, parameter)) || outer.misses(atom),
+            } => (*is_all && !atom.names_parameter(parameter)) || outer.misses(atom),
         }
     }
 
@@ -77,10 +77,4 @@ impl Scope<'_> {
             Arg::Param(parameter) => self.binds(parameter),
         }
     }
-}
-
-fn names_parameter(atom: &Atom, parameter: &Name) -> bool
-    ensures { result ≡ faults.names_parameter parameter.now atom.now }
-{
-    atom.args().iter().any(|arg| arg.is_parameter(parameter))
 }

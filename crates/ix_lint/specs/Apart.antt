@@ -7,7 +7,7 @@ use Rattle.ix_expr.specs.Form.{PlainAtom, Form, atom, and}
 use Rattle.ix_lint.specs.declared.finding.FindingKind.{FindingKind}
 use Rattle.ix_lint.specs.declared.finding.FindingKind.TheVariants as kind
 use Rattle.ix_lint.specs.Nodes.{forms, first}
-use Rattle.ix_lint.specs.Atoms.{are_alike}
+use Rattle.ix_expr.specs.Atoms.{are_alike}
 
 -- whether it is an atom with the name and the number of arguments of this one
 abbrev pub is_alike : PlainAtom → Form → Bool

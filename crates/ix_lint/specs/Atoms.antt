@@ -1,8 +1,7 @@
 -- The atoms of an expression, with the numbers of their nodes.
-use Rattle.std.specs.Prelude.{ℕ, Bool, ◌&&◌, ◌==◌, List, [], ◌∷◌, length}
+use Rattle.std.specs.Prelude.{ℕ, List, [], ◌∷◌}
 use Rattle.std.specs.List.{flat_map}
-use Rattle.ix_values.specs.Order.{text_eq}
-use Rattle.ix_expr.specs.Form.{PlainAtom, Form, atom}
+use Rattle.ix_expr.specs.Form.{Form, atom}
 use Rattle.ix_lint.specs.declared.places.Place.{Place}
 use Rattle.ix_lint.specs.Nodes.{forms, numbered}
 
@@ -14,7 +13,3 @@ place_at n x = []
 -- the atoms in pre-order, where the nodes are counted from n
 abbrev pub places : ℕ → Form → List Place
 places n x = flat_map (λ node. place_at node.0 node.1) (numbered n (forms x))
-
--- whether two atoms match actions of one name and one number of values
-abbrev pub are_alike : PlainAtom → PlainAtom → Bool
-are_alike s t = text_eq s.name t.name && (length s.arguments == length t.arguments)

@@ -7,7 +7,7 @@ use Rattle.ix_expr.specs.Form.{PlainAtom, Form, atom}
 use Rattle.ix_lint.specs.declared.finding.FindingKind.{FindingKind}
 use Rattle.ix_lint.specs.declared.finding.FindingKind.TheVariants.{Counts}
 use Rattle.ix_lint.specs.declared.places.Place.{Place}
-use Rattle.ix_lint.specs.Atoms.{are_alike}
+use Rattle.ix_expr.specs.Atoms.{are_alike}
 
 -- whether the atom at the place has the name and the number of arguments of this one
 abbrev pub is_like : PlainAtom → Place → Bool

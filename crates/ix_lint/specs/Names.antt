@@ -1,22 +1,14 @@
 -- Which atoms name a parameter; and `unused`: a quantifier whose parameter no atom of its body
 -- names.
-use Rattle.std.specs.Prelude.{ℕ, Bool, false, not, List, Option, Some, None, if◌then◌else◌}
-use Rattle.std.specs.List.{list_any, list_all}
+use Rattle.std.specs.Prelude.{ℕ, Bool, not, List, Option, Some, None, if◌then◌else◌}
+use Rattle.std.specs.List.{list_all}
 use Rattle.ix_expr.specs.Form.{Form, atom}
 use Rattle.ix_expr.specs.Form.{any, every, sync, all}
 use Rattle.ix_expr.specs.FormFaults.{names_parameter}
+use Rattle.ix_expr.specs.Mentions.{some_names}
 use Rattle.ix_lint.specs.declared.finding.FindingKind.{FindingKind}
 use Rattle.ix_lint.specs.declared.finding.FindingKind.TheVariants.{Unused}
 use Rattle.ix_lint.specs.Nodes.{forms, binds}
-
--- whether it is an atom that names the parameter
-abbrev pub is_named_by : List ℕ → Form → Bool
-is_named_by p (atom x) = names_parameter p x
-is_named_by p x = false
-
--- whether some atom names the parameter
-abbrev pub some_names : List ℕ → Form → Bool
-some_names p x = list_any (is_named_by p) (forms x)
 
 -- whether it is an atom that names the parameter, or an operator that doesn't bind it anew
 abbrev pub keeps_naming : List ℕ → Form → Bool

@@ -6,8 +6,7 @@ ghost use Rattle.ix_lint.specs.Apart as spec;
 ghost use Rattle.ix_lint.specs.Nodes.{first};
 
 use crate::finding::FindingKind;
-use crate::places::are_alike;
-use ix_expr::{Atom, Expr};
+use ix_expr::{Atom, Expr, are_alike};
 
 /// Whether an atom of the expression has the name and the number of arguments of this one.
 fn has_alike(expr: &Expr, atom: &Atom) -> bool

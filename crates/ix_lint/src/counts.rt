@@ -6,8 +6,8 @@ ghost use Rattle.ix_expr.specs.inside.FormOf.{form_of};
 ghost use Rattle.ix_lint.specs.Counts as spec;
 
 use crate::finding::FindingKind;
-use crate::places::{Place, are_alike};
-use ix_expr::{Atom, Expr};
+use crate::places::Place;
+use ix_expr::{Atom, Expr, are_alike};
 use ix_values::Name;
 
 /// How many of the atoms have the name and the number of arguments of this one.

@@ -1,45 +1,19 @@
 //! Which atoms name a parameter, and quantifiers whose parameter none names.
 
 ghost use Rattle.std.specs.Prelude.{◌≡◌};
-ghost use Rattle.ix_expr.specs.FormFaults as faults;
 ghost use Rattle.ix_expr.specs.inside.FormOf.{form_of};
 ghost use Rattle.ix_lint.specs.Names as spec;
 
 use crate::finding::FindingKind;
-use ix_expr::{Atom, Expr};
+use ix_expr::{Expr, some_names};
 use ix_values::Name;
-
-fn atom_names(parameter: &Name, atom: &Atom) -> bool
-    ensures { result ≡ faults.names_parameter parameter.now atom.now }
-{
-    atom.args().iter().any(|arg| arg.is_parameter(parameter))
-}
-
-/// Whether some atom of the expression names the parameter.
-fn some_names(parameter: &Name, expr: &Expr) -> bool
-    ensures { result ≡ spec.some_names parameter.now (form_of expr.now) }
-{
-    match expr {
-        Expr::Atom(atom) => atom_names(parameter, atom),
-        Expr::Opt(y)
-        | Expr::Star(y)
-        | Expr::ParStar(y)
-        | Expr::Any(_, y)
-        | Expr::Every(_, y)
-        | Expr::Sync(_, y)
-        | Expr::All(_, y)
-        | Expr::Times(_, y) => some_names(parameter, y),
-        Expr::Seq(y, z) | Expr::Par(y, z) | Expr::Or(y, z) | Expr::And(y, z) | Expr::Couple(y, z) =>
-            { some_names(parameter, y) || some_names(parameter, z) }
-    }
-}
 
 /// Whether every atom of the expression names the parameter, and no quantifier binds it anew.
 pub(crate) fn each_names(parameter: &Name, expr: &Expr) -> bool
     ensures { result ≡ spec.each_names parameter.now (form_of expr.now) }
 {
     match expr {
-        Expr::Atom(atom) => atom_names(parameter, atom),
+        Expr::Atom(atom) => atom.names_parameter(parameter),
         Expr::Opt(y) | Expr::Star(y) | Expr::ParStar(y) | Expr::Times(_, y) => {
             each_names(parameter, y)
         }
@@ -54,7 +28,7 @@ pub(crate) fn each_names(parameter: &Name, expr: &Expr) -> bool
 fn unused_in(parameter: &Name, body: &Expr) -> Option<FindingKind>
     ensures { result ≡ spec.unused_in parameter.now (form_of body.now) }
 {
-    if some_names(parameter, body) {
+    if some_names(body, parameter) {
         None
     } else {
         Some(FindingKind::Unused {

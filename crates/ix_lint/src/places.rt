@@ -2,7 +2,7 @@
 
 ghost use Rattle.std.specs.Prelude.{◌≡◌, ◌+◌, ◌<◌, ◌^◌, ◌++◌, IfOk, OnOk, length};
 ghost use Rattle.ix_expr.specs.inside.FormOf.{form_of};
-ghost use Rattle.ix_lint.specs.Atoms.{are_alike, places};
+ghost use Rattle.ix_lint.specs.Atoms.{places};
 ghost use Rattle.ix_lint.specs.Nodes.{forms};
 
 use ix_expr::{Atom, Expr};
@@ -13,13 +13,6 @@ use std::alloc::AllocError;
 pub(crate) struct Place {
     pub(crate) node: usize,
     pub(crate) atom: Atom,
-}
-
-/// Whether two atoms match actions of one name and one number of values.
-pub(crate) fn are_alike(one: &Atom, other: &Atom) -> bool
-    ensures { result ≡ are_alike one.now other.now }
-{
-    one.name() == other.name() && one.args().len() == other.args().len()
 }
 
 /// Puts the atoms of the expression, whose nodes are numbered from `node`, behind those that are

@@ -7,7 +7,8 @@ use Rattle.ix_values.specs.PlainAction.{Word, values_of}
 use Rattle.ix_expr.specs.Meaning.{IsPartial}
 use Rattle.ix_next.specs.declared.term.Term.{Term}
 use Rattle.ix_next.specs.declared.term.Term.TheVariants.{Known, New}
-use Rattle.ix_next.specs.Atoms.{atoms_of, fixed_in}
+use Rattle.ix_expr.specs.Atoms.{atoms_of}
+use Rattle.ix_next.specs.Fixed.{fixed_in}
 use Rattle.ix_next.specs.Candidates.{value_of}
 use Rattle.ix_next.specs.Menu.{known}
 use Rattle.ix_next.specs.Laws.{CandidatesStandOrFall}

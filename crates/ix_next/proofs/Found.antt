@@ -6,7 +6,8 @@ use Rattle.ix_expr.specs.Form.{PlainAtom, Form}
 use Rattle.ix_next.specs.declared.fill.Scope.{Scope}
 use Rattle.ix_next.specs.Given.{PlainGiven}
 use Rattle.ix_next.specs.declared.trial.Test.TheVariants.{Everything}
-use Rattle.ix_next.specs.Atoms.{atoms_of, fixed_in}
+use Rattle.ix_expr.specs.Atoms.{atoms_of}
+use Rattle.ix_next.specs.Fixed.{fixed_in}
 use Rattle.ix_next.specs.Given.{given_for}
 use Rattle.ix_next.specs.Candidates.{PlainCandidate, candidate_of, candidate_eq, action_with, candidates, fillings, once}
 use Rattle.ix_next.specs.Menu.{moves}

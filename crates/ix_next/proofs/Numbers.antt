@@ -13,7 +13,7 @@ use Rattle.ix_expr.specs.Spelling.{IsAtom, IsSpelled}
 use Rattle.ix_next.specs.Given.{PlainGiven}
 use Rattle.ix_next.specs.declared.term.Term.{Term}
 use Rattle.ix_next.specs.declared.term.Term.TheVariants.{Known, New}
-use Rattle.ix_next.specs.Atoms.{atoms_of}
+use Rattle.ix_expr.specs.Atoms.{atoms_of}
 use Rattle.ix_next.specs.Candidates.{PlainCandidate, candidate_of, candidates, candidates_at, fillings, terms_for, term_of, choices, new_behind, values_for}
 
 -- the numbers of the term are 1 to n

@@ -13,7 +13,7 @@ use Rattle.ix_expr.specs.declared.arg.Arg.TheVariants.{Fixed, Param}
 use Rattle.ix_expr.specs.Form.{PlainAtom, Form, atom, opt, seq, star, par, par_star, or, and, couple, any, every, sync, all, times}
 use Rattle.ix_expr.specs.Environment.{Environment, bind, value_in, HaveValues, Matches}
 use Rattle.ix_expr.specs.Meaning.{InAlphabet, IsOneMatch, IsComplete, IsPartial}
-use Rattle.ix_next.specs.Atoms.{atoms_of}
+use Rattle.ix_expr.specs.Atoms.{atoms_of}
 use Rattle.ix_next.proofs.Mapped.{Exchanges, Each_map, Joined_map, Repeated_map, Split_map, Numbered_map, Shared_map, Projected_map, Owned_map}
 
 -- an exchange of values that can be undone

@@ -16,7 +16,8 @@ use Rattle.ix_expr.specs.Form.{PlainAtom, Form}
 use Rattle.ix_next.specs.Given.{PlainGiven}
 use Rattle.ix_next.specs.declared.term.Term.{Term}
 use Rattle.ix_next.specs.declared.term.Term.TheVariants.{Known, New}
-use Rattle.ix_next.specs.Atoms.{atoms_of, fixed_in, fixed_value}
+use Rattle.ix_expr.specs.Atoms.{atoms_of}
+use Rattle.ix_next.specs.Fixed.{fixed_in, fixed_value}
 use Rattle.ix_next.specs.Given.{given_for, goes_to}
 use Rattle.ix_next.specs.Candidates.{PlainCandidate, candidate_of, candidates, candidates_at, fillings, terms_for, term_of, choices, new_behind, values_for, once}
 

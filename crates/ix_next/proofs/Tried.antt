@@ -16,7 +16,7 @@ use Rattle.ix_can.proofs.Lists.{any_from}
 use Rattle.ix_can.proofs.MovesTell.{each_step}
 use Rattle.ix_next.specs.declared.fresh.Known.{Known as KnownValues}
 use Rattle.ix_next.specs.Given.{PlainGiven}
-use Rattle.ix_next.specs.Atoms.{fixed_in}
+use Rattle.ix_next.specs.Fixed.{fixed_in}
 use Rattle.ix_next.specs.Candidates.{PlainCandidate, action_with, candidates, candidate_eq, once}
 use Rattle.ix_next.specs.Menu.{known, StandsForAction, MayCome, IsMenu}
 use Rattle.ix_next.specs.inside.Fresh.{is_known, AreNew, AreNewBehind}

@@ -12,7 +12,8 @@ use Rattle.ix_expr.specs.Form.{PlainAtom, Form}
 use Rattle.ix_next.specs.Given.{PlainGiven}
 use Rattle.ix_next.specs.declared.term.Term.{Term}
 use Rattle.ix_next.specs.declared.term.Term.TheVariants.{Known, New}
-use Rattle.ix_next.specs.Atoms.{atoms_of, fixed_in}
+use Rattle.ix_expr.specs.Atoms.{atoms_of}
+use Rattle.ix_next.specs.Fixed.{fixed_in}
 use Rattle.ix_next.specs.Given.{given_for}
 
 -- a candidate: the name of an action, and a term in each place

@@ -7,7 +7,7 @@ use Rattle.ix_expr.specs.Form.{PlainAtom, Form}
 use Rattle.ix_expr.specs.Environment.{Environment, Matches, value_in}
 use Rattle.ix_expr.specs.Meaning.{IsPartial}
 use Rattle.ix_next.specs.Given.{PlainGiven}
-use Rattle.ix_next.specs.Atoms.{atoms_of}
+use Rattle.ix_expr.specs.Atoms.{atoms_of}
 use Rattle.ix_next.specs.Candidates.{PlainCandidate, values_for, candidates}
 use Rattle.ix_next.specs.Menu.{known, StandsForAction, IsMenu}
 

@@ -1,4 +1,4 @@
-pub mod Atoms
+pub mod Fixed
 pub mod Given
 pub mod Lists
 pub mod Candidates

@@ -7,7 +7,7 @@ use Rattle.ix_expr.specs.Form.{Form}
 use Rattle.ix_expr.specs.Meaning.{IsPartial}
 use Rattle.ix_next.specs.Given.{PlainGiven}
 use Rattle.ix_next.specs.declared.term.Term.TheVariants.{New}
-use Rattle.ix_next.specs.Atoms.{fixed_in}
+use Rattle.ix_next.specs.Fixed.{fixed_in}
 use Rattle.ix_next.specs.Candidates.{PlainCandidate, action_with, candidate_eq, candidates, once}
 
 -- the values that aren't new: those of the history w, those fixed in x, and those given

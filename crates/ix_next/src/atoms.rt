@@ -5,7 +5,8 @@ ghost use Rattle.std.specs.List.{flat_map};
 ghost use Rattle.ix_words.specs.Canon.{canon, put_once};
 ghost use Rattle.ix_values.specs.Order.{text_cmp};
 ghost use Rattle.ix_expr.specs.inside.FormOf.{form_of};
-ghost use Rattle.ix_next.specs.Atoms.{atoms_of, fixed_value};
+ghost use Rattle.ix_expr.specs.Atoms.{atoms_of};
+ghost use Rattle.ix_next.specs.Fixed.{fixed_value};
 
 use ix_expr::{Arg, Atom, Expr};
 use ix_values::Value;

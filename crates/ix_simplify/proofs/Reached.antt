@@ -1,7 +1,7 @@
 -- The computed expression is what the expression becomes.
 use Rattle.std.proofs.Common.{◌≡◌, Bool, true, false, cond, not, ℕ, List, refl, sym, ap}
 use Rattle.ix_expr.specs.Form.{Form, atom, opt, seq, star, par, par_star, or, and, couple, any, every, sync, all, times}
-use Rattle.ix_simplify.specs.Names.{names}
+use Rattle.ix_expr.specs.Mentions.{some_names}
 use Rattle.ix_simplify.specs.Rewriting.{opt_opt, opt_star, opt_par_star, star_star, star_opt, star_par_star, par_star_par_star, par_star_star}
 use Rattle.ix_simplify.specs.Rewriting.{par_star_opt, or_same, and_same, couple_same, any_unnamed, every_unnamed, sync_unnamed, IsNoLeftSide, AtRoot}
 use Rattle.ix_simplify.specs.Rewriting.{rests, goes_on, Becomes, HasNoLeftSide}
@@ -98,23 +98,23 @@ couple-root y z h = chosen (same_form y z) refl
 -- a quantifier whose parameter the body names or not
 
 any-root : (p : List ℕ) (y : Form) → HasNoLeftSide y → AtRoot (any p y) (for_any p y)
-any-root p y h = chosen (names p y) refl
+any-root p y h = chosen (some_names p y) refl
   where
-    chosen : (b : Bool) → names p y ≡ b → AtRoot (any p y) (cond b (any p y) y)
+    chosen : (b : Bool) → some_names p y ≡ b → AtRoot (any p y) (cond b (any p y) y)
     chosen true t = rests (no-law (any p y) (ap not t))
     chosen false t = goes_on (any_unnamed p y refl t refl) (rests (root-settled-self y h))
 
 every-root : (p : List ℕ) (y : Form) → HasNoLeftSide y → AtRoot (every p y) (for_every p y)
-every-root p y h = chosen (names p y) refl
+every-root p y h = chosen (some_names p y) refl
   where
-    chosen : (b : Bool) → names p y ≡ b → AtRoot (every p y) (cond b (every p y) y)
+    chosen : (b : Bool) → some_names p y ≡ b → AtRoot (every p y) (cond b (every p y) y)
     chosen true t = rests (no-law (every p y) (ap not t))
     chosen false t = goes_on (every_unnamed p y refl t refl) (rests (root-settled-self y h))
 
 sync-root : (p : List ℕ) (y : Form) → HasNoLeftSide y → AtRoot (sync p y) (in_sync p y)
-sync-root p y h = chosen (names p y) refl
+sync-root p y h = chosen (some_names p y) refl
   where
-    chosen : (b : Bool) → names p y ≡ b → AtRoot (sync p y) (cond b (sync p y) y)
+    chosen : (b : Bool) → some_names p y ≡ b → AtRoot (sync p y) (cond b (sync p y) y)
     chosen true t = rests (no-law (sync p y) (ap not t))
     chosen false t = goes_on (sync_unnamed p y refl t refl) (rests (root-settled-self y h))
 

@@ -9,7 +9,7 @@ use Rattle.ix_expr.specs.Form.{Form, opt, star, par_star, or, and, couple, any, 
 use Rattle.ix_expr.specs.Environment.{Environment, bind}
 use Rattle.ix_expr.specs.Meaning.{InAlphabet, IsComplete, IsPartial}
 use Rattle.ix_expr.proofs.LawsOfMeaning.{complete-partial, partial-alphabet}
-use Rattle.ix_simplify.specs.Names.{names}
+use Rattle.ix_expr.specs.Mentions.{some_names}
 use Rattle.ix_simplify.specs.Laws.{MeanTheSame}
 use Rattle.ix_simplify.specs.Rewriting.{Law, opt_opt, opt_star, opt_par_star, star_star, star_opt, star_par_star, par_star_par_star, par_star_star}
 use Rattle.ix_simplify.specs.Rewriting.{par_star_opt, or_same, and_same, couple_same, any_unnamed, every_unnamed, sync_unnamed}
@@ -160,14 +160,14 @@ couple-twice y = record {
   alphabet = λ e a. (one_of_two, λ h. inl h);
 }
 
-any-one : (p : List ℕ) (y : Form) → names p y ≡ false → MeanTheSame (any p y) y
+any-one : (p : List ℕ) (y : Form) → some_names p y ≡ false → MeanTheSame (any p y) y
 any-one p y n = record {
   complete = λ e w. (λ h. (given-complete p h.0 y n e w).0 h.1, λ c. ([], (given-complete p [] y n e w).1 c));
   partial = λ e w. (λ h. (given-partial p h.0 y n e w).0 h.1, λ c. ([], (given-partial p [] y n e w).1 c));
   alphabet = λ e a. (λ h. (given-alphabet p h.0 y n e a).0 h.1, λ c. ([], (given-alphabet p [] y n e a).1 c));
 }
 
-every-one : (p : List ℕ) (y : Form) → names p y ≡ false → MeanTheSame (every p y) y
+every-one : (p : List ℕ) (y : Form) → some_names p y ≡ false → MeanTheSame (every p y) y
 every-one p y n = record {
   complete = λ e w. (λ h. (given-complete p [] y n e w).0 (h []), λ c v. (given-complete p v y n e w).1 c);
   partial = λ e w. (λ h. (given-partial p [] y n e w).0 (h []), λ c v. (given-partial p v y n e w).1 c);
@@ -175,20 +175,20 @@ every-one p y n = record {
 }
 
 -- each action is in the alphabet under one value of p, so under each
-under_each : (p : List ℕ) (y : Form) → names p y ≡ false → (e : Environment) (v : List ℕ) (w : Word)
+under_each : (p : List ℕ) (y : Form) → some_names p y ≡ false → (e : Environment) (v : List ℕ) (w : Word)
     → Each (λ a. (u : List ℕ) × InAlphabet y (bind p (Some u) e) a) w → Each (InAlphabet y (bind p (Some v) e)) w
 under_each p y n e v w h =
     Each-weaker (λ a i. (given-alphabet p v y n e a).1 ((given-alphabet p i.0 y n e a).0 i.1)) h
 
-under_some : (p : List ℕ) (y : Form) → names p y ≡ false → (e : Environment) (w : Word)
+under_some : (p : List ℕ) (y : Form) → some_names p y ≡ false → (e : Environment) (w : Word)
     → Each (InAlphabet y e) w → Each (λ a. (u : List ℕ) × InAlphabet y (bind p (Some u) e) a) w
 under_some p y n e w h = Each-weaker (λ a i. ([], (given-alphabet p [] y n e a).1 i)) h
 
-under_all : (p : List ℕ) (y : Form) → names p y ≡ false → (e : Environment) (v : List ℕ) (w : Word)
+under_all : (p : List ℕ) (y : Form) → some_names p y ≡ false → (e : Environment) (v : List ℕ) (w : Word)
     → Each (InAlphabet y e) w → Each (InAlphabet y (bind p (Some v) e)) w
 under_all p y n e v w h = Each-weaker (λ a i. (given-alphabet p v y n e a).1 i) h
 
-sync-one : (p : List ℕ) (y : Form) → names p y ≡ false → MeanTheSame (sync p y) y
+sync-one : (p : List ℕ) (y : Form) → some_names p y ≡ false → MeanTheSame (sync p y) y
 sync-one p y n = record {
   complete = λ e w. (
     λ h. (given-complete p [] y n e w).0 (Projected-whole w (under_each p y n e [] w h.0) (h.1 [])),

@@ -14,7 +14,7 @@ use Rattle.ix_expr.specs.Meaning.{InAlphabet, IsComplete, IsPartial}
 use Rattle.ix_expr.specs.Laws.{AtomsAgreeAt, MeansTheSame}
 use Rattle.ix_expr.proofs.AgreeingAtoms.{alphabet-same, atoms-back, atoms-same}
 use Rattle.ix_expr.proofs.LawsOfMeaning.{bind-other}
-use Rattle.ix_simplify.specs.Names.{names}
+use Rattle.ix_expr.specs.Mentions.{some_names}
 
 -- the environments give each parameter but p the same
 record AgreeBeside (p : List ℕ) (e f : Environment) : Type 0 where
@@ -53,43 +53,43 @@ values-same p (Param q ∷ arguments) (v ∷ values) g n h = (
 )
 
 -- where no atom names p, the atoms match alike under environments that agree beside p
-unnamed-atoms : (x : Form) {e f : Environment} (p : List ℕ) (a : PlainAction) → AgreeBeside p e f → names p x ≡ false → AtomsAgreeAt x e f a
+unnamed-atoms : (x : Form) {e f : Environment} (p : List ℕ) (a : PlainAction) → AgreeBeside p e f → some_names p x ≡ false → AtomsAgreeAt x e f a
 unnamed-atoms (atom x) p a g n =
     (λ h. (h.0, values-same p x.arguments a.values g n h.1), λ h. (h.0, values-same p x.arguments a.values (back g) n h.1))
 unnamed-atoms (opt y) p a g n = unnamed-atoms y p a g n
 unnamed-atoms (seq y z) p a g n =
-    (unnamed-atoms y p a g (first_false (names p y) (names p z) n), unnamed-atoms z p a g (second_false (names p y) (names p z) n))
+    (unnamed-atoms y p a g (first_false (some_names p y) (some_names p z) n), unnamed-atoms z p a g (second_false (some_names p y) (some_names p z) n))
 unnamed-atoms (star y) p a g n = unnamed-atoms y p a g n
 unnamed-atoms (par y z) p a g n =
-    (unnamed-atoms y p a g (first_false (names p y) (names p z) n), unnamed-atoms z p a g (second_false (names p y) (names p z) n))
+    (unnamed-atoms y p a g (first_false (some_names p y) (some_names p z) n), unnamed-atoms z p a g (second_false (some_names p y) (some_names p z) n))
 unnamed-atoms (par_star y) p a g n = unnamed-atoms y p a g n
 unnamed-atoms (or y z) p a g n =
-    (unnamed-atoms y p a g (first_false (names p y) (names p z) n), unnamed-atoms z p a g (second_false (names p y) (names p z) n))
+    (unnamed-atoms y p a g (first_false (some_names p y) (some_names p z) n), unnamed-atoms z p a g (second_false (some_names p y) (some_names p z) n))
 unnamed-atoms (and y z) p a g n =
-    (unnamed-atoms y p a g (first_false (names p y) (names p z) n), unnamed-atoms z p a g (second_false (names p y) (names p z) n))
+    (unnamed-atoms y p a g (first_false (some_names p y) (some_names p z) n), unnamed-atoms z p a g (second_false (some_names p y) (some_names p z) n))
 unnamed-atoms (couple y z) p a g n =
-    (unnamed-atoms y p a g (first_false (names p y) (names p z) n), unnamed-atoms z p a g (second_false (names p y) (names p z) n))
+    (unnamed-atoms y p a g (first_false (some_names p y) (some_names p z) n), unnamed-atoms z p a g (second_false (some_names p y) (some_names p z) n))
 unnamed-atoms (any q y) p a g n = λ v. unnamed-atoms y p a (bound q v g) n
 unnamed-atoms (every q y) p a g n = λ v. unnamed-atoms y p a (bound q v g) n
 unnamed-atoms (sync q y) p a g n = λ v. unnamed-atoms y p a (bound q v g) n
 unnamed-atoms (all q y) p a g n = λ v. unnamed-atoms y p a (bound q v g) n
 unnamed-atoms (times m y) p a g n = unnamed-atoms y p a g n
 
-agree : (p v : List ℕ) (y : Form) → names p y ≡ false → (e : Environment) (a : PlainAction) → AtomsAgreeAt y (bind p (Some v) e) e a
+agree : (p v : List ℕ) (y : Form) → some_names p y ≡ false → (e : Environment) (a : PlainAction) → AtomsAgreeAt y (bind p (Some v) e) e a
 agree p v y n e a = unnamed-atoms y p a (given p (Some v) e) n
 
-means : (p v : List ℕ) (y : Form) → names p y ≡ false → (e : Environment) (w : Word) → MeansTheSame y (bind p (Some v) e) e w
+means : (p v : List ℕ) (y : Form) → some_names p y ≡ false → (e : Environment) (w : Word) → MeansTheSame y (bind p (Some v) e) e w
 means p v y n e w = atoms-same y (bind p (Some v) e) e w (Each-anything (agree p v y n e) w)
 
 -- with p given a value the words and the alphabet are the same
-pub given-complete : (p v : List ℕ) (y : Form) → names p y ≡ false → (e : Environment) (w : Word)
+pub given-complete : (p v : List ℕ) (y : Form) → some_names p y ≡ false → (e : Environment) (w : Word)
     → IsComplete y (bind p (Some v) e) w ↔ IsComplete y e w
 given-complete p v y n e w = (means p v y n e w).complete
 
-pub given-partial : (p v : List ℕ) (y : Form) → names p y ≡ false → (e : Environment) (w : Word) → IsPartial y (bind p (Some v) e) w ↔ IsPartial y e w
+pub given-partial : (p v : List ℕ) (y : Form) → some_names p y ≡ false → (e : Environment) (w : Word) → IsPartial y (bind p (Some v) e) w ↔ IsPartial y e w
 given-partial p v y n e w = (means p v y n e w).partial
 
-pub given-alphabet : (p v : List ℕ) (y : Form) → names p y ≡ false → (e : Environment) (a : PlainAction)
+pub given-alphabet : (p v : List ℕ) (y : Form) → some_names p y ≡ false → (e : Environment) (a : PlainAction)
     → InAlphabet y (bind p (Some v) e) a ↔ InAlphabet y e a
 given-alphabet p v y n e a =
     let f = bind p (Some v) e in

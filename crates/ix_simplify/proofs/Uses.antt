@@ -1,7 +1,7 @@
 -- Uses of the laws: where one applies, what it gives, and where none does any more.
 use Rattle.std.proofs.Common.{◌≡◌, Bool, true, false, not, refl, sym, ap, ◌∙◌, subst, true≢false}
 use Rattle.ix_expr.specs.Form.{Form, atom, opt, seq, star, par, par_star, or, and, couple, any, every, sync, all, times}
-use Rattle.ix_simplify.specs.Names.{names}
+use Rattle.ix_expr.specs.Mentions.{some_names}
 use Rattle.ix_simplify.specs.Rewriting.{Law, opt_opt, opt_star, opt_par_star, star_star, star_opt, star_par_star, par_star_par_star, par_star_star}
 use Rattle.ix_simplify.specs.Rewriting.{par_star_opt, or_same, and_same, couple_same, any_unnamed, every_unnamed, sync_unnamed, IsNoLeftSide, AtRoot}
 use Rattle.ix_simplify.specs.Rewriting.{rests, goes_on, Becomes, HasNoLeftSide}
@@ -60,9 +60,9 @@ applies (par_star y) = is_prefix y
 applies (or y z) = same_form y z
 applies (and y z) = same_form y z
 applies (couple y z) = same_form y z
-applies (any p y) = not (names p y)
-applies (every p y) = not (names p y)
-applies (sync p y) = not (names p y)
+applies (any p y) = not (some_names p y)
+applies (every p y) = not (some_names p y)
+applies (sync p y) = not (some_names p y)
 applies x = false
 
 law-applies : (x z : Form) → Law x z → applies x ≡ true

@@ -16,7 +16,7 @@ use Rattle.ix_expr.specs.FormFaults.{misses_a_parameter, first_code, fault_at}
 use Rattle.ix_expr.specs.inside.Walk.{FreeFrom, free_end, free_node}
 use Rattle.ix_expr.proofs.Walks.{passed-HaveNoFault, HaveNoFault-free, free-parts}
 use Rattle.ix_expr.proofs.Parts.{well-formed-few}
-use Rattle.ix_simplify.specs.Names.{names}
+use Rattle.ix_expr.specs.Mentions.{some_names}
 use Rattle.ix_simplify.specs.Rewriting.{Law, opt_opt, opt_star, opt_par_star, star_star, star_opt, star_par_star, par_star_par_star, par_star_star}
 use Rattle.ix_simplify.specs.Rewriting.{par_star_opt, or_same, and_same, couple_same, any_unnamed, every_unnamed, sync_unnamed, AtRoot, rests}
 use Rattle.ix_simplify.specs.Rewriting.{goes_on, Becomes}
@@ -158,14 +158,14 @@ clean-free n (node ∷ nodes) few h =
 data Around (x : Form) : List Binder → List Binder → Type 0 where
   around_end : Around x [] []
   around_kept : {b : Binder} {inner outer : List Binder} → Around x inner outer → Around x (b ∷ inner) (b ∷ outer)
-  around_gone : {p : List ℕ} {inner outer : List Binder} → names p x ≡ false → Around x inner outer
+  around_gone : {p : List ℕ} {inner outer : List Binder} → some_names p x ≡ false → Around x inner outer
       → Around x inner (record { is_all = false; parameter = p } ∷ outer)
 
 around-same : {x : Form} (around : List Binder) → Around x around around
 around-same [] = around_end
 around-same (b ∷ around) = around_kept (around-same around)
 
-around-operand : {x y : Form} {inner outer : List Binder} → ((p : List ℕ) → names p x ≡ false → names p y ≡ false) → Around x inner outer
+around-operand : {x y : Form} {inner outer : List Binder} → ((p : List ℕ) → some_names p x ≡ false → some_names p y ≡ false) → Around x inner outer
     → Around y inner outer
 around-operand f around_end = around_end
 around-operand f (around_kept r) = around_kept (around-operand f r)
@@ -187,14 +187,14 @@ around-none test (around_gone {p} {inner} {outer} n r) h =
     around-none test r (second_false (test (record { is_all = false; parameter = p })) (list_any test outer) h)
 
 -- a parameter that x names is bound inside where it is bound outside
-around-bound : {x : Form} {inner outer : List Binder} (q : List ℕ) → ((p : List ℕ) → names p x ≡ false → text_eq p q ≡ false)
+around-bound : {x : Form} {inner outer : List Binder} (q : List ℕ) → ((p : List ℕ) → some_names p x ≡ false → text_eq p q ≡ false)
     → Around x inner outer → is_bound outer q ≡ is_bound inner q
 around-bound q f around_end = refl
 around-bound q f (around_kept {b} r) = ap (λ t. text_eq b.parameter q || t) (around-bound q f r)
 around-bound q f (around_gone {p} {inner} {outer} n r) = ap (λ t. t || is_bound outer q) (f p n) ∙ around-bound q f r
 
 around-arguments : {x : Form} {inner outer : List Binder} (arguments : List Arg)
-    → ((p : List ℕ) → names p x ≡ false → list_any (is_parameter p) arguments ≡ false)
+    → ((p : List ℕ) → some_names p x ≡ false → list_any (is_parameter p) arguments ≡ false)
     → Around x inner outer → list_all (is_bound_argument outer) arguments ≡ list_all (is_bound_argument inner) arguments
 around-arguments [] f r = refl
 around-arguments {inner = inner} {outer = outer} (Fixed v ∷ arguments) f r = around-arguments arguments f r
@@ -241,30 +241,30 @@ lower (opt y) less r h = item (operator-lower less r (Each-head h)) (lower y (om
 lower (seq y z) less r h =
     item (operator-lower less r (Each-head h))
     (each-two _ _ _ _
-    (lower y (omega (arith, less)) (around-operand (λ p n. first_false (names p y) (names p z) n) r))
-    (lower z (omega (arith, less)) (around-operand (λ p n. second_false (names p y) (names p z) n) r)) (Each-tail h))
+    (lower y (omega (arith, less)) (around-operand (λ p n. first_false (some_names p y) (some_names p z) n) r))
+    (lower z (omega (arith, less)) (around-operand (λ p n. second_false (some_names p y) (some_names p z) n) r)) (Each-tail h))
 lower (star y) less r h = item (operator-lower less r (Each-head h)) (lower y (omega (arith, less)) (around-operand (λ p n. n) r) (Each-tail h))
 lower (par y z) less r h =
     item (operator-lower less r (Each-head h))
     (each-two _ _ _ _
-    (lower y (omega (arith, less)) (around-operand (λ p n. first_false (names p y) (names p z) n) r))
-    (lower z (omega (arith, less)) (around-operand (λ p n. second_false (names p y) (names p z) n) r)) (Each-tail h))
+    (lower y (omega (arith, less)) (around-operand (λ p n. first_false (some_names p y) (some_names p z) n) r))
+    (lower z (omega (arith, less)) (around-operand (λ p n. second_false (some_names p y) (some_names p z) n) r)) (Each-tail h))
 lower (par_star y) less r h = item (operator-lower less r (Each-head h)) (lower y (omega (arith, less)) (around-operand (λ p n. n) r) (Each-tail h))
 lower (or y z) less r h =
     item (operator-lower less r (Each-head h))
     (each-two _ _ _ _
-    (lower y (omega (arith, less)) (around-operand (λ p n. first_false (names p y) (names p z) n) r))
-    (lower z (omega (arith, less)) (around-operand (λ p n. second_false (names p y) (names p z) n) r)) (Each-tail h))
+    (lower y (omega (arith, less)) (around-operand (λ p n. first_false (some_names p y) (some_names p z) n) r))
+    (lower z (omega (arith, less)) (around-operand (λ p n. second_false (some_names p y) (some_names p z) n) r)) (Each-tail h))
 lower (and y z) less r h =
     item (operator-lower less r (Each-head h))
     (each-two _ _ _ _
-    (lower y (omega (arith, less)) (around-operand (λ p n. first_false (names p y) (names p z) n) r))
-    (lower z (omega (arith, less)) (around-operand (λ p n. second_false (names p y) (names p z) n) r)) (Each-tail h))
+    (lower y (omega (arith, less)) (around-operand (λ p n. first_false (some_names p y) (some_names p z) n) r))
+    (lower z (omega (arith, less)) (around-operand (λ p n. second_false (some_names p y) (some_names p z) n) r)) (Each-tail h))
 lower (couple y z) less r h =
     item (operator-lower less r (Each-head h))
     (each-two _ _ _ _
-    (lower y (omega (arith, less)) (around-operand (λ p n. first_false (names p y) (names p z) n) r))
-    (lower z (omega (arith, less)) (around-operand (λ p n. second_false (names p y) (names p z) n) r)) (Each-tail h))
+    (lower y (omega (arith, less)) (around-operand (λ p n. first_false (some_names p y) (some_names p z) n) r))
+    (lower z (omega (arith, less)) (around-operand (λ p n. second_false (some_names p y) (some_names p z) n) r)) (Each-tail h))
 lower (any q y) less r h =
     item (quantifier-lower q less r (Each-head h)) (lower y (omega (arith, less)) (around_kept (around-operand (λ p n. n) r)) (Each-tail h))
 lower (every q y) less r h =
@@ -285,7 +285,7 @@ up y d around h = lower y (omega arith) (around-same around) h
 left-up : (y : Form) (d : ℕ) (around : List Binder) → Each Clean (nodes_below (suc d) around y ++ nodes_below (suc d) around y) → AreClean d around y
 left-up y d around h = up y d around (Each-left (nodes_below (suc d) around y) (nodes_below (suc d) around y) h)
 
-out-of : (p : List ℕ) (y : Form) (d : ℕ) (around : List Binder) → names p y ≡ false
+out-of : (p : List ℕ) (y : Form) (d : ℕ) (around : List Binder) → some_names p y ≡ false
     → AreClean (suc d) (record { is_all = false; parameter = p } ∷ around) y → AreClean d around y
 out-of p y d around n h = lower y (omega arith) (around_gone n (around-same around)) h
 

@@ -1,4 +1,3 @@
-pub mod Names
 pub mod Rewriting
 pub mod Laws
 pub mod inside

@@ -2,7 +2,7 @@
 use Rattle.std.specs.Prelude.{◌≡◌, ℕ, List, false}
 use Rattle.ix_expr.specs.Form.{Form, atom, opt, seq, star, par, par_star, or, and, couple, any}
 use Rattle.ix_expr.specs.Form.{every, sync, all, times}
-use Rattle.ix_simplify.specs.Names.{names}
+use Rattle.ix_expr.specs.Mentions.{some_names}
 
 -- a law takes its left side, x, to its right side, z
 pub data Law (x z : Form) : Type 0 where
@@ -18,9 +18,9 @@ pub data Law (x z : Form) : Type 0 where
   or_same : (y : Form) → x ≡ or y y → z ≡ y → Law x z
   and_same : (y : Form) → x ≡ and y y → z ≡ y → Law x z
   couple_same : (y : Form) → x ≡ couple y y → z ≡ y → Law x z
-  any_unnamed : (p : List ℕ) (y : Form) → x ≡ any p y → names p y ≡ false → z ≡ y → Law x z
-  every_unnamed : (p : List ℕ) (y : Form) → x ≡ every p y → names p y ≡ false → z ≡ y → Law x z
-  sync_unnamed : (p : List ℕ) (y : Form) → x ≡ sync p y → names p y ≡ false → z ≡ y → Law x z
+  any_unnamed : (p : List ℕ) (y : Form) → x ≡ any p y → some_names p y ≡ false → z ≡ y → Law x z
+  every_unnamed : (p : List ℕ) (y : Form) → x ≡ every p y → some_names p y ≡ false → z ≡ y → Law x z
+  sync_unnamed : (p : List ℕ) (y : Form) → x ≡ sync p y → some_names p y ≡ false → z ≡ y → Law x z
 
 -- no law has the expression as its left side
 abbrev pub IsNoLeftSide : Form → Type 0

@@ -8,7 +8,6 @@ ghost use Rattle.ix_simplify.specs.Rewriting.{Becomes, HasNoLeftSide};
 
 mod compare;
 pub mod laws;
-mod naming;
 mod rewriting;
 mod roots;
 

@@ -5,8 +5,7 @@ ghost use Rattle.ix_expr.specs.inside.FormOf.{form_of};
 ghost use Rattle.ix_simplify.specs.inside.Simplest as spec;
 
 use crate::compare::same;
-use crate::naming::names;
-use ix_expr::Expr;
+use ix_expr::{Expr, some_names};
 use ix_values::Name;
 use std::alloc::{AllocError, Global};
 
@@ -80,7 +79,7 @@ pub(crate) fn coupled(alloc: Global, left: Expr, right: Expr) -> Result<Expr, Al
 pub(crate) fn for_any(alloc: Global, parameter: Name, body: Expr) -> Result<Expr, AllocError>
     ensures { IfOk result (λ s. form_of s ≡ spec.for_any parameter (form_of body)) }
 {
-    if names(&body, &parameter) {
+    if some_names(&body, &parameter) {
         Ok(Expr::Any(parameter, Box::new(alloc, body)?))
     } else {
         Ok(body)
@@ -91,7 +90,7 @@ pub(crate) fn for_any(alloc: Global, parameter: Name, body: Expr) -> Result<Expr
 pub(crate) fn for_every(alloc: Global, parameter: Name, body: Expr) -> Result<Expr, AllocError>
     ensures { IfOk result (λ s. form_of s ≡ spec.for_every parameter (form_of body)) }
 {
-    if names(&body, &parameter) {
+    if some_names(&body, &parameter) {
         Ok(Expr::Every(parameter, Box::new(alloc, body)?))
     } else {
         Ok(body)
@@ -102,7 +101,7 @@ pub(crate) fn for_every(alloc: Global, parameter: Name, body: Expr) -> Result<Ex
 pub(crate) fn in_sync(alloc: Global, parameter: Name, body: Expr) -> Result<Expr, AllocError>
     ensures { IfOk result (λ s. form_of s ≡ spec.in_sync parameter (form_of body)) }
 {
-    if names(&body, &parameter) {
+    if some_names(&body, &parameter) {
         Ok(Expr::Sync(parameter, Box::new(alloc, body)?))
     } else {
         Ok(body)

@@ -2,7 +2,7 @@
 use Rattle.std.specs.Prelude.{ℕ, List, if◌then◌else◌}
 use Rattle.ix_expr.specs.Form.{Form, atom, opt, seq, star, par, par_star, or, and, couple, any}
 use Rattle.ix_expr.specs.Form.{every, sync, all, times}
-use Rattle.ix_simplify.specs.Names.{names}
+use Rattle.ix_expr.specs.Mentions.{some_names}
 use Rattle.ix_simplify.specs.inside.Alike.{same_form}
 
 -- `?` over the operand
@@ -38,13 +38,13 @@ coupled y z = if same_form y z then y else couple y z
 
 -- `any`, `every` and `sync` over the body
 abbrev pub for_any : List ℕ → Form → Form
-for_any p y = if names p y then any p y else y
+for_any p y = if some_names p y then any p y else y
 
 abbrev pub for_every : List ℕ → Form → Form
-for_every p y = if names p y then every p y else y
+for_every p y = if some_names p y then every p y else y
 
 abbrev pub in_sync : List ℕ → Form → Form
-in_sync p y = if names p y then sync p y else y
+in_sync p y = if some_names p y then sync p y else y
 
 -- the whole
 abbrev pub simplest : Form → Form

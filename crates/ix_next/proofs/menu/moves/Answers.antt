@@ -1,5 +1,6 @@
 use Rattle.std.proofs.Common.{false, refl, ap, ◌∙◌}
-use Rattle.ix_next.specs.Atoms.{atoms_of, fixed_in}
+use Rattle.ix_expr.specs.Atoms.{atoms_of}
+use Rattle.ix_next.specs.Fixed.{fixed_in}
 use Rattle.ix_next.specs.declared.trial.Test.TheVariants.{Everything}
 use Rattle.ix_next.specs.Candidates.{action_with}
 use Rattle.ix_next.specs.inside.Trials.{new_of}

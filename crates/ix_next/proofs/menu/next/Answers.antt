@@ -2,7 +2,8 @@ use Rattle.std.proofs.Common.{true, refl, ap, ◌∙◌, sym, subst, filter, []}
 use Rattle.ix_can.specs.Laws.{IsProper}
 use Rattle.ix_can.specs.May.{may}
 use Rattle.ix_can.proofs.Proper.{proper}
-use Rattle.ix_next.specs.Atoms.{atoms_of, fixed_in}
+use Rattle.ix_expr.specs.Atoms.{atoms_of}
+use Rattle.ix_next.specs.Fixed.{fixed_in}
 use Rattle.ix_next.specs.Candidates.{action_with, candidate_eq, candidates, once}
 use Rattle.ix_next.specs.Menu.{IsMenu}
 use Rattle.ix_next.specs.inside.Trials.{new_of}
