@@ -5,6 +5,7 @@ use Rattle.ix_engine.specs.Limits.{most_actions}
 use Rattle.ix_values.specs.PlainAction.{PlainAction, Word}
 use Rattle.ix_expr.specs.Form.{Form}
 use Rattle.ix_expr.specs.Meaning.{IsComplete}
+use Rattle.ix_parse.specs.Limits.{most_text}
 use Rattle.ix_parse.specs.Faults.{StandsFor, IsPlaced, IsFirstFault}
 use Rattle.ix_parse.specs.Symbols.{Meaning}
 use Rattle.ix_outside.specs.Files.{Listing, HasFile, HasLonger}
@@ -75,7 +76,7 @@ pub record ReadsActions (files : Option Listing) (name : List ℕ) (actions : Wo
 
 -- the text of the expression file of this name has this fault
 pub data HasBadText (files : Option Listing) (name : List ℕ) : ℕ → ℕ → Type 0 where
-  longer : HasLonger files name 16384 → HasBadText files name 1 16384
+  longer : HasLonger files name most_text → HasBadText files name 1 most_text
   within : {text : List ℕ} {code at : ℕ}
       → HasFile files name text → IsFirstFault text code at
       → HasBadText files name code at

@@ -5,6 +5,7 @@ use Rattle.ix_expr.specs.Form.{Form}
 use Rattle.ix_expr.specs.Spelling.{IsSpelled}
 use Rattle.ix_expr.specs.FormFaults.{IsWellFormed}
 use Rattle.ix_expr.specs.CanonicalText.{canonical_text}
+use Rattle.ix_parse.specs.Limits.{most_text}
 use Rattle.ix_parse.specs.Symbols.{symbol_of}
 use Rattle.ix_parse.specs.Grammar.{Wanted}
 use Rattle.ix_parse.specs.Faults.{OpensLevel, symbols_of, StandsFor}
@@ -19,5 +20,5 @@ OpensAtMost d text = (before after : List PlainToken) (t : PlainToken)
 -- 16,384 bytes and opens at most 64 levels
 abbrev pub CanonicalTextReadsBack : Type 0
 CanonicalTextReadsBack = (x : Form) → IsSpelled x → IsWellFormed x
-    → length (canonical_text x) ≤ 16384 → OpensAtMost 64 (canonical_text x)
+    → length (canonical_text x) ≤ most_text → OpensAtMost 64 (canonical_text x)
     → StandsFor (canonical_text x) x

@@ -9,6 +9,7 @@ use Rattle.ix_parse.specs.declared.faults.Fault.TheVariants as faults
 use Rattle.ix_parse.specs.declared.signs.Quantifier.{Quantifier}
 use Rattle.ix_parse.specs.declared.signs.WordClass.{WordClass}
 use Rattle.ix_parse.specs.declared.signs.WordClass.TheVariants.{Quantifies, Counts, Names, Other}
+use Rattle.ix_parse.specs.Limits.{most_text}
 use Rattle.ix_parse.specs.Symbols.{Symbol, word, param, opening, comma, before, between}
 use Rattle.ix_parse.specs.Symbols.{symbol_of, class_of, IsNumberWord, Meaning}
 use Rattle.ix_parse.specs.Grammar.{Stands, CanGoOn, Wanted, AfterTimes, AfterArgument}
@@ -143,7 +144,7 @@ pub record IsFirstSyntaxFault (pieces : List Piece) (end code at : ℕ) : Type 0
 -- the text is of at most 16,384 bytes, meets no syntax fault, and means this
 pub record HasMeaning (text : List ℕ) (x : Meaning) : Type 0 where
   pub tokens : List PlainToken
-  pub short : length text ≤ 16384
+  pub short : length text ≤ most_text
   pub pieces : Pieces 0 text (map token tokens)
   pub nothing_met : NothingMet (suc (length tokens)) (map token tokens)
   pub stands : Stands 1 (symbols_of tokens) x
@@ -162,10 +163,11 @@ pub record IsPlaced (text : List ℕ) (x : Meaning) : Type 0 where
 -- the first fault of a text
 pub data IsFirstFault (text : List ℕ) : ℕ → ℕ → Type 0 where
   -- the length of the text
-  too_long : 16384 < length text → IsFirstFault text 1 16384
+  too_long : most_text < length text → IsFirstFault text 1 most_text
   -- a syntax fault
-  syntax_fault : (pieces : List Piece) (code at : ℕ) → length text ≤ 16384 → Pieces 0 text pieces
-      → IsFirstSyntaxFault pieces (length text) code at → IsFirstFault text code at
+  syntax_fault : (pieces : List Piece) (code at : ℕ) → length text ≤ most_text
+      → Pieces 0 text pieces → IsFirstSyntaxFault pieces (length text) code at
+      → IsFirstFault text code at
   -- a form fault, at the start of its node's token
   form_fault : (x : Meaning) (code number at : ℕ) → HasMeaning text x
       → IsFirstFormFault x.form code number → slice_get x.places number ≡ Some at

@@ -3,6 +3,7 @@ use Rattle.std.specs.Prelude.{◌≡◌, ℕ, ◌≤◌, List, length}
 use Rattle.ix_expr.specs.Form.{Form}
 use Rattle.ix_expr.specs.CanonicalText.{canonical_text}
 use Rattle.ix_expr.specs.FormFaults.{IsWellFormed, IsFirstFormFault}
+use Rattle.ix_parse.specs.Limits.{most_text}
 use Rattle.ix_parse.specs.Faults.{StandsFor, IsFirstFault}
 use Rattle.ix_parse.specs.Canonical.{OpensAtMost}
 
@@ -40,5 +41,5 @@ CanonicalTextsOpenFewLevels =
 -- the canonical text of an expression that was read stands for it, if of at most 16,384 bytes
 abbrev pub WhatWasReadReadsBack : Type 0
 WhatWasReadReadsBack =
-    (text : List ℕ) (x : Form) → StandsFor text x → length (canonical_text x) ≤ 16384
+    (text : List ℕ) (x : Form) → StandsFor text x → length (canonical_text x) ≤ most_text
     → StandsFor (canonical_text x) x

@@ -31,7 +31,7 @@ use std::alloc::{AllocError, Global};
 /// under every environment that the expression fits.
 pub fn initial(alloc: Global, expr: &Expr, limit: usize) -> Result<Tree, BuildFault>
     requires fits { (e : Environment) × Fits (form_of expr.now) e }
-    requires limit { limit ≤ 1000000 }
+    requires limit { limit ≤ most_size }
     ensures { Builds limit (tree_of (form_of expr.now) [] []) result }
 {
     match first_within(alloc, expr, limit) {
@@ -52,8 +52,8 @@ pub fn step(
 ) -> Result<Tree, BuildFault>
     requires fits { Fits (form_of expr.now) env.now }
     requires proper { IsProper (form_of expr.now) tree.now }
-    requires limit { limit ≤ 1000000 }
-    requires size { size_of tree.now ≤ 1000000 }
+    requires limit { limit ≤ most_size }
+    requires size { size_of tree.now ≤ most_size }
     ensures by_tree { Builds limit (moved (form_of expr.now) env.now tree.now action.now) result }
     ensures by_word { (w : Word) → tree.now ≡ tree_of (form_of expr.now) env.now w
         → Builds limit (tree_of (form_of expr.now) env.now (w ++ action.now ∷ [])) result }
