@@ -1,7 +1,8 @@
 //! The commands, as `clap` reads them.
 ghost use Rattle.std.specs.Prelude.{◌≡◌, codes, false, IfOk};
 ghost use Rattle.clap.specs.Words.{app_of, rule_of};
-ghost use Rattle.ix_cli.specs.Commands.{word, number_word, nodes_option, turns_option};
+ghost use Rattle.ix_cli.specs.Commands.{word, number_word, number_option};
+ghost use Rattle.ix_cli.specs.Commands.{nodes_option, turns_option};
 ghost use Rattle.ix_cli.specs.Commands.{trace_command, replay_command, serve_command, work_command};
 ghost use Rattle.ix_cli.specs.Commands.{simplify_command, bound_command, follow_command};
 ghost use Rattle.ix_cli.specs.Commands.{lint_command, why_command, next_command, stuck_command};
@@ -54,17 +55,32 @@ fn number_word<'a>(alloc: Global, name: &'a str, most: u64, help: &'a str) -> Ar
     word(alloc, name, help).value_parser(ValueParser::unsigned(0, most))
 }
 
+/// An option that is a number from 1 to the most, and what it is where it isn't given.
+fn number_option<'a>(
+    alloc: Global,
+    name: &'a str,
+    most: u64,
+    usual: &'a str,
+    help: &'a str,
+) -> Arg<'a>
+    ensures rule { rule_of result ≡ number_option name.entry.now 1 most usual.entry.now }
+    ensures local { result.global ≡ false }
+{
+    Arg::new(alloc, name)
+        .long(name)
+        .action(ArgAction::Set)
+        .value_parser(ValueParser::unsigned(1, most))
+        .default_value(usual)
+        .help(help)
+}
+
 /// The option `--nodes N`.
 fn nodes_option<'a>(alloc: Global) -> Arg<'a>
     ensures rule { rule_of result ≡ nodes_option }
     ensures local { result.global ≡ false }
 {
-    Arg::new(alloc, "nodes")
-        .long("nodes")
-        .action(ArgAction::Set)
-        .value_parser(ValueParser::unsigned(1, MOST_NODES))
-        .default_value("100000")
-        .help("The greatest Size of a state, from 1 to 1000000")
+    let help = "The greatest Size of a state, from 1 to 1000000";
+    number_option(alloc, "nodes", MOST_NODES, "100000", help)
 }
 
 /// The option `--turns N`.
@@ -72,12 +88,8 @@ fn turns_option<'a>(alloc: Global) -> Arg<'a>
     ensures rule { rule_of result ≡ turns_option }
     ensures local { result.global ≡ false }
 {
-    Arg::new(alloc, "turns")
-        .long("turns")
-        .action(ArgAction::Set)
-        .value_parser(ValueParser::unsigned(1, MOST_TURNS))
-        .default_value("1000000000")
-        .help("The most events that are taken, from 1 to 1000000000")
+    let help = "The most events that are taken, from 1 to 1000000000";
+    number_option(alloc, "turns", MOST_TURNS, "1000000000", help)
 }
 
 /// The option `--states N`.
@@ -85,12 +97,8 @@ fn states_option<'a>(alloc: Global) -> Arg<'a>
     ensures rule { rule_of result ≡ states_option }
     ensures local { result.global ≡ false }
 {
-    Arg::new(alloc, "states")
-        .long("states")
-        .action(ArgAction::Set)
-        .value_parser(ValueParser::unsigned(1, MOST_STATES))
-        .default_value("100000")
-        .help("The most states that are visited, from 1 to 1000000")
+    let help = "The most states that are visited, from 1 to 1000000";
+    number_option(alloc, "states", MOST_STATES, "100000", help)
 }
 
 /// The words `VALUE ..`, 16 at most.
