@@ -93,7 +93,7 @@ fn run<L: Link>(words: &[String], link: &mut L) -> Ended
         return Ended::Usage;
     }
     match read_words(words) {
-        Some(wanted) => serve(link, &wanted.action, wanted.lease),
+        Some(wanted) => ask_and_confirm(link, &wanted.action, wanted.lease),
         None => Ended::BadWords,
     }
 }
@@ -151,7 +151,7 @@ fn read_lease(text: &[u8]) -> Option<u32>
 }
 
 /// Asks for the action, and takes a grant to its end.
-fn serve<L: Link>(link: &mut L, action: &Action, lease: u32) -> Ended
+fn ask_and_confirm<L: Link>(link: &mut L, action: &Action, lease: u32) -> Ended
     requires { IsLease lease }
     ensures { Serves action.now lease result (L.state link.old) (L.state link.new) }
 {

@@ -46,8 +46,8 @@ use Rattle.ix_manage.specs.inside.ReplayProgress.{HasPlayed, PlaysEvent, disk_st
 use Rattle.ix_manage.specs.inside.Progress.{IsStarted, IsEventOutcome, SavesFrom, opening_at}
 use Rattle.ix_manage.specs.declared.refusal.Refusal.TheVariants.{Disk, Turns}
 use Rattle.ix_manage.specs.declared.early_end.EarlyEnd.{EarlyEnd}
-use Rattle.ix_manage.specs.declared.outcome.EventOutcome.{EventOutcome}
-use Rattle.ix_manage.specs.declared.outcome.EventOutcome.TheVariants.{More, Done, Cut, Failed}
+use Rattle.ix_manage.specs.declared.event_outcome.EventOutcome.{EventOutcome}
+use Rattle.ix_manage.specs.declared.event_outcome.EventOutcome.TheVariants.{More, Done, Cut, Failed}
 use Rattle.ix_manage.proofs.ScriptFronts.{first_push}
 use Rattle.ix_manage.proofs.Stops.{ended_cut, ended_whole}
 use Rattle.ix_manage.proofs.Tracing.{append_nothing, append_twice}

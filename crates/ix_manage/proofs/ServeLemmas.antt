@@ -35,8 +35,8 @@ use Rattle.ix_manage.specs.Serve.{ends, wire_failed}
 use Rattle.ix_manage.specs.Session.{IsNoEnd, IsOver, Session, disk_failed, out_of_turns}
 use Rattle.ix_manage.specs.declared.refusal.Refusal.TheVariants.{Disk, Turns, Wire as WireRefusal}
 use Rattle.ix_manage.specs.declared.early_end.EarlyEnd.TheVariants.{Refused}
-use Rattle.ix_manage.specs.declared.outcome.EventOutcome.{EventOutcome}
-use Rattle.ix_manage.specs.declared.outcome.EventOutcome.TheVariants.{More, Done, Cut, Failed}
+use Rattle.ix_manage.specs.declared.event_outcome.EventOutcome.{EventOutcome}
+use Rattle.ix_manage.specs.declared.event_outcome.EventOutcome.TheVariants.{More, Done, Cut, Failed}
 use Rattle.ix_manage.specs.inside.ServeProgress.{SentFor, ServedSession, HasServed, ServesTo, ServesEvent, TakesOver, took, unheard}
 use Rattle.ix_manage.specs.inside.Progress.{IsStarted, IsEventOutcome, SavesFrom, opening_at}
 use Rattle.ix_manage.proofs.Opening.{some_is}

@@ -49,7 +49,7 @@ impl Machine {
 }
 
 /// Watches an action under a name in these watches, which are those of the engine, and tells
-/// whether it is permitted. Where the pair isn't there and the watches are full, or memory runs
+/// whether it is allowed. Where the pair isn't there and the watches are full, or memory runs
 /// out, they are as before.
 fn add_watch(
     alloc: Global,
@@ -73,7 +73,7 @@ fn add_watch(
     }
 }
 
-/// Notes for each watch of the name whether its action is permitted. Where memory runs out some
+/// Notes for each watch of the name whether its action is allowed. Where memory runs out some
 /// aren't noted; nothing else changes.
 fn refresh(
     alloc: Global,

@@ -34,7 +34,7 @@ impl Calls {
     }
 
     /// Makes the next call: whether its number stands among those that fail.
-    pub(crate) fn make(&mut self) -> bool
+    pub(crate) fn next_fails(&mut self) -> bool
         ensures told { result ≡ is_told self.old }
         ensures after { self.new ≡ next_call self.old }
     {

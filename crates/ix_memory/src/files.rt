@@ -69,7 +69,7 @@ impl Files for MemoryFiles {
         ensures calls { self.new.calls ≡ next_call self.old.calls }
         ensures rest { OnlyFaults (memory_files_state self.old) (memory_files_state self.new) }
     {
-        let is_told = self.calls.make();
+        let is_told = self.calls.next_fails();
         let loaded = loaded(alloc, &self.files, is_told, name, limit);
         if let Err(LoadFault::Failed) = loaded {
             self.faults = self.faults.saturating_add(1);

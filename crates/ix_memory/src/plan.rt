@@ -92,7 +92,7 @@ impl Plan {
         ensures after { self.new ≡ record self.old { calls = next_call self.old.calls } }
     {
         let is_added = self.added.contains(&self.calls.number());
-        self.calls.make() || is_added
+        self.calls.next_fails() || is_added
     }
 
     pub(crate) fn make(&mut self, cost: usize) -> Fate

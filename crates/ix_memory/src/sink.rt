@@ -83,7 +83,7 @@ impl Sink for MemorySink {
 
         ensures rest { OnlyPuts (memory_sink_state self.old) (memory_sink_state self.new) }
     {
-        let is_told = self.calls.make();
+        let is_told = self.calls.next_fails();
         if is_told || self.room - self.bytes.len() < bytes.len() {
             self.faults = self.faults.saturating_add(1);
             return Err(Failed);

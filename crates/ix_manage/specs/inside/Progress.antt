@@ -9,8 +9,8 @@ use Rattle.ix_manager.specs.Handled.{ManagerState, started}
 use Rattle.ix_manager.specs.Machine.{MachineState, start_of}
 use Rattle.ix_manager.specs.Runs.{Ending, Opening, going, stopped, failed}
 use Rattle.ix_manager.specs.inside.Saving.{Saves}
-use Rattle.ix_manage.specs.declared.outcome.EventOutcome.{EventOutcome}
-use Rattle.ix_manage.specs.declared.outcome.EventOutcome.TheVariants.{More, Done, Cut, Failed}
+use Rattle.ix_manage.specs.declared.event_outcome.EventOutcome.{EventOutcome}
+use Rattle.ix_manage.specs.declared.event_outcome.EventOutcome.TheVariants.{More, Done, Cut, Failed}
 
 -- what a manager's run would start from as the manager stands
 abbrev pub opening_at : ManagerState → Opening

@@ -29,7 +29,7 @@ use Rattle.ix_script.specs.declared.site.ScriptSite.{ScriptSite}
 use Rattle.ix_manage.specs.Session.{IsNoEnd, Session, history_line}
 use Rattle.ix_manage.specs.Replay.{AreFirst, Plays, ReplayEnds}
 use Rattle.ix_manage.specs.declared.early_end.EarlyEnd.{EarlyEnd}
-use Rattle.ix_manage.specs.declared.outcome.EventOutcome.{EventOutcome}
+use Rattle.ix_manage.specs.declared.event_outcome.EventOutcome.{EventOutcome}
 use Rattle.ix_manage.specs.inside.Progress.{IsEventOutcome, SavesFrom, opening_at}
 use Rattle.ix_manage.specs.inside.Leaves.{LeavesOutput}
 

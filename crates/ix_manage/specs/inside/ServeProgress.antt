@@ -28,8 +28,8 @@ use Rattle.ix_manage.specs.Site.{OnlyCalls}
 use Rattle.ix_manage.specs.declared.early_end.EarlyEnd.{EarlyEnd}
 use Rattle.ix_manage.specs.declared.early_end.EarlyEnd.TheVariants.{Refused, Words, OtherExpression}
 use Rattle.ix_manage.specs.declared.early_end.EarlyEnd.TheVariants.{Output}
-use Rattle.ix_manage.specs.declared.outcome.EventOutcome.{EventOutcome}
-use Rattle.ix_manage.specs.declared.outcome.EventOutcome.TheVariants.{Cut}
+use Rattle.ix_manage.specs.declared.event_outcome.EventOutcome.{EventOutcome}
+use Rattle.ix_manage.specs.declared.event_outcome.EventOutcome.TheVariants.{Cut}
 use Rattle.ix_manage.specs.inside.Refusal.{refusal_line, refusal_status}
 use Rattle.ix_manage.specs.inside.Progress.{IsEventOutcome, SavesFrom, opening_at}
 

@@ -8,7 +8,7 @@ ghost use Rattle.ix_manage.specs.inside.ReplayProgress.{disk_stretch, player};
 ghost use Rattle.ix_manage.specs.inside.Progress.{IsStarted};
 
 use crate::early_end::EarlyEnd;
-use crate::outcome::{EVENT_ROOM, EventOutcome, outcome_of, piece};
+use crate::event_outcome::{EVENT_ROOM, EventOutcome, outcome_of, piece};
 use crate::refusal::Refusal;
 use ix_manager::Manager;
 use ix_outside::{Sink, Site};

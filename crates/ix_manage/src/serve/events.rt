@@ -7,7 +7,7 @@ ghost use Rattle.ix_manage.specs.inside.ServeProgress.{OnlyServed, ServesTo, Ser
 ghost use Rattle.ix_manage.specs.inside.Progress.{IsStarted};
 
 use crate::early_end::EarlyEnd;
-use crate::outcome::{EVENT_ROOM, EventOutcome, outcome_of, piece};
+use crate::event_outcome::{EVENT_ROOM, EventOutcome, outcome_of, piece};
 use crate::refusal::Refusal;
 use ix_manager::Manager;
 use ix_outside::Site;

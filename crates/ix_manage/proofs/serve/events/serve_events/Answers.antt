@@ -1,7 +1,7 @@
 use Rattle.std.proofs.Common.{◌≡◌, ◌<◌, [], length, refl, sym, ◌∙◌, arith}
 use Rattle.std.proofs.lemmas.List.{length_push}
-use Rattle.ix_manage.specs.declared.outcome.EventOutcome.{EventOutcome}
-use Rattle.ix_manage.specs.declared.outcome.EventOutcome.TheVariants.{More, Done, Cut, Failed}
+use Rattle.ix_manage.specs.declared.event_outcome.EventOutcome.{EventOutcome}
+use Rattle.ix_manage.specs.declared.event_outcome.EventOutcome.TheVariants.{More, Done, Cut, Failed}
 use Rattle.ix_manager.specs.RunLaws.{given_event}
 use Rattle.ix_manage.proofs.Devices.{served_still, served_then}
 use Rattle.ix_manage.proofs.ServeLemmas.{cut_unheard, serves_first, serves_fits, serves_more, taken_over, outcome_cut, outcome_done, outcome_failed, turns_out}
