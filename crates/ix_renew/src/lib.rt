@@ -17,6 +17,3 @@ mod values;
 pub use carrying::carried;
 pub use fault::RenewalFault;
 pub use renewing::{Renewal, renew};
-
-#[cfg(test)]
-mod tests;

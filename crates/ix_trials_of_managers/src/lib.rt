@@ -1,4 +1,4 @@
-//! The tests of `ix_manager`.
+//! The tests of `ix_manager`, and of the words that `ix_renew` carries.
 #![tactic(auto)]
 
 #[cfg(test)]

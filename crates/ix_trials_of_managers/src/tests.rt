@@ -4,6 +4,8 @@ ghost use Rattle.std.specs.Prelude.{◌≡◌, ◌≤◌, true, IfOk, OnSome};
 ghost use Rattle.ix_manager.specs.inside.OverSite.{FitsSite};
 ghost use Rattle.ix_step.specs.inside.Limits.{most_size};
 
+mod carried;
+
 use ix_expr::{Atom, Expr, Expression, has_numbers};
 use ix_manager::{Go, Manager, StartFault, Stop};
 use ix_memory::MemorySite;

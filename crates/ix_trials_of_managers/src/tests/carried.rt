@@ -4,10 +4,10 @@ ghost use Rattle.std.specs.Prelude.{◌≤◌, IfOk};
 ghost use Rattle.ix_step.specs.inside.Limits.{most_size};
 ghost use Rattle.ix_engine.specs.Histories.{AreAllowed};
 
-use crate::carried;
 use ix_engine::Engine;
 use ix_expr::Expression;
 use ix_parse::read;
+use ix_renew::carried;
 use ix_values::Action;
 use std::alloc::Global;
 use std::test::Fail;
