@@ -8,8 +8,6 @@ mod keys;
 pub mod laws;
 mod memory;
 mod request;
-#[cfg(test)]
-mod tests;
 
 pub use blocks::Blocks;
 pub use claim::{Claim, Commit, Head, Seen};

@@ -1,6 +1,8 @@
 //! Requests by hand, and owners over a store in memory.
 
-use super::*;
+use ix_blocks::{
+    Arrival, Blocks, Claim, Commit, Fault, File, Head, MemoryKeys, Request, Seen, Step,
+};
 use std::alloc::Global;
 use std::test::Fail;
 
