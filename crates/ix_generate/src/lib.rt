@@ -5,8 +5,6 @@ ghost use Rattle.std.specs.Prelude.{◌≡◌};
 
 mod asks;
 pub mod laws;
-#[cfg(test)]
-mod tests;
 
 use asks::{action_on, number_behind};
 use ix_values::Action;

@@ -4,5 +4,4 @@ pub mod LeftEvents
 pub mod CursorSteps
 pub mod Puts
 pub mod GivenEvents
-pub mod Callers
 pub mod OneFault

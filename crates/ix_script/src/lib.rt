@@ -14,6 +14,3 @@ mod site;
 
 pub use script::{Script, ScriptFault};
 pub use site::ScriptSite;
-
-#[cfg(test)]
-mod tests;

@@ -1,4 +1,7 @@
-//! Requests, replies and watches.
+//! Requests, replies, leases and watches; scripts and workloads.
 
+mod leases;
 mod protocol;
+mod scripts;
 mod watches;
+mod workloads;

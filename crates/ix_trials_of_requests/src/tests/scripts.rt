@@ -9,8 +9,8 @@ ghost use Rattle.ix_script.specs.Events.{HasEvents};
 ghost use Rattle.ix_script.specs.Pieces.{pieces_of};
 ghost use Rattle.ix_script.specs.inside.Site.{playing};
 
-use super::*;
 use ix_outside::{DiskFailed, Event, EventKind, Failed, Gone, Sink, Site, WireFailed};
+use ix_script::{Script, ScriptSite};
 use std::alloc::{AllocError, Global};
 
 // Takes bytes in memory, if it takes any.

@@ -3,9 +3,9 @@ use Rattle.ix_outside.specs.Contents.{GivenEvent, piece_of}
 use Rattle.ix_script.specs.Events.{HasEvents}
 use Rattle.ix_script.specs.inside.NextPiece.{IsNextPiece}
 use Rattle.ix_script.specs.inside.Site.{ScriptSiteState, playing}
-use Rattle.ix_script.proofs.Callers.{given_same, script_same}
+use Rattle.ix_trials_of_requests.proofs.Callers.{given_same, script_same}
 use Rattle.ix_script.proofs.GivenEvents.{pieces-next}
-use Rattle.ix_script.proofs.tests.take_events.Goals as goal
+use Rattle.ix_trials_of_requests.proofs.tests.scripts.take_events.Goals as goal
 
 pub loop-i-preserved : goal.loop-i-preserved
 loop-i-preserved g c =

@@ -1,5 +1,6 @@
-use super::*;
+//! The workload of a seed, as a script of ours draws it.
 use arrayvec::ArrayVec;
+use ix_generate::{EXAMINATIONS, Workload};
 
 #[test]
 fn text_of_the_expression(rt: HostRuntime) {
