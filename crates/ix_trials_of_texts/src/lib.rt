@@ -1,4 +1,5 @@
-//! The tests of what is read and written: lines, actions, expressions and their texts.
+//! The tests of what is read and written: lines, tokens, actions, expressions
+//! and their texts.
 #![tactic(auto)]
 
 #[cfg(test)]

@@ -5,3 +5,4 @@ mod expressions;
 mod forms;
 mod lines;
 mod printed;
+mod tokens;
