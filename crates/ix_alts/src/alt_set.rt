@@ -124,6 +124,3 @@ impl<T: Ord + Weight + Drop> AltSet<T> {
         Ok(true)
     }
 }
-
-#[cfg(test)]
-mod tests;

@@ -90,6 +90,3 @@ fn place_of<K: Ord, T>(entries: &[(K, T)], key: &K) -> Result<usize, usize>
 {
     entries.binary_search_by(|entry| entry.0.cmp(key))
 }
-
-#[cfg(test)]
-mod tests;

@@ -1,8 +1,13 @@
-//! Sizes of trees that were built by hand, worked out from what a tree is, and copies of them.
+//! Sizes of trees that were built by hand, worked out from what a tree is, and copies of them; and
+//! what trees are made of.
 
 ghost use Rattle.std.specs.Prelude.{◌≡◌, IfOk};
 ghost use Rattle.std.specs.Prelude.{false};
 ghost use Rattle.ix_tree.specs.Plain.{start, dead, seq, none, more};
+
+mod alternatives;
+mod entries;
+mod words;
 
 use ix_tree::{Bag, Entries, Knot, Map, Node, Pair, Tree, share_knots, with_shared};
 use ix_values::Value;

@@ -134,37 +134,3 @@ pub fn owners_of_their_items<Value, Item>()
 pub fn pieces_are_filled<Item>()
     ensures { PiecesAreFilled Item }
 {}
-
-#[cfg(test)]
-mod tests {
-    use super::*;
-
-    #[test]
-    fn laws_are_stated_at_types_of_items() {
-        parts_append::<bool, u8>();
-        parts_grow::<bool, u8>();
-        parts_cover::<u8>();
-        projections_by_test::<u8>();
-        projections_grow::<u8>();
-        joined_grow::<u8>();
-        splits_closed::<u8>();
-        numbered_closed::<u8>();
-        shared_closed::<u8>();
-        owned_closed::<bool, u8>();
-        projected_closed::<u8>();
-        joined_fronts::<u8>();
-        cuts_all::<u8>();
-        cuts_grow::<u8>();
-        splits_all::<u8>();
-        splits_grow::<u8>();
-        canon_stands::<u8>();
-        ascending_once::<u8>();
-        canon_by_members::<u8>();
-        canon_append::<u8>();
-        canon_grow::<u8>();
-        canon_each::<bool, u8>();
-        numbers_below_the_length::<u8>();
-        owners_of_their_items::<bool, u8>();
-        pieces_are_filled::<u8>();
-    }
-}

@@ -1,7 +1,7 @@
 use Rattle.std.proofs.Common.{◌≡◌, false, nat_eq}
 use Rattle.std.proofs.lemmas.List.Elements.{All-nil}
 use Rattle.std.specs.List.Sorted.{IsStrictlySortedBy}
-use Rattle.ix_entries.proofs.tests.puts_and_finds.Goals as goal
+use Rattle.ix_trials_of_trees.proofs.tests.entries.puts_and_finds.Goals as goal
 
 pub loop-key-init : goal.loop-key-init
 unfolding IsStrictlySortedBy

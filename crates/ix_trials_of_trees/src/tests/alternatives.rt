@@ -1,7 +1,8 @@
+//! A set of alternatives at its budget.
 ghost use Rattle.std.proofs.Common.{rules};
 ghost use Rattle.std.proofs.lemmas.Cmp.{ranked};
 
-use super::*;
+use ix_alts::{AltFault, AltSet, Weight};
 use std::test::Fail;
 
 #[derive(Clone, Copy, Debug, PartialEq, Eq, PartialOrd, Ord)]

@@ -1,4 +1,5 @@
-use super::*;
+//! Entries beside a common item.
+use ix_entries::{at, put};
 use std::test::Fail;
 
 #[test]
