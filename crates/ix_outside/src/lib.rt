@@ -20,6 +20,3 @@ pub use files::Files;
 pub use history::History;
 pub use sink::Sink;
 pub use site::Site;
-
-#[cfg(test)]
-mod tests;

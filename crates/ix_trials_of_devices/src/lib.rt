@@ -1,4 +1,4 @@
-//! The tests of devices in memory, `ix_memory`.
+//! The tests of devices in memory, `ix_memory`, and of their traits, `ix_outside`.
 #![tactic(auto)]
 
 #[cfg(test)]

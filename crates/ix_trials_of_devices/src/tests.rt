@@ -2,6 +2,8 @@
 ghost use Rattle.std.specs.Prelude.{◌≡◌, ◌<◌, length, IfOk, OnOk, false, true};
 ghost use Rattle.ix_outside.specs.Crashes.{LeavesTheFile};
 
+mod traits;
+
 use ix_memory::{MemoryFiles, MemorySink, MemorySite};
 use ix_outside::{DiskFailed, Event, EventKind, Files, LoadFault, Sink, Site};
 use std::alloc::{AllocError, Global};

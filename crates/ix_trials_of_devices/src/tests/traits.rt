@@ -4,7 +4,9 @@ ghost use Rattle.ix_outside.specs.Loans.{free};
 ghost use Rattle.ix_outside.specs.inside.NothingTold.{nothing_told};
 ghost use Rattle.ix_outside.specs.lemmas.Untold.{untold_is_lawful};
 
-use super::*;
+use ix_outside::{
+    DiskFailed, Event, EventKind, Failed, Files, Gone, LoadFault, Sink, Site, WireFailed,
+};
 use std::alloc::{AllocError, Global};
 use std::test::Fail;
 
