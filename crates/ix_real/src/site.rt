@@ -176,6 +176,3 @@ impl<R: rt::Files<File = File> + Net + Clock> Site for RealSite<'_, R> {
         self.disk.sync()
     }
 }
-
-#[cfg(test)]
-mod tests;

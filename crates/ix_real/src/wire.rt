@@ -45,37 +45,3 @@ pub(crate) fn receive<S: Read>(stream: &mut S, buf: &mut [u8]) -> EventKind
     }
     EventKind::Closed
 }
-
-#[cfg(test)]
-mod tests {
-    use super::*;
-
-    /// Fails once in this way, and then gives a byte at each read.
-    #[derive(Drop)]
-    struct Faulty(Option<ErrorKind>);
-
-    impl Read for Faulty {
-        fn read(&mut self, buf: &mut [u8]) -> io::Result<usize> {
-            match self.0.take() {
-                Some(kind) => Err(io::Error::from(kind)),
-                None if buf.is_empty() => Ok(0),
-                None => {
-                    buf[0] = b'x';
-                    Ok(1)
-                }
-            }
-        }
-    }
-
-    #[test]
-    fn an_interrupted_read_goes_on_and_a_failed_one_closes(rt: HostRuntime) {
-        let cases = [
-            (ErrorKind::Interrupted, EventKind::Bytes(1)),
-            (ErrorKind::ConnectionReset, EventKind::Closed),
-        ];
-        for (kind, event) in cases {
-            let mut buf = [0; 4];
-            assert_eq!(rt; receive(&mut Faulty(Some(kind)), &mut buf), event);
-        }
-    }
-}

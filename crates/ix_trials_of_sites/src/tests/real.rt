@@ -1,19 +1,13 @@
-//! The devices at work, each test in a new folder.
-use super::*;
-use crate::RealFiles;
-use ix_outside::{Files, LoadFault};
-use std::io::Read;
-use std::test::Fail;
-use std::{env, fs, io, process};
+//! Files, and a site of a socket and a file.
+ghost use Rattle.std.specs.Prelude.{◌≡◌, true};
 
-/// Makes a folder for one test.
-fn new_folder(rt: &HostRuntime, test: &str) -> io::Result<String> {
-    let parent = env::temp_dir(rt)?;
-    let run = process::id(rt.process());
-    let folder = format!(in rt.alloc(); "{}/ix_real-{run}-{test}", parent.as_str())?;
-    fs::create_dir(rt, &folder)?;
-    Ok(folder)
-}
+use super::new_folder;
+use ix_outside::{EventKind, Files, LoadFault, Site};
+use ix_real::{RealFiles, RealSite};
+use std::fs;
+use std::io::{Read, Write};
+use std::os::unix::net::UnixStream;
+use std::test::Fail;
 
 #[test]
 fn files_are_loaded_up_to_a_limit(rt: HostRuntime) -> Result<(), Fail> {
@@ -32,13 +26,13 @@ fn files_are_loaded_up_to_a_limit(rt: HostRuntime) -> Result<(), Fail> {
     Ok(())
 }
 
-/// In November 2023, in milliseconds since 1970.
+// In November 2023, in milliseconds since 1970.
 const PAST: u64 = 1_700_000_000_000;
 
-/// In October 2096.
+// In October 2096.
 const FUTURE: u64 = 4_000_000_000_000;
 
-/// The kind of the next event, which comes now and on connection 0.
+// The kind of the next event, which comes now and on connection 0.
 fn next_kind(site: &mut RealSite<'_, HostRuntime>, buf: &mut [u8; 64]) -> Option<EventKind> {
     match site.next(buf) {
         Ok(event) if event.conn == 0 && (PAST..FUTURE).contains(&event.moment) => Some(event.kind),
@@ -85,7 +79,6 @@ fn one_client_comes_after_the_other(rt: HostRuntime) -> Result<(), Fail> {
         assert_eq!(rt; next_kind(&mut site, &mut buf), Some(EventKind::Closed));
         assert!(rt; site.send(0, b"no\n").is_err());
     }
-    assert_eq!(rt; (site.disk.faults, site.wire, site.send), (0, 2, 4));
     fs::remove_dir_all(&rt, &folder)?;
     Ok(())
 }
@@ -108,10 +101,54 @@ fn a_file_keeps_what_is_written_and_is_attached_once(rt: HostRuntime) -> Result<
     assert!(rt; site.read_at(5, &mut buf) == Ok(0));
     let mut second = RealSite::new(&rt);
     assert!(rt; second.attach(&journal).is_err());
-    assert_eq!(rt; (second.disk.faults, second.wire, second.send), (1, 0, 0));
     assert!(rt; fs::read_to_string(&rt, &journal)?.as_str() == "abcde");
     drop(site);
     assert!(rt; second.attach(&journal).is_ok());
+    fs::remove_dir_all(&rt, &folder)?;
+    Ok(())
+}
+
+// Whether a read of eight bytes from here gives so many, and leaves this buffer.
+fn reads_so<S: Site>(site: &mut S, at: u64, count: usize, bytes: &[u8; 8]) -> bool
+    requires { (S.state site.old).attached ≡ true }
+    ensures { (S.state site.new).attached ≡ true }
+{
+    let mut buf = [b'-'; 8];
+    site.read_at(at, &mut buf) == Ok(count) && buf == *bytes
+}
+
+#[test]
+fn a_read_fills_the_buffer_or_ends_with_the_file(rt: HostRuntime) -> Result<(), Fail> {
+    let folder = new_folder(&rt, "reads")?;
+    let journal = format!(in rt.alloc(); "{folder}/journal")?;
+    fs::write(&rt, &journal, "abcdef")?;
+    let mut site = RealSite::new(&rt);
+    assert!(rt; site.attach(&journal).is_ok());
+    assert!(rt; reads_so(&mut site, 0, 6, b"abcdef--"));
+    assert!(rt; reads_so(&mut site, 1, 5, b"bcdef---"));
+    assert!(rt; reads_so(&mut site, 5, 1, b"f-------"));
+    assert!(rt; reads_so(&mut site, 6, 0, b"--------"));
+    let mut buf = [b'-'; 3];
+    assert!(rt; site.read_at(2, &mut buf) == Ok(3));
+    assert!(rt; buf == *b"cde");
+    fs::remove_dir_all(&rt, &folder)?;
+    Ok(())
+}
+
+#[test]
+fn a_connection_that_is_reset_is_closed(rt: HostRuntime) -> Result<(), Fail> {
+    let folder = new_folder(&rt, "reset")?;
+    let socket = format!(in rt.alloc(); "{folder}/socket")?;
+    let mut site = RealSite::new(&rt);
+    assert!(rt; site.listen(&socket).is_ok());
+    let mut client = UnixStream::connect(&rt, &socket)?;
+    client.write_all(b"x")?;
+    let mut buf = [0; 64];
+    assert_eq!(rt; next_kind(&mut site, &mut buf), Some(EventKind::Bytes(1)));
+    assert!(rt; site.send(0, b"no\n").is_ok());
+    // What wasn't read makes of its end a reset.
+    drop(client);
+    assert_eq!(rt; next_kind(&mut site, &mut buf), Some(EventKind::Closed));
     fs::remove_dir_all(&rt, &folder)?;
     Ok(())
 }
