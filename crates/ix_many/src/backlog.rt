@@ -95,7 +95,7 @@ impl Backlog {
 }
 
 /// Why bytes were lost.
-#[derive(Clone, Copy, Debug, PartialEq, Eq)]
+#[derive(Clone, Copy)]
 pub(crate) enum Lost {
     /// The stream takes no more.
     Broken,
@@ -156,6 +156,3 @@ pub(crate) fn go_on<W: Write>(stream: &mut W, backlog: &mut Backlog) -> Option<b
         }
     }
 }
-
-#[cfg(test)]
-mod tests;

@@ -52,38 +52,3 @@ pub(crate) fn put<W: Write>(stream: &mut W, bytes: &[u8]) -> io::Result<usize>
     }
     Ok(count)
 }
-
-#[cfg(test)]
-mod tests {
-    use super::*;
-
-    /// Fails once in this way, and then gives a byte at each read.
-    #[derive(Drop)]
-    struct Faulty(Option<ErrorKind>);
-
-    impl Read for Faulty {
-        fn read(&mut self, buf: &mut [u8]) -> io::Result<usize> {
-            match self.0.take() {
-                Some(kind) => Err(io::Error::from(kind)),
-                None if buf.is_empty() => Ok(0),
-                None => {
-                    buf[0] = b'x';
-                    Ok(1)
-                }
-            }
-        }
-    }
-
-    #[test]
-    fn what_a_failed_read_gives(rt: HostRuntime) {
-        let cases = [
-            (ErrorKind::Interrupted, Some(EventKind::Bytes(1))),
-            (ErrorKind::WouldBlock, None),
-            (ErrorKind::ConnectionReset, Some(EventKind::Closed)),
-        ];
-        for (kind, came) in cases {
-            let mut buf = [0; 4];
-            assert_eq!(rt; receive(&mut Faulty(Some(kind)), &mut buf), came);
-        }
-    }
-}

@@ -286,6 +286,3 @@ impl<R: rt::Files<File = File> + Net + Clock> Site for ManySite<'_, R> {
         self.disk.sync()
     }
 }
-
-#[cfg(test)]
-mod tests;

@@ -1,6 +1,7 @@
 //! Real devices at work, each test in a new folder.
 use std::{env, fs, io, process};
 
+mod many;
 mod real;
 
 // Makes a folder for one test.
