@@ -1,6 +1,6 @@
 //! What is told to the author of an expression, as lines.
 //!
-//! Its tests are in `ix_trials_of_commands`.
+//! `bench/commands` has its rows.
 #![tactic(auto)]
 
 mod bound;

@@ -1,4 +1,4 @@
-//! The top call over devices in memory, where no journal stands before the run.
+//! The top call over devices in memory, where a put or a call of the disk fails.
 ghost use Rattle.std.specs.Prelude.{◌≡◌, false, IfOk};
 
 use ix_manage::manage;
@@ -45,12 +45,24 @@ fn sink_of(alloc: Global, failing: Option<u64>) -> Result<MemorySink, Fail> {
     Ok(MemorySink::new(alloc, ROOM, fail)?)
 }
 
-// A site without a journal and without events.
-fn site_of(alloc: Global) -> Result<MemorySite, Fail>
+// A journal before a run, and the call of the disk and the put that fail.
+#[derive(Clone, Copy)]
+struct Before<'a> {
+    journal: &'a [u8],
+    call: Option<u64>,
+    put: Option<u64>,
+}
+
+// A site with this journal, and without events.
+fn site_of(alloc: Global, before: Before<'_>) -> Result<MemorySite, Fail>
     ensures { IfOk result (λ s. s.attached ≡ false) }
 {
-    let (image, events, fail) = (Vec::new(alloc), Vec::new(alloc), Vec::new(alloc));
-    let site = MemorySite::new(alloc, image, events, ROOM, fail, None);
+    let mut fail = Vec::new(alloc);
+    if let Some(number) = before.call {
+        fail.push(number)?;
+    }
+    let image = before.journal.to_vec(alloc)?;
+    let site = MemorySite::new(alloc, image, Vec::new(alloc), ROOM, fail, None);
     Ok(site?)
 }
 
@@ -71,84 +83,274 @@ fn run_over(
     })
 }
 
-// Runs `words` over these files, where the put of this number fails.
+// Runs `words` over these files and this site, where the put of this number fails.
 fn run_with(
     alloc: Global,
     words: &[String],
     files: &mut MemoryFiles,
+    site: &mut MemorySite,
     failing: Option<u64>,
-) -> Result<Ended, Fail> {
-    let mut site = site_of(alloc)?;
+) -> Result<Ended, Fail>
+    requires { site.old.attached ≡ false }
+{
     let mut out = sink_of(alloc, failing)?;
-    run_over(alloc, words, files, &mut site, &mut out)
+    run_over(alloc, words, files, site, &mut out)
 }
 
-// Runs `words` where the expression file is `expression` and the actions file is `actions`, and
-// where the put of this number fails.
-fn run_on(
+// Runs `words` over this site, where the expression file is `expression` and the actions file is
+// `actions`, and where the put of this number fails.
+fn run_at(
     alloc: Global,
     words: &[&str],
     expression: &[u8],
     actions: &[u8],
+    site: &mut MemorySite,
     failing: Option<u64>,
-) -> Result<Ended, Fail> {
+) -> Result<Ended, Fail>
+    requires { site.old.attached ≡ false }
+{
     let words = words_of(alloc, words)?;
     let mut files = files_of(alloc, expression, actions)?;
-    run_with(alloc, &words, &mut files, failing)
+    run_with(alloc, &words, &mut files, site, failing)
+}
+
+// The same from a journal, and gives the journal then too.
+fn run_from(
+    alloc: Global,
+    words: &[&str],
+    expression: &[u8],
+    actions: &[u8],
+    before: Before<'_>,
+) -> Result<(Ended, Vec<u8>), Fail> {
+    let mut site = site_of(alloc, before)?;
+    let ended = run_at(alloc, words, expression, actions, &mut site, before.put)?;
+    Ok((ended, site.image().to_vec(alloc)?))
 }
 
 const TRACE: [&str; 3] = ["trace", "expression", "actions"];
 
-// Whether a run of `words` where the expression and the actions are these texts, and where the put
-// of this number fails, ends with this status and puts these bytes.
-fn puts_until(
-    alloc: Global,
-    words: &[&str],
-    texts: [&[u8]; 2],
-    failing: Option<u64>,
-    status: u8,
-    bytes: &[u8],
-) -> Result<bool, Fail> {
-    let got = run_on(alloc, words, texts[0], texts[1], failing)?;
-    Ok(got.status == status && got.bytes.as_slice() == bytes)
+const REPLAY: [&str; 4] = ["replay", "expression", "-", "actions"];
+
+// The words of a renewal of the file `actions`.
+const RENEW: [&str; 4] = ["renew", "expression", "actions", "new"];
+
+const ASK_A: &[u8] = b"100 0 ask a 50\n149 0 confirm 1-1";
+
+const THREE_MAY: &[u8] = b"1 0 may a\n2 0 may a\n3 0 may a";
+
+// The journal of the first version of `a - b` with the action `a`.
+const OF_A: &[u8] = b"\xA5IXJ1\x00\x05a - b\xA5\x00\x01a\x00";
+
+// What a start makes of no journal of `a - b`.
+const NEW: &[u8] = b"\xA5IXJ2\x00\x05a - b\xA5\x00\x06boot 1\x00";
+
+// The same behind a run in which `a` was confirmed.
+const NEW_OF_A: &[u8] = b"\xA5IXJ2\x00\x05a - b\xA5\x00\x06boot 1\xA5\x00\x051-1 a\x00";
+
+// What a start makes of no journal of `a`.
+const OF_NONE: &[u8] = b"\xA5IXJ2\x00\x01a\xA5\x00\x06boot 1\x00";
+
+// OF_A renewed, and the same before its records.
+const OF_A_RENEWED: &[u8] = b"\xA5IXJ3\x00\x05a - b\xA5\x00\x01a\xA5\x00\x0Brenewed 1 0\x00";
+
+const RENEWED_EMPTY: &[u8] = b"\xA5IXJ3\x00\x05a - b\x00";
+
+// Words, the two files and the journal, the call of the disk and the put that fail, the status,
+// what is put, and the journal then.
+type Row = (
+    &'static [&'static str],
+    [&'static [u8]; 3],
+    Option<u64>,
+    Option<u64>,
+    u8,
+    &'static [u8],
+    &'static [u8],
+);
+
+// Of a replay call 0 attaches the journal, and 12 is the second sync of the boot, 16 that of the
+// confirm. Of a renewal call 0 attaches NEW, 1 and 2 sync and read it, two calls for each of five
+// steps follow, and 12 is the last sync.
+const CUT_SHORT: [Row; 14] = [
+    (
+        &TRACE,
+        [b"a - b", b"a\nb", b""],
+        None,
+        Some(0),
+        10,
+        b"",
+        b"",
+    ),
+    (
+        &TRACE,
+        [b"a - b", b"a\nb", b""],
+        None,
+        Some(1),
+        10,
+        b"yes\nyes\n",
+        b"",
+    ),
+    (
+        &REPLAY,
+        [b"a", THREE_MAY, b""],
+        None,
+        Some(0),
+        10,
+        b"",
+        OF_NONE,
+    ),
+    (
+        &REPLAY,
+        [b"a", THREE_MAY, b""],
+        None,
+        Some(1),
+        10,
+        b"history 0\n",
+        OF_NONE,
+    ),
+    (
+        &REPLAY,
+        [b"a", THREE_MAY, b""],
+        None,
+        Some(2),
+        10,
+        b"history 0\n0 yes\n",
+        OF_NONE,
+    ),
+    (
+        &REPLAY,
+        [b"a - b", ASK_A, b""],
+        Some(0),
+        None,
+        5,
+        b"refused disk\n",
+        b"",
+    ),
+    (
+        &REPLAY,
+        [b"a - b", ASK_A, b""],
+        Some(12),
+        None,
+        5,
+        b"refused disk\n",
+        NEW,
+    ),
+    (
+        &REPLAY,
+        [b"a - b", ASK_A, b""],
+        Some(16),
+        None,
+        5,
+        b"history 0\n0 granted 1-1\n0 refused 91 disk\nrefused disk\n",
+        NEW_OF_A,
+    ),
+    (
+        &REPLAY,
+        [b"a - b", ASK_A, b""],
+        Some(16),
+        Some(2),
+        10,
+        b"history 0\n0 granted 1-1\n",
+        NEW_OF_A,
+    ),
+    (
+        &REPLAY,
+        [b"a - c", b"", OF_A],
+        None,
+        Some(1),
+        10,
+        b"refused journal other ",
+        OF_A,
+    ),
+    (
+        &RENEW,
+        [b"a - b", OF_A, b""],
+        Some(0),
+        None,
+        5,
+        b"refused disk\n",
+        b"",
+    ),
+    (
+        &RENEW,
+        [b"a - b", OF_A, b""],
+        Some(8),
+        None,
+        5,
+        b"refused disk\n",
+        RENEWED_EMPTY,
+    ),
+    (
+        &RENEW,
+        [b"a - b", OF_A, b""],
+        Some(12),
+        None,
+        5,
+        b"refused disk\n",
+        OF_A_RENEWED,
+    ),
+    (
+        &RENEW,
+        [b"a - b", OF_A, b""],
+        None,
+        Some(0),
+        10,
+        b"",
+        OF_A_RENEWED,
+    ),
+];
+
+// Whether a run of the row ends as it should, puts what it should, and leaves such a journal.
+fn ends_so(alloc: Global, row: Row) -> Result<bool, Fail> {
+    let (words, [expression, actions, journal], call, put, status, bytes, then) = row;
+    let before = Before { journal, call, put };
+    let (ended, left) = run_from(alloc, words, expression, actions, before)?;
+    let is_same = ended.status == status && ended.bytes.as_slice() == bytes;
+    Ok(is_same && left.as_slice() == then)
 }
 
-// The same where no put fails.
-fn puts(
-    alloc: Global,
-    words: &[&str],
-    expression: &[u8],
-    actions: &[u8],
-    status: u8,
-    bytes: &[u8],
-) -> Result<bool, Fail> {
-    puts_until(alloc, words, [expression, actions], None, status, bytes)
+#[test]
+fn runs_that_are_cut_short_end(rt: HostRuntime) -> Result<(), Fail> {
+    for row in CUT_SHORT {
+        let is_so = ends_so(rt.alloc(), row)?;
+        assert!(rt;
+            is_so,
+            "call {:?} and put {:?} of {:?}",
+            row.2, row.3, row.0
+        );
+    }
+    Ok(())
 }
 
-// The same of a trace.
-fn check(
-    alloc: Global,
-    expression: &[u8],
-    actions: &[u8],
-    status: u8,
-    bytes: &[u8],
-) -> Result<bool, Fail> {
-    puts(alloc, &TRACE, expression, actions, status, bytes)
+fn repeated(alloc: Global, line: &[u8], count: usize) -> Result<Vec<u8>, Fail> {
+    let mut text = Vec::new(alloc);
+    for _ in 0..count {
+        text.extend_from_slice(line)?;
+    }
+    Ok(text)
 }
 
-// Each patient has one examination at a time, and each examination one patient.
-const BOTH: &[u8] = b"all $p *(any $x (call($p,$x) - perform($p,$x))) \
-        @ all $x *(any $p (call($p,$x) - perform($p,$x)))";
+// Whether a trace of `*a` and 1100 times `a`, where the put of this number fails, ends with 10 and
+// puts so many times `yes`.
+fn answers_so(alloc: Global, failing: u64, count: usize) -> Result<bool, Fail> {
+    let actions = repeated(alloc, b"a\n", 1100)?;
+    let bytes = repeated(alloc, b"yes\n", count)?;
+    let before = Before {
+        journal: b"",
+        call: None,
+        put: Some(failing),
+    };
+    let (ended, _) = run_from(alloc, &TRACE, b"*a", &actions, before)?;
+    Ok(ended.status == 10 && ended.bytes.as_slice() == bytes.as_slice())
+}
 
-mod bounds;
-mod follows;
-mod kept;
-mod lints;
-mod menus;
-mod reasons;
-mod refusals;
-mod replays;
-mod searches;
-mod simplifies;
-mod traces;
-mod works;
+// A put takes at most 4096 bytes, so that the first one has the answers to 1024 actions.
+#[test]
+fn answers_longer_than_a_put_are_cut_between_puts(rt: HostRuntime) -> Result<(), Fail> {
+    for (failing, count) in [(0, 0), (1, 1024), (2, 1100)] {
+        let is_so = answers_so(rt.alloc(), failing, count)?;
+        assert!(rt; is_so, "where put {failing} fails");
+    }
+    Ok(())
+}
+
+mod serves;

@@ -1,6 +1,6 @@
 use Rattle.ix_trials_of_commands.proofs.Coming.{come_push}
-use Rattle.ix_trials_of_commands.proofs.tests.kept.serves.add_event.Goals.{in-Ok, in-Err}
-use Rattle.ix_trials_of_commands.proofs.tests.kept.serves.add_event.Goals as goal
+use Rattle.ix_trials_of_commands.proofs.tests.serves.add_event.Goals.{in-Ok, in-Err}
+use Rattle.ix_trials_of_commands.proofs.tests.serves.add_event.Goals as goal
 
 pub returns : goal.returns
 returns c = record {

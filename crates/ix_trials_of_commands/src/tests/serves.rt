@@ -1,9 +1,15 @@
-//! What a serve puts and sends, and what it makes of its journal.
+//! What a serve puts and sends, and what it makes of its journal, where its calls fail.
 ghost use Rattle.std.specs.Prelude.{◌≡◌, false, IfOk, OnOk};
 ghost use Rattle.ix_memory.specs.inside.CanCome.{CanAllCome, CanCome, beside, events_beside};
 
 use super::*;
 use ix_outside::{Event, EventKind};
+
+// A connection, a moment, and bytes that come then in one piece.
+type Coming<'a> = (u8, u64, &'a [u8]);
+
+// One of a renewal that carries nothing, for 2 actions and 1 boot.
+const RENEWED_NONE: &[u8] = b"\xA5IXJ3\x00\x05a - b\xA5\x00\x0Brenewed 2 1\x00";
 
 // Where a serve runs: its journal, what comes to its site, the call of the site that fails, and the
 // number of the call from which on all fail.
@@ -77,6 +83,18 @@ fn site_over(alloc: Global, outside: Outside<'_>) -> Result<MemorySite, Fail>
     Ok(site?)
 }
 
+// Of each send its connection, a space and its bytes.
+fn sent_by(alloc: Global, site: &MemorySite) -> Result<Vec<u8>, Fail> {
+    let mut sent = Vec::new(alloc);
+    for index in 0..site.sent_len() {
+        let (conn, bytes) = site.sent_at(index);
+        let conn = format!(in alloc; "{conn} ")?;
+        sent.extend_from_slice(conn.as_bytes())?;
+        sent.extend_from_slice(bytes)?;
+    }
+    Ok(sent)
+}
+
 // What is seen of a run that ended so, at its site.
 fn served_at(alloc: Global, ended: Ended, site: &MemorySite) -> Result<Served, Fail> {
     let sent = sent_by(alloc, site)?;
@@ -95,126 +113,12 @@ fn serve_over(alloc: Global, expression: &[u8], outside: Outside<'_>) -> Result<
     served_at(alloc, ended, &site)
 }
 
-// A serve whose site fails nowhere.
-fn serve_well(
-    alloc: Global,
-    expression: &[u8],
-    journal: &[u8],
-    coming: &[Coming<'_>],
-) -> Result<Served, Fail> {
-    let outside = Outside {
-        journal,
-        coming,
-        call: None,
-        fuse: None,
-    };
-    serve_over(alloc, expression, outside)
-}
-
 // Whether a serve ended with this status, and put, sent and left these bytes.
 fn has_ended(served: &Served, status: u8, wanted: [&[u8]; 3]) -> bool {
     served.status == status
         && served.put.as_slice() == wanted[0]
         && served.sent.as_slice() == wanted[1]
         && served.journal.as_slice() == wanted[2]
-}
-
-// Whether a serve without a journal ends well, finds no action, and sends these bytes.
-fn sends(
-    alloc: Global,
-    expression: &[u8],
-    coming: &[Coming<'_>],
-    sent: &[u8],
-) -> Result<bool, Fail> {
-    let served = serve_well(alloc, expression, b"", coming)?;
-    Ok(
-        served.status == 0
-            && served.put.as_slice() == b"history 0\n".as_slice()
-            && served.sent.as_slice() == sent,
-    )
-}
-
-#[test]
-fn two_connections_are_served(rt: HostRuntime) -> Result<(), Fail> {
-    let cases: [(&[u8], &[Coming<'_>], &[u8]); 2] = [
-        (
-            PATIENTS,
-            &[
-                (0, 10, b"ask call(p1,x1) 1000\n"),
-                (0, 20, b"confirm 1-1\n"),
-                (0, 25, b"status\n"),
-                (1, 30, b"ask call(p1,x2) 1000\n"),
-                (1, 40, b"ask call(p2,x1) 1000\n"),
-            ],
-            b"0 granted 1-1\n0 confirmed 1\n0 status partial 1 nodes 10\n\
-            1 refused 21 not permitted\n1 granted 1-2\n",
-        ),
-        (
-            BOTH,
-            &[
-                (0, 10, b"ask call(p1,x1) 1000\n"),
-                (0, 20, b"confirm 1-1\n"),
-                (0, 25, b"status\n"),
-                (1, 30, b"ask call(p2,x1) 1000\n"),
-                (1, 40, b"ask call(p2,x2) 1000\n"),
-            ],
-            b"0 granted 1-1\n0 confirmed 1\n0 status partial 1 nodes 21\n\
-            1 refused 21 not permitted\n1 granted 1-2\n",
-        ),
-    ];
-    for (expression, coming, sent) in cases {
-        let are_sent = sends(rt.alloc(), expression, coming, sent)?;
-        assert!(rt; are_sent, "for {expression:?}");
-    }
-    Ok(())
-}
-
-// Whether a serve from this journal ends well, and puts, sends and leaves these bytes.
-fn goes_on(
-    alloc: Global,
-    expression: &[u8],
-    journal: &[u8],
-    coming: &[Coming<'_>],
-    wanted: [&[u8]; 3],
-) -> Result<bool, Fail> {
-    let served = serve_well(alloc, expression, journal, coming)?;
-    Ok(has_ended(&served, 0, wanted))
-}
-
-#[test]
-fn serves_go_on_from_their_journals(rt: HostRuntime) -> Result<(), Fail> {
-    // The expression, the journal, what comes, what is put and sent, and the journal then.
-    let cases: [(&[u8], &[u8], &[Coming<'_>], &[u8], &[u8], &[u8]); 3] = [
-        (
-            b"a",
-            b"",
-            &[(0, 1, b"may a\n")],
-            b"history 0\n",
-            b"0 yes\n",
-            b"\xA5IXJ2\x00\x01a\xA5\x00\x06boot 1\x00",
-        ),
-        (
-            b"a - b",
-            OF_A,
-            &[(0, 5, b"status\n"), (0, 5, b"log 1\n"), (0, 5, b"log 2\n")],
-            b"history 1\n",
-            b"0 status partial 1 nodes 3\n0 entry 1 a\n0 refused 42 no such entry\n",
-            OF_A_BOOTED,
-        ),
-        (
-            b"a - b",
-            BEFORE_A,
-            &[(0, 1, b"ask a 5\n"), (0, 2, b"confirm 1-1\n")],
-            b"history 0\n",
-            b"0 granted 1-1\n0 confirmed 1\n",
-            BOOTED_OF_A,
-        ),
-    ];
-    for (expression, journal, coming, put, sent, left) in cases {
-        let is_so = goes_on(rt.alloc(), expression, journal, coming, [put, sent, left])?;
-        assert!(rt; is_so, "over {journal:?}");
-    }
-    Ok(())
 }
 
 // A serve of `a - b` over RENEWED_NONE, in which `a` is asked for and confirmed.
