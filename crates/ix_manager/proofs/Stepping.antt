@@ -12,9 +12,13 @@ use Rattle.ix_journal.specs.declared.entries.Renewed.{Renewed}
 use Rattle.ix_expr.specs.Meaning.{IsPartial, IsComplete}
 use Rattle.ix_can.specs.TreeOf.{tree_size}
 use Rattle.ix_engine.specs.Allowed.{IsAllowed, IsPermitted}
-use Rattle.ix_engine.specs.inside.Engine.{EngineState, Allows, Permits, extended_by}
+use Rattle.ix_engine.specs.Histories.{IsRefused}
+use Rattle.ix_engine.specs.inside.Engine.{EngineState, Allows, extended_by}
+use Rattle.ix_engine.specs.declared.faults.PrepareFault.{PrepareFault}
+use Rattle.ix_engine.specs.declared.faults.PrepareFault.TheVariants.{NotPartial, Full, Over, Memory}
 use Rattle.ix_engine.specs.declared.next.Next.{Next}
 use Rattle.ix_lease.specs.Slots.{IsOpenAt, HasTicket}
+use Rattle.ix_lease.specs.inside.Takes.{IsOpenUntil}
 use Rattle.ix_lease.specs.declared.Slot.{Slot}
 use Rattle.ix_lease.specs.declared.Slot.TheVariants.{Free, Held}
 use Rattle.ix_watch.specs.inside.Watches.{PlainWatch, is_watched, AreDistinct, told_to, new_watch, without}
@@ -31,8 +35,8 @@ use Rattle.ix_manager.specs.Machine as machine
 use Rattle.ix_manager.specs.Machine.{Step, MachineWatch, MachineState, Tells, IsUnwatched, HasNoWatch}
 use Rattle.ix_manager.specs.Machine.{IsAbsent, IsOpenWith, IsUngranted, next_ticket, word_of}
 use Rattle.ix_manager.specs.inside.Core.{Core, core_watch, IsRefreshed, TellsPoll}
-use Rattle.ix_manager.specs.inside.Ready.{IsReadyFor, RefusesAsk, not_permitted, full, large, memory, IsOpenUpTo}
-use Rattle.ix_manager.specs.inside.Ready.{has_ticket}
+use Rattle.ix_manager.specs.inside.Ready.{IsReadyFor, has_ticket}
+use Rattle.ix_manager.specs.inside.Refused.{refusal_of_fault, reply_of}
 use Rattle.ix_manager.specs.inside.Does.{Does, Refreshes, IsNoted, AddsTold}
 use Rattle.ix_store.proofs.Pairing.{zip-push}
 use Rattle.ix_manager.proofs.Keeping.{kept_at, not_kept}
@@ -110,18 +114,14 @@ ready_room engine tickets slot None ticket a deadline ready held =
 ready_room engine tickets slot (Some next) ticket a deadline ready held =
     (subst (λ (s : Slot). IsReadyFor engine tickets s (Some next)) held ready).0.follows.room
 
--- there is room where there isn't none
-pub room_left : (count : ℕ) → count ≤ 1000000 → (count ≡ 1000000 → ⊥) → count < 1000000
-room_left count most not_all = omega arith
-
 -- a reservation is open
-pub busy_does : (core : Core) (a : PlainAction) (lease deadline : ℕ) → IsOpenUpTo core.state.slot core.state.moment deadline
+pub busy_does : (core : Core) (a : PlainAction) (lease deadline : ℕ) → IsOpenUntil core.state.slot core.state.moment deadline
     → Does core (request.ask a lease) (reply.Refused 20 deadline) core
 busy_does core a lease deadline within =
     unchanged core (request.ask a lease) (reply.Refused 20 deadline) (by_slot core.state.slot refl within)
     (record { listed = refl; zero_else = λ h. absurd (true≢false h) })
   where
-    by_slot : (slot : Slot) → core.state.slot ≡ slot → IsOpenUpTo slot core.state.moment deadline
+    by_slot : (slot : Slot) → core.state.slot ≡ slot → IsOpenUntil slot core.state.moment deadline
         → Step core.form core.limit core.state (request.ask a lease) (reply.Refused 20 deadline ∷ []) core.state
     by_slot Free is h = elim h [ ]
     by_slot (Held ticket held end) is h =
@@ -162,32 +162,36 @@ module _ (engine : EngineState) (tickets : List (Option Ticket)) (slot : Slot) (
     limit = limit;
   }
 
-  pub refused_does : (f : EngineState) (tickets' : List (Option Ticket)) (a : PlainAction) (lease : ℕ) (one : Reply)
+  -- the action isn't prepared
+  pub refused_does : (f : EngineState) (tickets' : List (Option Ticket)) (a : PlainAction) (lease : ℕ) (why : PrepareFault)
       → f.form ≡ engine.form → f.history ≡ engine.history → f.limit ≡ engine.limit → tickets' ≡ tickets
-      → ¬ IsOpenAt slot moment → RefusesAsk engine a one
-      → Does old (request.ask a lease) one (core_of f tickets' Free watches moment renewed boot number)
-  refused_does f tickets' a lease one p q r t free refuses =
-      along f tickets' Free watches number (record old.state { slot = Free }) (request.ask a lease) one p r
-      (λ i. record old.state { history = zip (t i) (q i); slot = Free }) (told one refuses) (step one refuses)
+      → ¬ IsOpenAt slot moment → IsRefused engine.form engine.limit engine.history a why
+      → Does old (request.ask a lease) (reply_of (refusal_of_fault why)) (core_of f tickets' Free watches moment renewed boot number)
+  refused_does f tickets' a lease why p q r t free refuses =
+      along f tickets' Free watches number (record old.state { slot = Free }) (request.ask a lease) (reply_of (refusal_of_fault why)) p r
+      (λ i. record old.state { history = zip (t i) (q i); slot = Free }) (told why) (step why refuses)
     where
-      told : (one : Reply) → RefusesAsk engine a one → CanBeTold one
-      told _ (not_permitted h) = record { listed = refl; zero_else = λ e. refl }
-      told _ (full p e) = record { listed = refl; zero_else = λ e. refl }
-      told _ (large p l s) = record { listed = refl; zero_else = λ e. absurd (true≢false e) }
-      told _ (memory p l) = record { listed = refl; zero_else = λ e. refl }
+      told : (why : PrepareFault) → CanBeTold (reply_of (refusal_of_fault why))
+      told NotPartial = record { listed = refl; zero_else = λ e. refl }
+      told Full = record { listed = refl; zero_else = λ e. refl }
+      told (Over l) = record { listed = refl; zero_else = λ e. absurd (true≢false e) }
+      told Memory = record { listed = refl; zero_else = λ e. refl }
 
-      permits : Permits engine a → IsPermitted engine.form (word_of old.state) a
+      permits : IsPermitted engine.form engine.history a → IsPermitted engine.form (word_of old.state) a
       permits = of_words (λ (w : Word). IsPermitted engine.form w a)
 
       room : length engine.history < 1000000 → length old.state.history < 1000000
       room = subst (λ n. n < 1000000) (sym counts)
 
-      step : (one : Reply) → RefusesAsk engine a one → Step engine.form engine.limit old.state (request.ask a lease) (one ∷ []) (record old.state { slot = Free })
-      step _ (not_permitted h) = machine.not_permitted free (of_words (λ (w : Word). ¬ IsPermitted engine.form w a) h)
-      step _ (full p e) = machine.full free (permits p) (counts ∙ e)
-      step _ (large p l s) = machine.large free (permits p) (room l)
-          (of_words (λ (w : Word). engine.limit < tree_size engine.form (w ++ a ∷ [])) s)
-      step _ (memory p l) = machine.ask_memory free (permits p) (room l)
+      Answers : Reply → Type 0
+      Answers one = Step engine.form engine.limit old.state (request.ask a lease) (one ∷ []) (record old.state { slot = Free })
+
+      step : (why : PrepareFault) → IsRefused engine.form engine.limit engine.history a why → Answers (reply_of (refusal_of_fault why))
+      step NotPartial h = machine.not_permitted free (of_words (λ (w : Word). ¬ IsPermitted engine.form w a) h)
+      step Full h = machine.full free (permits h.0) (counts ∙ h.1)
+      step (Over l) h = subst (λ n. Answers (reply.Refused 22 n)) (sym h.0) (machine.large free (permits h.1) (room h.2)
+          (of_words (λ (w : Word). engine.limit < tree_size engine.form (w ++ a ∷ [])) h.3))
+      step Memory h = machine.ask_memory free (permits h.0) (room h.1)
 
   pub granted_does : (f : EngineState) (tickets' : List (Option Ticket)) (a : PlainAction) (lease deadline : ℕ)
       → f.form ≡ engine.form → f.history ≡ engine.history → f.limit ≡ engine.limit → tickets' ≡ tickets

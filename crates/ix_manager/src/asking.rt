@@ -2,13 +2,12 @@
 
 ghost use Rattle.std.specs.Prelude.{◌≡◌, ◌↔◌, ◌+◌, ◌^◌, ◌≤◌, IsTrue, position};
 ghost use Rattle.ix_proto.specs.Requests as request;
-ghost use Rattle.ix_manager.specs.Machine.{IsOpenWith, IsUngranted, ahead_of, count};
+ghost use Rattle.ix_manager.specs.Machine.{IsUngranted, ahead_of, count};
 ghost use Rattle.ix_manager.specs.inside.Does.{Does};
 ghost use Rattle.ix_manager.specs.inside.Ready.{has_ticket};
 
 use crate::machine::Machine;
 use crate::refusals::{Refusal, refused};
-use ix_lease::Slot;
 use ix_proto::{Outcome, Reply};
 use ix_values::{Action, Ticket};
 
@@ -54,7 +53,7 @@ impl Machine {
         if let Some(index) = place_of(&self.tickets, ticket) {
             return Reply::Outcome(Outcome::Confirmed(self.ahead() + index as u64 + 1));
         }
-        if is_open_with(&self.slot, self.moment, ticket) {
+        if self.slot.is_open_with(self.moment, ticket) {
             return Reply::Outcome(Outcome::Waiting);
         }
         if is_ungranted(self.boot, self.number, ticket) {
@@ -107,17 +106,4 @@ fn is_ungranted(boot: u64, number: u64, ticket: &Ticket) -> bool
         || ticket.seq == 0
         || boot < ticket.boot
         || ticket.boot == boot && number <= ticket.seq
-}
-
-fn is_open_with(slot: &Slot, moment: u64, ticket: &Ticket) -> bool
-    ensures { IsTrue result ↔ IsOpenWith slot.now moment ticket.now }
-{
-    match slot {
-        Slot::Free => false,
-        Slot::Held {
-            ticket: held,
-            deadline,
-            ..
-        } => held == ticket && moment < *deadline,
-    }
 }

@@ -1,8 +1,9 @@
 //! The refusals of requests.
 
 ghost use Rattle.std.specs.Prelude.{◌≡◌};
-ghost use Rattle.ix_manager.specs.inside.Refused.{reply_of};
+ghost use Rattle.ix_manager.specs.inside.Refused.{refusal_of_fault, reply_of};
 
+use ix_engine::PrepareFault;
 use ix_proto::Reply;
 
 /// Why a request is refused.
@@ -38,6 +39,21 @@ pub(crate) enum Refusal {
     Memory,
     /// The disk failed.
     Disk,
+}
+
+impl From<PrepareFault> for Refusal {
+    ghost from_gives = { λ fault refusal. refusal ≡ refusal_of_fault fault };
+
+    fn from(fault: PrepareFault) -> Refusal {
+        match fault {
+            PrepareFault::NotPartial => Refusal::NotPermitted,
+            PrepareFault::Full => Refusal::Full,
+            PrepareFault::Over { limit } => Refusal::Large {
+                limit: limit as u64,
+            },
+            PrepareFault::Memory => Refusal::Memory,
+        }
+    }
 }
 
 /// The reply that tells a refusal: its code, and its number, which is 0 where it has none.

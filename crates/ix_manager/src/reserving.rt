@@ -1,13 +1,13 @@
 //! Asks, and what becomes of a reservation.
 
 ghost use Rattle.std.specs.Prelude.{◌≡◌, ◌≢◌, ◌-◌, ◌^◌, ◌<◌, length};
-ghost use Rattle.std.specs.Prelude.{IfOk, IfErr, OnOk, IfSome, IfNone, vec_capacity};
+ghost use Rattle.std.specs.Prelude.{IfOk, IfErr, OnOk, vec_capacity};
 ghost use Rattle.ix_engine.specs.Limits.{most_actions};
 ghost use Rattle.ix_values.specs.PlainAction.{PlainAction};
+ghost use Rattle.ix_engine.specs.Histories.{IsRefused};
 ghost use Rattle.ix_engine.specs.inside.Engine.{Allows};
-ghost use Rattle.ix_lease.specs.Slots.{IsOpenAt};
 ghost use Rattle.ix_proto.specs.Requests as request;
-ghost use Rattle.ix_manager.specs.inside.Ready.{IsPrepared, RefusesAsk, IsOpenUpTo};
+ghost use Rattle.ix_manager.specs.inside.Ready.{IsPrepared};
 ghost use Rattle.ix_proto.specs.inside.ReplyTexts.{CanBeTold};
 ghost use Rattle.ix_manager.specs.inside.Does.{Does};
 ghost use Rattle.ix_manager.specs.inside.Saving.{Finds, Commits};
@@ -26,7 +26,7 @@ impl Machine {
         requires { self.old.state.number < 2 ^ 64 - 1 }
         ensures { Does self.old (request.ask action lease) result self.new }
     {
-        if let Some(deadline) = open_deadline(&self.slot, self.moment) {
+        if let Some(deadline) = self.slot.open_until(self.moment) {
             return refused(Refusal::Busy { deadline });
         }
         self.slot = Slot::Free;
@@ -47,7 +47,7 @@ impl Machine {
                 self.number += 1;
                 Reply::Granted(ticket)
             }
-            Err(refusal) => refusal,
+            Err(why) => refused(Refusal::from(why)),
         }
     }
 
@@ -95,59 +95,26 @@ impl Machine {
     }
 }
 
-fn open_deadline(slot: &Slot, moment: u64) -> Option<u64>
-    ensures up_to { IfSome result (λ deadline. IsOpenUpTo slot.now moment deadline) }
-    ensures none { IfNone result (¬ IsOpenAt slot.now moment) }
-{
-    match slot {
-        Slot::Free => None,
-        Slot::Held { deadline, .. } => {
-            if moment < *deadline {
-                Some(*deadline)
-            } else {
-                None
-            }
-        }
-    }
-}
-
-/// Takes the memory to commit the action with its ticket too, so that a confirm needs none.
+/// Prepares the action, and takes the memory to commit it with its ticket, so that a confirm needs
+/// none.
 fn prepare(
     alloc: Global,
     engine: &mut Engine,
     tickets: &mut Vec<Option<Ticket>>,
     action: &Action,
-) -> Result<Next, Reply>
+) -> Result<Next, PrepareFault>
     ensures prepared { IfOk result (λ next. IsPrepared engine.new action.now next) }
     ensures place { OnOk result (length tickets.new.items < vec_capacity tickets.new) }
     ensures tickets { tickets.new.items ≡ tickets.old.items }
     ensures permitted { OnOk result (Allows engine.old action.now) }
-    ensures refused { IfErr result (λ reply. RefusesAsk engine.old action.now reply) }
+    ensures refused { IfErr result
+        (λ why. IsRefused engine.old.form engine.old.limit engine.old.history action.now why) }
     ensures form { engine.new.form ≡ engine.old.form }
     ensures history { engine.new.history ≡ engine.old.history }
     ensures limit { engine.new.limit ≡ engine.old.limit }
 {
-    let next = match engine.prepare(alloc, action) {
-        Ok(next) => next,
-        Err(PrepareFault::NotPartial) => return Err(refused(Refusal::NotPermitted)),
-        Err(PrepareFault::Full) => return Err(refused(Refusal::Full)),
-        Err(PrepareFault::Over { limit }) => {
-            return Err(refused(Refusal::Large {
-                limit: limit as u64,
-            }));
-        }
-        Err(PrepareFault::Memory) => {
-            // Memory runs out only for what may come next, in a history with room.
-            prove!(engine.may(action));
-            prove!(engine.history().len() <= 1_000_000);
-            return Err(refused(Refusal::Memory));
-        }
-    };
-    let Ok(()) = engine.reserve_one() else {
-        return Err(refused(Refusal::Memory));
-    };
-    match tickets.reserve(1) {
-        Ok(()) => Ok(next),
-        Err(_) => Err(refused(Refusal::Memory)),
-    }
+    let next = engine.prepare(alloc, action)?;
+    engine.reserve_one()?;
+    tickets.reserve(1)?;
+    Ok(next)
 }

@@ -1,20 +1,16 @@
--- What stands ready for a reservation, and why an action isn't prepared for one.
-use Rattle.std.specs.Prelude.{◌≡◌, ℕ, ◌^◌, ◌<◌, ◌≤◌, ◌==◌, Bool, false, Option, Some, None, length}
+-- What stands ready for a reservation.
+use Rattle.std.specs.Prelude.{◌≡◌, ◌^◌, ◌<◌, ◌≤◌, ◌==◌, Bool, false, Option, Some, None, length}
 use Rattle.std.specs.Prelude.{Vec}
 use Rattle.std.specs.Prelude.{if◌then◌else◌}
 use Rattle.std.specs.Vec.{vec_capacity, vec_len}
 use Rattle.std.specs.declared.alloc.Global.{Global}
-use Rattle.ix_engine.specs.Limits.{most_actions}
 use Rattle.ix_values.specs.PlainAction.{PlainAction}
 use Rattle.ix_values.specs.declared.tickets.Ticket.{Ticket}
 use Rattle.ix_journal.specs.declared.entries.Renewed.{Renewed}
-use Rattle.ix_can.specs.TreeOf.{tree_size}
-use Rattle.ix_engine.specs.inside.Engine.{EngineState, IsTreeAfter, Permits, extended_by}
+use Rattle.ix_engine.specs.inside.Engine.{EngineState, IsTreeAfter}
 use Rattle.ix_engine.specs.declared.next.Next.{Next}
 use Rattle.ix_lease.specs.declared.Slot.{Slot}
 use Rattle.ix_lease.specs.declared.Slot.TheVariants.{Free, Held}
-use Rattle.ix_proto.specs.declared.reply.Reply.{Reply}
-use Rattle.ix_manager.specs.Refusals as refused
 
 -- the prepared action is this one and follows the engine, which has the memory for it
 pub record IsPrepared (engine : EngineState) (action : PlainAction) (next : Next) : Type 0 where
@@ -46,19 +42,3 @@ pub record IsMachine (engine : EngineState) (tickets : Vec (Option Ticket) Globa
 abbrev pub has_ticket : Ticket → Option Ticket → Bool
 has_ticket ticket None = false
 has_ticket ticket (Some kept) = if kept.boot == ticket.boot then kept.seq == ticket.seq else false
-
--- the refusals of an action that isn't prepared
-pub data RefusesAsk (engine : EngineState) (action : PlainAction) : Reply → Type 0 where
-  not_permitted : ¬ Permits engine action → RefusesAsk engine action refused.not_permitted
-  full : Permits engine action → length engine.history ≡ most_actions
-      → RefusesAsk engine action refused.full
-  large : Permits engine action → length engine.history < most_actions
-      → engine.limit < tree_size engine.form (extended_by engine action)
-      → RefusesAsk engine action (refused.above engine.limit)
-  memory : Permits engine action → length engine.history < most_actions
-      → RefusesAsk engine action refused.no_memory
-
--- open at the moment, up to this deadline
-abbrev pub IsOpenUpTo : Slot → ℕ → ℕ → Type 0
-IsOpenUpTo Free moment deadline = ⊥
-IsOpenUpTo (Held ticket action end) moment deadline = (end ≡ deadline) × (moment < end)

@@ -1,4 +1,6 @@
--- The reply that tells a refusal.
+-- Why a request is refused whose action isn't prepared, and the reply that tells a refusal.
+use Rattle.ix_engine.specs.declared.faults.PrepareFault.{PrepareFault}
+use Rattle.ix_engine.specs.declared.faults.PrepareFault.TheVariants as prepare
 use Rattle.ix_proto.specs.declared.reply.Reply.{Reply}
 use Rattle.ix_proto.specs.declared.reply.Reply.TheVariants as reply
 use Rattle.ix_manager.specs.Refusals as refused
@@ -22,3 +24,10 @@ reply_of refusal.NoSuchWatch = refused.no_such_watch
 reply_of refusal.NoSuchEntry = refused.no_such_entry
 reply_of refusal.Memory = refused.no_memory
 reply_of refusal.Disk = refused.disk
+
+-- why a request is refused whose action isn't prepared
+abbrev pub refusal_of_fault : PrepareFault → Refusal
+refusal_of_fault prepare.NotPartial = refusal.NotPermitted
+refusal_of_fault prepare.Full = refusal.Full
+refusal_of_fault (prepare.Over limit) = refusal.Large limit
+refusal_of_fault prepare.Memory = refusal.Memory
