@@ -1,20 +1,11 @@
 -- TraceAnswers to one action and to several.
 use Rattle.std.proofs.Common.{◌≡◌, ◌≢◌, ◌⊎◌, inl, inr, ℕ, List, [], ◌∷◌, ◌++◌, refl, sym, ap, subst, ◌∙◌, append_assoc, arith, length}
 use Rattle.std.proofs.lemmas.List.{append-nil}
-use Rattle.std.specs.Prelude.{codes}
 use Rattle.ix_values.specs.PlainAction.{PlainAction, Word}
 use Rattle.ix_expr.specs.Form.{Form}
 use Rattle.ix_outside.specs.Sink.{IsFront}
 use Rattle.ix_journal.proofs.KindLemmas.{cons_head, cons_tail}
-use Rattle.ix_manage.specs.ActionLines.{line}
-use Rattle.ix_engine.specs.inside.Engine.{EngineState, Allows, extended_by}
 use Rattle.ix_manage.specs.Trace.{TraceAnswers, Verdict, done, no, full, large, yes}
-
--- an action that is allowed, and joins
-pub answers_yes : (s : EngineState) (a joined : PlainAction) (after : Word) → Allows s a → joined ≡ a → after ≡ extended_by s joined
-    → TraceAnswers s.form s.limit s.history (a ∷ []) (line (codes "yes")) after
-answers_yes s a joined after allowed same longer =
-    subst (TraceAnswers s.form s.limit s.history (a ∷ []) (line (codes "yes"))) (sym (longer ∙ ap (extended_by s) same)) (yes allowed.permitted allowed.room allowed.within done)
 
 -- the answers to a front, and those to what is behind it
 pub answers_join : {x : Form} {limit : ℕ} {history middle after front back : Word} {text more : List ℕ} → TraceAnswers x limit history front text middle → TraceAnswers x limit middle back more after

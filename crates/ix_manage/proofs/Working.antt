@@ -17,14 +17,14 @@ use Rattle.ix_manage.specs.Work.{Asked, grant, history_of, next_ask, none, refus
 use Rattle.ix_manage.specs.inside.Working.{AsksNext, HasAsked, granted, refused}
 
 -- an ask that is allowed is granted, and joins the history
-pub allowed_granted : (s : EngineState) (old new : PlainWorkload) (a joined : PlainAction) (after : Word)
-    → a ≡ asked_action (drawn old) → Allows s a → joined ≡ a → after ≡ extended_by s joined
+pub allowed_granted : (s : EngineState) (old new : PlainWorkload) (a : PlainAction) (after : Word)
+    → a ≡ asked_action (drawn old) → Allows s a → after ≡ extended_by s a
     → new ≡ with_granted (behind_draw old) (drawn old)
     → AsksNext s old true after new
-allowed_granted s old new a joined after drawn_is allows same longer then =
+allowed_granted s old new a after drawn_is allows longer then =
     subst (AsksNext s old true after) (sym then)
     (subst (λ history. AsksNext s old true history (with_granted (behind_draw old) (drawn old)))
-    (sym (longer ∙ ap (extended_by s) (same ∙ drawn_is)))
+    (sym (longer ∙ ap (extended_by s) drawn_is))
     (granted (subst (Allows s) drawn_is allows)))
 
 -- one that isn't is refused, and leaves the history

@@ -123,12 +123,8 @@ fn answer_line(
     ensures form { engine.new.form ≡ engine.old.form }
     ensures limit { engine.new.limit ≡ engine.old.limit }
 {
-    match engine.prepare(alloc, action) {
-        Ok(next) => {
-            engine.reserve_one()?;
-            engine.commit(next);
-            Ok(b"yes\n")
-        }
+    match engine.take(alloc, action) {
+        Ok(()) => Ok(b"yes\n"),
         Err(PrepareFault::NotPartial) => Ok(b"no\n"),
         Err(PrepareFault::Full) => Ok(b"full\n"),
         Err(PrepareFault::Over { .. }) => Ok(b"large\n"),

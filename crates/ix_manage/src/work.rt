@@ -93,10 +93,8 @@ fn ask_next(alloc: Global, engine: &mut Engine, workload: &mut Workload) -> Resu
     ensures limit { engine.new.limit ≡ engine.old.limit }
 {
     let action = workload.draw();
-    match engine.prepare(alloc, &action) {
-        Ok(next) => {
-            engine.reserve_one()?;
-            engine.commit(next);
+    match engine.take(alloc, &action) {
+        Ok(()) => {
             workload.granted(&action);
             Ok(true)
         }
