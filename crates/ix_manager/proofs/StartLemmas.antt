@@ -1,5 +1,5 @@
 -- What starting a manager answers and leaves.
-use Rattle.std.proofs.Common.{◌≡◌, ◌⊎◌, ℕ, ◌+◌, ◌≤◌, List, [], length, Option, None, Some, Result, Err, false, inl, inr, refl, sym, ◌∙◌, ap, subst, arith}
+use Rattle.std.proofs.Common.{◌≡◌, ◌⊎◌, ℕ, ◌+◌, ◌≤◌, List, [], length, Option, None, Some, Result, Ok, Err, IsErrAnd, false, inl, inr, refl, sym, ◌∙◌, ap, subst, arith}
 use Rattle.std.proofs.lemmas.List.{length-map}
 use Rattle.std.specs.Option.{ForSome}
 use Rattle.ix_journal.specs.Entries.{marks_of, pairs_of, renewed_of}
@@ -273,25 +273,30 @@ started_leaves {result = result} x limit disk old mid new was then is text h pai
     (subst (λ (k : PlainHistory). LeavesOnly (IsBootedOrNot (canonical_text form) k store.marks) (span mid new then is)) pairs_are
     (images told_then.0 told_then.1))) result may
 
+-- what a `?` hands on
+pub handed_on : {T E : Type 0} (r : Result T E) (fault : E) → IsErrAnd r (λ e. e ≡ fault) → r ≡ Err fault
+handed_on (Ok t) fault is = absurd is
+handed_on (Err e) fault is = ap Err is
+
 -- a store that wasn't opened isn't refused as large
-pub never_large : {T : Type 0} (why : OpenFault) (fault : StartFault) (limit : ℕ) → fault ≡ open_fault_of why
-    → ◌≡◌ {A = Result T StartFault} (Err fault) (Err (start.Large limit)) → ⊥
-never_large refused.Disk fault limit is same = cc
-never_large refused.NotJournal fault limit is same = cc
-never_large (refused.OtherExpression kept) fault limit is same = cc
-never_large (refused.Damaged at) fault limit is same = cc
-never_large refused.Many fault limit is same = cc
-never_large refused.Memory fault limit is same = cc
+pub never_large : {T : Type 0} (why : OpenFault) (limit : ℕ)
+    → ◌≡◌ {A = Result T StartFault} (Err (open_fault_of why)) (Err (start.Large limit)) → ⊥
+never_large refused.Disk limit same = cc
+never_large refused.NotJournal limit same = cc
+never_large (refused.OtherExpression kept) limit same = cc
+never_large (refused.Damaged at) limit same = cc
+never_large refused.Many limit same = cc
+never_large refused.Memory limit same = cc
 
 -- a store that wasn't opened is refused for the disk only where this failed
-pub disk_fault : {T : Type 0} (why : OpenFault) (fault : StartFault) → fault ≡ open_fault_of why
-    → ◌≡◌ {A = Result T StartFault} (Err fault) (Err start.Disk) → why ≡ refused.Disk
-disk_fault refused.Disk fault is same = refl
-disk_fault refused.NotJournal fault is same = cc
-disk_fault (refused.OtherExpression kept) fault is same = cc
-disk_fault (refused.Damaged at) fault is same = cc
-disk_fault refused.Many fault is same = cc
-disk_fault refused.Memory fault is same = cc
+pub disk_fault : {T : Type 0} (why : OpenFault)
+    → ◌≡◌ {A = Result T StartFault} (Err (open_fault_of why)) (Err start.Disk) → why ≡ refused.Disk
+disk_fault refused.Disk same = refl
+disk_fault refused.NotJournal same = cc
+disk_fault (refused.OtherExpression kept) same = cc
+disk_fault (refused.Damaged at) same = cc
+disk_fault refused.Many same = cc
+disk_fault refused.Memory same = cc
 
 -- why the store wasn't opened
 pub open_fault : (x : Form) (limit : ℕ) (file : List ℕ) (why : OpenFault) → RefusesFileAs file (canonical_text x) why

@@ -1,5 +1,16 @@
 //! What starting a manager and handling an event answer.
 
+ghost use Rattle.std.specs.Prelude.{◌≡◌};
+ghost use Rattle.ix_manager.specs.declared.faults.StartFault.TheVariants as fault;
+ghost use Rattle.ix_manager.specs.inside.StartFaults.{start_fault_of, open_fault_of};
+ghost use Rattle.ix_manager.specs.inside.StartFaults.{record_fault_of};
+
+use ix_engine::{PrepareFault, ResumeFault};
+use ix_outside::DiskFailed;
+use ix_step::BuildFault;
+use ix_store::OpenFault;
+use std::alloc::AllocError;
+
 /// Whether the run goes on.
 #[derive(Clone, Copy, Debug, PartialEq, Eq)]
 pub enum Go {
@@ -40,4 +51,60 @@ pub enum StartFault {
     Heavy { number: u64, limit: usize },
     /// Memory ran out.
     Memory,
+}
+
+impl From<AllocError> for StartFault {
+    ghost from_gives = { λ _ why. why ≡ fault.Memory };
+
+    fn from(_: AllocError) -> StartFault {
+        StartFault::Memory
+    }
+}
+
+impl From<DiskFailed> for StartFault {
+    ghost from_gives = { λ _ why. why ≡ fault.Disk };
+
+    fn from(_: DiskFailed) -> StartFault {
+        StartFault::Disk
+    }
+}
+
+impl From<BuildFault> for StartFault {
+    ghost from_gives = { λ fault why. why ≡ start_fault_of fault };
+
+    fn from(fault: BuildFault) -> StartFault {
+        match fault {
+            BuildFault::Over { limit } => StartFault::Large { limit },
+            BuildFault::Memory => StartFault::Memory,
+        }
+    }
+}
+
+impl From<OpenFault> for StartFault {
+    ghost from_gives = { λ fault why. why ≡ open_fault_of fault };
+
+    fn from(fault: OpenFault) -> StartFault {
+        match fault {
+            OpenFault::Disk => StartFault::Disk,
+            OpenFault::NotJournal => StartFault::Foreign,
+            OpenFault::OtherExpression { kept } => StartFault::Other { kept },
+            OpenFault::Damaged { at } => StartFault::Damaged { at },
+            OpenFault::Many => StartFault::Many,
+            OpenFault::Memory => StartFault::Memory,
+        }
+    }
+}
+
+impl From<ResumeFault> for StartFault {
+    ghost from_gives = { λ fault why. why ≡ record_fault_of fault.number fault.why };
+
+    fn from(fault: ResumeFault) -> StartFault {
+        let number = fault.number;
+        match fault.why {
+            PrepareFault::NotPartial => StartFault::Word { number },
+            PrepareFault::Full => StartFault::Many,
+            PrepareFault::Over { limit } => StartFault::Heavy { number, limit },
+            PrepareFault::Memory => StartFault::Memory,
+        }
+    }
 }

@@ -22,8 +22,6 @@ ghost use Rattle.ix_manager.specs.inside.StartAnswers.{StartsFrom, StartLeaves};
 ghost use Rattle.ix_manager.specs.Machine.{count, start_of, word_of};
 ghost use Rattle.ix_manager.specs.Runs.{opening_of};
 ghost use Rattle.ix_manager.specs.inside.OverSite.{FitsSite, HandlesOver, OnlyServes};
-ghost use Rattle.ix_manager.specs.inside.StartFaults.{start_fault_of, open_fault_of};
-ghost use Rattle.ix_manager.specs.inside.StartFaults.{record_fault_of};
 ghost use Rattle.ix_manager.specs.inside.Over.{OverRun};
 ghost use Rattle.ix_manager.specs.inside.TakenItems.{TakesBytes};
 ghost use Rattle.ix_manager.specs.inside.WireState.{wire_stretch};
@@ -32,12 +30,11 @@ use crate::answering::{Piece, take_piece};
 use crate::journaled::Journaled;
 use crate::machine::Machine;
 use crate::{Go, StartFault, Stop};
-use ix_engine::{Engine, PrepareFault, ResumeFault};
+use ix_engine::Engine;
 use ix_expr::Expression;
 use ix_lines::Lines;
 use ix_outside::{DiskFailed, Event, EventKind, Site};
-use ix_step::BuildFault;
-use ix_store::{OpenFault, Store};
+use ix_store::Store;
 use ix_text::text;
 use ix_values::{Action, Ticket};
 use std::alloc::{AllocError, Global};
@@ -122,34 +119,19 @@ impl Manager {
             (stretch_of S.state S.crashes site.old site.new)) }
         ensures calls { DiskCalls (stretch_of S.state S.crashes site.old site.new) }
     {
-        let Ok(text) = text(alloc, &expression) else {
-            return Err(StartFault::Memory);
-        };
-        let engine = match Engine::new(alloc, expression, limit) {
-            Ok(engine) => engine,
-            Err(fault) => return Err(start_fault(fault)),
-        };
-        let Ok(lines) = all_lines(alloc) else {
-            return Err(StartFault::Memory);
-        };
-        let (store, history) = match Store::start(alloc, site, &text) {
-            Ok(opened) => opened,
-            Err(fault) => return Err(open_fault(fault)),
-        };
+        let text = text(alloc, &expression)?;
+        let engine = Engine::new(alloc, expression, limit)?;
+        let lines = all_lines(alloc)?;
+        let (store, history) = Store::start(alloc, site, &text)?;
         let (tickets, actions) = history.into_parts();
-        let engine = match engine.resume(alloc, actions) {
-            Ok(engine) => engine,
-            Err(fault) => return Err(record_fault(fault)),
-        };
-        match start_machine(alloc, site, store, engine, tickets) {
-            Ok(journaled) => Ok(Manager {
-                journaled,
-                lines,
-                marks: [false; CONNECTIONS],
-                ended: false,
-            }),
-            Err(_) => Err(StartFault::Disk),
-        }
+        let engine = engine.resume(alloc, actions)?;
+        let journaled = start_machine(alloc, site, store, engine, tickets)?;
+        Ok(Manager {
+            journaled,
+            lines,
+            marks: [false; CONNECTIONS],
+            ended: false,
+        })
     }
 
     /// Takes an event with its bytes: raises the moment, handles each line that the bytes complete,
@@ -318,38 +300,4 @@ fn all_lines(alloc: Global) -> Result<Vec<Lines>, AllocError>
         lines.push(Lines::new())?;
     }
     Ok(lines)
-}
-
-fn start_fault(fault: BuildFault) -> StartFault
-    ensures { result ≡ start_fault_of fault }
-{
-    match fault {
-        BuildFault::Over { limit } => StartFault::Large { limit },
-        BuildFault::Memory => StartFault::Memory,
-    }
-}
-
-fn open_fault(fault: OpenFault) -> StartFault
-    ensures { result ≡ open_fault_of fault }
-{
-    match fault {
-        OpenFault::Disk => StartFault::Disk,
-        OpenFault::NotJournal => StartFault::Foreign,
-        OpenFault::OtherExpression { kept } => StartFault::Other { kept },
-        OpenFault::Damaged { at } => StartFault::Damaged { at },
-        OpenFault::Many => StartFault::Many,
-        OpenFault::Memory => StartFault::Memory,
-    }
-}
-
-fn record_fault(fault: ResumeFault) -> StartFault
-    ensures { result ≡ record_fault_of fault.number fault.why }
-{
-    let number = fault.number;
-    match fault.why {
-        PrepareFault::NotPartial => StartFault::Word { number },
-        PrepareFault::Full => StartFault::Many,
-        PrepareFault::Over { limit } => StartFault::Heavy { number, limit },
-        PrepareFault::Memory => StartFault::Memory,
-    }
 }
