@@ -101,6 +101,8 @@ def journals() -> Iterator[Row]:
                OF_A_BOOTED)
     yield over(BEFORE_A, "1 0 ask a 5\n2 0 confirm 1-1", 0,
                "history 0\n0 granted 1-1\n0 confirmed 1\n", BOOTED_OF_A)
+    # What was never opened is made anew.
+    yield over(b"\x5A", "", 0, "history 0\n", b"\xA5IXJ2\x00\x05a - b\xA5\x00\x06boot 1\x00")
     yield over(b"#!/bin/sh", "", 8, "refused journal foreign\n", b"#!/bin/sh")
     yield over(OF_A, "", 8, "refused journal other a - b\n", OF_A, "a - c")
     for journal, wanted in (

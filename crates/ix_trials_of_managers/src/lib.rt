@@ -1,4 +1,4 @@
-//! The tests of `ix_manager`, and of the words that `ix_renew` carries.
+//! The tests of `ix_manager`. What a start answers is in `bench/commands`.
 #![tactic(auto)]
 
 #[cfg(test)]

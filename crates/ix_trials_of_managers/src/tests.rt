@@ -1,13 +1,10 @@
 //! Events through a manager over a site in memory, with answers worked out by hand.
 
-ghost use Rattle.std.specs.Prelude.{◌≡◌, ◌≤◌, true, IfOk, OnSome};
+ghost use Rattle.std.specs.Prelude.{◌≡◌, true, IfOk, OnSome};
 ghost use Rattle.ix_manager.specs.inside.OverSite.{FitsSite};
-ghost use Rattle.ix_step.specs.inside.Limits.{most_size};
-
-mod carried;
 
 use ix_expr::{Atom, Expr, Expression, has_numbers};
-use ix_manager::{Go, Manager, StartFault, Stop};
+use ix_manager::{Go, Manager, Stop};
 use ix_memory::MemorySite;
 use ix_outside::{Event, EventKind, Site};
 use ix_values::Name;
@@ -364,59 +361,5 @@ fn a_long_line_is_refused_once_and_an_unfinished_one_is_dropped(
     let events = long_pieces(rt.alloc(), &long, &long[..300])?;
     let text = long_text(rt.alloc())?;
     assert!(rt; sends(rt.alloc(), &events, &text)?);
-    Ok(())
-}
-
-// What a start answered: a word or the other text that is kept, and a number.
-#[derive(Drop)]
-struct Told {
-    text: Vec<u8>,
-    number: u64,
-}
-
-fn make_told(alloc: Global, text: &[u8], number: u64) -> Result<Told, Fail> {
-    let text = text.to_vec(alloc)?;
-    Ok(Told { text, number })
-}
-
-// What starting from a file under a limit answers.
-fn start_from(alloc: Global, file: &[u8], limit: usize) -> Result<Told, Fail>
-    requires least { 1 ≤ limit }
-    requires most { limit ≤ most_size }
-{
-    let expression = expression(alloc)?;
-    let mut site = site_with(alloc, file, &[])?;
-    match Manager::start(alloc, &mut site, expression, limit) {
-        Ok(manager) => make_told(alloc, b"started", manager.history().len() as u64),
-        Err(StartFault::Large { limit }) => make_told(alloc, b"large", limit as u64),
-        Err(StartFault::Disk) => make_told(alloc, b"disk", 0),
-        Err(StartFault::Foreign) => make_told(alloc, b"foreign", 0),
-        Err(StartFault::Other { kept }) => make_told(alloc, &kept, 0),
-        Err(StartFault::Damaged { at }) => make_told(alloc, b"damaged", at as u64),
-        Err(StartFault::Many) => make_told(alloc, b"many", 0),
-        Err(StartFault::Word { number }) => make_told(alloc, b"word", number),
-        Err(StartFault::Heavy { number, .. }) => make_told(alloc, b"heavy", number),
-        Err(StartFault::Memory) => Err("no memory".into()),
-    }
-}
-
-#[test]
-fn files_that_are_started_from_or_not(rt: HostRuntime) -> Result<(), Fail> {
-    let cases: [(&[u8], usize, &[u8], u64); 9] = [
-        (b"", 1, b"large", 1),
-        (b"", 2, b"started", 0),
-        (OF_A, 3, b"started", 1),
-        (b"\x5A", 100, b"started", 0),
-        (b"#!/bin/sh", 100, b"foreign", 0),
-        (b"\xA5IXJ1\x00\x05a - c\x00", 100, b"a - c", 0),
-        (b"\xA5IXJ1\x00\x05a - b\xA5\x00\x01a", 100, b"damaged", 13),
-        (b"\xA5IXJ1\x00\x05a - b\xA5\x00\x01b\x00", 100, b"word", 1),
-        (OF_A, 2, b"heavy", 1),
-    ];
-    for (file, limit, text, number) in cases {
-        let told = start_from(rt.alloc(), file, limit)?;
-        assert!(rt; told.text.as_slice() == text, "{text:?}");
-        assert_eq!(rt; told.number, number, "{text:?}");
-    }
     Ok(())
 }
