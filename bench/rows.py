@@ -69,6 +69,35 @@ FAULTS = (
     ("n23456789_123456789_123456789_123", "refused expression 11 at 0\n"),
 )
 
+# Form faults: each code at the first node where it can stand, a middle one and the last; two faults
+# at one node; and the nearest texts without a fault.
+EIGHT = "any $b any $c any $d any $e any $f any $g any $h any $i "
+FORMS = (
+    ("a($p)", "refused expression 5 at 0\n"),
+    ("a - a($p) - c", "refused expression 5 at 4\n"),
+    ("a - a($p)", "refused expression 5 at 4\n"),
+    ("any $p any $p a", "refused expression 6 at 7\n"),
+    ("any $p (any $p a - b)", "refused expression 6 at 8\n"),
+    ("any $p (a - any $p b)", "refused expression 6 at 12\n"),
+    ("all $p a", "refused expression 7 at 7\n"),
+    ("all $p (a - a($p))", "refused expression 7 at 8\n"),
+    ("all $p (a($p) - a(p))", "refused expression 7 at 16\n"),
+    ("all $p a($q)", "refused expression 5 at 7\n"),
+    (EIGHT + "any $a x", "refused expression 13 at 56\n"),
+    (EIGHT + "any $i x", "refused expression 13 at 56\n"),
+    (EIGHT + "(any $a x - y)", "refused expression 13 at 57\n"),
+    (EIGHT + "(x - any $a y)", "refused expression 13 at 61\n"),
+    # The first operand is the deepest: an option is 1, and so is each choice.
+    ("?" * 60 + "(" + "a|" * 196 + "a)", "refused expression 9 at 61\n"),
+    ("?" * 60 + "(" + "a|" * 200 + "a)", "refused expression 9 at 68\n"),
+)
+WELL_FORMED = (
+    (EIGHT + "x", "partial\n"),
+    ("all $p a($p)", "partial\n"),
+    ("any $p a - any $p b", "partial\n"),
+    ("?" * 60 + "(" + "a|" * 195 + "a)", "complete\n"),
+)
+
 FAULTS_OF_ACTIONS = (
     ("\n", "refused actions 1 at 0\n"),
     ("a\n9", "refused actions 1 at 2\n"),
@@ -86,6 +115,10 @@ def refusals() -> Iterator[Row]:
         yield Row(words, {"expression": b"a", "actions": b"a"}, front, 2, begins=True)
     for expression, wanted in FAULTS:
         yield on(TRACE, expression, "a", wanted, 3)
+    for expression, wanted in FORMS:
+        yield on(TRACE, expression, "a", wanted, 3)
+    for expression, wanted in WELL_FORMED:
+        yield on(TRACE, expression, "", wanted)
     for actions, wanted in FAULTS_OF_ACTIONS:
         yield on(TRACE, "a", actions, wanted, 3)
     yield on("trace x actions", "a - b", "a\nb", "refused file expression\n", 4)
