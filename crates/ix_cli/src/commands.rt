@@ -1,6 +1,6 @@
 //! The commands, as `clap` reads them.
 ghost use Rattle.std.specs.Prelude.{◌≡◌, codes, false, IfOk};
-ghost use Rattle.clap.specs.Words.{app_of, rule_of};
+ghost use Rattle.clap.specs.Words.{App, Rule, app_of, new_app, rule_of, with_rule};
 ghost use Rattle.ix_cli.specs.Commands.{word, number_word, number_option};
 ghost use Rattle.ix_cli.specs.Commands.{nodes_option, turns_option};
 ghost use Rattle.ix_cli.specs.Commands.{trace_command, replay_command, serve_command, work_command};
@@ -112,171 +112,174 @@ fn given_words<'a>(alloc: Global) -> Arg<'a>
         .help("A value for each parameter, or P=VALUE for the parameter P alone")
 }
 
+/// A command without an argument, which says this about itself.
+fn begun<'a>(
+    alloc: Global,
+    name: &'a str,
+    about: &'a str,
+    bin_name: &'a str,
+) -> Result<Command<'a>, AllocError>
+    ensures { IfOk result (λ command. app_of command ≡ new_app name.entry.now) }
+{
+    Command::new(alloc, name).about(about).bin_name(bin_name)
+}
+
+/// The command with this argument behind its others.
+fn with<'a>(
+    command: Result<Command<'a>, AllocError>,
+    arg: Arg<'a>,
+) -> Result<Command<'a>, AllocError>
+    requires { arg.global ≡ false }
+    ensures { (app : App) (rule : Rule) → rule_of arg.entry ≡ rule
+        → IfOk command.entry (λ c. app_of c ≡ app)
+        → IfOk result (λ c. app_of c ≡ with_rule app rule) }
+{
+    command?.arg(arg)
+}
+
+/// A command whose first word is the file of the expression.
+fn of_expression<'a>(
+    alloc: Global,
+    name: &'a str,
+    about: &'a str,
+    bin_name: &'a str,
+) -> Result<Command<'a>, AllocError>
+    ensures { IfOk result (λ command.
+        app_of command ≡ with_rule (new_app name.entry.now) (word (codes "EXPR"))) }
+{
+    let command = begun(alloc, name, about, bin_name);
+    with(command, word(alloc, "EXPR", EXPRESSION_HELP))
+}
+
 /// The command `trace`.
 pub(crate) fn trace<'a>(alloc: Global) -> Result<Command<'a>, AllocError>
     ensures { IfOk result (λ command. app_of command ≡ trace_command) }
 {
-    Command::new(alloc, "trace")
-        .about("Says of each action of a file whether the expression lets it be next")
-        .arg(word(alloc, "EXPR", EXPRESSION_HELP))?
-        .arg(word(alloc, "ACTIONS", ACTIONS_HELP))?
-        .arg(nodes_option(alloc))?
-        .bin_name("ixm trace")
+    let about = "Says of each action of a file whether the expression lets it be next";
+    let command = of_expression(alloc, "trace", about, "ixm trace");
+    let command = with(command, word(alloc, "ACTIONS", ACTIONS_HELP));
+    with(command, nodes_option(alloc))
 }
 
 /// The command `replay`.
 pub(crate) fn replay<'a>(alloc: Global) -> Result<Command<'a>, AllocError>
     ensures { IfOk result (λ command. app_of command ≡ replay_command) }
 {
-    Command::new(alloc, "replay")
-        .about("Runs a manager over the events of a script")
-        .arg(word(alloc, "EXPR", EXPRESSION_HELP))?
-        .arg(word(alloc, "JOURNAL", JOURNAL_HELP))?
-        .arg(word(alloc, "SCRIPT", "The file of the events, one a line"))?
-        .arg(nodes_option(alloc))?
-        .arg(turns_option(alloc))?
-        .bin_name("ixm replay")
+    let about = "Runs a manager over the events of a script";
+    let command = of_expression(alloc, "replay", about, "ixm replay");
+    let command = with(command, word(alloc, "JOURNAL", JOURNAL_HELP));
+    let help = "The file of the events, one a line";
+    let command = with(command, word(alloc, "SCRIPT", help));
+    let command = with(command, nodes_option(alloc));
+    with(command, turns_option(alloc))
 }
 
 /// The command `serve`.
 pub(crate) fn serve<'a>(alloc: Global) -> Result<Command<'a>, AllocError>
     ensures { IfOk result (λ command. app_of command ≡ serve_command) }
 {
-    Command::new(alloc, "serve")
-        .about("Runs a manager over the connections of a socket")
-        .arg(word(alloc, "EXPR", EXPRESSION_HELP))?
-        .arg(word(alloc, "JOURNAL", JOURNAL_HELP))?
-        .arg(word(
-            alloc,
-            "SOCKET",
-            "The name of the Unix socket, not there yet",
-        ))?
-        .arg(nodes_option(alloc))?
-        .arg(turns_option(alloc))?
-        .bin_name("ixm serve")
+    let about = "Runs a manager over the connections of a socket";
+    let command = of_expression(alloc, "serve", about, "ixm serve");
+    let command = with(command, word(alloc, "JOURNAL", JOURNAL_HELP));
+    let help = "The name of the Unix socket, not there yet";
+    let command = with(command, word(alloc, "SOCKET", help));
+    let command = with(command, nodes_option(alloc));
+    with(command, turns_option(alloc))
 }
 
 /// The command `work`.
 pub(crate) fn work<'a>(alloc: Global) -> Result<Command<'a>, AllocError>
     ensures { IfOk result (λ command. app_of command ≡ work_command) }
 {
-    Command::new(alloc, "work")
-        .about("Asks for the actions of a generated workload, and counts the answers")
-        .arg(number_word(
-            alloc,
-            "N",
-            MOST_ASKS,
-            "The number of asks, from 0 to 1000000",
-        ))?
-        .arg(number_word(alloc, "SEED", u64::MAX, "The seed, any number below 2^64"))?
-        .arg(nodes_option(alloc))?
-        .bin_name("ixm work")
+    let about = "Asks for the actions of a generated workload, and counts the answers";
+    let command = begun(alloc, "work", about, "ixm work");
+    let help = "The number of asks, from 0 to 1000000";
+    let command = with(command, number_word(alloc, "N", MOST_ASKS, help));
+    let help = "The seed, any number below 2^64";
+    let command = with(command, number_word(alloc, "SEED", u64::MAX, help));
+    with(command, nodes_option(alloc))
 }
 
 /// The command `simplify`.
 pub(crate) fn simplify<'a>(alloc: Global) -> Result<Command<'a>, AllocError>
     ensures { IfOk result (λ command. app_of command ≡ simplify_command) }
 {
-    Command::new(alloc, "simplify")
-        .about("Puts the expression, rewritten by laws that keep its meaning")
-        .arg(word(alloc, "EXPR", EXPRESSION_HELP))?
-        .bin_name("ixm simplify")
+    let about = "Puts the expression, rewritten by laws that keep its meaning";
+    of_expression(alloc, "simplify", about, "ixm simplify")
 }
 
 /// The command `bound`.
 pub(crate) fn bound<'a>(alloc: Global) -> Result<Command<'a>, AllocError>
     ensures { IfOk result (λ command. app_of command ≡ bound_command) }
 {
-    Command::new(alloc, "bound")
-        .about("Tells how large the tree of a history with at most K different values can get")
-        .arg(word(alloc, "EXPR", EXPRESSION_HELP))?
-        .arg(number_word(
-            alloc,
-            "K",
-            MOST_VALUES,
-            "The number of different values, from 0 to 1000000",
-        ))?
-        .bin_name("ixm bound")
+    let about = "Tells how large the tree of a history with at most K different values can get";
+    let command = of_expression(alloc, "bound", about, "ixm bound");
+    let help = "The number of different values, from 0 to 1000000";
+    with(command, number_word(alloc, "K", MOST_VALUES, help))
 }
 
 /// The command `follow`.
 pub(crate) fn follow<'a>(alloc: Global) -> Result<Command<'a>, AllocError>
     ensures { IfOk result (λ command. app_of command ≡ follow_command) }
 {
-    Command::new(alloc, "follow")
-        .about("Keeps a copy of a manager's history by lines that answered 'log'")
-        .arg(word(alloc, "EXPR", EXPRESSION_HELP))?
-        .arg(word(alloc, "LINES", "The file of the lines that were read"))?
-        .arg(nodes_option(alloc))?
-        .bin_name("ixm follow")
+    let about = "Keeps a copy of a manager's history by lines that answered 'log'";
+    let command = of_expression(alloc, "follow", about, "ixm follow");
+    let help = "The file of the lines that were read";
+    let command = with(command, word(alloc, "LINES", help));
+    with(command, nodes_option(alloc))
 }
 
 /// The command `lint`.
 pub(crate) fn lint<'a>(alloc: Global) -> Result<Command<'a>, AllocError>
     ensures { IfOk result (λ command. app_of command ≡ lint_command) }
 {
-    Command::new(alloc, "lint")
-        .about("Tells what looks wrong in the expression, with its place in the text")
-        .arg(word(alloc, "EXPR", EXPRESSION_HELP))?
-        .bin_name("ixm lint")
+    let about = "Tells what looks wrong in the expression, with its place in the text";
+    of_expression(alloc, "lint", about, "ixm lint")
 }
 
 /// The command `why`.
 pub(crate) fn why<'a>(alloc: Global) -> Result<Command<'a>, AllocError>
     ensures { IfOk result (λ command. app_of command ≡ why_command) }
 {
-    Command::new(alloc, "why")
-        .about("Tells which parts of the expression refuse an action behind a history")
-        .arg(word(alloc, "EXPR", EXPRESSION_HELP))?
-        .arg(word(alloc, "ACTIONS", ACTIONS_HELP))?
-        .arg(word(alloc, "ACTION", "The action that is refused"))?
-        .arg(nodes_option(alloc))?
-        .bin_name("ixm why")
+    let about = "Tells which parts of the expression refuse an action behind a history";
+    let command = of_expression(alloc, "why", about, "ixm why");
+    let command = with(command, word(alloc, "ACTIONS", ACTIONS_HELP));
+    let command = with(command, word(alloc, "ACTION", "The action that is refused"));
+    with(command, nodes_option(alloc))
 }
 
 /// The command `next`.
 pub(crate) fn next<'a>(alloc: Global) -> Result<Command<'a>, AllocError>
     ensures { IfOk result (λ command. app_of command ≡ next_command) }
 {
-    Command::new(alloc, "next")
-        .about("Tells which actions may come behind a history")
-        .arg(word(alloc, "EXPR", EXPRESSION_HELP))?
-        .arg(word(alloc, "ACTIONS", ACTIONS_HELP))?
-        .arg(given_words(alloc))?
-        .arg(nodes_option(alloc))?
-        .bin_name("ixm next")
+    let about = "Tells which actions may come behind a history";
+    let command = of_expression(alloc, "next", about, "ixm next");
+    let command = with(command, word(alloc, "ACTIONS", ACTIONS_HELP));
+    let command = with(command, given_words(alloc));
+    with(command, nodes_option(alloc))
 }
 
 /// The command `stuck`.
 pub(crate) fn stuck<'a>(alloc: Global) -> Result<Command<'a>, AllocError>
     ensures { IfOk result (λ command. app_of command ≡ stuck_command) }
 {
-    Command::new(alloc, "stuck")
-        .about("Tells whether a history can get where no word completes it")
-        .arg(word(alloc, "EXPR", EXPRESSION_HELP))?
-        .arg(word(alloc, "VALUES", "The file of the given values, one a line"))?
-        .arg(nodes_option(alloc))?
-        .arg(states_option(alloc))?
-        .bin_name("ixm stuck")
+    let about = "Tells whether a history can get where no word completes it";
+    let command = of_expression(alloc, "stuck", about, "ixm stuck");
+    let help = "The file of the given values, one a line";
+    let command = with(command, word(alloc, "VALUES", help));
+    let command = with(command, nodes_option(alloc));
+    with(command, states_option(alloc))
 }
 
 /// The command `renew`.
 pub(crate) fn renew<'a>(alloc: Global) -> Result<Command<'a>, AllocError>
     ensures { IfOk result (λ command. app_of command ≡ renew_command) }
 {
-    Command::new(alloc, "renew")
-        .about("Makes a short journal behind which a manager goes on as behind a long one")
-        .arg(word(alloc, "EXPR", EXPRESSION_HELP))?
-        .arg(word(
-            alloc,
-            "JOURNAL",
-            "The file of the journal, which no manager has open",
-        ))?
-        .arg(word(
-            alloc,
-            "NEW",
-            "The file of the new journal, absent or without a byte",
-        ))?
-        .arg(nodes_option(alloc))?
-        .bin_name("ixm renew")
+    let about = "Makes a short journal behind which a manager goes on as behind a long one";
+    let command = of_expression(alloc, "renew", about, "ixm renew");
+    let help = "The file of the journal, which no manager has open";
+    let command = with(command, word(alloc, "JOURNAL", help));
+    let help = "The file of the new journal, absent or without a byte";
+    let command = with(command, word(alloc, "NEW", help));
+    with(command, nodes_option(alloc))
 }

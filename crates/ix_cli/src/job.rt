@@ -11,7 +11,7 @@ use std::alloc::Global;
 /// What the program is to do. Files and sockets are told by their names; `nodes` is the greatest
 /// Size of a state, from 1 to 1,000,000, `turns` the most events that are taken, from 1 to
 /// 1,000,000,000, and `states` the most states that are visited, from 1 to 1,000,000.
-#[derive(Debug, Drop)]
+#[derive(Drop)]
 pub enum Job {
     /// Trace the actions of a file.
     Trace {

@@ -1,17 +1,7 @@
-use Rattle.std.proofs.Common.{◌≡◌, ◌∙◌, ap, ap₂, codes}
-use Rattle.std.proofs.lemmas.Result.{IfOk-weaker}
-use Rattle.clap.specs.Words.{app_of, new_app, with_rule}
-use Rattle.clap.specs.Simple.{app_of_fields}
 use Rattle.ix_cli.specs.Commands.{bound_command}
 use Rattle.ix_cli.proofs.commands.bound.Goals as goal
 
 pub returns : goal.returns
 unfolding bound_command
 returns c =
-    let plain : app_of c.about.result ≡ new_app (codes "bound") =
-    ap app_of_fields c.about.ensures ∙ c.new.ensures.app in
-    let one = c.in_ok-arg.ensures.shape c.word.ensures.local
-    ∙ ap₂ with_rule plain c.word.ensures.rule in
-    let two = c.in_ok-arg-2.ensures.shape c.number_word.ensures.local
-    ∙ ap₂ with_rule one c.number_word.ensures.rule in
-    IfOk-weaker c.bin_name.result _ _ (λ r h. ap app_of_fields h.0 ∙ two) c.bin_name.ensures
+    c.with.ensures _ _ c.number_word.ensures.rule c.of_expression-command.ensures

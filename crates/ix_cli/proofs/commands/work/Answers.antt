@@ -1,19 +1,9 @@
-use Rattle.std.proofs.Common.{◌≡◌, ◌∙◌, ap, ap₂, codes}
-use Rattle.std.proofs.lemmas.Result.{IfOk-weaker}
-use Rattle.clap.specs.Words.{app_of, new_app, with_rule}
-use Rattle.clap.specs.Simple.{app_of_fields}
 use Rattle.ix_cli.specs.Commands.{work_command}
 use Rattle.ix_cli.proofs.commands.work.Goals as goal
 
 pub returns : goal.returns
 unfolding work_command
 returns c =
-    let plain : app_of c.about.result ≡ new_app (codes "work") =
-    ap app_of_fields c.about.ensures ∙ c.new.ensures.app in
-    let one = c.in_ok-arg.ensures.shape c.number_word.ensures.local
-    ∙ ap₂ with_rule plain c.number_word.ensures.rule in
-    let two = c.in_ok-arg-2.ensures.shape c.number_word-2.ensures.local
-    ∙ ap₂ with_rule one c.number_word-2.ensures.rule in
-    let three = c.in_ok-arg-3.ensures.shape c.nodes_option.ensures.local
-    ∙ ap₂ with_rule two c.nodes_option.ensures.rule in
-    IfOk-weaker c.bin_name.result _ _ (λ r h. ap app_of_fields h.0 ∙ three) c.bin_name.ensures
+    let one = c.with-command.ensures _ _ c.number_word.ensures.rule c.begun-command.ensures in
+    let two = c.with-command-2.ensures _ _ c.number_word-2.ensures.rule one in
+    c.with.ensures _ _ c.nodes_option.ensures.rule two
