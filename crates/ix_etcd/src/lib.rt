@@ -5,6 +5,9 @@
 //! of several owners is proved in `ix_blocks`. Proved here is that every answer is read safely,
 //! that each fault is counted, and that no reply goes out unless this owner was sure of the file
 //! since the last event. That each request ends by the clock is code that no clause speaks of.
+//!
+//! What is asked, and what comes of an answer, `bench/gateway` shows of the program `ixmd`: the
+//! crate has no tests of its own.
 #![tactic(auto)]
 
 mod answers;
@@ -15,8 +18,6 @@ mod keys;
 mod owned;
 mod patience;
 mod site;
-#[cfg(test)]
-mod tests;
 mod texts;
 
 pub use gateway::Trouble;
