@@ -110,6 +110,8 @@ def journals() -> Iterator[Row]:
             (b"\xA5IXJ1\x00\x05a - b\xA5\x00\x01b\x00", "refused journal word 1\n")):
         yield over(journal, "", 8, wanted, journal)
     yield over(OF_A, "", 8, "refused journal large 1 2\n", OF_A, words=FEW_NODES)
+    # A device is no file.
+    yield over(b"", "", 5, "refused disk\n", b"", words="replay expression /dev/null actions")
     # A new journal has the canonical text.
     yield over(b"", "", 0, "history 0\n",
                b"\xA5IXJ2\x00\x5Dall $p *any $x (call($p,$x) - perform($p,$x))"
