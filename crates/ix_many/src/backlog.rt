@@ -9,7 +9,7 @@ use std::alloc::Global;
 use std::io::Write;
 use std::marker::Model;
 
-/// How many bytes are kept for a peer. The replies to what one event can hold are fewer.
+/// How many bytes are kept for a peer. The replies to one poll are fewer.
 pub(crate) const MOST_KEPT: usize = 1 << 20;
 
 /// How much room a backlog in which nothing is kept may hold.
