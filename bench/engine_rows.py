@@ -205,6 +205,27 @@ ANSWERS = (
     # A called patient is busy.
     (PATIENTS, 100, "call(p1,x1)", "y", 10, "partial"),
     ("a @ b", 3, "b b", "yn", 3, "partial"),
+    ("*(a - b)", 4, "b a a b a", "nynyy", 4, "partial"),
+    ("*(a - b)", 3, "a", "l", 1, "complete"),
+    # Another patient than the called one isn't busy.
+    (PATIENTS, 100, "call(p1,x1) call(p1,x2) call(p2,x1)", "yny", 18, "partial"),
+    # A coupling waits for neither side.
+    ("a @ b", 3, "c a a b a", "nynyn", 1, "complete"),
+    # Two runs that are over would make 4 nodes.
+    ("times 3 a", 3, "a a", "yl", 3, "partial"),
+    # The node is 1 and its one bag 1, and a begun run 3.
+    ("#(a - b)", 100, "", "", 2, "complete"),
+    ("#(a - b)", 5, "a", "y", 5, "partial"),
+    # Two pairs, each 1 with a begun sequence of 3 and another of 2.
+    ("(a - b) + (a - c)", 13, "a", "y", 13, "partial"),
+    # The common tree alone, and Dead beside an entry.
+    ("any $p (a - b($p))", 100, "a", "y", 4, "partial"),
+    ("any $p (a - b($p) - c)", 100, "a b(u)", "yy", 6, "partial"),
+    # As deep as an expression may be: 255 nodes of a sequence above its first atom, and behind `a`
+    # 254 above a begun one of 3.
+    ("a-" * 255 + "a", 256, "a", "l", 256, "partial"),
+    ("a-" * 255 + "a", 257, "a", "y", 257, "partial"),
+    ("a|" * 255 + "a", 511, "", "", 511, "partial"),
     # Before: the quantifier 1, the list of pairs 1, one pair 1, `a - b` 1 + 1, the runs 1 + 1.
     # After: two pairs, with `a - b` begun of 3 beside no run, and with no `a - b` beside one run
     # of 3.
@@ -274,10 +295,13 @@ ABOVE = ((PATIENTS, 1), (NESTED, 6))
 def asked(expression: str, limit: int, actions: list[str], answers: str, end: str,
           size: int) -> Row:
     """A replay that asks for the actions, and confirms each that is granted: `y`. Another isn't
-    permitted, `n`, or leads to a tree that is too large, `l`."""
+    permitted, `n`, or leads to a tree that is too large, `l`. Before that it asks whether the
+    action is permitted, and by a watch whether it is allowed."""
     script, wanted, count = "", "history 0\n", 0
     for action, answer in zip(actions, answers, strict=True):
-        script += f"1 0 ask {action} 60000\n"
+        script += f"1 0 may {action}\n1 0 watch w {action}\n1 0 ask {action} 60000\n"
+        wanted += {"y": "0 yes\n0 watching yes\n", "n": "0 no\n0 watching no\n",
+                   "l": "0 yes\n0 watching no\n"}[answer]
         if answer == "y":
             count += 1
             script += f"1 0 confirm 1-{count}\n"

@@ -48,6 +48,10 @@ RENEWED_NONE_AND_A = (b"\xA5IXJ3\x00\x05a - b\xA5\x00\x0Brenewed 2 1"
 RENEWED_AND_A = (b"\xA5IXJ3\x00\x05a - b\xA5\x00\x01a\xA5\x00\x0Brenewed 5 2"
                  b"\xA5\x00\x06boot 3\xA5\x00\x053-1 a\x00")
 
+# Ones of the first version of `*(a - b)`, of which the second has a third action too many.
+OF_ROUNDS = b"\xA5IXJ1\x00\x08*(a - b)\xA5\x00\x01a\xA5\x00\x01b\xA5\x00\x01a\x00"
+OF_NO_ROUNDS = b"\xA5IXJ1\x00\x08*(a - b)\xA5\x00\x01a\xA5\x00\x01b\xA5\x00\x01b\x00"
+
 # A case of `a` and `b` may begin again when it is at its end.
 CASES = "all $p *(a($p) - b($p))"
 
@@ -112,6 +116,9 @@ def journals() -> Iterator[Row]:
     yield over(OF_A, "", 8, "refused journal large 1 2\n", OF_A, words=FEW_NODES)
     # A device is no file.
     yield over(b"", "", 5, "refused disk\n", b"", words="replay expression /dev/null actions")
+    yield over(OF_ROUNDS, "1 0 status", 0, "history 3\n0 status partial 3 nodes 4\n",
+               OF_ROUNDS[:-1] + b"\xA5\x00\x06boot 1\x00", "*(a - b)")
+    yield over(OF_NO_ROUNDS, "", 8, "refused journal word 3\n", OF_NO_ROUNDS, "*(a - b)")
     # A new journal has the canonical text.
     yield over(b"", "", 0, "history 0\n",
                b"\xA5IXJ2\x00\x5Dall $p *any $x (call($p,$x) - perform($p,$x))"
@@ -213,12 +220,13 @@ def rows() -> list[Row]:
 @dataclass(frozen=True)
 class Served:
     """A serve over this journal: the history that it puts, the requests of one connection after the
-    other, each beside its reply, and the journal then, if it matters."""
+    other, each beside its reply, and the journal then, if it matters. Where no reply is given, the
+    client doesn't wait for one."""
 
     expression: str
     journal: bytes
     history: int
-    connections: tuple[tuple[tuple[str, str], ...], ...]
+    connections: tuple[tuple[tuple[str, str | None], ...], ...]
     then: bytes | None = None
 
 
@@ -241,4 +249,8 @@ SERVES = (
          ("log 2", "refused 42 no such entry")),), OF_A_BOOTED),
     Served("a - b", BEFORE_A, 0, (
         (("ask a 60000", "granted 1-1"), ("confirm 1-1", "confirmed 1")),), BOOTED_OF_A),
+    # Replies to a client that went away are lost, and what it asked for is done.
+    Served("a - b", b"", 0, (
+        (("ask a 60000", None), ("confirm 1-1", None)),
+        (("status", "status partial 1 nodes 3"),)), NEW_OF_A),
 )

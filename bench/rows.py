@@ -12,7 +12,8 @@ from dataclasses import dataclass, field
 class Row:
     """A run in a new folder: its words, the files that are there before it, what it puts, and its
     status. Behind it each file of `then` has these bytes; an absent one counts as empty. Where
-    `begins` is so, more may follow of what is put."""
+    `begins` is so, more may follow of what is put. Standard output takes `room` bytes, and no file
+    grows beyond `largest`, if these are given."""
 
     words: str
     files: dict[str, bytes]
@@ -20,6 +21,8 @@ class Row:
     status: int = 0
     then: dict[str, bytes] = field(default_factory=dict)
     begins: bool = False
+    room: int | None = None
+    largest: int | None = None
 
 
 def on(words: str, expression: str, actions: str, wanted: str, status: int = 0) -> Row:
@@ -51,61 +54,6 @@ OTHER_WORDS = (
     ("work 5 1 --nodes 0", "error: "),
 )
 
-FAULTS = (
-    ("a | - b", "refused expression 3 at 4\n"),
-    ("", "refused expression 4 at 0\n"),
-    ("all $p (a($p) - b)", "refused expression 7 at 16\n"),
-    ("a -", "refused expression 4 at 3\n"),
-    ("a ! b", "refused expression 2 at 2\n"),
-    ("a b", "refused expression 3 at 2\n"),
-    ("any $p a($q)", "refused expression 5 at 7\n"),
-    ("any $p any $p a($p)", "refused expression 6 at 7\n"),
-    ("all(x)", "refused expression 12 at 0\n"),
-    ("times", "refused expression 12 at 0\n"),
-    ("times (a)", "refused expression 12 at 0\n"),
-    ("times 1 a", "refused expression 16 at 6\n"),
-    ("times a", "refused expression 16 at 6\n"),
-    ("a(p,q,r,s,t)", "refused expression 10 at 9\n"),
-    ("n23456789_123456789_123456789_123", "refused expression 11 at 0\n"),
-)
-
-# Form faults: each code at the first node where it can stand, a middle one and the last; two faults
-# at one node; and the nearest texts without a fault.
-EIGHT = "any $b any $c any $d any $e any $f any $g any $h any $i "
-FORMS = (
-    ("a($p)", "refused expression 5 at 0\n"),
-    ("a - a($p) - c", "refused expression 5 at 4\n"),
-    ("a - a($p)", "refused expression 5 at 4\n"),
-    ("any $p any $p a", "refused expression 6 at 7\n"),
-    ("any $p (any $p a - b)", "refused expression 6 at 8\n"),
-    ("any $p (a - any $p b)", "refused expression 6 at 12\n"),
-    ("all $p a", "refused expression 7 at 7\n"),
-    ("all $p (a - a($p))", "refused expression 7 at 8\n"),
-    ("all $p (a($p) - a(p))", "refused expression 7 at 16\n"),
-    ("all $p a($q)", "refused expression 5 at 7\n"),
-    (EIGHT + "any $a x", "refused expression 13 at 56\n"),
-    (EIGHT + "any $i x", "refused expression 13 at 56\n"),
-    (EIGHT + "(any $a x - y)", "refused expression 13 at 57\n"),
-    (EIGHT + "(x - any $a y)", "refused expression 13 at 61\n"),
-    # The first operand is the deepest: an option is 1, and so is each choice.
-    ("?" * 60 + "(" + "a|" * 196 + "a)", "refused expression 9 at 61\n"),
-    ("?" * 60 + "(" + "a|" * 200 + "a)", "refused expression 9 at 68\n"),
-)
-WELL_FORMED = (
-    (EIGHT + "x", "partial\n"),
-    ("all $p a($p)", "partial\n"),
-    ("any $p a - any $p b", "partial\n"),
-    ("?" * 60 + "(" + "a|" * 195 + "a)", "complete\n"),
-)
-
-FAULTS_OF_ACTIONS = (
-    ("\n", "refused actions 1 at 0\n"),
-    ("a\n9", "refused actions 1 at 2\n"),
-    ("a(x,y,z,w,v)", "refused actions 3 at 9\n"),
-    ("a(x)\nb(\n9\n", "refused actions 2 at 7\n"),
-    ("a\n\na c\n", "refused actions 1 at 2\n"),
-)
-
 TRACE = "trace expression actions"
 
 
@@ -113,21 +61,8 @@ def refusals() -> Iterator[Row]:
     """Why a run ends before it has its answer."""
     for words, front in OTHER_WORDS:
         yield Row(words, {"expression": b"a", "actions": b"a"}, front, 2, begins=True)
-    for expression, wanted in FAULTS:
-        yield on(TRACE, expression, "a", wanted, 3)
-    for expression, wanted in FORMS:
-        yield on(TRACE, expression, "a", wanted, 3)
-    for expression, wanted in WELL_FORMED:
-        yield on(TRACE, expression, "", wanted)
-    for actions, wanted in FAULTS_OF_ACTIONS:
-        yield on(TRACE, "a", actions, wanted, 3)
     yield on("trace x actions", "a - b", "a\nb", "refused file expression\n", 4)
     yield on("trace expression x", "a - b", "a\nb", "refused file actions\n", 4)
-    # The longest texts, and the most nodes.
-    yield on(TRACE, " " * 16383 + "a", "", "partial\n")
-    yield on(TRACE, " " * 16383 + "a ", "", "refused expression 1 at 16384\n", 3)
-    yield on(TRACE, "a-" * 255 + "a", "a", "yes\npartial\n")
-    yield on(TRACE, "a-" * 255 + "a-a", "a", "refused expression 8 at 512\n", 3)
 
 
 TEXTS = (
@@ -396,11 +331,15 @@ FOLLOWED = (
     (FOLLOW, "a - b",
      "entry 2 b\nentry 1 a\nentry 1 a\nyes\nrefused 33 left out\nrefused 32 left out\nentry 2 b", 0,
      "early 2\ntaken 1\nold 1\nother\nleft out\nother\ntaken 2\ncomplete\n"),
+    (FOLLOW, "a - b", "entry 0 b\nentry 1\nentry 1 a(\nentry 1 a \nentry 01 a\nENTRY 1 a", 0,
+     "other\n" * 6 + "partial\n"),
     (FOLLOW, "a - b", "entry 1 a\nentry 1 b\n", 11, "taken 1\nrefused follow 61 at 1\n"),
     (FOLLOW, "a - b", "entry 1 b\n", 11, "refused follow 62 at 1\n"),
     (FOLLOW, "a - b", "", 0, "partial\n"),
     ("follow --nodes 6 expression actions", "#(a - b)", "entry 1 a\nentry 2 a\n", 11,
      "taken 1\nrefused follow 64 at 2\n"),
+    ("follow --nodes 3 expression actions", "*(a - b)", "entry 1 a", 11,
+     "refused follow 64 at 1\n"),
     ("follow expression x", "a - b", "", 4, "refused file lines\n"),
 )
 
