@@ -359,6 +359,7 @@ WORKS = (
     ("work 1 7", 0, "asked 1 granted 1 refused 0 nodes 21\n"),
     ("work 16 7", 0, "asked 16 granted 9 refused 7 nodes 85\n"),
     ("work 100 18446744073709551615", 0, "asked 100 granted 46 refused 54 nodes 101\n"),
+    ("work 500 0", 0, "asked 500 granted 197 refused 303 nodes 149\n"),
     ("work 0 7 --nodes 4", 3, "refused expression 14 large 4\n"),
     ("work 20000 7", 0, "asked 20000 granted 7755 refused 12245 nodes 149\n"),
     ("work 200000 7", 0, "asked 200000 granted 77212 refused 122788 nodes 165\n"),
