@@ -1,6 +1,7 @@
-//! The tests of `ix_engine`, and with it of `ix_can` and `ix_step`, and those of `ix_follow`.
-//! `bench/commands` has more rows of what they answer. A crate with tests is proved twice, so they
-//! stand in a crate of their own, which has nothing else.
+//! The tests of the engine and of what stands beside it that no command shows: a step by itself,
+//! what a follower asks for, and which names and values an expression has. All others are rows of
+//! `bench/commands`. A crate with tests is proved twice, so they stand in a crate of their own,
+//! which has nothing else.
 #![tactic(auto)]
 
 #[cfg(test)]

@@ -1,8 +1,8 @@
-//! Atoms, alphabets, names and seen values of expressions, which no command tells by themselves.
+//! Nodes, names and seen values of expressions, which no command tells by themselves.
 
-use ix_expr::{Arg, Atom, Env, Expression, accepts_empty, contains, matches, mentions, sees};
-use ix_parse::read;
-use ix_values::{Action, Name, Value};
+use super::{action, expression};
+use ix_expr::{mentions, sees};
+use ix_values::{Name, Value};
 use std::alloc::Global;
 use std::test::Fail;
 
@@ -14,51 +14,23 @@ fn value(text: &str) -> Result<Value, Fail> {
     Ok(Value::read(text.as_bytes()).ok_or("not a value")?)
 }
 
-fn action(text: &str) -> Result<Action, Fail> {
-    Ok(Action::read(text.as_bytes()).map_err(|_| "not an action")?)
+// An expression, and how many nodes it has.
+const NODES: [(&str, usize); 4] = [
+    ("times 2 a", 2),
+    ("times 64 (a - b)", 4),
+    ("any $times a($times) | b(times)", 4),
+    (" a - b(x) - c | ?((d)) ", 8),
+];
+
+fn nodes(alloc: Global, text: &str) -> Result<usize, Fail> {
+    Ok(expression(alloc, text)?.nodes())
 }
 
-fn expression(alloc: Global, text: &str) -> Result<Expression, Fail> {
-    Ok(read(alloc, text.as_bytes()).map_err(|_| "not an expression")?)
-}
-
-// Reserved names and five arguments are refused.
 #[test]
-fn atoms(rt: HostRuntime) -> Result<(), Fail> {
-    let x = Arg::Fixed(value("x")?);
-    assert!(rt; Atom::new(name("times")?, &[]).is_none());
-    assert!(rt; Atom::new(name("time")?, &[x, x, x, x]).is_some());
-    assert!(rt; Atom::new(name("time")?, &[x, x, x, x, x]).is_none());
-    Ok(())
-}
-
-// Under an environment a parameter is the value given, or outside.
-#[test]
-fn matched_parameters(rt: HostRuntime) -> Result<(), Fail> {
-    let p = name("p")?;
-    let m = value("m")?;
-    let named = Atom::new(name("a")?, &[Arg::Param(p)]).ok_or("not an atom")?;
-    let action = Action::new(name("a")?, &[m]);
-    assert!(rt; matches(&named, &Env::new().with(p, Some(m)), &action));
-    assert!(rt; !matches(&named, &Env::new().with(p, None), &action));
-    Ok(())
-}
-
-// Whether the expression contains each action, and whether it accepts nothing.
-fn contents(alloc: Global, text: &str, first: &str, second: &str) -> Result<[bool; 3], Fail> {
-    let (first, second) = (action(first)?, action(second)?);
-    let expression = expression(alloc, text)?;
-    let expr = expression.expr();
-    let contained = contains(expr, &Env::new(), &first);
-    let other = contains(expr, &Env::new(), &second);
-    Ok([contained, other, accepts_empty(expr)])
-}
-
-// In `any $p ?a($p)` the parameter may be any value.
-#[test]
-fn alphabets(rt: HostRuntime) -> Result<(), Fail> {
-    let contents = contents(rt.alloc(), "any $p ?a($p)", "a(m)", "b(m)")?;
-    assert!(rt; contents == [true, false, true]);
+fn numbers_of_nodes(rt: HostRuntime) -> Result<(), Fail> {
+    for (text, number) in NODES {
+        assert!(rt; nodes(rt.alloc(), text)? == number, "{text}");
+    }
     Ok(())
 }
 

@@ -1,7 +1,0 @@
-//! Requests, replies, leases and watches; scripts and workloads.
-
-mod leases;
-mod protocol;
-mod scripts;
-mod watches;
-mod workloads;
