@@ -4,29 +4,19 @@ ghost use Rattle.std.specs.Prelude.{◌≤◌, IfOk};
 ghost use Rattle.ix_step.specs.inside.Limits.{most_size};
 ghost use Rattle.ix_engine.specs.Histories.{AreAllowed};
 
+use super::{action, expression};
 use ix_engine::Engine;
-use ix_expr::Expression;
-use ix_parse::read;
 use ix_renew::carried;
 use ix_values::Action;
 use std::alloc::Global;
 use std::test::Fail;
 
-fn expression(alloc: Global, text: &str) -> Result<Expression, Fail> {
-    match read(alloc, text.as_bytes()) {
-        Ok(expression) => Ok(expression),
-        Err(_) => Err("not an expression".into()),
-    }
-}
-
 // The actions of a text, with a space between each two.
 fn actions(alloc: Global, texts: &str) -> Result<Vec<Action>, Fail> {
     let mut actions = Vec::new(alloc);
     for text in texts.split(' ') {
-        match Action::read(text.as_bytes()) {
-            Ok(action) => actions.push(action)?,
-            Err(_) if text.is_empty() => {}
-            Err(_) => return Err("not an action".into()),
+        if !text.is_empty() {
+            actions.push(action(text)?)?;
         }
     }
     Ok(actions)
