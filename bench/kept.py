@@ -220,14 +220,18 @@ def rows() -> list[Row]:
 @dataclass(frozen=True)
 class Served:
     """A serve over this journal: the history that it puts, the requests of one connection after the
-    other, each beside its reply, and the journal then, if it matters. Where no reply is given, the
-    client doesn't wait for one."""
+    other, each beside its reply, and the journal then, if it matters; its options; and the last line
+    and the status of one that ends before a `stop`. Where no reply is given, the client doesn't wait
+    for one."""
 
     expression: str
     journal: bytes
     history: int
     connections: tuple[tuple[tuple[str, str | None], ...], ...]
     then: bytes | None = None
+    options: tuple[str, ...] = ()
+    last: str = ""
+    status: int = 0
 
 
 # One connection after the other, because `ixm` serves one at a time. The leases are longer than in
@@ -253,4 +257,10 @@ SERVES = (
     Served("a - b", b"", 0, (
         (("ask a 60000", None), ("confirm 1-1", None)),
         (("status", "status partial 1 nodes 3"),)), NEW_OF_A),
+    # Three pieces are three events.
+    Served("a", b"", 0, ((("may a", "yes"), ("may a", "yes"), ("may b", "no")),), None,
+           ("--turns=3",), "refused turns\n", 7),
+    Served("#(a - b)", b"", 0, (
+        (("ask a 60000", "granted 1-1"), ("confirm 1-1", "confirmed 1"),
+         ("ask a 60000", "refused 22 large 6")),), None, ("--turns", "100", "--nodes", "6")),
 )

@@ -12,8 +12,8 @@ from dataclasses import dataclass, field
 class Row:
     """A run in a new folder: its words, the files that are there before it, what it puts, and its
     status. Behind it each file of `then` has these bytes; an absent one counts as empty. Where
-    `begins` is so, more may follow of what is put. Standard output takes `room` bytes, and no file
-    grows beyond `largest`, if these are given."""
+    `begins` is so, more may follow of what is put, up to the end of a line. Standard output takes
+    `room` bytes, and no file grows beyond `largest`, if these are given."""
 
     words: str
     files: dict[str, bytes]
@@ -41,26 +41,11 @@ HOSPITAL = """all $p *(any $x (call($p,$x) - perform($p,$x)))
 @
 all $x *(any $p (call($p,$x) - perform($p,$x)))"""
 
-# Other words, and how what they put begins: a text of the program's own, or that of `clap`.
-OTHER_WORDS = (
-    ("", "Usage: ixm COMMAND WORDS"),
-    ("fly", "Usage: ixm COMMAND WORDS"),
-    ("--help", "Usage: ixm COMMAND WORDS"),
-    ("trace x", "error: "),
-    ("trace --nodes 0 expression actions", "error: "),
-    ("replay expression journal actions more", "error: "),
-    ("replay --turns 0 expression journal actions", "error: "),
-    ("serve expression journal", "error: "),
-    ("work 5 1 --nodes 0", "error: "),
-)
-
 TRACE = "trace expression actions"
 
 
 def refusals() -> Iterator[Row]:
     """Why a run ends before it has its answer."""
-    for words, front in OTHER_WORDS:
-        yield Row(words, {"expression": b"a", "actions": b"a"}, front, 2, begins=True)
     yield on("trace x actions", "a - b", "a\nb", "refused file expression\n", 4)
     yield on("trace expression x", "a - b", "a\nb", "refused file actions\n", 4)
 

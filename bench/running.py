@@ -10,11 +10,12 @@ import socket
 import subprocess
 import sys
 import time
-from collections.abc import Iterator
+from collections.abc import Iterator, Sequence
 
 TOP = os.path.dirname(os.path.dirname(os.path.abspath(__file__)))
 EXPRESSION = "*(any $v do($v))"
 LIMIT = 60.0  # seconds behind which a wait has failed
+SHOWN = 200  # letters of a long text that are told
 # An unproved build holds what was freed for a while, to find a use of it. Here it gives it back.
 KEEPS_NOTHING = "quarantine_size_mb=0:thread_local_quarantine_size_kb=0"
 
@@ -27,6 +28,13 @@ def program(name: str) -> str:
 def build(path: str) -> None:
     """Runs it without words, so that it is built before it is timed or run in the background."""
     subprocess.run([path], stdout=subprocess.DEVNULL, stderr=subprocess.DEVNULL, check=False)
+
+
+def compare(what: str, got: object, wanted: object) -> list[str]:
+    """What is wrong if this isn't what is wanted."""
+    if got == wanted:
+        return []
+    return [f"{what} is {repr(got)[:SHOWN]}, where {repr(wanted)[:SHOWN]} is wanted"]
 
 
 class Client:
@@ -68,13 +76,14 @@ class Client:
 class Running:
     """A manager that serves in a folder, on the journal that lies there."""
 
-    def __init__(self, path: str, folder: str, expression: str = EXPRESSION, open_files: int | None = None) -> None:
+    def __init__(self, path: str, folder: str, expression: str = EXPRESSION, open_files: int | None = None,
+                 options: Sequence[str] = ()) -> None:
         self.path = f"{folder}/socket"
         if os.path.exists(self.path):
             os.remove(self.path)
         with open(f"{folder}/expression", "w") as file:
             file.write(expression)
-        words = [path, "serve", f"{folder}/expression", f"{folder}/journal", self.path]
+        words = [path, "serve", f"{folder}/expression", f"{folder}/journal", self.path, *options]
         self.process = subprocess.Popen(words, stdout=subprocess.PIPE, env={**os.environ, "ASAN_OPTIONS": KEEPS_NOTHING})
         if open_files is not None:
             resource.prlimit(self.process.pid, resource.RLIMIT_NOFILE, (open_files, open_files))
