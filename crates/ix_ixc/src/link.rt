@@ -129,6 +129,3 @@ fn take_piece(piece: &[u8], out: &mut ArrayVec<u8, 256>) -> Taken {
         Taken::Part
     }
 }
-
-#[cfg(test)]
-mod tests;
