@@ -1,4 +1,4 @@
-//! The tests of `ix_client`.
+//! The tests of `ix_client` over a manager in memory. bench/link tries the program over it.
 #![tactic(auto)]
 
 #[cfg(test)]
