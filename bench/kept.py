@@ -8,6 +8,7 @@ from collections.abc import Iterator
 from dataclasses import dataclass
 
 from rows import BOTH, PATIENTS, REPLAY, Row
+from starts import journal
 
 # The journal of the first version of `a - b` with the action `a`.
 OF_A = b"\xA5IXJ1\x00\x05a - b\xA5\x00\x01a\x00"
@@ -24,6 +25,10 @@ BOOTED_OF_A = b"\xA5IXJ1\x00\x05a - b\xA5\x00\x06boot 1\xA5\x00\x051-1 a\x00"
 # The same behind a run in which `a` was confirmed, and that behind a second start.
 NEW_OF_A = b"\xA5IXJ2\x00\x05a - b\xA5\x00\x06boot 1\xA5\x00\x051-1 a\x00"
 NEW_OF_A_AGAIN = b"\xA5IXJ2\x00\x05a - b\xA5\x00\x06boot 1\xA5\x00\x051-1 a\xA5\x00\x06boot 2\x00"
+
+# The same behind a run in which both were confirmed.
+NEW_OF_BOTH = (b"\xA5IXJ2\x00\x05a - b\xA5\x00\x06boot 1\xA5\x00\x051-1 a"
+               b"\xA5\x00\x051-2 b\x00")
 
 # The journal of the first version with `a`, behind a start in which `b` was confirmed.
 OF_A_AND_B = b"\xA5IXJ1\x00\x05a - b\xA5\x00\x01a\xA5\x00\x06boot 1\xA5\x00\x051-1 b\x00"
@@ -119,10 +124,31 @@ def journals() -> Iterator[Row]:
     yield over(OF_ROUNDS, "1 0 status", 0, "history 3\n0 status partial 3 nodes 4\n",
                OF_ROUNDS[:-1] + b"\xA5\x00\x06boot 1\x00", "*(a - b)")
     yield over(OF_NO_ROUNDS, "", 8, "refused journal word 3\n", OF_NO_ROUNDS, "*(a - b)")
+    yield over(b"", "1 0 ask a 5\n2 0 confirm 1-1\n3 0 ask b 5\n4 0 confirm 1-2", 0,
+               "history 0\n0 granted 1-1\n0 confirmed 1\n0 granted 1-2\n0 confirmed 2\n",
+               NEW_OF_BOTH)
     # A new journal has the canonical text.
     yield over(b"", "", 0, "history 0\n",
                b"\xA5IXJ2\x00\x5Dall $p *any $x (call($p,$x) - perform($p,$x))"
                b" @ all $x *any $p (call($p,$x) - perform($p,$x))\xA5\x00\x06boot 1\x00", BOTH)
+
+
+def connections() -> Iterator[Row]:
+    """Bytes of several connections, in pieces. A reservation outlives its connection, and an
+    unfinished line doesn't."""
+    yield over(b"",
+               "10 0 ask a 5\\\n10 1 status\n10 1 may b\n10 1 ma\\\n11 0 0\n12 0 !\n"
+               "60 1 y b\n60 1 confirm 1-1\n60 1 log 1\n60 0 may b", 0,
+               "history 0\n1 status partial 0 nodes 2\n1 no\n0 granted 1-1\n1 no\n"
+               "1 confirmed 1\n1 entry 1 a\n0 yes\n", NEW_OF_A)
+    # On each connection a line that is too long, the front of one, its end, and a whole one.
+    links = range(64)
+    script = "".join(f"1 {link} {text}\n" for text in ("x" * 600, "x" * 300 + "\\", "!", "may a")
+                     for link in links)
+    replies = "".join(f"{link} {text}\n" for text in ("refused 10 line too long", "yes")
+                      for link in links)
+    yield over(b"", script, 0, f"history 0\n{replies}",
+               b"\xA5IXJ2\x00\x05a - b\xA5\x00\x06boot 1\x00")
 
 
 def outcomes() -> Iterator[Row]:
@@ -202,6 +228,54 @@ CUT_SHORT = (
 )
 
 
+ROUNDS = "all $p *(call($p) - perform($p))"
+
+EXAMINATIONS = "all $p *any $x (call($p,$x) - perform($p,$x))"
+
+# An expression, a history, and the word that is carried for it.
+CARRIED = (
+    # Nothing is open.
+    (ROUNDS, "", ""),
+    (ROUNDS, "call(u) perform(u) call(v) perform(v)", ""),
+    # Of a patient who is called the actions since then, of the others none.
+    (ROUNDS, "call(u) perform(u) call(v) call(u) perform(v) call(w)", "call(u) call(w)"),
+    (EXAMINATIONS, "call(p,x) perform(p,x) call(q,x) call(p,y) perform(q,x) call(q,z)",
+     "call(p,y) call(q,z)"),
+    # A fixed value has no entry.
+    ("all $p *(check($p,desk) - ?give($p,desk) - ?give($p,desk))",
+     "check(w,desk) give(w,desk) give(w,desk) check(u,desk) give(u,desk) check(v,desk)",
+     "check(u,desk) give(u,desk) check(v,desk)"),
+    # What was begun again has the tree of what was begun once.
+    ("all $p *(check($p) - ?give($p) - ?give($p))", "check(u) give(u) check(u) give(u)",
+     "check(u) give(u)"),
+    # There are no values: the stretches between equal trees are cut out.
+    ("boot - *(open - close)", "boot open close open", "boot open"),
+    ("*(open - close)", "open close open close", ""),
+    # What comes once is remembered.
+    ("all $p ?once($p)", "once(u) once(v) once(w)", "once(u) once(v) once(w)"),
+    ("all $c ?(order($c) - (cancel($c) | perform($c)))",
+     "order(c) order(d) cancel(c) perform(d)", "order(c) order(d) cancel(c) perform(d)"),
+    # Twelve patients are called, and two hundred times three of them examined and called again.
+    (EXAMINATIONS,
+     "call(a,x) call(b,x) call(c,x) call(d,x) call(e,x) call(f,x) call(g,y) call(h,y) call(i,y)"
+     " call(j,y) call(k,y) call(l,y)" + " perform(a,x) perform(b,x) call(a,y) call(b,y)"
+     " perform(a,y) perform(g,y) perform(b,y) call(b,x) call(a,x) call(g,y)" * 200,
+     "call(c,x) call(d,x) call(e,x) call(f,x) call(h,y) call(i,y) call(j,y) call(k,y) call(l,y)"
+     " call(b,x) call(a,x) call(g,y)"),
+)
+
+
+def carried() -> Iterator[Row]:
+    """What a renewal carries of a history."""
+    for expression, history, word in CARRIED:
+        done, kept = history.split(), word.split()
+        spent = [f"1-{number} {action}" for number, action in enumerate(done, 1)]
+        old = journal("2", "boot 1", *spent, expression=expression)
+        new = journal("3", *kept, f"renewed {len(done)} 1", expression=expression)
+        yield Row(RENEW, {"expression": expression.encode(), "journal": old},
+                  f"renewed {len(done)} 1 carried {len(kept)}\n", 0, {"journal": old, "new": new})
+
+
 def renewals() -> Iterator[Row]:
     """What a renewal makes of a journal, which stays as it is."""
     for expression, journal, new, status, wanted, then in RENEWALS:
@@ -214,7 +288,7 @@ def renewals() -> Iterator[Row]:
 
 def rows() -> list[Row]:
     """All rows of this file but the serves."""
-    return [*journals(), *outcomes(), *renewed(), *renewals()]
+    return [*journals(), *connections(), *outcomes(), *renewed(), *renewals(), *carried()]
 
 
 @dataclass(frozen=True)
