@@ -1,11 +1,11 @@
 //! Devices in memory, with answers worked out by hand.
-ghost use Rattle.std.specs.Prelude.{◌≡◌, ◌<◌, length, IfOk, OnOk, false, true};
-ghost use Rattle.ix_outside.specs.Crashes.{LeavesTheFile};
+ghost use Rattle.std.specs.Prelude.{◌≡◌, IfOk, false};
 
-mod traits;
+mod blocks;
+mod scans;
 
 use ix_memory::{MemoryFiles, MemorySink, MemorySite};
-use ix_outside::{DiskFailed, Event, EventKind, Files, LoadFault, Sink, Site};
+use ix_outside::{Event, EventKind, Files, LoadFault, Sink, Site};
 use std::alloc::{AllocError, Global};
 use std::test::Fail;
 
@@ -103,7 +103,8 @@ fn site(
     fail: &[u64],
     fuse: Option<u64>,
 ) -> Result<MemorySite, AllocError>
-    ensures { IfOk result (λ s. s.attached ≡ false) }
+    ensures attached { IfOk result (λ s. s.attached ≡ false) }
+    ensures added { IfOk result (λ s. s.plan.added ≡ 0) }
 {
     let piece = Event {
         conn: 3,
@@ -132,35 +133,33 @@ fn site(
     )
 }
 
-// Takes so many events through a buffer of four bytes, and notes each with the first byte of the
-// buffer; a failed call is noted as an end of connection 64.
-fn take_events(
-    site: &mut MemorySite,
-    count: usize,
-    seen: &mut Vec<(Event, u8)>,
-) -> Result<(), AllocError> {
-    let failed = Event {
-        conn: 64,
-        moment: 0,
-        kind: EventKind::End,
-    };
-    for _ in 0..count {
-        let mut buf = [0; 4];
-        let event = site.next(&mut buf).unwrap_or(failed);
-        seen.push((event, buf[0])).map_err(|_| AllocError)?;
+// A connection, a moment, what happens, and the first byte of the buffer.
+type Taken = (u8, u64, EventKind, u8);
+
+// Takes an event through a buffer of four bytes. A failed call is told as an end of connection 64.
+fn taken(site: &mut MemorySite) -> Taken {
+    let mut buf = [0; 4];
+    match site.next(&mut buf) {
+        Ok(event) => (event.conn, event.moment, event.kind, buf[0]),
+        Err(_) => (64, 0, EventKind::End, buf[0]),
     }
-    Ok(())
 }
 
-// What comes to a site whose third call fails, with so many events.
-fn events(alloc: Global, count: usize) -> Result<Vec<(Event, u8)>, AllocError> {
-    let mut seen = Vec::new(alloc);
+// What comes to a site whose third call fails.
+fn events(alloc: Global) -> Result<[Taken; 7], AllocError> {
     let mut site = site(alloc, 1000, &[2], None)?;
-    take_events(&mut site, count, &mut seen)?;
-    Ok(seen)
+    Ok([
+        taken(&mut site),
+        taken(&mut site),
+        taken(&mut site),
+        taken(&mut site),
+        taken(&mut site),
+        taken(&mut site),
+        taken(&mut site),
+    ])
 }
 
-const EVENTS: &[(u8, u64, EventKind, u8)] = &[
+const EVENTS: [Taken; 7] = [
     (3, 7, EventKind::Bytes(4), b'0'),
     (3, 7, EventKind::Bytes(4), b'4'),
     (64, 0, EventKind::End, 0),
@@ -172,15 +171,8 @@ const EVENTS: &[(u8, u64, EventKind, u8)] = &[
 
 #[test]
 fn a_long_piece_comes_as_several_events(rt: HostRuntime) -> Result<(), Fail> {
-    let seen = events(rt.alloc(), EVENTS.len())?;
-    for ((event, byte), (conn, moment, kind, first)) in seen.iter().zip(EVENTS) {
-        let wanted = Event {
-            conn: *conn,
-            moment: *moment,
-            kind: *kind,
-        };
-        assert!(rt; *event == wanted && byte == first, "{event:?}");
-    }
+    let seen = events(rt.alloc())?;
+    assert!(rt; seen == EVENTS, "{seen:?}");
     Ok(())
 }
 
@@ -233,14 +225,28 @@ fn sends_fail_where_they_are_told_and_beyond_the_room(rt: HostRuntime) -> Result
     Ok(())
 }
 
-// Which calls of the disk a site took, whether the file was as wanted after each of them, and what
-// was read behind them.
+// Which of these sends a site took that was told later that the second one is to fail.
+fn sends_told_later(alloc: Global) -> Result<[bool; 3], AllocError> {
+    let mut site = site(alloc, 63, &[], None)?;
+    site.fail_next(1);
+    Ok(send_thrice(&mut site))
+}
+
+#[test]
+fn a_call_is_told_later_to_fail(rt: HostRuntime) -> Result<(), Fail> {
+    assert!(rt; sends_told_later(rt.alloc())? == [true, false, true]);
+    Ok(())
+}
+
+// Which calls of the disk a site took, whether the file was as wanted after each of them, what was
+// read behind them, and the length of the longest buffer for that.
 #[derive(Clone, Copy)]
 struct Disk {
     took: [bool; 6],
     are_images: bool,
     read: usize,
     front: [u8; 4],
+    longest: usize,
 }
 
 // Whether a site's file is the image of this number.
@@ -262,6 +268,7 @@ fn use_disk(site: &mut MemorySite, images: &[&[u8]]) -> Disk
             are_images: images.is_empty(),
             read: 0,
             front,
+            longest: 0,
         };
     }
     let first = is_image(site, images, 0);
@@ -279,6 +286,7 @@ fn use_disk(site: &mut MemorySite, images: &[&[u8]]) -> Disk
         are_images: first && written.1 && longer.1 && far.1 && cut.1 && synced.1,
         read,
         front,
+        longest: site.longest_read(),
     }
 }
 
@@ -287,10 +295,12 @@ fn disk_of(alloc: Global, fail: &[u64], images: &[&[u8]]) -> Result<Disk, AllocE
     Ok(use_disk(&mut site, images))
 }
 
-// Whether what was read behind the calls is the file's bytes from 1 to 3.
+// Whether what was read behind the calls is the file's bytes from 1 to 3, through the whole buffer.
 fn has_read(seen: &Disk) -> bool {
-    let count = if seen.took[0] { 3 } else { 0 };
-    seen.read == count && (count == 0 || seen.front.starts_with(b"bvw"))
+    if !seen.took[0] {
+        return seen.read == 0 && seen.longest == 0;
+    }
+    seen.read == 3 && seen.longest == 4 && seen.front.starts_with(b"bvw")
 }
 
 const WHOLE: &[&[u8]] = &[b"", b"abcd", b"abvwxyz", b"abvwxyz", b"abvw", b"abvw"];
@@ -314,27 +324,5 @@ fn the_disk_holds_what_was_written(rt: HostRuntime) -> Result<(), Fail> {
         assert!(rt; seen.took == *took && seen.are_images, "{fail:?}");
         assert!(rt; has_read(&seen), "{fail:?}");
     }
-    Ok(())
-}
-
-// Attaches the file and writes over its front; once this answers Ok the bytes stay.
-fn keep<S: Site>(site: &mut S, bytes: &[u8]) -> Result<(), DiskFailed>
-    requires { (S.state site.old).attached ≡ false }
-    ensures { OnOk result (LeavesTheFile (S.state site.new).disk (S.crashes site.new).now) }
-{
-    site.attach("journal")?;
-    site.write_at(0, bytes)?;
-    site.sync()
-}
-
-// Whether a site's file, where that is done, is these bytes.
-fn is_kept(alloc: Global, bytes: &[u8]) -> Result<bool, AllocError> {
-    let mut site = site(alloc, 1000, &[], None)?;
-    Ok(keep(&mut site, bytes).is_ok() && site.image() == bytes)
-}
-
-#[test]
-fn a_synced_write_stays(rt: HostRuntime) -> Result<(), Fail> {
-    assert!(rt; is_kept(rt.alloc(), b"abc")?);
     Ok(())
 }

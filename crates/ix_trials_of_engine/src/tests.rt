@@ -10,7 +10,6 @@ use std::test::Fail;
 
 mod follows;
 mod names;
-mod renewals;
 
 fn expression(alloc: Global, text: &str) -> Result<Expression, Fail> {
     match read(alloc, text.as_bytes()) {

@@ -1,4 +1,0 @@
-//! Journals and slides over them.
-
-mod journals;
-mod slides;
