@@ -77,14 +77,19 @@ class Running:
     """A manager that serves in a folder, on the journal that lies there."""
 
     def __init__(self, path: str, folder: str, expression: str = EXPRESSION, open_files: int | None = None,
-                 options: Sequence[str] = ()) -> None:
+                 options: Sequence[str] = (), file_size: int | None = None) -> None:
+        """With `file_size` no file may grow beyond so many bytes: a write behind it fails, as on a full disk. That doesn't end
+        it, since it isn't given the signals of before Python."""
         self.path = f"{folder}/socket"
         if os.path.exists(self.path):
             os.remove(self.path)
         with open(f"{folder}/expression", "w") as file:
             file.write(expression)
         words = [path, "serve", f"{folder}/expression", f"{folder}/journal", self.path, *options]
-        self.process = subprocess.Popen(words, stdout=subprocess.PIPE, env={**os.environ, "ASAN_OPTIONS": KEEPS_NOTHING})
+        self.process = subprocess.Popen(words, stdout=subprocess.PIPE, env={**os.environ, "ASAN_OPTIONS": KEEPS_NOTHING},
+                                        restore_signals=file_size is None)
+        if file_size is not None:
+            resource.prlimit(self.process.pid, resource.RLIMIT_FSIZE, (file_size, file_size))
         if open_files is not None:
             resource.prlimit(self.process.pid, resource.RLIMIT_NOFILE, (open_files, open_files))
         first = self.line()
@@ -96,6 +101,11 @@ class Running:
         """The next line that it puts."""
         assert self.process.stdout is not None
         return self.process.stdout.readline().decode()
+
+    def rest(self) -> str:
+        """What it puts until its end."""
+        assert self.process.stdout is not None
+        return self.process.stdout.read().decode()
 
     def connect(self, limit: float = LIMIT) -> Client:
         return Client(self.path, limit)
