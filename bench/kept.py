@@ -114,10 +114,10 @@ def journals() -> Iterator[Row]:
     yield over(b"\x5A", "", 0, "history 0\n", b"\xA5IXJ2\x00\x05a - b\xA5\x00\x06boot 1\x00")
     yield over(b"#!/bin/sh", "", 8, "refused journal foreign\n", b"#!/bin/sh")
     yield over(OF_A, "", 8, "refused journal other a - b\n", OF_A, "a - c")
-    for journal, wanted in (
+    for wrong, wanted in (
             (b"\xA5IXJ1\x00\x05a - b\xA5\x00\x01a", "refused journal damaged 13\n"),
             (b"\xA5IXJ1\x00\x05a - b\xA5\x00\x01b\x00", "refused journal word 1\n")):
-        yield over(journal, "", 8, wanted, journal)
+        yield over(wrong, "", 8, wanted, wrong)
     yield over(OF_A, "", 8, "refused journal large 1 2\n", OF_A, words=FEW_NODES)
     # A device is no file.
     yield over(b"", "", 5, "refused disk\n", b"", words="replay expression /dev/null actions")
@@ -278,9 +278,9 @@ def carried() -> Iterator[Row]:
 
 def renewals() -> Iterator[Row]:
     """What a renewal makes of a journal, which stays as it is."""
-    for expression, journal, new, status, wanted, then in RENEWALS:
-        files = {"expression": expression.encode(), "journal": journal} | present("new", new)
-        yield Row(RENEW, files, wanted, status, {"journal": journal, "new": then})
+    for expression, old, new, status, wanted, then in RENEWALS:
+        files = {"expression": expression.encode(), "journal": old} | present("new", new)
+        yield Row(RENEW, files, wanted, status, {"journal": old, "new": then})
     for words, status, wanted in CUT_SHORT:
         files = {"expression": b"a - b", "journal": OF_A}
         yield Row(words, files, wanted, status, {"journal": OF_A, "new": b""})

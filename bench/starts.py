@@ -5,7 +5,7 @@ What is wanted comes from docs/journal.md, and not from what the program puts.""
 
 from __future__ import annotations
 
-from collections.abc import Iterable, Iterator
+from collections.abc import Iterator
 
 from rows import REPLAY, Row
 
