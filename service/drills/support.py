@@ -71,7 +71,8 @@ def history(rules: Path, journal: Path) -> list[str]:
 
 def guard(journal: Path, kept: Path | None = None) -> str:
     """What the guard says against a journal, and nothing where it accepts it."""
-    ended = subprocess.run([GUARD, journal, *([] if kept is None else [kept])], stdout=subprocess.DEVNULL, stderr=subprocess.PIPE, text=True)
+    words = [GUARD, journal, *([] if kept is None else [kept])]
+    ended = subprocess.run(words, stdout=subprocess.DEVNULL, stderr=subprocess.PIPE, text=True)
     check(ended.returncode in (0, 1), f"the guard ended with {ended.returncode}: {ended.stderr}")
     return ended.stderr.strip() if ended.returncode else ""
 
