@@ -53,6 +53,7 @@ class Lines(unittest.TestCase):
 
     def test_words_and_numbers(self) -> None:
         self.assertEqual([word(b"ask do(a) 10\n", place) for place in range(4)], [b"ask", b"do(a)", b"10", b""])
-        rows: dict[bytes, int | None] = {b"0": 0, b"10": 10, b"18446744073709551615": 2**64 - 1, b"18446744073709551616": None, b"01": None,
-                b"": None, b"-1": None, b"1x": None}
+        rows: dict[bytes, int | None] = {
+            b"0": 0, b"10": 10, b"18446744073709551615": 2**64 - 1, b"18446744073709551616": None, b"01": None, b"": None,
+            b"-1": None, b"1x": None}
         self.assertEqual({text: number(text) for text in rows}, rows)

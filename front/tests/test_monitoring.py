@@ -115,7 +115,8 @@ class Rules(Place):
     @unittest.skipUnless(shutil.which("promtool"), "promtool isn't installed")
     def test_the_rules_fire_where_they_should(self) -> None:
         for words in (["check", "rules", "rules.yml"], ["test", "rules", "rules_test.yml"]):
-            ran = subprocess.run(["promtool", *words], cwd=MONITORING, stdout=subprocess.PIPE, stderr=subprocess.STDOUT, text=True)
+            ran = subprocess.run(["promtool", *words], cwd=MONITORING, text=True,
+                                 stdout=subprocess.PIPE, stderr=subprocess.STDOUT)
             self.assertEqual(ran.returncode, 0, ran.stdout)
 
     @unittest.skipUnless(shutil.which("promtool"), "promtool isn't installed")

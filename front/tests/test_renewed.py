@@ -102,7 +102,8 @@ class Renewed(Managed):
         # The rules permit each action at any time, so nothing is carried.
         self.assertEqual((actions, boots), (1, 1))
         wait_until(lambda: metric(self.folder, "ixm_journal_actions") == 1, "what look has written")
-        self.assertEqual([metric(self.folder, f"ixm_{name}") for name in ("journal_boots", "history_length", "boots")], [1, 4, 2])
+        told = [metric(self.folder, f"ixm_{name}") for name in ("journal_boots", "history_length", "boots")]
+        self.assertEqual(told, [1, 4, 2])
         counts = json.loads(page(self.folder, "/now").partition("\n\n")[2])["counts"]
         self.assertEqual((counts["history"], counts["boots"]), ([1, 1000000], [1, 1000000]))
 
