@@ -23,12 +23,13 @@ use Rattle.ix_expr.proofs.LawsOfNames.{fits-names}
 use Rattle.ix_expr.proofs.LawsOfMeaning.{partial-alphabet}
 use Rattle.ix_tree.specs.Plain.{Plain, dead, done, opt as opt_tree, star as star_tree, par as par_tree, or as or_tree, and as and_tree, couple as couple_tree, any as any_tree, every as every_tree, sync as sync_tree, all as all_tree, pair as pair_of, map as map_of, entry as entry_of}
 use Rattle.ix_tree.specs.Size.{size_of}
-use Rattle.ix_can.specs.Tests.{is_match, in_alphabet, values_and_outside}
+use Rattle.ix_expr.specs.Tests.{is_match, in_alphabet, values_and_outside}
 use Rattle.ix_can.specs.Ways.{is_empty, is_concatenation, ownings}
 use Rattle.ix_can.specs.Nodes.{is_dead, is_done, is_live, is_open, same_tree, set_of, live, dead_if, done_if, is_spent, settled, unless_done, has_dead_entry, seq_parts}
 use Rattle.ix_can.specs.TreeOf.{is_final, atom_tree, entries_of, live_map, tree_of}
 use Rattle.ix_can.specs.Laws.{EachAllNames}
-use Rattle.ix_can.proofs.Lists.{itself, when_both, when_not, filled_says, Member-filter, all_to}
+use Rattle.ix_words.proofs.Deciding.{itself, when_both}
+use Rattle.ix_can.proofs.Lists.{when_not, filled_says, Member-filter, all_to}
 use Rattle.ix_can.proofs.Nodes.{live_says}
 use Rattle.ix_can.proofs.Ways.{ownings_to}
 use Rattle.ix_can.proofs.Naming.{fits_name}

@@ -14,7 +14,8 @@ use Rattle.ix_expr.specs.Environment.{Environment, bind, value_in, HasValue, Hav
 use Rattle.ix_expr.specs.Meaning.{InAlphabet}
 use Rattle.ix_expr.specs.Laws.{EachAtomNames}
 use Rattle.ix_expr.proofs.LawsOfMeaning.{bind-other, bind-own}
-use Rattle.ix_can.proofs.Lists.{itself, when_both, when_either, any_says, all_to}
+use Rattle.ix_words.proofs.Deciding.{itself, when_both, when_either, any_says}
+use Rattle.ix_can.proofs.Lists.{all_to}
 use Rattle.ix_expr.specs.Atoms.{atoms_of, are_alike}
 use Rattle.ix_bound.specs.Keys.{is_at, keeps_key, has_key, is_keyed}
 

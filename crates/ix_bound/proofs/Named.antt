@@ -13,9 +13,9 @@ use Rattle.ix_expr.specs.Form.{PlainAtom, Form, atom, opt, seq, star, par, par_s
 use Rattle.ix_expr.specs.Environment.{Environment, bind, Matches}
 use Rattle.ix_expr.specs.Meaning.{InAlphabet, IsComplete, IsPartial}
 use Rattle.ix_expr.proofs.LawsOfMeaning.{complete-partial, partial-alphabet}
-use Rattle.ix_can.specs.Tests.{accepts_empty}
-use Rattle.ix_can.proofs.Lists.{itself, when_both, when_either, any_from}
-use Rattle.ix_can.proofs.Testing.{empty_complete}
+use Rattle.ix_expr.specs.Tests.{accepts_empty}
+use Rattle.ix_words.proofs.Deciding.{itself, when_both, when_either, any_from}
+use Rattle.ix_expr.proofs.Testing.{empty_complete}
 use Rattle.ix_expr.specs.Atoms.{atoms_of}
 use Rattle.ix_bound.specs.Names.{has_name, share_a_name}
 use Rattle.ix_bound.specs.Heads.{has_heads, is_head, is_in_rest, comes_again, is_headed}

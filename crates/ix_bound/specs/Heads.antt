@@ -3,7 +3,7 @@ use Rattle.std.specs.Prelude.{ℕ, Bool, true, false, not, ◌&&◌, ◌||◌, L
 use Rattle.std.specs.List.{list_any}
 use Rattle.ix_values.specs.Order.{text_eq}
 use Rattle.ix_expr.specs.Form.{Form, atom, opt, seq, or, and, any, every}
-use Rattle.ix_can.specs.Tests.{accepts_empty}
+use Rattle.ix_expr.specs.Tests.{accepts_empty}
 use Rattle.ix_expr.specs.Atoms.{atoms_of}
 use Rattle.ix_bound.specs.Names.{has_name}
 

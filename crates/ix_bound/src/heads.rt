@@ -3,12 +3,12 @@
 ghost use Rattle.std.specs.Prelude.{◌≡◌};
 ghost use Rattle.std.specs.List.{list_any};
 ghost use Rattle.ix_expr.specs.inside.FormOf.{form_of};
-ghost use Rattle.ix_can.specs.Tests.{accepts_empty};
+ghost use Rattle.ix_expr.specs.Tests.{accepts_empty};
 ghost use Rattle.ix_bound.specs.Heads.{comes_again, has_heads, is_head, is_headed, is_in_rest};
 ghost use Rattle.ix_expr.specs.Atoms.{atoms_of};
 
 use crate::names::has_name;
-use ix_expr::Expr;
+use ix_expr::{Expr, accepts_empty};
 use ix_values::Name;
 
 /// Whether heads and a rest are defined.
@@ -22,13 +22,6 @@ fn has_heads(expr: &Expr) -> bool
         Expr::Or(y, z) | Expr::And(y, z) => has_heads(y) && has_heads(z),
         _ => false,
     }
-}
-
-/// Whether the empty word is complete.
-fn accepts_empty(expr: &Expr) -> bool
-    ensures { result ≡ accepts_empty (form_of expr.now) }
-{
-    ix_expr::accepts_empty(expr)
 }
 
 /// Whether the first action can have this name.

@@ -17,12 +17,13 @@ use Rattle.ix_expr.specs.Laws.{AgreeAt, AgreeOn}
 use Rattle.ix_expr.proofs.Agreement.{alphabet-leads}
 use Rattle.ix_expr.proofs.LawsOfMeaning.{agree-sym, bind-agree}
 use Rattle.ix_tree.specs.Plain.{Plain, done, dead}
-use Rattle.ix_can.specs.Tests.{in_alphabet, values_and_outside}
+use Rattle.ix_expr.specs.Tests.{in_alphabet, values_and_outside}
 use Rattle.ix_can.specs.Ways.{is_empty, ways_into_pieces, is_concatenation, numberings, nonempty_parts, numbers_below, ownings, sharings, parts_below}
 use Rattle.ix_can.specs.Nodes.{live, opt_node, seq_node, star_node, par_node, par_star_node, or_node, and_node, couple_node, any_node, every_node, sync_node, all_node, times_node}
 use Rattle.ix_can.specs.TreeOf.{is_final, tree_of, atom_tree, live_pair, live_bag, whole_bag, entries_of, live_map}
-use Rattle.ix_can.proofs.Lists.{one_test, Member-filter}
-use Rattle.ix_can.proofs.Testing.{alphabet_says}
+use Rattle.ix_words.proofs.Deciding.{one_test}
+use Rattle.ix_can.proofs.Lists.{Member-filter}
+use Rattle.ix_expr.proofs.Testing.{alphabet_says}
 use Rattle.ix_can.proofs.Ways.{pieces_join}
 
 -- Lists made alike

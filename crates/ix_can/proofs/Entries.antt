@@ -15,7 +15,8 @@ use Rattle.ix_can.specs.Nodes.{same_tree, listed, items_of, set_of}
 use Rattle.ix_can.specs.TreeOf.{entries_of}
 use Rattle.ix_can.specs.May.{tree_at}
 use Rattle.ix_can.specs.inside.Moved.{entry_with}
-use Rattle.ix_can.proofs.Lists.{itself, iff_trans, when_either, when_both, when_not, any_says, all_to, all_from, SomeWay}
+use Rattle.ix_words.proofs.Deciding.{itself, iff_trans, when_either, when_both, any_says}
+use Rattle.ix_can.proofs.Lists.{when_not, all_to, all_from, SomeWay}
 use Rattle.ix_can.proofs.Nodes.{items_listed, same_from, differs_or_not, entry_is, entry_among}
 
 -- The tree at a value

@@ -20,7 +20,7 @@ use Rattle.ix_tree.specs.Plain.{Plain, dead, items_of}
 use Rattle.ix_tree.specs.PlainOf.{plain_entry, plain_entries}
 use Rattle.ix_tree.proofs.PlainLists.{items_of-listed}
 use Rattle.ix_can.specs.May.{tree_at}
-use Rattle.ix_can.proofs.Lists.{one_test}
+use Rattle.ix_words.proofs.Deciding.{one_test}
 
 -- where plain entries ascend by their values, so do the entries in memory
 pub keys_ascend : (es : List (List ℕ × Plain)) → Ascending (λ x y. text_cmp (key x) (key y)) (map plain_entry es) → KeysAscend text_cmp es

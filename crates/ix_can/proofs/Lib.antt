@@ -1,5 +1,4 @@
 pub mod Lists
-pub mod Testing
 pub mod Ways
 pub mod Spent
 pub mod Nodes

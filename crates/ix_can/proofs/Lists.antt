@@ -5,18 +5,10 @@ use Rattle.ix_words.specs.Each.{Each, no_item, item, Member, here, there}
 use Rattle.ix_words.specs.Canon.{SameMembers, when}
 use Rattle.ix_words.proofs.Each.{Each-head, Each-tail, Each-weaker, Each-member, Each-members, Member-left, Member-right, Member-either}
 use Rattle.ix_words.proofs.Canon.{Member-cases, Member-same, Member-flat_map}
+use Rattle.ix_words.proofs.Deciding.{itself, iff_trans, iff_sym, one_test, when_either, when_both, any_to, any_from}
 use Rattle.ix_can.specs.Ways.{is_empty}
 
 -- Equivalences
-
-pub itself : {A : Type 0} → A ↔ A
-itself = (λ a. a, λ a. a)
-
-pub iff_trans : {A B C : Type 0} → A ↔ B → B ↔ C → A ↔ C
-iff_trans f g = (λ a. g.0 (f.0 a), λ c. f.1 (g.1 c))
-
-pub iff_sym : {A B : Type 0} → A ↔ B → B ↔ A
-iff_sym f = (f.1, f.0)
 
 pub both_iff : {A B C D : Type 0} → A ↔ B → C ↔ D → (A × C) ↔ (B × D)
 both_iff f g = (λ h. (f.0 h.0, g.0 h.1), λ h. (f.1 h.0, g.1 h.1))
@@ -26,19 +18,6 @@ either_iff f g = (λ h. elim h [ inl a ↦ inl (f.0 a) | inr c ↦ inr (g.0 c) ]
 
 pub same_test : {a b : Bool} {C : Type 0} → a ≡ b → (b ≡ true) ↔ C → (a ≡ true) ↔ C
 same_test e k = (λ h. k.0 (sym e ∙ h), λ c. e ∙ k.1 c)
-
-pub one_test : (a b : Bool) → (a ≡ true) ↔ (b ≡ true) → a ≡ b
-one_test true b f = sym (f.0 refl)
-one_test false true f = f.1 refl
-one_test false false f = refl
-
-pub when_either : (a b : Bool) {A B : Type 0} → (a ≡ true) ↔ A → (b ≡ true) ↔ B → (a || b ≡ true) ↔ (A ⊎ B)
-when_either true b f g = (λ e. inl (f.0 refl), λ h. refl)
-when_either false b f g = (λ e. inr (g.0 e), λ h. elim h [ inl k ↦ absurd (true≢false (sym (f.1 k))) | inr k ↦ g.1 k ])
-
-pub when_both : (a b : Bool) {A B : Type 0} → (a ≡ true) ↔ A → (b ≡ true) ↔ B → (a && b ≡ true) ↔ (A × B)
-when_both true b f g = (λ e. (f.0 refl, g.0 e), λ h. g.1 h.1)
-when_both false b f g = (λ e. absurd (true≢false (sym e)), λ h. absurd (true≢false (sym (f.1 h.0))))
 
 pub unless_either : (a b : Bool) {A B : Type 0} → (a ≡ false) ↔ A → (b ≡ false) ↔ B → (a || b ≡ false) ↔ (A × B)
 unless_either true b f g = (λ e. absurd (true≢false e), λ h. absurd (true≢false (f.1 h.0)))
@@ -56,45 +35,12 @@ pub when_not : (a : Bool) {A : Type 0} → (a ≡ false) ↔ A → (not a ≡ tr
 when_not true f = (λ e. absurd (true≢false (sym e)), λ h. absurd (true≢false (f.1 h)))
 when_not false f = (λ e. f.0 refl, λ h. refl)
 
-or_first : (a b : Bool) → a ≡ true → a || b ≡ true
-or_first true b e = refl
-or_first false b e = absurd (true≢false (sym e))
-
-or_second : (a b : Bool) → b ≡ true → a || b ≡ true
-or_second true b e = refl
-or_second false b e = e
-
 pub each_iff : {A : Type 0} {G H : A → Type 0} {w : List A} → ((a : A) → G a ↔ H a) → Each G w ↔ Each H w
 each_iff says = (λ h. Each-weaker (λ a g. (says a).0 g) h, λ h. Each-weaker (λ a g. (says a).1 g) h)
 
 -- Members that pass
 
--- some member passes the test
-pub record SomePasses {A : Type 0} (test : A → Bool) (w : List A) : Type 0 where
-  pub which : A
-  pub among : Member which w
-  pub passes : test which ≡ true
-
 module _ {A : Type 0} (test : A → Bool) where
-  first_passes : (a : A) (w : List A) (b : Bool) → test a ≡ b → (list_any test w ≡ true → SomePasses test w) → b || list_any test w ≡ true → SomePasses test (a ∷ w)
-  first_passes a w true h later e = record { which = a; among = here; passes = h }
-  first_passes a w false h later e = let s = later e in record { which = s.which; among = there s.among; passes = s.passes }
-
-  any_to : (w : List A) → list_any test w ≡ true → SomePasses test w
-  any_to [] e = absurd (true≢false (sym e))
-  any_to (a ∷ w) e = first_passes a w (test a) refl (any_to w) e
-
-  pub any_from : (w : List A) {a : A} → Member a w → test a ≡ true → list_any test w ≡ true
-  any_from [] m e = elim m [ ]
-  any_from (b ∷ w) {a} m e =
-      elim (Member-cases m) [
-        | inl same ↦ or_first (test b) (list_any test w) (ap test (sym same) ∙ e)
-        | inr n ↦ or_second (test b) (list_any test w) (any_from w n e)
-      ]
-
-  pub any_says : (w : List A) → (list_any test w ≡ true) ↔ SomePasses test w
-  any_says w = (any_to w, λ s. any_from w s.among s.passes)
-
   pub all_to : (w : List A) → list_all test w ≡ true → Each (λ a. test a ≡ true) w
   all_to [] e = no_item
   all_to (a ∷ w) e =
@@ -142,8 +88,8 @@ module _ {A : Type 0} (test : A → Bool) where
 
   pub any_same : (u v : List A) → SameMembers u v → list_any test u ≡ list_any test v
   any_same u v s = one_test _ _ (
-    λ e. let k = any_to u e in any_from v (s.to k.which k.among) k.passes,
-    λ e. let k = any_to v e in any_from u (s.from k.which k.among) k.passes,
+    λ e. let k = any_to test u e in any_from test v (s.to k.which k.among) k.passes,
+    λ e. let k = any_to test v e in any_from test u (s.from k.which k.among) k.passes,
   )
 
   pub all_same : (u v : List A) → SameMembers u v → list_all test u ≡ list_all test v
@@ -166,11 +112,11 @@ module _ {A : Type 0} (test : A → Bool) where
 
   any_append : (u v : List A) → (list_any test (u ++ v) ≡ true) ↔ ((list_any test u ≡ true) ⊎ (list_any test v ≡ true))
   any_append u v = (
-    λ e. let k = any_to (u ++ v) e in
-        elim (Member-either u v k.among) [ inl l ↦ inl (any_from u l k.passes) | inr r ↦ inr (any_from v r k.passes) ],
+    λ e. let k = any_to test (u ++ v) e in
+        elim (Member-either u v k.among) [ inl l ↦ inl (any_from test u l k.passes) | inr r ↦ inr (any_from test v r k.passes) ],
     λ h. elim h [
-      | inl e ↦ let k = any_to u e in any_from (u ++ v) (Member-left k.among v) k.passes
-      | inr e ↦ let k = any_to v e in any_from (u ++ v) (Member-right u k.among) k.passes
+      | inl e ↦ let k = any_to test u e in any_from test (u ++ v) (Member-left k.among v) k.passes
+      | inr e ↦ let k = any_to test v e in any_from test (u ++ v) (Member-right u k.among) k.passes
     ],
   )
 

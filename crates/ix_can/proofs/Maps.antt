@@ -20,7 +20,8 @@ use Rattle.ix_can.specs.Nodes.{is_dead, is_live, same_tree, items_of, set_of}
 use Rattle.ix_can.specs.TreeOf.{entries_of, live_map}
 use Rattle.ix_can.specs.May.{tree_at}
 use Rattle.ix_can.specs.inside.Moved.{entry_with, map_with, or_initial}
-use Rattle.ix_can.proofs.Lists.{itself, one_test, when_not, all_to, all_from, Member-filter, filter-Member}
+use Rattle.ix_words.proofs.Deciding.{itself, one_test}
+use Rattle.ix_can.proofs.Lists.{when_not, all_to, all_from, Member-filter, filter-Member}
 use Rattle.ix_can.proofs.Ways.{ownings_to, ownings_from}
 use Rattle.ix_can.proofs.Nodes.{same_is, same_from, entry_is, entry_among}
 use Rattle.ix_can.proofs.MovesShared.{set_members, set_same}

@@ -18,7 +18,8 @@ use Rattle.ix_can.specs.Ways.{is_empty, ownings}
 use Rattle.ix_can.specs.Nodes.{is_dead, is_live, same_tree, items_of, set_of}
 use Rattle.ix_can.specs.TreeOf.{tree_of}
 use Rattle.ix_can.specs.May.{may_first, may, tree_at}
-use Rattle.ix_can.proofs.Lists.{same_test, iff_trans, iff_sym, SomeWay, any_says, any_from, when_passes, one_passes, made_says}
+use Rattle.ix_words.proofs.Deciding.{iff_trans, iff_sym, any_says, any_from}
+use Rattle.ix_can.proofs.Lists.{same_test, SomeWay, when_passes, one_passes, made_says}
 use Rattle.ix_can.proofs.Nodes.{same_is, any_set}
 use Rattle.ix_can.proofs.Agreeing.{empty_tree}
 use Rattle.ix_can.proofs.OperatorsTell.{Tells}

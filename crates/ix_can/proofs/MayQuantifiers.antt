@@ -9,13 +9,14 @@ use Rattle.ix_expr.specs.Environment.{Environment, bind}
 use Rattle.ix_expr.specs.Meaning.{InAlphabet, IsPartial}
 use Rattle.ix_expr.proofs.LawsOfMeaning.{empty-partial, prefix-partial, agree-atoms, outside-agree, outside-same}
 use Rattle.ix_tree.specs.Plain.{Plain, any as any_tree, every as every_tree, sync as sync_tree}
-use Rattle.ix_can.specs.Tests.{in_alphabet, values_and_outside}
+use Rattle.ix_expr.specs.Tests.{in_alphabet, values_and_outside}
 use Rattle.ix_can.specs.Ways.{is_empty}
 use Rattle.ix_can.specs.Nodes.{is_dead, set_of, has_dead_entry}
 use Rattle.ix_can.specs.TreeOf.{tree_of}
 use Rattle.ix_can.specs.May.{moves_within, may_first, may}
-use Rattle.ix_can.proofs.Lists.{itself, iff_trans, iff_sym, both_iff, either_iff, each_iff, when_either, when_both, way_says, all_map, any_map}
-use Rattle.ix_can.proofs.Testing.{alphabet_says}
+use Rattle.ix_words.proofs.Deciding.{itself, iff_trans, iff_sym, when_either, when_both}
+use Rattle.ix_can.proofs.Lists.{both_iff, either_iff, each_iff, way_says, all_map, any_map}
+use Rattle.ix_expr.proofs.Testing.{alphabet_says}
 use Rattle.ix_can.proofs.Nodes.{fresh, fresh-new, some_value, every_value}
 use Rattle.ix_can.proofs.QuantifiersTell.{TellAll, entries, own, Own, own_says, own_tree, own_entries, partial_outside, own_partial_outside, agree_outside, any_told, every_told, sync_told}
 use Rattle.ix_can.proofs.Agreeing.{same_tree_of, own_alike, filter-each}

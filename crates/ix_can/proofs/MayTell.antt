@@ -21,13 +21,14 @@ use Rattle.ix_expr.specs.Meaning.{InAlphabet, IsOneMatch, IsComplete, IsPartial}
 use Rattle.ix_expr.proofs.LawsOfMeaning.{empty-partial, complete-partial, prefix-partial}
 use Rattle.ix_tree.specs.Plain.{Plain, dead, done, opt as opt_tree, star as star_tree, par as par_tree, par_star as par_star_tree, or as or_tree, and as and_tree, couple as couple_tree, pair as pair_of, bag as bag_of}
 use Rattle.ix_tree.specs.Order.{first_part, second_part}
-use Rattle.ix_can.specs.Tests.{is_match, in_alphabet, accepts_empty}
+use Rattle.ix_expr.specs.Tests.{is_match, in_alphabet, accepts_empty}
 use Rattle.ix_can.specs.Ways.{is_empty, numberings, nonempty_parts, numbers_below}
 use Rattle.ix_can.specs.Nodes.{is_dead, is_live, is_open, listed, items_of, set_of, sorted, live, dead_if, done_if, unless_done, is_spent, settled, seq_parts}
 use Rattle.ix_can.specs.TreeOf.{tree_of}
 use Rattle.ix_can.specs.May.{both_move, may_first, may}
-use Rattle.ix_can.proofs.Lists.{itself, both_iff, same_test, iff_trans, iff_sym, when_either, when_both, when_not, SomeWay, when_passes, one_passes, made_says, all_map, any_map, filled_says, filter-Member, Member-filter}
-use Rattle.ix_can.proofs.Testing.{match_says, alphabet_says, empty_complete}
+use Rattle.ix_words.proofs.Deciding.{itself, iff_trans, iff_sym, when_either, when_both}
+use Rattle.ix_can.proofs.Lists.{both_iff, same_test, when_not, SomeWay, when_passes, one_passes, made_says, all_map, any_map, filled_says, filter-Member, Member-filter}
+use Rattle.ix_expr.proofs.Testing.{match_says, alphabet_says, empty_complete}
 use Rattle.ix_can.proofs.Ways.{numbered_part, long_to, long_from, parts_to, parts_from, numbers_to, each_below, below_from, owner_or_none}
 use Rattle.ix_can.proofs.Spent.{may_dead, may_done, unless_may, spent_may, done_live, done_may, any_open}
 use Rattle.ix_can.proofs.Nodes.{tree_live, any_set, any_sorted, projected_says}

@@ -11,13 +11,13 @@ use Rattle.ix_expr.specs.Laws.{AtomsAgreeAt}
 use Rattle.ix_expr.proofs.AgreeingAtoms.{atoms-back, alphabet-same}
 use Rattle.ix_tree.specs.Plain.{Plain, dead, start, done, opt as opt_of, seq as seq_of, star as star_of, par as par_of, par_star as par_star_of, or as or_of, and as and_of, couple as couple_of, any as any_of, every as every_of, sync as sync_of, all as all_of, times as times_of, pair as pair_of}
 use Rattle.ix_tree.specs.Order.{key, first_part, second_part}
-use Rattle.ix_can.specs.Tests.{in_alphabet, values_and_outside, accepts_empty}
+use Rattle.ix_expr.specs.Tests.{in_alphabet, values_and_outside, accepts_empty}
 use Rattle.ix_can.specs.Nodes.{is_dead, is_live, is_open, items_of, set_of, live, dead_if, settled, settled_times, seq_parts}
 use Rattle.ix_can.specs.TreeOf.{is_final, tree_of}
 use Rattle.ix_can.specs.May.{both_move, moves_within, tree_at, may_first, may}
 use Rattle.ix_can.specs.inside.Moved.{picks, bag_with, keep_with, entry_with, map_with, or_initial, moved_inside, moved}
-use Rattle.ix_can.proofs.Lists.{one_test}
-use Rattle.ix_can.proofs.Testing.{alphabet_says}
+use Rattle.ix_words.proofs.Deciding.{one_test}
+use Rattle.ix_expr.proofs.Testing.{alphabet_says}
 
 module _ (a : PlainAction) where
   -- the action is in the alphabet alike

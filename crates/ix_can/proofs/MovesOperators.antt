@@ -12,12 +12,13 @@ use Rattle.ix_expr.specs.Form.{PlainAtom, Form, atom, opt, seq, star, or, and, c
 use Rattle.ix_expr.specs.Environment.{Environment}
 use Rattle.ix_expr.specs.Meaning.{IsComplete}
 use Rattle.ix_tree.specs.Plain.{Plain, dead, done, opt as opt_of, seq as seq_of, star as star_of, or as or_of, and as and_of, couple as couple_of}
-use Rattle.ix_can.specs.Tests.{is_match, in_alphabet}
+use Rattle.ix_expr.specs.Tests.{is_match, in_alphabet}
 use Rattle.ix_can.specs.Ways.{is_empty}
 use Rattle.ix_can.specs.Nodes.{is_dead, is_done, is_open, unless_done, items_of, set_of, live, seq_parts}
 use Rattle.ix_can.specs.TreeOf.{is_final, tree_of}
 use Rattle.ix_can.specs.inside.Moved.{moved, moved_inside, Moves}
-use Rattle.ix_can.proofs.Lists.{iff_trans, iff_sym, both_iff, one_test, when_both, when_not, when_passes, made_says, any_same, filled_says}
+use Rattle.ix_words.proofs.Deciding.{iff_trans, iff_sym, one_test, when_both}
+use Rattle.ix_can.proofs.Lists.{both_iff, when_not, when_passes, made_says, any_same, filled_says}
 use Rattle.ix_can.proofs.Ways.{joined_says}
 use Rattle.ix_can.proofs.Ends.{filter_end, repeated_end}
 use Rattle.ix_can.proofs.Spent.{unless_moved}

@@ -9,7 +9,7 @@ use Rattle.ix_expr.specs.Meaning.{IsPartial}
 use Rattle.ix_expr.proofs.LawsOfMeaning.{agree-atoms, outside-agree}
 use Rattle.ix_tree.specs.Plain.{Plain, any as any_tree, every as every_tree, sync as sync_tree}
 use Rattle.ix_tree.specs.Order.{key, first_part}
-use Rattle.ix_can.specs.Tests.{in_alphabet, values_and_outside}
+use Rattle.ix_expr.specs.Tests.{in_alphabet, values_and_outside}
 use Rattle.ix_can.specs.Ways.{is_empty}
 use Rattle.ix_can.specs.Nodes.{is_dead, items_of, set_of, has_dead_entry}
 use Rattle.ix_can.specs.TreeOf.{tree_of, entries_of}

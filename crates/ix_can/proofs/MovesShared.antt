@@ -14,13 +14,13 @@ use Rattle.ix_expr.proofs.LawsOfMeaning.{empty-partial}
 use Rattle.ix_tree.specs.Plain.{Plain, dead, start, done, opt as opt_of, seq as seq_of, star as star_of, par as par_of, par_star as par_star_of, or as or_of, and as and_of, couple as couple_of, any as any_of, every as every_of, sync as sync_of, all as all_of, times as times_of, pair as pair_of}
 use Rattle.ix_tree.specs.Order.{tree_cmp, key, first_part, second_part}
 use Rattle.ix_tree.specs.lemmas.TreeOrder.{tree_order}
-use Rattle.ix_can.specs.Tests.{is_match, in_alphabet}
+use Rattle.ix_expr.specs.Tests.{is_match, in_alphabet}
 use Rattle.ix_can.specs.Ways.{is_empty}
 use Rattle.ix_can.specs.Nodes.{is_dead, is_live, is_open, listed, items_of, set_of, live, dead_if, done_if, only_bag_done, is_spent, settled, seq_parts}
 use Rattle.ix_can.specs.TreeOf.{is_final, tree_of}
 use Rattle.ix_can.specs.May.{may_first, may, tree_at}
 use Rattle.ix_can.specs.inside.Moved.{picks, bag_with, keep_with, entry_with, map_with, or_initial, moved_inside, moved}
-use Rattle.ix_can.proofs.Lists.{one_test, iff_trans, iff_sym}
+use Rattle.ix_words.proofs.Deciding.{one_test, iff_trans, iff_sym}
 use Rattle.ix_can.proofs.Spent.{dead_is, may_dead, spent_may, moved_dead, moved_done, done_live, done_may, done_moved, open_made, open_same}
 use Rattle.ix_can.proofs.Nodes.{live_says, items_listed}
 use Rattle.ix_can.proofs.OperatorsTell.{Tells}

@@ -9,7 +9,7 @@ use Rattle.ix_expr.specs.Laws.{EachAtomNames}
 use Rattle.ix_can.specs.May.{may_first}
 use Rattle.ix_can.specs.inside.Moved.{Moves}
 use Rattle.ix_can.specs.Laws.{EachAllNames}
-use Rattle.ix_can.proofs.Lists.{when_either, when_both}
+use Rattle.ix_words.proofs.Deciding.{when_either, when_both}
 use Rattle.ix_can.proofs.Naming.{fits_name}
 use Rattle.ix_can.proofs.OperatorsTell.{Tells, atom_told, opt_told, seq_told, par_told, or_told, and_told, couple_told, star_told, par_star_told}
 use Rattle.ix_can.proofs.MayTell.{Begins, MayTells, first_atom, first_seq, first_star, first_par, first_par_star, couple_end, atom_may, opt_may, seq_may, par_may, or_may, and_may, couple_may, star_may, par_star_may}

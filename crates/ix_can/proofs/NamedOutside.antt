@@ -14,7 +14,7 @@ use Rattle.ix_expr.specs.Environment.{Environment, bind, value_in}
 use Rattle.ix_expr.specs.Laws.{EachAtomNames}
 use Rattle.ix_tree.specs.Plain.{Plain, dead, start, opt as opt_of, seq as seq_of, star as star_of, par as par_of, par_star as par_star_of, or as or_of, and as and_of, couple as couple_of, any as any_of, every as every_of, sync as sync_of, all as all_of, times as times_of}
 use Rattle.ix_tree.specs.Order.{key, first_part, second_part}
-use Rattle.ix_can.specs.Tests.{is_value, has_value, have_values, is_match, in_alphabet, values_and_outside, accepts_empty}
+use Rattle.ix_expr.specs.Tests.{is_value, has_value, have_values, is_match, in_alphabet, values_and_outside, accepts_empty}
 use Rattle.ix_can.specs.Nodes.{is_dead, items_of}
 use Rattle.ix_can.specs.May.{both_move, moves_within, tree_at, may_first, may}
 

@@ -19,7 +19,8 @@ use Rattle.ix_can.specs.Ways.{is_empty}
 use Rattle.ix_can.specs.Nodes.{is_dead, is_live, is_spent, settled, same_tree, listed, items_of, set_of, put_in, sorted, live, dead_if, done_if, has_dead_entry}
 use Rattle.ix_can.specs.TreeOf.{is_final, entries_of}
 use Rattle.ix_can.proofs.Spent.{dead_is, done_live, done_if_final, or_turn}
-use Rattle.ix_can.proofs.Lists.{itself, iff_trans, iff_sym, same_test, when_either, when_both, unless_either, unless_both, when_not, SomeWay, any_from, any_same, all_same, none_says, when_passes, one_passes, made_says, passes_all, filled, all_to, all_from}
+use Rattle.ix_words.proofs.Deciding.{itself, iff_trans, iff_sym, when_either, when_both, any_from}
+use Rattle.ix_can.proofs.Lists.{same_test, unless_either, unless_both, when_not, SomeWay, any_same, all_same, none_says, when_passes, one_passes, made_says, passes_all, filled, all_to, all_from}
 
 -- Dead and final
 

@@ -12,12 +12,13 @@ use Rattle.ix_expr.specs.Meaning.{IsOneMatch, IsComplete, IsPartial}
 use Rattle.ix_expr.proofs.LawsOfMeaning.{empty-partial, complete-partial}
 use Rattle.ix_tree.specs.Plain.{Plain, dead, done, opt as opt_tree, star as star_tree, par as par_tree, par_star as par_star_tree, or as or_tree, and as and_tree, couple as couple_tree, pair as pair_of, bag as bag_of}
 use Rattle.ix_tree.specs.Order.{first_part, second_part}
-use Rattle.ix_can.specs.Tests.{is_match, in_alphabet}
+use Rattle.ix_expr.specs.Tests.{is_match, in_alphabet}
 use Rattle.ix_can.specs.Ways.{is_empty, is_concatenation, numberings, nonempty_parts}
 use Rattle.ix_can.specs.Nodes.{is_dead, is_done, is_live, is_ended, is_open, unless_done, is_spent, listed, items_of, set_of, sorted, live, seq_parts}
 use Rattle.ix_can.specs.TreeOf.{is_final, tree_of, atom_tree, live_pair, live_bag}
-use Rattle.ix_can.proofs.Lists.{itself, both_iff, same_test, iff_trans, when_either, when_both, unless_either, unless_both, when_not, unless_not, all_are, when_passes, one_passes, made_says, all_map, passes_all, filled, empty_says, filled_says}
-use Rattle.ix_can.proofs.Testing.{match_says, alphabet_says}
+use Rattle.ix_words.proofs.Deciding.{itself, iff_trans, when_either, when_both}
+use Rattle.ix_can.proofs.Lists.{both_iff, same_test, unless_either, unless_both, when_not, unless_not, all_are, when_passes, one_passes, made_says, all_map, passes_all, filled, empty_says, filled_says}
+use Rattle.ix_expr.proofs.Testing.{match_says, alphabet_says}
 use Rattle.ix_can.proofs.Ways.{joined_says, split_says, concatenation_says, numbered_says}
 use Rattle.ix_can.proofs.Spent.{Kind, is_the_dead, is_the_done, stays_open, kind, final_done, final_is_done, live_ended, any_ended, all_open, empty_is, only_pair_final, two_final}
 use Rattle.ix_can.proofs.Nodes.{Told, never_dead, node_tells, live_says, live_listed, live_lives, live_final, final_says, tree_live, any_set, all_sorted, projected_says}

@@ -8,12 +8,12 @@ use Rattle.ix_expr.specs.Environment.{Environment, bind}
 use Rattle.ix_expr.specs.Meaning.{InAlphabet}
 use Rattle.ix_tree.specs.Plain.{Plain, dead, start, opt as opt_of, seq as seq_of, star as star_of, par as par_of, par_star as par_star_of, or as or_of, and as and_of, couple as couple_of, any as any_of, every as every_of, sync as sync_of, all as all_of, times as times_of}
 use Rattle.ix_tree.specs.Order.{key, first_part, second_part}
-use Rattle.ix_can.specs.Tests.{in_alphabet, values_and_outside, accepts_empty}
+use Rattle.ix_expr.specs.Tests.{in_alphabet, values_and_outside, accepts_empty}
 use Rattle.ix_can.specs.Nodes.{is_dead, items_of}
 use Rattle.ix_can.specs.May.{moves_within, tree_at, may_first, may}
-use Rattle.ix_can.proofs.Lists.{any_from}
+use Rattle.ix_words.proofs.Deciding.{any_from}
 use Rattle.ix_can.proofs.NamedOutside.{and_false, or_false, and_none, if_false, none_from}
-use Rattle.ix_can.proofs.Testing.{alphabet_says}
+use Rattle.ix_expr.proofs.Testing.{alphabet_says}
 
 halves : (b c : Bool) → (b || c) ≡ false → (b ≡ false) × (c ≡ false)
 halves false c h = (refl, h)

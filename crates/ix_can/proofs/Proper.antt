@@ -16,7 +16,7 @@ use Rattle.ix_expr.specs.Environment.{Environment, bind}
 use Rattle.ix_tree.specs.Plain.{Plain, dead, done, none, opt as opt_tree, seq as seq_tree, star as star_tree, par as par_tree, par_star as par_star_tree, or as or_tree, and as and_tree, couple as couple_tree, any as any_tree, every as every_tree, sync as sync_tree, all as all_tree, times as times_tree, pair as pair_of, bag as bag_of, map as map_of, entry}
 use Rattle.ix_tree.specs.Order.{key, tree_cmp, first_part, second_part}
 use Rattle.ix_tree.specs.lemmas.TreeOrder.{tree_order}
-use Rattle.ix_can.specs.Tests.{in_alphabet}
+use Rattle.ix_expr.specs.Tests.{in_alphabet}
 use Rattle.ix_can.specs.Ways.{is_empty, is_concatenation, numberings, nonempty_parts, ownings, sharings, parts_below}
 use Rattle.ix_can.specs.Nodes.{is_dead, is_done, is_live, is_open, same_tree, listed, items_of, set_of, put_in, sorted, live, dead_if, done_if, is_spent, settled}
 use Rattle.ix_can.specs.TreeOf.{is_final, tree_of, live_pair, live_bag, whole_bag, entries_of, live_map}

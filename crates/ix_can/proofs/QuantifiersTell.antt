@@ -19,13 +19,14 @@ use Rattle.ix_expr.proofs.Agreement.{alphabet-leads, member-or-not}
 use Rattle.ix_expr.proofs.LawsOfMeaning.{empty-partial, complete-partial, complete-leads, partial-leads, agree-sym, outside-agree, outside-same, owners-among}
 use Rattle.ix_tree.specs.Plain.{Plain, any as any_tree, every as every_tree, sync as sync_tree, all as all_tree, map as map_of}
 use Rattle.ix_tree.specs.Order.{first_part}
-use Rattle.ix_can.specs.Tests.{in_alphabet, values_and_outside, accepts_empty}
+use Rattle.ix_expr.specs.Tests.{in_alphabet, values_and_outside, accepts_empty}
 use Rattle.ix_can.specs.Ways.{is_empty, ownings}
 use Rattle.ix_can.specs.Nodes.{is_dead, is_live, is_ended, items_of, set_of, has_dead_entry}
 use Rattle.ix_can.specs.TreeOf.{is_final, tree_of, entries_of, live_map}
-use Rattle.ix_can.proofs.Lists.{itself, both_iff, either_iff, each_iff, same_test, iff_trans, iff_sym, when_either, when_both, unless_either, unless_not, SomeWay, all_are, when_passes, one_passes, made_says, way_says, passes_all, filled}
+use Rattle.ix_words.proofs.Deciding.{itself, iff_trans, iff_sym, when_either, when_both}
+use Rattle.ix_can.proofs.Lists.{both_iff, either_iff, each_iff, same_test, unless_either, unless_not, SomeWay, all_are, when_passes, one_passes, made_says, way_says, passes_all, filled}
 use Rattle.ix_can.proofs.OperatorsTell.{Tells}
-use Rattle.ix_can.proofs.Testing.{alphabet_says, empty_complete}
+use Rattle.ix_expr.proofs.Testing.{alphabet_says, empty_complete}
 use Rattle.ix_can.proofs.Ways.{ownings_to, ownings_from}
 use Rattle.ix_can.proofs.Spent.{final_is_done, live_ended, common_final, ended_any}
 use Rattle.ix_can.proofs.Nodes.{node_tells, tree_live, any_set, all_set, entries_any, entries_all, entries_live, entries_some, fresh, fresh-new, some_value, every_value, projected_says}

@@ -8,7 +8,8 @@ use Rattle.ix_words.proofs.Words.{Shared-empty}
 use Rattle.ix_words.proofs.Each.{Each-head, Each-tail, Each-weaker, Each-member, Each-members, Each-append, Each-left, Each-right}
 use Rattle.ix_words.proofs.Parts.{cut}
 use Rattle.ix_can.specs.Ways.{numbers_below, sharings, parts_below}
-use Rattle.ix_can.proofs.Lists.{iff_trans, SomeWay, way_says}
+use Rattle.ix_words.proofs.Deciding.{iff_trans}
+use Rattle.ix_can.proofs.Lists.{SomeWay, way_says}
 use Rattle.ix_can.proofs.Ways.{numbered_part, long_to, long_from, numbers_to, each_below, below_to, below_from}
 use Rattle.ix_can.proofs.Bags.{Reordered, unmoved, behind, swapped, and_then, Reordered-sym, Reordered-eq, Each-reordered, Each-taken, Reordered-filter, Reordered-map, Taken, first, later, Taken-reordered, Taken-member, Member-taken, taken_along, taken_kept}
 use Rattle.ix_can.proofs.Numberings.{Distinct, distinct_below, filled, parts_over, grown_parts}

@@ -12,13 +12,14 @@ use Rattle.ix_expr.specs.Form.{Form, atom, opt, seq, star, par, par_star, or, an
 use Rattle.ix_expr.specs.Environment.{Environment, bind}
 use Rattle.ix_tree.specs.Plain.{Plain, dead, start, done, opt as opt_of, seq as seq_of, star as star_of, par as par_of, par_star as par_star_of, or as or_of, and as and_of, couple as couple_of, any as any_of, every as every_of, sync as sync_of, all as all_of, times as times_of}
 use Rattle.ix_tree.specs.Order.{key, first_part, second_part}
-use Rattle.ix_can.specs.Tests.{in_alphabet, values_and_outside, accepts_empty}
+use Rattle.ix_expr.specs.Tests.{in_alphabet, values_and_outside, accepts_empty}
 use Rattle.ix_can.specs.Ways.{is_empty}
 use Rattle.ix_can.specs.Nodes.{is_dead, is_done, is_live, is_ended, is_open, items_of, dead_if, done_if, unless_done, only_pair_done, only_bag_done, is_spent, settled}
 use Rattle.ix_can.specs.TreeOf.{is_final}
 use Rattle.ix_can.specs.May.{both_move, moves_within, tree_at, may_first, may}
 use Rattle.ix_can.specs.inside.Moved.{moved}
-use Rattle.ix_can.proofs.Lists.{itself, when_both, any_says, any_from, all_to, Member-filter, filter-Member}
+use Rattle.ix_words.proofs.Deciding.{itself, when_both, any_says, any_from}
+use Rattle.ix_can.proofs.Lists.{all_to, Member-filter, filter-Member}
 
 -- Dead, done and open
 

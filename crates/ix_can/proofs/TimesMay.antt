@@ -13,7 +13,8 @@ use Rattle.ix_can.specs.Ways.{is_empty, sharings, parts_below}
 use Rattle.ix_can.specs.Nodes.{is_live, listed, items_of, set_of, sorted, only_bag_done}
 use Rattle.ix_can.specs.TreeOf.{tree_of}
 use Rattle.ix_can.specs.May.{may_first, may}
-use Rattle.ix_can.proofs.Lists.{both_iff, same_test, iff_trans, when_either, when_both, when_passes, one_passes, made_says, all_map, any_map}
+use Rattle.ix_words.proofs.Deciding.{iff_trans, when_either, when_both}
+use Rattle.ix_can.proofs.Lists.{both_iff, same_test, when_passes, one_passes, made_says, all_map, any_map}
 use Rattle.ix_can.proofs.Spent.{full_may}
 use Rattle.ix_can.proofs.Nodes.{tree_live, any_set, any_sorted}
 use Rattle.ix_can.proofs.OperatorsTell.{Tells}

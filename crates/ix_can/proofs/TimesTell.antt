@@ -13,12 +13,13 @@ use Rattle.ix_expr.specs.Meaning.{IsComplete, IsPartial}
 use Rattle.ix_expr.proofs.LawsOfMeaning.{empty-partial, complete-partial}
 use Rattle.ix_tree.specs.Plain.{Plain, bag as bag_of, times as times_tree}
 use Rattle.ix_tree.specs.Order.{first_part}
-use Rattle.ix_can.specs.Tests.{accepts_empty}
+use Rattle.ix_expr.specs.Tests.{accepts_empty}
 use Rattle.ix_can.specs.Ways.{is_empty, sharings, parts_below}
 use Rattle.ix_can.specs.Nodes.{is_live, listed, items_of, set_of, sorted, only_bag_done}
 use Rattle.ix_can.specs.TreeOf.{is_final, tree_of, whole_bag}
-use Rattle.ix_can.proofs.Lists.{both_iff, same_test, iff_trans, when_either, when_both, when_passes, one_passes, made_says, all_map, passes_all, filled}
-use Rattle.ix_can.proofs.Testing.{empty_complete}
+use Rattle.ix_words.proofs.Deciding.{iff_trans, when_either, when_both}
+use Rattle.ix_can.proofs.Lists.{both_iff, same_test, when_passes, one_passes, made_says, all_map, passes_all, filled}
+use Rattle.ix_expr.proofs.Testing.{empty_complete}
 use Rattle.ix_can.proofs.Bags.{sorted_reordered}
 use Rattle.ix_can.proofs.Spent.{full_final}
 use Rattle.ix_can.proofs.Nodes.{either_tells, tree_live, items_listed, any_set, all_sorted}

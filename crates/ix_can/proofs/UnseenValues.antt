@@ -16,14 +16,15 @@ use Rattle.ix_expr.proofs.Unseen.{unseen-outside}
 use Rattle.ix_tree.specs.Plain.{Plain, dead}
 use Rattle.ix_tree.specs.Order.{key, first_part}
 use Rattle.ix_can.specs.Nodes.{is_dead}
-use Rattle.ix_can.specs.Tests.{in_alphabet}
+use Rattle.ix_expr.specs.Tests.{in_alphabet}
 use Rattle.ix_can.specs.inside.CanAsk.{first_or_stays, may_or_stays, each_may_or_stays, may_own, UnseenFirst, UnseenAnswer}
 use Rattle.ix_can.specs.May.{moves_within, may, tree_at}
 use Rattle.ix_can.proofs.Keys.{tree_at_own}
-use Rattle.ix_can.proofs.Lists.{itself, unless_either, all_to, all_from}
+use Rattle.ix_words.proofs.Deciding.{itself}
+use Rattle.ix_can.proofs.Lists.{unless_either, all_to, all_from}
 use Rattle.ix_can.proofs.MovesAlike.{atoms_alphabet, first_alike, may_alike}
 use Rattle.ix_can.proofs.NamedOutside.{given_outside, if_false, none_first, none_next}
-use Rattle.ix_can.proofs.Testing.{alphabet_says}
+use Rattle.ix_expr.proofs.Testing.{alphabet_says}
 
 -- a test that no item passes
 none_to : {A : Type 0} (test : A → Bool) (w : List A) → list_any test w ≡ false → Each (λ a. test a ≡ false) w

@@ -11,7 +11,8 @@ use Rattle.ix_words.proofs.Owners.{part-used, part-unused, Numbered-below, Repea
 use Rattle.ix_words.proofs.Ways.{split_from_ways, ways_from_split, joined_from_ways, ways_from_joined}
 use Rattle.ix_values.specs.PlainAction.{PlainAction, Word}
 use Rattle.ix_can.specs.Ways.{is_empty, begin_or_join, ways_into_pieces, is_concatenation, numbers_below, lists_as_long, numberings, nonempty_parts, ownings}
-use Rattle.ix_can.proofs.Lists.{any_says, all_are, SomeWay, Member-filter, filter-Member, when_not, filled_says}
+use Rattle.ix_words.proofs.Deciding.{any_says}
+use Rattle.ix_can.proofs.Lists.{all_are, SomeWay, Member-filter, filter-Member, when_not, filled_says}
 
 -- Numbers as owners
 

@@ -13,7 +13,7 @@ use Rattle.ix_expr.specs.Meaning.{InAlphabet, IsComplete, IsPartial}
 use Rattle.ix_expr.specs.Laws.{AgreeOn, EachAtomNames}
 use Rattle.ix_tree.specs.Plain.{Plain, done}
 use Rattle.ix_tree.specs.Order.{key, first_part, second_part, tree_cmp}
-use Rattle.ix_can.specs.Tests.{is_match, in_alphabet, accepts_empty}
+use Rattle.ix_expr.specs.Tests.{is_match, in_alphabet, accepts_empty}
 use Rattle.ix_can.specs.Nodes.{is_dead, items_of}
 use Rattle.ix_can.specs.TreeOf.{is_final, tree_of}
 

@@ -1,4 +1,3 @@
-pub mod Tests
 pub mod Ways
 pub mod Nodes
 pub mod TreeOf

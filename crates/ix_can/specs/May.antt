@@ -13,7 +13,7 @@ use Rattle.ix_tree.specs.Plain.{or as or_of, and as and_of, couple as couple_of,
 use Rattle.ix_tree.specs.Plain.{every as every_of, sync as sync_of, all as all_of}
 use Rattle.ix_tree.specs.Plain.{times as times_of}
 use Rattle.ix_tree.specs.Order.{key, first_part, second_part}
-use Rattle.ix_can.specs.Tests.{is_match, in_alphabet, values_and_outside, accepts_empty}
+use Rattle.ix_expr.specs.Tests.{is_match, in_alphabet, values_and_outside, accepts_empty}
 use Rattle.ix_can.specs.Nodes.{is_dead, items_of}
 
 -- both sides move by what is in their alphabets, and the action is in one of them

@@ -18,7 +18,7 @@ use Rattle.ix_tree.specs.Plain.{times as times_of, pair as pair_of}
 use Rattle.ix_tree.specs.Plain.{bag as bag_of, map as map_of, entry as entry_of}
 use Rattle.ix_tree.specs.Order.{first_part, second_part}
 use Rattle.ix_tree.specs.Size.{size_of}
-use Rattle.ix_can.specs.Tests.{is_match, in_alphabet, values_and_outside, accepts_empty}
+use Rattle.ix_expr.specs.Tests.{is_match, in_alphabet, values_and_outside, accepts_empty}
 use Rattle.ix_can.specs.Ways.{is_empty, is_concatenation, numberings, nonempty_parts}
 use Rattle.ix_can.specs.Ways.{ownings, sharings, parts_below}
 use Rattle.ix_can.specs.Nodes.{is_live, is_open, same_tree, listed, items_of, set_of, sorted, live}

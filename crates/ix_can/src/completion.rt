@@ -10,11 +10,10 @@ ghost use Rattle.ix_expr.specs.Meaning.{IsComplete};
 ghost use Rattle.ix_tree.specs.Order.{first_part, second_part};
 ghost use Rattle.ix_tree.specs.Plain.{listed, items_of};
 ghost use Rattle.ix_tree.specs.PlainOf.{plain_pair, plain_bag, plain_map, plain_entries};
-ghost use Rattle.ix_can.specs.Tests.{accepts_empty};
+ghost use Rattle.ix_expr.specs.Tests.{accepts_empty};
 ghost use Rattle.ix_can.specs.TreeOf.{is_final, tree_of};
 
-use crate::plain_tests::accepts_empty;
-use ix_expr::Expr;
+use ix_expr::{Expr, accepts_empty};
 use ix_tree::{Bag, Entries, Knot, Map, Node, Pair, Tree};
 
 /// Whether the word is complete in the expression, where `tree` is the tree of the word.

@@ -10,10 +10,9 @@ ghost use Rattle.ix_expr.specs.inside.FormOf.{form_of};
 ghost use Rattle.ix_expr.specs.Meaning.{IsPartial};
 ghost use Rattle.ix_can.specs.inside.CanAsk.{first_or_stays, UnseenFirst};
 ghost use Rattle.ix_can.specs.May.{may_first};
-ghost use Rattle.ix_can.specs.Tests.{values_and_outside};
+ghost use Rattle.ix_expr.specs.Tests.{values_and_outside};
 
-use crate::plain_tests::{accepts_empty, in_alphabet, is_match};
-use ix_expr::{Env, Expr, sees};
+use ix_expr::{Env, Expr, accepts_empty, contains, matches, sees};
 use ix_values::{Action, Name, Value};
 
 /// Whether the word of this one action is partial.
@@ -31,7 +30,7 @@ pub(crate) fn begins(expr: &Expr, env: &Env, action: &Action) -> bool
     ensures { result ≡ may_first (form_of expr.now) env.now action.now }
 {
     match expr {
-        Expr::Atom(atom) => is_match(atom, env, action),
+        Expr::Atom(atom) => matches(atom, env, action),
         Expr::Opt(y) | Expr::Star(y) | Expr::ParStar(y) => begins(y, env, action),
         Expr::Seq(y, z) => begins_seq(y, z, env, action),
         Expr::Par(y, z) | Expr::Or(y, z) => begins_either(y, z, env, action),
@@ -39,8 +38,7 @@ pub(crate) fn begins(expr: &Expr, env: &Env, action: &Action) -> bool
         Expr::Couple(y, z) => begins_couple(y, z, env, action),
         Expr::Any(p, y) => begins_for_some(p, y, env, action),
         Expr::Every(p, y) => begins_for_each(false, p, y, env, action),
-        Expr::Sync(p, y) => in_alphabet(expr, env, action)
-            && begins_for_each(true, p, y, env, action),
+        Expr::Sync(p, y) => contains(expr, env, action) && begins_for_each(true, p, y, env, action),
         Expr::All(p, y) => some_value_begins(p, y, env, action),
         Expr::Times(number, y) => *number > 0 && begins(y, env, action),
     }
@@ -82,11 +80,11 @@ fn begins_couple(y: &Expr, z: &Expr, env: &Env, action: &Action) -> bool
     requires second { Fits (form_of z.now) env.now }
     ensures { result ≡ may_first (couple (form_of y.now) (form_of z.now)) env.now action.now }
 {
-    let left_moves = in_alphabet(y, env, action);
+    let left_moves = contains(y, env, action);
     if left_moves && !begins(y, env, action) {
         return false;
     }
-    let right_moves = in_alphabet(z, env, action);
+    let right_moves = contains(z, env, action);
     if right_moves && !begins(z, env, action) {
         return false;
     }
@@ -100,7 +98,7 @@ fn begins_or_stays(stays: bool, y: &Expr, env: &Env, action: &Action) -> bool
     ensures { result ≡ first_or_stays stays (form_of y.now) env.now action.now }
 {
     if stays {
-        !in_alphabet(y, env, action) || begins(y, env, action)
+        !contains(y, env, action) || begins(y, env, action)
     } else {
         begins(y, env, action)
     }

@@ -5,11 +5,9 @@ mod completion;
 mod first;
 pub mod laws;
 mod next;
-mod plain_tests;
 mod values;
 
 pub use completion::{completes, is_final};
 pub use first::can_first;
 pub use next::{Met, can, goes_on, meets};
-pub use plain_tests::in_alphabet;
 pub use values::{state_at, state_of};

@@ -20,13 +20,12 @@ ghost use Rattle.ix_can.specs.inside.CanAsk.{stays, may_or_stays, each_may_or_st
 ghost use Rattle.ix_can.specs.inside.CanAsk.{CanAsk, AreProper, UnseenAnswer};
 ghost use Rattle.ix_can.specs.Laws.{IsProper, IsRising, ProperEntries};
 ghost use Rattle.ix_can.specs.May.{may, may_first, tree_at};
-ghost use Rattle.ix_can.specs.Tests.{in_alphabet};
+ghost use Rattle.ix_expr.specs.Tests.{in_alphabet};
 ghost use Rattle.ix_can.specs.TreeOf.{tree_of};
 
 use crate::first::begins;
-use crate::plain_tests::{in_alphabet, is_match};
 use crate::values::{state_at, state_of};
-use ix_expr::{Env, Expr, sees};
+use ix_expr::{Env, Expr, contains, matches, sees};
 use ix_tree::{Bag, Entries, Knot, Map, Node, Pair, Tree};
 use ix_values::{Action, Name, Value};
 
@@ -63,7 +62,7 @@ pub fn goes_on(expr: &Expr, env: &Env, state: &Knot, action: &Action) -> bool
     ensures { result ≡ may (form_of expr.now) env.now state.now action.now }
 {
     match (expr, state.node()) {
-        (Expr::Atom(atom), Node::Start) => is_match(atom, env, action),
+        (Expr::Atom(atom), Node::Start) => matches(atom, env, action),
         (Expr::Opt(y), Node::Opt(_, x)) => goes_on(y, env, x, action),
         (Expr::Seq(y, z), Node::Seq(x, _, rest)) => {
             goes_on(y, env, x, action) || some_goes_on(z, env, rest, action)
@@ -91,8 +90,7 @@ pub fn goes_on(expr: &Expr, env: &Env, state: &Knot, action: &Action) -> bool
         }
         (Expr::Sync(parameter, y), Node::Sync(common, entries)) => {
             let body = Body { parameter, expr: y };
-            in_alphabet(expr, env, action)
-                && each_goes_on_or_stays(body, env, common, entries, action)
+            contains(expr, env, action) && each_goes_on_or_stays(body, env, common, entries, action)
         }
         (Expr::All(parameter, expr), Node::All(maps)) => {
             some_map_goes_on(Body { parameter, expr }, env, maps, action)
@@ -275,13 +273,13 @@ pub fn meets(y: &Expr, env: &Env, state: &Knot, action: &Action) -> Met
 {
     if matches!(y, Expr::All(_, _)) {
         let moves = goes_on(y, env, state, action);
-        let inside = moves || in_alphabet(y, env, action);
+        let inside = moves || contains(y, env, action);
         return Met {
             inside,
             goes_on: moves,
         };
     }
-    let inside = in_alphabet(y, env, action);
+    let inside = contains(y, env, action);
     let moves = inside && goes_on(y, env, state, action);
     Met {
         inside,
@@ -296,7 +294,7 @@ fn goes_on_or_stays(y: &Expr, outside: Outside, env: &Env, state: &Knot, action:
 {
     match outside {
         Outside::Refused => goes_on(y, env, state, action),
-        Outside::Stays => !in_alphabet(y, env, action) || goes_on(y, env, state, action),
+        Outside::Stays => !contains(y, env, action) || goes_on(y, env, state, action),
     }
 }
 
@@ -501,7 +499,7 @@ fn each_goes_on_or_stays(
 {
     let mut outside = *env;
     outside.bind(*body.parameter, None);
-    if in_alphabet(body.expr, &outside, action) {
+    if contains(body.expr, &outside, action) {
         return each_goes_on_for(body, Outside::Stays, env, common, entries, action);
     }
     each_own_goes_on(body, Outside::Stays, env, common, entries, action)

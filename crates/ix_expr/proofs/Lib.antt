@@ -4,7 +4,7 @@ pub mod Slots
 pub mod Places
 pub mod Walks
 pub mod Parts
-pub mod Emptiness
+pub mod Testing
 pub mod LawsOfMeaning
 pub mod LawsOfNames
 pub mod Mentioned

@@ -3,6 +3,7 @@ pub mod Atoms
 pub mod Reserved
 pub mod Spelling
 pub mod Environment
+pub mod Tests
 pub mod Meaning
 pub mod FormFaults
 pub mod Mentions

@@ -1,11 +1,12 @@
 //! Whether an action is in the alphabet of an expression.
 
-ghost use Rattle.std.specs.Prelude.{◌↔◌, ℕ, List, Some, IsTrue};
+ghost use Rattle.std.specs.Prelude.{◌≡◌, ◌↔◌, ℕ, List, Some, IsTrue};
 ghost use Rattle.ix_expr.specs.Environment.{bind};
 ghost use Rattle.ix_expr.specs.FormFaults.{Fits};
 ghost use Rattle.ix_expr.specs.Fitting.{FitsInside};
 ghost use Rattle.ix_expr.specs.inside.FormOf.{form_of};
 ghost use Rattle.ix_expr.specs.Meaning.{InAlphabet};
+ghost use Rattle.ix_expr.specs.Tests.{in_alphabet};
 
 use crate::env::Env;
 use crate::expr::Expr;
@@ -17,9 +18,11 @@ use ix_values::{Action, Name, Value};
 /// matches, an operator's is the union of its operands', a quantifier's is the union over all
 /// values of its parameter.
 #[cycle(alphabet)]
+#[tactic(auto, using(crate::proofs::Testing::tells_inside))]
 pub fn contains(expr: &Expr, env: &Env, action: &Action) -> bool
     requires { Fits (form_of expr.now) env.now }
-    ensures { IsTrue result ↔ InAlphabet (form_of expr.now) env.now action.now }
+    ensures test { result ≡ in_alphabet (form_of expr.now) env.now action.now }
+    ensures inside { IsTrue result ↔ InAlphabet (form_of expr.now) env.now action.now }
 {
     match expr {
         Expr::Atom(atom) => matches(atom, env, action),

@@ -2,6 +2,7 @@
 
 ghost use Rattle.std.specs.Prelude.{◌≡◌, ◌↔◌, IsTrue, length};
 ghost use Rattle.ix_expr.specs.Environment.{HasValue, HaveValues, Matches};
+ghost use Rattle.ix_expr.specs.Tests.{is_match};
 
 use crate::arg::Arg;
 use crate::atom::Atom;
@@ -11,8 +12,10 @@ use ix_values::{Action, Value};
 /// Whether the atom matches the action: the names agree, the counts agree, and each argument's
 /// value (its own, or its parameter's in `env`) is the action's value in that place. A parameter
 /// that `env` hasn't counts as outside.
+#[tactic(auto, using(crate::proofs::Testing::tells_match))]
 pub fn matches(atom: &Atom, env: &Env, action: &Action) -> bool
-    ensures { IsTrue result ↔ Matches atom.now env.now action.now }
+    ensures test { result ≡ is_match atom.now env.now action.now }
+    ensures matches { IsTrue result ↔ Matches atom.now env.now action.now }
 {
     atom.name() == action.name() && have_values(atom.args(), env, action.values())
 }

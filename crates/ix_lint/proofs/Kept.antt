@@ -13,11 +13,12 @@ use Rattle.ix_values.specs.PlainAction.{PlainAction, Word, values_of}
 use Rattle.ix_expr.specs.Form.{Form, atom, opt, seq, star, par, par_star, or, and, couple, any, every, sync, all, times}
 use Rattle.ix_expr.specs.Environment.{Environment, bind}
 use Rattle.ix_tree.specs.Plain.{Plain, dead, start, done, opt as opt_of, par as par_of, or as or_of, and as and_of, couple as couple_of, any as any_of, every as every_of, sync as sync_of, all as all_of, times as times_of, pair as pair_of, bag as bag_of, map as map_of, entry as entry_of, none}
-use Rattle.ix_can.specs.Tests.{is_match, in_alphabet, values_and_outside}
+use Rattle.ix_expr.specs.Tests.{is_match, in_alphabet, values_and_outside}
 use Rattle.ix_can.specs.Ways.{is_empty, numbers_below, sharings, parts_below, ownings, lists_as_long}
 use Rattle.ix_can.specs.Nodes.{live, is_dead, is_done, is_live, is_open, is_spent, settled, dead_if, done_if, unless_done, same_tree, listed, items_of, set_of, sorted, only_bag_done, seq_parts, has_dead_entry}
 use Rattle.ix_can.specs.TreeOf.{is_final, tree_of, entries_of, live_pair, whole_bag, live_map}
-use Rattle.ix_can.proofs.Lists.{any_says, filter-Member, when_not, itself}
+use Rattle.ix_words.proofs.Deciding.{any_says, itself}
+use Rattle.ix_can.proofs.Lists.{filter-Member, when_not}
 use Rattle.ix_can.proofs.Nodes.{same_is, entry_among}
 use Rattle.ix_can.proofs.Entries.{set_items}
 use Rattle.ix_can.proofs.Spent.{open_not_done}
@@ -38,7 +39,7 @@ use Rattle.ix_can.specs.Laws.{EachAllNames}
 use Rattle.ix_can.proofs.Lists.{all_from}
 use Rattle.ix_can.proofs.Naming.{fits_name}
 use Rattle.ix_can.proofs.TreesTell.{tree_tells}
-use Rattle.ix_can.proofs.Testing.{alphabet_says}
+use Rattle.ix_expr.proofs.Testing.{alphabet_says}
 use Rattle.ix_can.proofs.Ways.{ownings_from}
 use Rattle.ix_can.proofs.NamedOutside.{none_inside}
 use Rattle.ix_can.proofs.Spent.{node_is}

@@ -13,8 +13,8 @@ use Rattle.ix_expr.specs.Environment.{Environment, bind}
 use Rattle.ix_expr.specs.Meaning.{InAlphabet, IsComplete}
 use Rattle.ix_expr.specs.Laws.{EachAtomNames, IsFresh}
 use Rattle.ix_expr.proofs.LawsOfMeaning.{complete-partial, owner-value, named-value, bind-own}
-use Rattle.ix_can.specs.Tests.{accepts_empty}
-use Rattle.ix_can.proofs.Testing.{empty_complete}
+use Rattle.ix_expr.specs.Tests.{accepts_empty}
+use Rattle.ix_expr.proofs.Testing.{empty_complete}
 use Rattle.ix_can.proofs.Nodes.{fresh, fresh-new}
 use Rattle.ix_lint.specs.Names.{each_names}
 use Rattle.ix_lint.specs.Never.{is_never}

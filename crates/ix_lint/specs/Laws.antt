@@ -11,7 +11,7 @@ use Rattle.ix_expr.specs.Laws.{EachAtomNames}
 use Rattle.ix_expr.specs.FormFaults.{Fits}
 use Rattle.ix_tree.specs.Plain.{Plain, map, entry, items_of}
 use Rattle.ix_tree.specs.Order.{first_part, second_part}
-use Rattle.ix_can.specs.Tests.{in_alphabet}
+use Rattle.ix_expr.specs.Tests.{in_alphabet}
 use Rattle.ix_can.specs.TreeOf.{tree_of}
 use Rattle.ix_lint.specs.Keeps.{is_kept}
 use Rattle.ix_lint.specs.declared.finding.FindingKind.TheVariants as kind

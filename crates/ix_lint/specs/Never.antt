@@ -4,7 +4,7 @@ use Rattle.std.specs.Prelude.{if◌then◌else◌}
 use Rattle.std.specs.List.{list_any}
 use Rattle.ix_expr.specs.Form.{Form, atom, opt, seq, star, par, par_star, or, and, couple}
 use Rattle.ix_expr.specs.Form.{any, every, sync, all, times}
-use Rattle.ix_can.specs.Tests.{accepts_empty}
+use Rattle.ix_expr.specs.Tests.{accepts_empty}
 use Rattle.ix_lint.specs.declared.finding.FindingKind.{FindingKind}
 use Rattle.ix_lint.specs.declared.finding.FindingKind.TheVariants.{Never}
 use Rattle.ix_lint.specs.Names.{each_names}

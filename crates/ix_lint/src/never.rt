@@ -1,7 +1,7 @@
 //! Nodes of which no word is complete, by their form.
 
 ghost use Rattle.std.specs.Prelude.{◌≡◌, ◌&&◌, not};
-ghost use Rattle.ix_can.specs.Tests as tests;
+ghost use Rattle.ix_expr.specs.Tests as tests;
 ghost use Rattle.ix_expr.specs.inside.FormOf.{form_of};
 ghost use Rattle.ix_lint.specs.Names as names;
 ghost use Rattle.ix_lint.specs.Never as spec;
@@ -10,15 +10,8 @@ ghost use Rattle.ix_lint.specs.inside.Above.{forms_of};
 use crate::above::Above;
 use crate::finding::FindingKind;
 use crate::names::each_names;
-use ix_expr::Expr;
+use ix_expr::{Expr, accepts_empty};
 use ix_values::Name;
-
-/// Whether the empty word is complete.
-fn accepts_empty(expr: &Expr) -> bool
-    ensures { result ≡ tests.accepts_empty (form_of expr.now) }
-{
-    ix_expr::accepts_empty(expr)
-}
 
 /// Whether each atom of the body names the parameter and the empty word isn't complete in it, so
 /// that a value of which a word has no action never has a complete part.

@@ -4,7 +4,8 @@ use Rattle.std.specs.List.{list_any}
 use Rattle.indexmap.specs.IndexSet.{insert_key}
 use Rattle.ix_words.specs.Each.{Member, here, there}
 use Rattle.ix_words.specs.Parts.{Projection, ended, kept, left_out}
-use Rattle.ix_can.proofs.Lists.{any_from, any_says, Member-filter, filter-Member}
+use Rattle.ix_words.proofs.Deciding.{any_from, any_says}
+use Rattle.ix_can.proofs.Lists.{Member-filter, filter-Member}
 use Rattle.ix_next.specs.Candidates.{PlainCandidate, candidate_eq, once}
 use Rattle.ix_next.specs.lemmas.Same.{candidate_eq-tells, candidate_eq-equiv}
 use Rattle.ix_next.proofs.Once.{once_push, filter_push}

@@ -3,7 +3,7 @@ use Rattle.std.proofs.Common.{◌≡◌, ℕ, Bool, true, false, not, cond, List
 use Rattle.std.specs.List.{list_any}
 use Rattle.ix_words.specs.Each.{Member, here, there}
 use Rattle.ix_words.proofs.Canon.{Member-cases}
-use Rattle.ix_can.proofs.Lists.{any_from, any_says}
+use Rattle.ix_words.proofs.Deciding.{any_from, any_says}
 use Rattle.ix_values.specs.Order.{text_eq}
 use Rattle.ix_values.specs.lemmas.Order.{text_eq-decides}
 use Rattle.ix_next.specs.Candidates.{once}

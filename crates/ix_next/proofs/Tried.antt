@@ -12,7 +12,7 @@ use Rattle.ix_expr.specs.FormFaults.{Fits, IsWellFormed}
 use Rattle.ix_expr.specs.Spelling.{IsSpelled}
 use Rattle.ix_can.specs.May.{may}
 use Rattle.ix_can.specs.TreeOf.{tree_of}
-use Rattle.ix_can.proofs.Lists.{any_from}
+use Rattle.ix_words.proofs.Deciding.{any_from}
 use Rattle.ix_can.proofs.MovesTell.{each_step}
 use Rattle.ix_next.specs.declared.fresh.Known.{Known as KnownValues}
 use Rattle.ix_next.specs.Given.{PlainGiven}

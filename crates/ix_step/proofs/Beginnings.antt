@@ -12,7 +12,7 @@ use Rattle.ix_can.proofs.Sharings.{empty_parts}
 use Rattle.ix_can.proofs.Spent.{open_live, open_not_done, open_not_ended, node_is}
 use Rattle.ix_tree.specs.Plain.{Plain, dead, opt as opt_of, seq as seq_of, par as par_of, or as or_of, and as and_of, couple as couple_of, any as any_of, every as every_of, sync as sync_of, pair as pair_of, none, listed, items_of}
 use Rattle.ix_tree.specs.Size.{size_of}
-use Rattle.ix_can.specs.Tests.{accepts_empty}
+use Rattle.ix_expr.specs.Tests.{accepts_empty}
 use Rattle.ix_can.specs.Nodes.{is_dead, is_done, is_live, is_ended, is_open, is_spent, settled, done_if, opt_node, seq_parts, seq_node, par_node, or_node, and_node, couple_node, any_node, every_node, sync_node, times_node, live, set_of, dead_if}
 use Rattle.ix_can.specs.Ways.{is_empty}
 use Rattle.ix_can.specs.TreeOf.{is_final, tree_of, live_pair, whole_bag}

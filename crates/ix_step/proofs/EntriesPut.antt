@@ -24,7 +24,8 @@ use Rattle.ix_tree.specs.lemmas.TreeOrder.{tree_order}
 use Rattle.ix_can.specs.Nodes.{same_tree}
 use Rattle.ix_can.specs.TreeOf.{entries_of}
 use Rattle.ix_can.specs.May.{tree_at}
-use Rattle.ix_can.proofs.Lists.{itself, one_test, when_not}
+use Rattle.ix_words.proofs.Deciding.{itself, one_test}
+use Rattle.ix_can.proofs.Lists.{when_not}
 use Rattle.ix_can.proofs.Nodes.{same_is, entry_is}
 use Rattle.ix_step.specs.inside.Makes.{put_all}
 use Rattle.ix_step.specs.inside.EnterTrees.{entries_put, HoldTrees}

@@ -18,7 +18,7 @@ use Rattle.ix_tree.proofs.PlainLists.{items_of-listed}
 use Rattle.ix_can.specs.Nodes.{is_live, put_in, set_of}
 use Rattle.ix_can.proofs.Spent.{open_not_done}
 use Rattle.ix_can.specs.inside.Moved.{moved, picks}
-use Rattle.ix_can.proofs.Lists.{any_says}
+use Rattle.ix_words.proofs.Deciding.{any_says}
 use Rattle.ix_step.specs.inside.Makes.{IsAboveLimit, put_all, Gathers}
 use Rattle.ix_step.specs.inside.Moves.{if_open, begun}
 use Rattle.ix_step.specs.inside.ParallelMoves.{pairs_moved, pick_move, pick_moves, bag_moves, more_runs, runs_with, begun_runs, has_room}

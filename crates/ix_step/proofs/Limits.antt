@@ -1,17 +1,14 @@
 -- What is made within a limit: what is above it, and the tree after an action.
-use Rattle.std.proofs.Common.{IsTrue, ◌↔◌, ◌≡◌, ℕ, ◌<◌, ◌≤◌, Bool, true, false, not, refl, ap, ◌∙◌, true≢false, arith}
+use Rattle.std.proofs.Common.{◌≡◌, ℕ, ◌<◌, ◌≤◌, Bool, true, false, not, refl, ap, ◌∙◌, true≢false, arith}
 use Rattle.ix_values.specs.PlainAction.{PlainAction}
 use Rattle.ix_expr.specs.Form.{Form}
 use Rattle.ix_expr.specs.Environment.{Environment}
-use Rattle.ix_expr.specs.Meaning.{InAlphabet}
 use Rattle.ix_tree.specs.Plain.{Plain, dead}
 use Rattle.ix_tree.specs.Size.{size_of}
 use Rattle.ix_can.specs.Nodes.{is_dead}
-use Rattle.ix_can.specs.Tests.{in_alphabet}
+use Rattle.ix_expr.specs.Tests.{in_alphabet}
 use Rattle.ix_can.specs.May.{may}
 use Rattle.ix_can.specs.inside.Moved.{moved, moved_inside}
-use Rattle.ix_can.proofs.Lists.{one_test, iff_trans, iff_sym}
-use Rattle.ix_can.proofs.Testing.{alphabet_says}
 use Rattle.ix_can.proofs.Spent.{dead_is}
 use Rattle.ix_can.proofs.MovesShared.{moved_live}
 use Rattle.ix_can.proofs.OutsideAlphabet.{outside_next}
@@ -29,10 +26,6 @@ moved_is_dead x e t a h = dead_is (moved x e t a) (dead_here (is_dead (moved x e
     dead_here : (b : Bool) → not b ≡ false → b ≡ true
     dead_here true h = refl
     dead_here false h = absurd (true≢false h)
-
--- an answer on the alphabet is that of the test
-pub same_alphabet : (b : Bool) (x : Form) (e : Environment) (a : PlainAction) → IsTrue b ↔ InAlphabet x e a → b ≡ in_alphabet x e a
-same_alphabet b x e a h = one_test b (in_alphabet x e a) (iff_trans h (iff_sym (alphabet_says x e a)))
 
 module _ (x : Form) (e : Environment) (t : Plain) (a : PlainAction) where
   -- a dead tree isn't above the limit

@@ -16,12 +16,12 @@ use Rattle.ix_can.specs.Ways.{is_empty}
 use Rattle.ix_can.specs.May.{may, may_first, tree_at}
 use Rattle.ix_can.specs.inside.Moved.{moved, picks, entry_with, or_initial}
 use Rattle.ix_can.proofs.Children.{any_made}
-use Rattle.ix_can.proofs.Lists.{one_test}
+use Rattle.ix_words.proofs.Deciding.{one_test}
 use Rattle.ix_can.proofs.MovesShared.{moved_live, first_may}
 use Rattle.ix_can.proofs.MovesTell.{each_step}
 use Rattle.ix_can.proofs.Nodes.{never_dead, same_is, same_from}
 use Rattle.ix_can.proofs.Spent.{Kind, is_the_dead, is_the_done, stays_open, kind, dead_is, open_live, open_not_done, final_done, any_ended}
-use Rattle.ix_can.specs.Tests.{accepts_empty}
+use Rattle.ix_expr.specs.Tests.{accepts_empty}
 use Rattle.ix_step.specs.inside.BegunSequence.{begun_seq}
 use Rattle.ix_step.specs.inside.Initial.{initial_tree}
 use Rattle.ix_step.specs.inside.MapsAfter.{maps_after, map_after, begun_tree, with_tree}

@@ -22,12 +22,13 @@ use Rattle.ix_tree.specs.Order.{key, first_part, tree_cmp}
 use Rattle.ix_tree.specs.Size.{size_of}
 use Rattle.ix_tree.specs.lemmas.TreeOrder.{tree_order}
 use Rattle.ix_can.specs.Nodes.{same_tree}
-use Rattle.ix_can.specs.Tests.{in_alphabet}
+use Rattle.ix_expr.specs.Tests.{in_alphabet}
 use Rattle.ix_can.specs.TreeOf.{entries_of}
 use Rattle.ix_can.specs.May.{tree_at}
 use Rattle.ix_can.specs.inside.Moved.{moved, moved_inside}
 use Rattle.ix_can.proofs.Keys.{entries_ascend, tree_at_own}
-use Rattle.ix_can.proofs.Lists.{itself, when_not}
+use Rattle.ix_words.proofs.Deciding.{itself}
+use Rattle.ix_can.proofs.Lists.{when_not}
 use Rattle.ix_can.proofs.Nodes.{same_is, same_from, entry_is}
 use Rattle.ix_can.proofs.UnseenValues.{unused_outside}
 use Rattle.ix_step.specs.declared.bodies.Reach.TheVariants.{OwnAlphabet}

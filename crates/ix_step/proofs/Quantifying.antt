@@ -21,7 +21,7 @@ use Rattle.ix_tree.proofs.PlainLists.{items_of-listed}
 use Rattle.ix_can.specs.Nodes.{set_of}
 use Rattle.ix_can.specs.TreeOf.{entries_of}
 use Rattle.ix_can.specs.Laws.{IsProper, ProperEntries}
-use Rattle.ix_can.specs.Tests.{in_alphabet, values_and_outside}
+use Rattle.ix_expr.specs.Tests.{in_alphabet, values_and_outside}
 use Rattle.ix_can.specs.May.{may, tree_at}
 use Rattle.ix_can.specs.inside.Moved.{entry_with}
 use Rattle.ix_can.proofs.Keys.{tree_at_has, tree_at_own}

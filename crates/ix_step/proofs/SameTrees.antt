@@ -4,7 +4,7 @@ use Rattle.ix_tree.specs.contracts.order.KnotPartialEq.TheImpl.{ghosts as tree_g
 use Rattle.ix_tree.proofs.Equal.{same_plain}
 use Rattle.ix_tree.specs.Plain.{Plain}
 use Rattle.ix_can.specs.Nodes.{same_tree}
-use Rattle.ix_can.proofs.Lists.{one_test}
+use Rattle.ix_words.proofs.Deciding.{one_test}
 use Rattle.ix_can.proofs.Nodes.{same_is, same_from}
 
 pub same_trees : (x y : Plain) → tree_ghosts.eq x y ≡ same_tree x y

@@ -22,7 +22,8 @@ use Rattle.ix_can.specs.Nodes.{same_tree}
 use Rattle.ix_can.specs.TreeOf.{entries_of}
 use Rattle.ix_can.specs.May.{tree_at}
 use Rattle.ix_can.specs.inside.Moved.{moved_inside}
-use Rattle.ix_can.proofs.Lists.{itself, when_not, any_says}
+use Rattle.ix_words.proofs.Deciding.{itself, any_says}
+use Rattle.ix_can.proofs.Lists.{when_not}
 use Rattle.ix_can.proofs.MovesAlike.{atoms_alphabet, moved_alike}
 use Rattle.ix_can.proofs.Nodes.{same_from, entry_is}
 use Rattle.ix_step.specs.declared.bodies.Reach.{Reach}

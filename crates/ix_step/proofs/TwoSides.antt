@@ -6,7 +6,7 @@ use Rattle.ix_expr.specs.Environment.{Environment}
 use Rattle.ix_tree.specs.Plain.{Plain, dead, couple as couple_of}
 use Rattle.ix_tree.specs.Size.{size_of}
 use Rattle.ix_can.specs.Nodes.{is_dead, dead_if, settled}
-use Rattle.ix_can.specs.Tests.{in_alphabet}
+use Rattle.ix_expr.specs.Tests.{in_alphabet}
 use Rattle.ix_can.specs.May.{may, moves_within, both_move}
 use Rattle.ix_can.specs.inside.Moved.{moved, moved_inside}
 use Rattle.ix_can.proofs.MovesShared.{moved_live}

@@ -7,7 +7,7 @@ ghost use Rattle.ix_expr.specs.inside.FormOf.{form_of};
 ghost use Rattle.ix_expr.specs.Form.{opt, seq, star, or, and};
 ghost use Rattle.ix_tree.specs.Plain.{is_dead, is_done, listed, opt as opt_of, seq as seq_of};
 ghost use Rattle.ix_tree.specs.Plain.{star as star_of, or as or_of, and as and_of};
-ghost use Rattle.ix_can.specs.Tests.{in_alphabet};
+ghost use Rattle.ix_expr.specs.Tests.{in_alphabet};
 ghost use Rattle.ix_can.specs.TreeOf.{is_final as is_final_by};
 ghost use Rattle.ix_can.specs.May.{may, moves_within};
 ghost use Rattle.ix_can.specs.inside.Moved.{moved, moved_inside};

@@ -16,7 +16,7 @@ ghost use Rattle.ix_step.specs.inside.Ready.{Ready};
 use crate::advance::advance;
 use crate::bodies::Body;
 use crate::fault::Unbuilt;
-use crate::first::{first_tree, is_complete};
+use crate::first::first_tree;
 use crate::nodes::{dead_knot, done_knot, or_within};
 use crate::one_step::Step;
 use crate::quantifiers::advance_any;
@@ -24,7 +24,7 @@ use crate::sequences::sequence_of;
 use crate::sets::put_open;
 use ix_alts::AltSet;
 use ix_can::can_first;
-use ix_expr::{Atom, Expr, matches};
+use ix_expr::{Atom, Expr, accepts_empty, matches};
 use ix_tree::{Entries, Knot};
 
 /// The tree of a run that begins with the action, dead where no further run may begin.
@@ -89,7 +89,7 @@ fn advance_first_seq(step: Step, y: &Expr, z: &Expr) -> Result<Knot, Unbuilt>
         step.entry.action.now) result }
 {
     let first = advance_first(step, y)?;
-    let second = advance_again(step, z, is_complete(y))?;
+    let second = advance_again(step, z, accepts_empty(y))?;
     let ended = second.is_done();
     let mut rest = AltSet::new(step.alloc, step.limit);
     put_open(&mut rest, second)?;

@@ -5,7 +5,7 @@ ghost use Rattle.ix_expr.specs.inside.FormOf.{form_of};
 ghost use Rattle.ix_expr.specs.Form.{couple};
 ghost use Rattle.ix_expr.specs.FormFaults.{Fits};
 ghost use Rattle.ix_tree.specs.Plain.{couple as couple_of, is_dead};
-ghost use Rattle.ix_can.specs.Tests.{in_alphabet};
+ghost use Rattle.ix_expr.specs.Tests.{in_alphabet};
 ghost use Rattle.ix_can.specs.May.{may, moves_within};
 ghost use Rattle.ix_can.specs.inside.Moved.{moved, moved_inside};
 ghost use Rattle.ix_step.specs.declared.fault.Unbuilt.TheVariants.{Memory};
@@ -17,8 +17,8 @@ use crate::advance::{advance, advance_asked};
 use crate::fault::Unbuilt;
 use crate::nodes::{bounded, dead_knot, settled_within};
 use crate::one_step::Step;
-use ix_can::{Met, in_alphabet, meets};
-use ix_expr::Expr;
+use ix_can::{Met, meets};
+use ix_expr::{Expr, contains};
 use ix_tree::{Knot, Node};
 
 /// A side of `@` after an action.
@@ -104,7 +104,7 @@ pub(crate) fn advance_side(step: Step, expr: &Expr, tree: &Knot) -> Result<Side,
         (moved (form_of expr.now) step.entry.env.now tree.now step.entry.action.now) tree.now
         result }
 {
-    if !matches!(expr, Expr::All(_, _)) && !in_alphabet(expr, step.env, step.action) {
+    if !matches!(expr, Expr::All(_, _)) && !contains(expr, step.env, step.action) {
         return unmoved(tree);
     }
     let moved = advance(step, expr, tree)?;
@@ -123,7 +123,7 @@ fn is_outside(step: Step, expr: &Expr, moved: &Knot) -> bool
     ensures { result ≡ (is_dead moved.now && not (in_alphabet (form_of expr.now) step.entry.env.now
         step.entry.action.now)) }
 {
-    moved.is_dead() && !in_alphabet(expr, step.env, step.action)
+    moved.is_dead() && !contains(expr, step.env, step.action)
 }
 
 /// A side whose alphabet doesn't have the action.

@@ -6,7 +6,7 @@ ghost use Rattle.ix_tree.specs.Plain.{seq, par, all, pair, bag, map, none, liste
 ghost use Rattle.ix_tree.specs.PlainOf.{plain_bag};
 ghost use Rattle.ix_tree.specs.Size.{size_of};
 ghost use Rattle.ix_words.specs.Canon.{when};
-ghost use Rattle.ix_can.specs.Tests.{accepts_empty as accepts};
+ghost use Rattle.ix_expr.specs.Tests.{accepts_empty as accepts};
 ghost use Rattle.ix_step.specs.inside.Initial.{initial_tree};
 ghost use Rattle.ix_step.specs.inside.Limits.{most_size};
 
@@ -88,17 +88,10 @@ fn first_seq(leaves: &LeafTrees, y: &Expr, z: &Expr) -> Result<Knot, AllocError>
 {
     let first = first_tree(leaves, y)?;
     let mut rest = Vec::new(leaves.alloc());
-    if is_complete(y) {
+    if accepts_empty(y) {
         rest.push(first_tree(leaves, z)?)?;
     }
     Knot::new(leaves.alloc(), Node::Seq(first, false, rest))
-}
-
-/// Whether the empty word is complete.
-pub(crate) fn is_complete(expr: &Expr) -> bool
-    ensures { result ≡ accepts (form_of expr.now) }
-{
-    accepts_empty(expr)
 }
 
 /// The one split of the empty word.

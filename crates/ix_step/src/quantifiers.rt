@@ -11,7 +11,7 @@ ghost use Rattle.ix_tree.specs.PlainOf.{plain_entry, plain_entries};
 ghost use Rattle.ix_tree.specs.Size.{size_of};
 ghost use Rattle.ix_can.specs.Laws.{IsProper};
 ghost use Rattle.ix_can.specs.Nodes.{settled};
-ghost use Rattle.ix_can.specs.Tests.{in_alphabet};
+ghost use Rattle.ix_expr.specs.Tests.{in_alphabet};
 ghost use Rattle.ix_step.specs.declared.bodies.Reach.TheVariants.{Must, OwnAlphabet};
 ghost use Rattle.ix_step.specs.inside.Limits.{most_size};
 ghost use Rattle.ix_step.specs.inside.Makes.{Makes};

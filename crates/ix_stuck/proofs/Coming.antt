@@ -10,7 +10,7 @@ use Rattle.ix_expr.specs.FormFaults.{Fits}
 use Rattle.ix_tree.specs.Plain.{Plain, is_dead}
 use Rattle.ix_can.specs.TreeOf.{tree_of}
 use Rattle.ix_can.specs.inside.Moved.{moved}
-use Rattle.ix_can.proofs.Lists.{any_says, any_from}
+use Rattle.ix_words.proofs.Deciding.{any_says, any_from}
 use Rattle.ix_stuck.specs.Gone.{numbered_atoms, ComesAgain, AreGone}
 use Rattle.ix_stuck.specs.declared.graph.State.{State}
 use Rattle.ix_stuck.specs.declared.graph.Edge.{Edge}

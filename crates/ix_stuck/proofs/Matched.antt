@@ -7,7 +7,7 @@ use Rattle.ix_expr.specs.declared.arg.Arg.{Arg}
 use Rattle.ix_expr.specs.declared.arg.Arg.TheVariants.{Fixed, Param}
 use Rattle.ix_expr.specs.Form.{PlainAtom}
 use Rattle.ix_expr.specs.Environment.{Environment, bind, value_in, HasValue, HaveValues, Matches}
-use Rattle.ix_can.proofs.Lists.{itself, when_both}
+use Rattle.ix_words.proofs.Deciding.{itself, when_both}
 use Rattle.ix_stuck.specs.inside.Matching.{agrees, all_agree, can_have, can_match}
 
 both : (a b : Bool) → a && b ≡ true → (a ≡ true) × (b ≡ true)

@@ -21,7 +21,7 @@ use Rattle.ix_tree.specs.Plain.{Plain, done, map as map_of, opt as opt_of, and a
 use Rattle.ix_tree.specs.Order.{first_part}
 use Rattle.ix_can.specs.May.{may, tree_at}
 use Rattle.ix_can.specs.Nodes.{is_dead, is_done, is_live, settled, dead_if, done_if, set_of, has_dead_entry}
-use Rattle.ix_can.specs.Tests.{in_alphabet, values_and_outside}
+use Rattle.ix_expr.specs.Tests.{in_alphabet, values_and_outside}
 use Rattle.ix_can.specs.TreeOf.{tree_of, entries_of}
 use Rattle.ix_can.specs.Ways.{is_empty, ownings}
 use Rattle.ix_can.proofs.Agreeing.{empty_tree}
@@ -33,7 +33,7 @@ use Rattle.ix_can.proofs.MovesTell.{each_step}
 use Rattle.ix_can.proofs.Nodes.{fresh, fresh-new, projected_says}
 use Rattle.ix_can.proofs.QuantifiersTell.{own, own_says, own_tree, own_entries, partial_outside, own_partial_outside, owned_tree, owned_map, owned_live}
 use Rattle.ix_can.proofs.Spent.{done_is, empty_is}
-use Rattle.ix_can.proofs.Testing.{alphabet_says}
+use Rattle.ix_expr.proofs.Testing.{alphabet_says}
 use Rattle.ix_why.specs.declared.part.Part.{Part}
 use Rattle.ix_why.specs.Blames.{nodes, here, refuses, only, owner, first_that, made_of, made_of_both, blames, refusals}
 use Rattle.ix_why.specs.Laws.{Consults, itself, operand, left_of_and, right_of_and, left_of_couple, right_of_couple, body_of_every, body_of_sync, body_of_all, RefusesByItself}

@@ -5,7 +5,7 @@ use Rattle.ix_expr.specs.Environment.{Environment, bind}
 use Rattle.ix_expr.specs.Form.{Form, opt, and, couple, every, sync, all}
 use Rattle.ix_tree.specs.Plain.{Plain, items_of}
 use Rattle.ix_tree.specs.Order.{key, first_part}
-use Rattle.ix_can.specs.Tests.{in_alphabet}
+use Rattle.ix_expr.specs.Tests.{in_alphabet}
 use Rattle.ix_can.specs.TreeOf.{tree_of}
 use Rattle.ix_can.specs.May.{tree_at}
 use Rattle.ix_why.specs.declared.part.Part.{Part}

@@ -9,7 +9,7 @@ use Rattle.ix_can.specs.Nodes.{is_dead, is_done}
 use Rattle.ix_can.specs.TreeOf.{tree_of}
 use Rattle.ix_can.specs.May.{may, may_first}
 use Rattle.ix_can.proofs.Agreeing.{empty_tree}
-use Rattle.ix_can.proofs.Lists.{one_test, iff_trans, iff_sym}
+use Rattle.ix_words.proofs.Deciding.{one_test, iff_trans, iff_sym}
 use Rattle.ix_can.proofs.MovesTell.{each_step}
 use Rattle.ix_can.proofs.Spent.{open_live, open_not_done, node_is}
 use Rattle.ix_can.proofs.SpentTell.{begins_open}

@@ -14,7 +14,7 @@ use Rattle.ix_expr.specs.Laws.{AgreeAt, AgreeOn}
 use Rattle.ix_expr.specs.Meaning.{InAlphabet, IsPartial}
 use Rattle.ix_expr.proofs.Agreement.{alphabet-leads}
 use Rattle.ix_expr.proofs.LawsOfMeaning.{agree-sym, bind-agree, outside-agree, partial-leads}
-use Rattle.ix_can.proofs.Lists.{itself as same, iff_trans}
+use Rattle.ix_words.proofs.Deciding.{iff_trans, itself as same}
 use Rattle.ix_lint.specs.Nodes.{forms}
 use Rattle.ix_why.specs.Laws.{Consults, itself, operand, left_of_and, right_of_and, left_of_couple, right_of_couple, body_of_every, body_of_sync, body_of_all, Fills, nothing, as_it_is, with_value}
 use Rattle.ix_why.proofs.Counts.{first_form, found_right}

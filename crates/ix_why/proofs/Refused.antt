@@ -17,7 +17,7 @@ use Rattle.ix_tree.specs.Plain.{Plain, dead, done, entry, map as map_of, opt as 
 use Rattle.ix_tree.specs.Order.{key, first_part}
 use Rattle.ix_can.specs.Laws.{IsProper, ProperEntries}
 use Rattle.ix_can.specs.Nodes.{is_dead, is_live, is_spent, has_dead_entry, items_of, set_of, same_tree, dead_if, done_if}
-use Rattle.ix_can.specs.Tests.{in_alphabet, values_and_outside}
+use Rattle.ix_expr.specs.Tests.{in_alphabet, values_and_outside}
 use Rattle.ix_can.specs.TreeOf.{tree_of, entries_of, live_map}
 use Rattle.ix_can.specs.Ways.{is_empty, ownings}
 use Rattle.ix_can.specs.inside.CanAsk.{may_own}

@@ -9,7 +9,7 @@ use Rattle.ix_expr.specs.Form.{Form, opt, and, couple, every, sync, all}
 use Rattle.ix_expr.specs.Environment.{Environment, bind}
 use Rattle.ix_tree.specs.Plain.{Plain, items_of}
 use Rattle.ix_tree.specs.Order.{first_part}
-use Rattle.ix_can.specs.Tests.{in_alphabet}
+use Rattle.ix_expr.specs.Tests.{in_alphabet}
 use Rattle.ix_can.specs.TreeOf.{tree_of}
 use Rattle.ix_can.specs.May.{may, tree_at}
 use Rattle.ix_lint.specs.Nodes.{forms}

@@ -8,8 +8,8 @@ ghost use Rattle.ix_why.specs.inside.Held.{kept_tree, tree_held, refuses_if};
 
 use crate::scope::Scope;
 use crate::state::State;
-use ix_can::{can_first, goes_on, in_alphabet};
-use ix_expr::Expr;
+use ix_can::{can_first, goes_on};
+use ix_expr::{Expr, contains};
 use ix_values::Action;
 
 /// An operand, and whether it is asked only where the action is in its alphabet.
@@ -42,7 +42,7 @@ pub(crate) fn refuses(operand: Operand, scope: &Scope, state: State, action: &Ac
         ≡ refuses_if operand.entry.own (form_of operand.entry.expr.now) scope.now
         (tree_held (form_of operand.entry.expr.now) (kept_tree state.entry)) action.now }
 {
-    if operand.own && !in_alphabet(operand.expr, scope.env(), action) {
+    if operand.own && !contains(operand.expr, scope.env(), action) {
         return false;
     }
     !takes(operand.expr, scope, state, action)

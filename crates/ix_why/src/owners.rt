@@ -6,13 +6,13 @@ ghost use Rattle.ix_expr.specs.Environment.{bind};
 ghost use Rattle.ix_expr.specs.Fitting.{FitsInside};
 ghost use Rattle.ix_expr.specs.inside.FormOf.{form_of};
 ghost use Rattle.ix_values.specs.Order.{text_eq};
-ghost use Rattle.ix_can.specs.Tests.{in_alphabet};
+ghost use Rattle.ix_expr.specs.Tests.{in_alphabet};
 ghost use Rattle.ix_why.specs.Blames as spec;
 ghost use Rattle.ix_why.specs.Blames.{first_that};
 
 use crate::scope::Scope;
 use crate::values::Body;
-use ix_can::in_alphabet;
+use ix_expr::contains;
 use ix_values::{Action, Value};
 
 /// The only one of the action's values for which it is in the alphabet of the body, or None where
@@ -36,7 +36,7 @@ fn owns(value: &Value, body: Body, scope: &Scope, action: &Action) -> bool
         (bind body.entry.parameter.now (Some value.now) scope.now) action.now }
 {
     let inside = scope.with(body.parameter, Some(*value));
-    in_alphabet(body.expr, inside.env(), action)
+    contains(body.expr, inside.env(), action)
 }
 
 fn first_owner(body: Body, scope: &Scope, action: &Action) -> Option<Value>

@@ -20,8 +20,7 @@ use crate::part::Part;
 use crate::scope::Scope;
 use crate::state::State;
 use crate::values::{Body, first_refusing};
-use ix_can::in_alphabet;
-use ix_expr::Expr;
+use ix_expr::{Expr, contains};
 use ix_values::Action;
 use std::alloc::AllocError;
 
@@ -61,7 +60,7 @@ pub(crate) fn walk(
             let sides = Sides { left, right, own };
             walk_both(parts, node, sides, scope, state, action)
         }
-        Expr::Couple(left, right) if in_alphabet(expr, env, action) => {
+        Expr::Couple(left, right) if contains(expr, env, action) => {
             let own = true;
             let sides = Sides { left, right, own };
             walk_both(parts, node, sides, scope, state, action)
@@ -74,7 +73,7 @@ pub(crate) fn walk(
             };
             walk_body(parts, node, body, scope, state, action)
         }
-        Expr::Sync(parameter, y) if in_alphabet(expr, env, action) => {
+        Expr::Sync(parameter, y) if contains(expr, env, action) => {
             let body = Body {
                 parameter,
                 expr: y,

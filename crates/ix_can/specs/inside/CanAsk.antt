@@ -19,7 +19,7 @@ use Rattle.ix_can.specs.declared.next.Outside.TheVariants.{Refused, Stays}
 use Rattle.ix_can.specs.Laws.{IsProper}
 use Rattle.ix_can.specs.May.{moves_within, may_first, may, tree_at}
 use Rattle.ix_can.specs.Nodes.{is_dead, items_of}
-use Rattle.ix_can.specs.Tests.{in_alphabet}
+use Rattle.ix_expr.specs.Tests.{in_alphabet}
 
 -- whether the word of this one action is partial or, where standing still counts, the action is
 -- outside the alphabet

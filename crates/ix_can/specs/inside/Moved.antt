@@ -15,7 +15,7 @@ use Rattle.ix_tree.specs.Plain.{every as every_of, sync as sync_of, all as all_o
 use Rattle.ix_tree.specs.Plain.{times as times_of, pair as pair_of, bag as bag_of, map as map_of}
 use Rattle.ix_tree.specs.Plain.{entry as entry_of}
 use Rattle.ix_tree.specs.Order.{key, first_part, second_part}
-use Rattle.ix_can.specs.Tests.{is_match, in_alphabet}
+use Rattle.ix_expr.specs.Tests.{is_match, in_alphabet}
 use Rattle.ix_can.specs.Nodes.{is_dead, is_live, same_tree, is_done, is_open, listed, items_of}
 use Rattle.ix_can.specs.Nodes.{set_of, put_in, live, dead_if, settled, seq_parts, settled_times}
 use Rattle.ix_can.specs.TreeOf.{is_final, tree_of}

@@ -175,8 +175,8 @@ coupling::advance_couple-advance_met-requires = Coupling.coupling::advance_coupl
 pub coupling::advance_couple-returns : goal.coupling::advance_couple-returns
 coupling::advance_couple-returns = Coupling.coupling::advance_couple-returns
 
-pub coupling::advance_side-returns-then-not-in_alphabet : goal.coupling::advance_side-returns-then-not-in_alphabet
-coupling::advance_side-returns-then-not-in_alphabet = Coupling.coupling::advance_side-returns-then-not-in_alphabet
+pub coupling::advance_side-returns-then-not-contains : goal.coupling::advance_side-returns-then-not-contains
+coupling::advance_side-returns-then-not-contains = Coupling.coupling::advance_side-returns-then-not-contains
 
 pub coupling::advance_side-returns-then-is_outside : goal.coupling::advance_side-returns-then-is_outside
 coupling::advance_side-returns-then-is_outside = Coupling.coupling::advance_side-returns-then-is_outside

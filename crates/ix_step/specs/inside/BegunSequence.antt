@@ -6,7 +6,7 @@ use Rattle.ix_expr.specs.Form.{Form}
 use Rattle.ix_expr.specs.Environment.{Environment}
 use Rattle.ix_tree.specs.Plain.{Plain, seq as seq_of}
 use Rattle.ix_can.specs.Nodes.{is_done, set_of, unless_done}
-use Rattle.ix_can.specs.Tests.{accepts_empty}
+use Rattle.ix_expr.specs.Tests.{accepts_empty}
 use Rattle.ix_can.specs.TreeOf.{is_final}
 use Rattle.ix_step.specs.inside.Initial.{initial_tree}
 use Rattle.ix_step.specs.inside.Moves.{if_open, begun, begun_again}

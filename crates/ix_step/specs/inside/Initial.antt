@@ -8,7 +8,7 @@ use Rattle.ix_tree.specs.Plain.{par as par_of, par_star as par_star_of, or as or
 use Rattle.ix_tree.specs.Plain.{couple as couple_of, any as any_of, every as every_of}
 use Rattle.ix_tree.specs.Plain.{sync as sync_of, all as all_of, times as times_of, pair as pair_of}
 use Rattle.ix_tree.specs.Plain.{bag as bag_of, map as map_of, none, listed}
-use Rattle.ix_can.specs.Tests.{accepts_empty}
+use Rattle.ix_expr.specs.Tests.{accepts_empty}
 
 -- the tree of the empty word under any environment
 abbrev pub initial_tree : Form → Plain

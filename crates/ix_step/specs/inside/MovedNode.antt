@@ -10,7 +10,7 @@ use Rattle.ix_tree.specs.Plain.{or as or_of, and as and_of, couple as couple_of,
 use Rattle.ix_tree.specs.Plain.{every as every_of, sync as sync_of, all as all_of}
 use Rattle.ix_tree.specs.Plain.{times as times_of}
 use Rattle.ix_can.specs.Nodes.{items_of, set_of, unless_done, settled_times}
-use Rattle.ix_can.specs.Tests.{in_alphabet}
+use Rattle.ix_expr.specs.Tests.{in_alphabet}
 use Rattle.ix_can.specs.inside.Moved.{moved, moved_inside}
 use Rattle.ix_step.specs.declared.bodies.Reach.TheVariants.{All, Must, OwnAlphabet}
 use Rattle.ix_step.specs.inside.Initial.{initial_tree}

@@ -14,7 +14,7 @@ use Rattle.ix_tree.specs.PlainOf.{plain_entry, plain_entries}
 use Rattle.ix_tree.specs.Order.{key, first_part}
 use Rattle.ix_tree.specs.Size.{size_of}
 use Rattle.ix_can.specs.Nodes.{set_of}
-use Rattle.ix_can.specs.Tests.{in_alphabet}
+use Rattle.ix_expr.specs.Tests.{in_alphabet}
 use Rattle.ix_can.specs.Laws.{IsProper, ProperEntries}
 use Rattle.ix_can.specs.May.{may, moves_within, tree_at}
 use Rattle.ix_can.specs.inside.Moved.{moved, moved_inside, entry_with}

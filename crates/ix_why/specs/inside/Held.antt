@@ -10,7 +10,7 @@ use Rattle.ix_expr.specs.Form.{Form}
 use Rattle.ix_expr.specs.Environment.{Environment, bind}
 use Rattle.ix_tree.specs.Plain.{Plain, done, map, none, items_of}
 use Rattle.ix_tree.specs.Order.{key, first_part}
-use Rattle.ix_can.specs.Tests.{in_alphabet}
+use Rattle.ix_expr.specs.Tests.{in_alphabet}
 use Rattle.ix_can.specs.TreeOf.{tree_of}
 use Rattle.ix_can.specs.Laws.{IsProper}
 use Rattle.ix_can.specs.May.{may, tree_at}

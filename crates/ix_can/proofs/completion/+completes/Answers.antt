@@ -8,7 +8,7 @@ use Rattle.ix_tree.specs.PlainOf.{plain_bag, plain_map}
 use Rattle.ix_tree.specs.inside.PlainNode.{plain_node}
 use Rattle.ix_expr.specs.Form.{par_star, all, times}
 use Rattle.ix_tree.proofs.PlainLists.{items_of-listed}
-use Rattle.ix_can.specs.Tests.{accepts_empty}
+use Rattle.ix_expr.specs.Tests.{accepts_empty}
 use Rattle.ix_can.specs.TreeOf.{is_final}
 use Rattle.ix_can.proofs.Children.{both_then}
 use Rattle.ix_can.proofs.completion.+completes.Goals as goal
@@ -50,7 +50,7 @@ limited_bag_completes-returns-else-len-from t c =
     let few : (length (items_of (listed runs)) == c.args.number) ≡ false = ne_eqb _ _ (λ e. c.if-len-from.false (sym counted ∙ e ∙ sym c.from.ensures)) in
     both_then c.each_completes.result c.accepts_empty.result (list_all (is_final y) (items_of (listed runs))) (length (items_of (listed runs)) == c.args.number || accepts_empty y) c.if-each_completes.true
     (c.each_completes.ensures ∙ ap (λ ks. list_all (is_final y) (items_of (listed ks))) c.deref.ensures.value)
-    (c.accepts_empty.ensures ∙ sym (ap (λ b. b || accepts_empty y) few))
+    (c.accepts_empty.ensures.test ∙ sym (ap (λ b. b || accepts_empty y) few))
 
 pub completes-returns-then-accepts_empty : goal.completes-returns-then-accepts_empty
 completes-returns-then-accepts_empty t c =
@@ -58,7 +58,7 @@ completes-returns-then-accepts_empty t c =
     let p = c.in-All-All.field-0-0 in
     let ms = listed (map plain_map c.in-All-All.maps.items) in
     both_then c.accepts_empty.result c.some_map_completes.result (accepts_empty y) (list_any (λ m. list_all (λ x. is_final y (first_part x)) (items_of (first_part m))) (items_of ms)) c.if-accepts_empty.true
-    (c.accepts_empty.ensures ∙ ap (λ v. accepts_empty (form_of v)) c.deref-in-All-All.ensures)
+    (c.accepts_empty.ensures.test ∙ ap (λ v. accepts_empty (form_of v)) c.deref-in-All-All.ensures)
     (c.some_map_completes.ensures
     ∙ ap (λ v. list_any (λ m. list_all (λ x. is_final (form_of v) (first_part x)) (items_of (first_part m))) (items_of (listed (map plain_map c.deref-then-accepts_empty-2.result.now)))) c.deref-then-accepts_empty.ensures
     ∙ ap (λ ks. list_any (λ m. list_all (λ x. is_final y (first_part x)) (items_of (first_part m))) (items_of (listed (map plain_map ks)))) c.deref-then-accepts_empty-2.ensures.value)

@@ -67,11 +67,11 @@ begins-begins_for_each-requires t c =
     let inside : FitsInside c.in-Every.p (form_of c.in-Every.y.value) e = subst (λ (x : Expr). OperandsFit (form_of x) e) c.in-Every.is (fits-operands (form_of c.args.expr.now) e c.requires) in
     (search (rules, the_lemmas), subst (λ (x : Expr). FitsInside c.in-Every.p (form_of x) e) (sym c.deref-in-Every.ensures) inside)
 
-pub begins-begins_for_each-requires-then-in_alphabet : goal.begins-begins_for_each-requires-then-in_alphabet
-begins-begins_for_each-requires-then-in_alphabet t c =
+pub begins-begins_for_each-requires-then-contains : goal.begins-begins_for_each-requires-then-contains
+begins-begins_for_each-requires-then-contains t c =
     let e = c.args.env.now in
     let inside : FitsInside c.in-Sync.p (form_of c.in-Sync.y.value) e = subst (λ (x : Expr). OperandsFit (form_of x) e) c.in-Sync.is (fits-operands (form_of c.args.expr.now) e c.requires) in
-    (search (rules, the_lemmas), subst (λ (x : Expr). FitsInside c.in-Sync.p (form_of x) e) (sym c.deref-then-in_alphabet.ensures) inside)
+    (search (rules, the_lemmas), subst (λ (x : Expr). FitsInside c.in-Sync.p (form_of x) e) (sym c.deref-then-contains.ensures) inside)
 
 pub begins-some_value_begins-requires : goal.begins-some_value_begins-requires
 begins-some_value_begins-requires t c =

@@ -19,7 +19,7 @@ use Rattle.ix_tree.proofs.PlainLists.{items_of-listed}
 use Rattle.ix_can.specs.inside.CanAsk.{CanAsk, stays, may_or_stays, may_own}
 use Rattle.ix_can.specs.Laws.{IsProper}
 use Rattle.ix_can.specs.May.{may, may_first}
-use Rattle.ix_can.specs.Tests.{in_alphabet}
+use Rattle.ix_expr.specs.Tests.{in_alphabet}
 use Rattle.ix_can.proofs.Asking.{opt_asked, seq_first, seq_rest, star_rest, par_pairs, par_star_bags, times_bags, or_first, or_second, and_first, and_second, couple_first, couple_second, any_values, every_values, sync_values, all_maps, tree_has, part_has, entries_proper, state_proper, own_proper, next_entry}
 use Rattle.ix_can.proofs.Children.{either_then, either_else}
 use Rattle.ix_can.proofs.Keys.{entries_ascend}
@@ -161,13 +161,13 @@ goes_on-returns-in-All-All t c =
     ∙ ap (λ s. may (all c.in-All-All.parameter (form_of c.deref-in-All-All.result.now)) e s a) (sym tree)
     ∙ ap (λ x. may x e c.args.state.now a) (sym shape)
 
-pub goes_on-returns-then-in_alphabet : goal.goes_on-returns-then-in_alphabet
-goes_on-returns-then-in_alphabet t c =
+pub goes_on-returns-then-contains : goal.goes_on-returns-then-contains
+goes_on-returns-then-contains t c =
     let e = c.args.env.now in
     let a = c.args.action.now in
     let shape = ap form_of c.in-Sync-Sync.is-0 ∙ ap (λ v. sync c.in-Sync-Sync.parameter (form_of v)) (sym c.deref-in-Sync-Sync.ensures) in
     let tree = sym c.node.ensures ∙ ap plain_node c.in-Sync-Sync.is-1 in
-    inside_too (in_alphabet (sync c.in-Sync-Sync.parameter (form_of c.deref-in-Sync-Sync.result.now)) e a) _ c.each_goes_on_or_stays.result (ap (λ x. in_alphabet x e a) (sym shape) ∙ sym c.in_alphabet.ensures ∙ c.if-in_alphabet.true) c.each_goes_on_or_stays.ensures
+    inside_too (in_alphabet (sync c.in-Sync-Sync.parameter (form_of c.deref-in-Sync-Sync.result.now)) e a) _ c.each_goes_on_or_stays.result (ap (λ x. in_alphabet x e a) (sym shape) ∙ sym c.contains.ensures.test ∙ c.if-contains.true) c.each_goes_on_or_stays.ensures
     ∙ ap (λ s. may (sync c.in-Sync-Sync.parameter (form_of c.deref-in-Sync-Sync.result.now)) e s a) (sym tree)
     ∙ ap (λ x. may x e c.args.state.now a) (sym shape)
 
@@ -178,7 +178,7 @@ meets-returns-then-moves-clause-inside t c =
 
 pub meets-returns-else-inside-clause-goes_on : goal.meets-returns-else-inside-clause-goes_on
 meets-returns-else-inside-clause-goes_on t c =
-    let outside = sym c.in_alphabet-inside-2.ensures ∙ c.if-inside.false in
+    let outside = sym c.contains-inside-2.ensures.test ∙ c.if-inside.false in
     c.if-inside.false ∙ sym (outside_next c.args.action.now (form_of c.args.y.now) c.args.env.now c.args.state.now outside)
 
 pub goes_on_at-goes_on_or_stays-requires : goal.goes_on_at-goes_on_or_stays-requires
@@ -279,14 +279,14 @@ each_goes_on_for-each_own_goes_on-requires t c =
     (sym c.goes_on_at.ensures ∙ c.if-goes_on_at.true) (sym c.each_entry_goes_on.ensures ∙ c.if-each_entry_goes_on.true) in
     (search (rules, the_lemmas), (c.requires.fits, (c.requires.common, (c.requires.entries, all))))
 
-pub each_goes_on_or_stays-in_alphabet-requires : goal.each_goes_on_or_stays-in_alphabet-requires
-each_goes_on_or_stays-in_alphabet-requires t c =
+pub each_goes_on_or_stays-contains-requires : goal.each_goes_on_or_stays-contains-requires
+each_goes_on_or_stays-contains-requires t c =
     subst (Fits (form_of c.args.body.expr.now)) (sym c.bind.ensures) (c.requires.fits.body None)
 
 pub each_goes_on_or_stays-each_own_goes_on-requires : goal.each_goes_on_or_stays-each_own_goes_on-requires
 each_goes_on_or_stays-each_own_goes_on-requires t c =
     let y = form_of c.args.body.expr.now in
-    let outside = ap (λ f. in_alphabet y f c.args.action.now) (sym c.bind.ensures) ∙ sym c.in_alphabet.ensures ∙ c.if-in_alphabet.false in
+    let outside = ap (λ f. in_alphabet y f c.args.action.now) (sym c.bind.ensures) ∙ sym c.contains.ensures.test ∙ c.if-contains.false in
     let stay = unseen_stay y c.args.body.parameter.now c.args.env.now c.args.action.now c.args.common.now (items_of (plain_entries c.args.entries.now)) outside in
     (search (rules, the_lemmas), (c.requires.fits, (c.requires.common, (c.requires.entries, stay))))
 
@@ -294,7 +294,7 @@ pub each_goes_on_or_stays-returns : goal.each_goes_on_or_stays-returns
 each_goes_on_or_stays-returns t c =
     let y = form_of c.args.body.expr.now in
     let es = c.args.entries.now in
-    let outside = ap (λ f. in_alphabet y f c.args.action.now) (sym c.bind.ensures) ∙ sym c.in_alphabet.ensures ∙ c.if-in_alphabet.false in
+    let outside = ap (λ f. in_alphabet y f c.args.action.now) (sym c.bind.ensures) ∙ sym c.contains.ensures.test ∙ c.if-contains.false in
     let ascending = subst (Ascending (λ x z. text_cmp (key x) (key z))) (sym (items_of-listed (map plain_entry es))) (entries_ascend es c.requires.entries.ascending) in
     own_tell y c.args.body.parameter.now c.args.env.now c.args.action.now c.args.common.now (items_of (plain_entries es)) ascending outside c.each_own_goes_on.result c.each_own_goes_on.ensures
 

@@ -8,6 +8,7 @@ use Rattle.ix_expr.specs.inside.FormOf.{form_of}
 use Rattle.ix_expr.specs.FormFaults.{Fits}
 use Rattle.ix_expr.specs.Meaning.{InAlphabet}
 use Rattle.ix_expr.proofs.Agreement.{some-in-alphabet, outside-in-alphabet}
+use Rattle.ix_expr.proofs.Testing.{tells_inside}
 use Rattle.ix_expr.specs.Fitting.{FitsInside, OperandsFit}
 use Rattle.ix_expr.proofs.Parts.{fits-operands}
 use Rattle.ix_expr.proofs.AgreeingAtoms.{alphabet-same}
@@ -100,3 +101,7 @@ contains_for_some-loop-value-preserved t c =
     ] in
     below_more (λ k. (d : List ℕ) → leads (get_or items k d)) c.loop-value.value-index c.loop-value.invariant
     (λ d. subst leads (get_or_read_under items c.loop-value.value-index (length items) v d c.value-item.is c.loop-value-test.true refl) here)
+
+pub contains-returns-in-Any-clause-test : goal.contains-returns-in-Any-clause-test
+contains-returns-in-Any-clause-test t c =
+    tells_inside (form_of c.args.expr.now) c.args.env.now c.args.action.now c.contains_for_some.result (search (rules, the_lemmas))

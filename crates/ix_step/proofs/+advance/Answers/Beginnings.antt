@@ -13,7 +13,7 @@ use Rattle.ix_step.proofs.Quantifying.{any_ready}
 use Rattle.ix_tree.specs.Order.{tree_cmp}
 use Rattle.ix_tree.specs.Size.{size_of}
 use Rattle.ix_can.specs.Nodes.{is_done, unless_done}
-use Rattle.ix_can.specs.Tests.{accepts_empty}
+use Rattle.ix_expr.specs.Tests.{accepts_empty}
 use Rattle.ix_can.specs.TreeOf.{is_final}
 use Rattle.ix_can.specs.inside.Moved.{moved}
 use Rattle.ix_step.specs.inside.Initial.{initial_tree}
@@ -75,7 +75,7 @@ beginning::advance_first_seq-returns-in_err-second t c =
     let first = begun y c.args.step.env.now c.args.step.action.now in
     let second = begun_again (accepts_empty y) z c.args.step.env.now c.args.step.action.now in
     let begins = when (is_final y first) (initial_tree z ∷ []) in
-    let same = ap (λ b. size_of (begun_again b z c.args.step.env.now c.args.step.action.now)) c.is_complete.ensures in
+    let same = ap (λ b. size_of (begun_again b z c.args.step.env.now c.args.step.action.now)) c.accepts_empty.ensures.test in
     exit_over _ c.from_residual-in_err-second.result _ c.from_residual-in_err-second.ensures.1 c.in_err-second.ensures (λ lt.
     let k = open_over c.args.step.limit second [] c.args.step.positive (omega (arith, same, lt)) in
     seq_over c.args.step.limit c.args.step.positive (unless_done first) (is_done second) (canon tree_cmp (if_open second ++ begins)) (omega (arith, front_of_set (if_open second) begins, k)))

@@ -4,7 +4,7 @@ use Rattle.ix_expr.specs.inside.FormOf.{form_of}
 use Rattle.ix_tree.specs.Plain.{couple as couple_of}
 use Rattle.ix_tree.specs.Size.{size_of}
 use Rattle.ix_can.specs.Nodes.{settled}
-use Rattle.ix_can.specs.Tests.{in_alphabet}
+use Rattle.ix_expr.specs.Tests.{in_alphabet}
 use Rattle.ix_can.specs.May.{may, moves_within}
 use Rattle.ix_can.specs.inside.Moved.{moved, moved_inside}
 use Rattle.ix_step.specs.inside.Makes.{Makes}
@@ -87,12 +87,12 @@ coupling::advance_couple-returns t c =
     ∙ ap (λ v. settled (couple_of (moved_inside (in_alphabet y e a) (moved y e c.args.left.now a) c.args.left.now) v)) second
     ∙ sym (both_moved y z e a c.args.left.now c.args.right.now some left right)) c.settled_within.ensures
 
-pub coupling::advance_side-returns-then-not-in_alphabet : goal.coupling::advance_side-returns-then-not-in_alphabet
-coupling::advance_side-returns-then-not-in_alphabet t c =
+pub coupling::advance_side-returns-then-not-contains : goal.coupling::advance_side-returns-then-not-contains
+coupling::advance_side-returns-then-not-contains t c =
     let x = form_of c.args.expr.now in
     let e = c.args.step.env.now in
     let a = c.args.step.action.now in
-    let outside = sym c.in_alphabet.ensures ∙ c.if-not-in_alphabet.true in
+    let outside = sym c.contains.ensures.test ∙ c.if-not-contains.true in
     as_it_was c.args.step.limit (in_alphabet x e a) (moved x e c.args.tree.now a) c.args.tree.now c.unmoved.result outside c.requires.small c.unmoved.ensures
 
 pub coupling::advance_side-returns-then-is_outside : goal.coupling::advance_side-returns-then-is_outside

@@ -5,11 +5,10 @@ use Rattle.ix_expr.specs.FormFaults.{Fits}
 use Rattle.ix_tree.specs.Plain.{any as any_of, every as every_of, sync as sync_of}
 use Rattle.ix_tree.specs.Size.{size_of}
 use Rattle.ix_can.specs.Nodes.{settled}
-use Rattle.ix_can.specs.Tests.{in_alphabet}
+use Rattle.ix_expr.specs.Tests.{in_alphabet}
 use Rattle.ix_step.specs.inside.Makes.{Makes}
 use Rattle.ix_step.specs.inside.Pruned.{pruned}
 use Rattle.ix_step.proofs.Exits.{exit_over}
-use Rattle.ix_step.proofs.Limits.{same_alphabet}
 use Rattle.ix_step.proofs.Overs.{any_above, every_above, sync_above}
 use Rattle.ix_step.proofs.Quantifying.{any_each}
 use Rattle.ix_step.proofs.OwnEntries.{common_stays}
@@ -59,7 +58,7 @@ quantifiers::advance_sync-advance_values-requires t c =
 pub quantifiers::advance_sync-advance_own-requires : goal.quantifiers::advance_sync-advance_own-requires
 quantifiers::advance_sync-advance_own-requires t c =
     let y = form_of c.args.body.expr.now in
-    let outside = ap (λ f. in_alphabet y f c.args.step.action.now) (sym c.bind.ensures) ∙ sym (same_alphabet c.contains.result y c.bind.new.self c.args.step.action.now c.contains.ensures) ∙ c.if-contains.false in
+    let outside = ap (λ f. in_alphabet y f c.args.step.action.now) (sym c.bind.ensures) ∙ sym c.contains.ensures.test ∙ c.if-contains.false in
     (omega arith, (c.requires.ready, (outside, c.requires.each)))
 
 pub quantifiers::advance_sync-returns-in_err-common : goal.quantifiers::advance_sync-returns-in_err-common
@@ -70,14 +69,14 @@ quantifiers::advance_sync-returns-in_err-common t c =
 pub quantifiers::advance_sync-returns : goal.quantifiers::advance_sync-returns
 quantifiers::advance_sync-returns t c =
     let y = form_of c.args.body.expr.now in
-    let outside = ap (λ f. in_alphabet y f c.args.step.action.now) (sym c.bind.ensures) ∙ sym (same_alphabet c.contains.result y c.bind.new.self c.args.step.action.now c.contains.ensures) ∙ c.if-contains.false in
+    let outside = ap (λ f. in_alphabet y f c.args.step.action.now) (sym c.bind.ensures) ∙ sym c.contains.ensures.test ∙ c.if-contains.false in
     let common = c.in_ok-share.ensures ∙ sym (common_stays c.args.body.parameter.now (form_of c.args.body.expr.now) c.args.step.env.now c.args.step.action.now c.args.common.now c.args.entries.now outside) in
     subst (λ x. Makes c.args.step.limit (settled x) c.settled_within-2.result) (λ i. sync_of (common i) (c.in_ok-entries.ensures.0 i)) c.settled_within-2.ensures
 
 pub quantifiers::advance_sync-returns-in_err-entries : goal.quantifiers::advance_sync-returns-in_err-entries
 quantifiers::advance_sync-returns-in_err-entries t c =
     let y = form_of c.args.body.expr.now in
-    let outside = ap (λ f. in_alphabet y f c.args.step.action.now) (sym c.bind.ensures) ∙ sym (same_alphabet c.contains.result y c.bind.new.self c.args.step.action.now c.contains.ensures) ∙ c.if-contains.false in
+    let outside = ap (λ f. in_alphabet y f c.args.step.action.now) (sym c.bind.ensures) ∙ sym c.contains.ensures.test ∙ c.if-contains.false in
     let common = common_stays c.args.body.parameter.now (form_of c.args.body.expr.now) c.args.step.env.now c.args.step.action.now c.args.common.now c.args.entries.now outside in
     exit_over _ c.from_residual-in_err-entries.result _ c.from_residual-in_err-entries.ensures.1 c.in_err-entries.ensures (λ over.
     sync_above c.args.body.parameter.now (form_of c.args.body.expr.now) c.args.step.env.now c.args.step.action.now c.args.common.now c.args.entries.now c.requires.ready c.args.step.limit c.args.step.positive (omega (arith, ap size_of common, over)))

@@ -10,7 +10,7 @@ use Rattle.ix_tree.specs.Size.{size_of}
 use Rattle.ix_tree.proofs.Alternatives.{weight_of-list}
 use Rattle.ix_tree.proofs.PlainLists.{items_of-listed}
 use Rattle.ix_can.specs.Nodes.{settled_times, set_of}
-use Rattle.ix_can.proofs.Lists.{any_from}
+use Rattle.ix_words.proofs.Deciding.{any_from}
 use Rattle.ix_step.specs.inside.Makes.{Makes}
 use Rattle.ix_step.specs.inside.Moves.{begun_again}
 use Rattle.ix_step.specs.inside.ParallelMoves.{bag_moves, has_room}

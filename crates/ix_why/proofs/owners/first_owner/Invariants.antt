@@ -2,7 +2,7 @@
 use Rattle.std.proofs.Common.{◌≡◌, Some, drop}
 use Rattle.ix_expr.specs.Environment.{bind}
 use Rattle.ix_expr.specs.inside.FormOf.{form_of}
-use Rattle.ix_can.specs.Tests.{in_alphabet}
+use Rattle.ix_expr.specs.Tests.{in_alphabet}
 use Rattle.ix_why.specs.Blames.{first_that}
 use Rattle.ix_why.proofs.owners.first_owner.Given as goal
 

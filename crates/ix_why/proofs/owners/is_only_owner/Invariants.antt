@@ -4,7 +4,7 @@ use Rattle.std.specs.List.{list_all}
 use Rattle.ix_expr.specs.Environment.{bind}
 use Rattle.ix_expr.specs.inside.FormOf.{form_of}
 use Rattle.ix_values.specs.Order.{text_eq}
-use Rattle.ix_can.specs.Tests.{in_alphabet}
+use Rattle.ix_expr.specs.Tests.{in_alphabet}
 use Rattle.ix_why.proofs.owners.is_only_owner.Given as goal
 
 abbrev pub invariant-loop-other : goal.invariant-loop-other

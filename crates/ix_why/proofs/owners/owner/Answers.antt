@@ -2,7 +2,7 @@
 use Rattle.std.proofs.Common.{Bool, List, ℕ, Some, None, sym, ap, ◌∙◌, if◌then◌else◌}
 use Rattle.ix_expr.specs.Environment.{bind}
 use Rattle.ix_expr.specs.inside.FormOf.{form_of}
-use Rattle.ix_can.specs.Tests.{in_alphabet}
+use Rattle.ix_expr.specs.Tests.{in_alphabet}
 use Rattle.ix_why.proofs.Listed.{no_value, first_value}
 use Rattle.ix_why.proofs.owners.owner.Goals as goal
 use Rattle.ix_why.proofs.owners.owner.Goals.{in_default-via-in-Some+else-is_only_owner, in_default-via-in_default}

@@ -8,7 +8,7 @@ use Rattle.ix_expr.specs.FormFaults.{Fits}
 use Rattle.ix_expr.specs.inside.FormOf.{form_of}
 use Rattle.ix_tree.specs.Plain.{Plain}
 use Rattle.ix_can.specs.Laws.{IsProper}
-use Rattle.ix_can.specs.Tests.{in_alphabet}
+use Rattle.ix_expr.specs.Tests.{in_alphabet}
 use Rattle.ix_can.specs.inside.CanAsk.{CanAsk}
 use Rattle.ix_why.specs.Blames.{nodes, blames}
 use Rattle.ix_why.specs.inside.Held.{kept_tree, tree_held}
@@ -82,7 +82,7 @@ walk-returns-in-Couple t c =
     let a = c.args.action.now in
     let y = form_of c.deref-in-Couple.result.now in
     let z = form_of c.deref-in-Couple-2.result.now in
-    let inside : in_alphabet (couple y z) e a ≡ true = ap (λ x. in_alphabet x e a) (sym shape) ∙ ap (λ f. in_alphabet (form_of c.args.expr.now) f a) (sym c.env-env.ensures) ∙ sym c.if-in_alphabet.ensures in
+    let inside : in_alphabet (couple y z) e a ≡ true = ap (λ x. in_alphabet x e a) (sym shape) ∙ ap (λ f. in_alphabet (form_of c.args.expr.now) f a) (sym c.env-env.ensures) ∙ sym c.if-contains.ensures.test in
     subst (λ ps. OnOk c.walk_both-in-Couple.result (c.walk_both-in-Couple.new.parts.items ≡ c.args.parts.now.items ++ ps)) (couple_tells n y z e s a inside ∙ ap (λ x. blames n x e (tree_held x s) a) (sym shape)) c.walk_both-in-Couple.ensures
 
 pub walk-returns-in-Every : goal.walk-returns-in-Every
@@ -103,7 +103,7 @@ walk-returns-in-Sync t c =
     let a = c.args.action.now in
     let p = c.in-Sync.parameter in
     let y = form_of c.deref-in-Sync.result.now in
-    let inside : in_alphabet (sync p y) e a ≡ true = ap (λ x. in_alphabet x e a) (sym shape) ∙ ap (λ f. in_alphabet (form_of c.args.expr.now) f a) (sym c.env-env.ensures) ∙ sym c.if-in_alphabet-2.ensures in
+    let inside : in_alphabet (sync p y) e a ≡ true = ap (λ x. in_alphabet x e a) (sym shape) ∙ ap (λ f. in_alphabet (form_of c.args.expr.now) f a) (sym c.env-env.ensures) ∙ sym c.if-contains-2.ensures.test in
     subst (λ ps. OnOk c.walk_body-in-Sync.result (c.walk_body-in-Sync.new.parts.items ≡ c.args.parts.now.items ++ ps)) (sync_tells n p y e s a inside ∙ ap (λ x. blames n x e (tree_held x s) a) (sym shape)) c.walk_body-in-Sync.ensures
 
 pub walk_body-walk-requires : goal.walk_body-walk-requires

@@ -1,12 +1,13 @@
 -- The tests of matching, of the alphabet and of the empty word are the relations.
-use Rattle.std.proofs.Common.{◌≡◌, ◌↔◌, ◌⊎◌, inl, inr, ℕ, ◌==◌, true, not, List, [], ◌∷◌, ◌++◌, Option, Some, None, refl, sym, ap, subst, true≢false}
+use Rattle.std.proofs.Common.{◌≡◌, ◌↔◌, ◌⊎◌, inl, inr, ℕ, zero, suc, ◌==◌, eqb-true, eq-eqb, arith, Bool, true, not, List, [], ◌∷◌, ◌++◌, Option, Some, None, refl, sym, ap, subst, true≢false}
 use Rattle.std.specs.List.{list_any}
+use Rattle.std.specs.Prelude.{IsTrue}
 use Rattle.ix_words.specs.Each.{no_item, Member, here, there}
-use Rattle.ix_words.specs.Words.{Joined, Split, Owned, Projected}
+use Rattle.ix_words.specs.Words.{Joined, Split, Shared, Owned, Projected}
 use Rattle.ix_words.specs.Parts.{ended}
 use Rattle.ix_words.proofs.Canon.{map-Member}
 use Rattle.ix_words.proofs.Parts.{part-nil, Projection-once}
-use Rattle.ix_words.proofs.Words.{Joined-empty, Repeated-empty, Split-empty, Numbered-empty, Owned-empty, Projected-empty}
+use Rattle.ix_words.proofs.Words.{Joined-empty, Repeated-empty, Split-empty, Shared-empty, Numbered-empty, Owned-empty, Projected-empty}
 use Rattle.ix_values.specs.Order.{text_eq}
 use Rattle.ix_values.specs.lemmas.Order.{text_eq-decides}
 use Rattle.ix_values.specs.PlainAction.{PlainAction, Word}
@@ -15,10 +16,9 @@ use Rattle.ix_expr.specs.declared.arg.Arg.TheVariants.{Fixed, Param}
 use Rattle.ix_expr.specs.Form.{PlainAtom, Form, atom, opt, seq, star, par, par_star, or, and, couple, any, every, sync, all, times}
 use Rattle.ix_expr.specs.Environment.{Environment, value_in, bind, HasValue, HaveValues, Matches}
 use Rattle.ix_expr.specs.Meaning.{InAlphabet, IsComplete}
-use Rattle.ix_expr.proofs.Emptiness.{empty-shared}
 use Rattle.ix_expr.proofs.Agreement.{alphabet-leads, outside-leads, unused-leads, member-or-not}
-use Rattle.ix_can.specs.Tests.{is_value, has_value, have_values, is_match, values_and_outside, in_alphabet, accepts_empty}
-use Rattle.ix_can.proofs.Lists.{itself, iff_trans, when_either, when_both, any_from, any_says}
+use Rattle.ix_expr.specs.Tests.{is_value, has_value, have_values, is_match, values_and_outside, in_alphabet, accepts_empty}
+use Rattle.ix_words.proofs.Deciding.{itself, iff_trans, iff_sym, one_test, when_either, when_both, any_from, any_says}
 
 is_value_says : (x : Option (List ℕ)) (v : List ℕ) → (is_value x v ≡ true) ↔ (x ≡ Some v)
 is_value_says None v = (λ e. absurd (true≢false (sym e)), λ e. absurd (cc))
@@ -93,6 +93,18 @@ Projected-part {C = C} h = subst C (Projection-once h.projection ended) h.rest_h
 Owned-part : {C : List ℕ → Word → Type 0} → Owned text_eq C [] → (v : List ℕ) → C v []
 Owned-part {C} h v = subst (C v) (part-nil (text_eq v) h.owners) (h.each_has v)
 
+-- the empty word is shared among n runs where there is none, or where it is a run
+empty-shared : (n : ℕ) (C : Word → Type 0) → (((n == 0) ≡ true) ⊎ C []) ↔ Shared n C []
+empty-shared n C = (λ h. elim h [ inl z ↦ none_wanted n z | inr c ↦ Shared-empty c ], some_wanted n)
+  where
+    none_wanted : (m : ℕ) → (m == 0) ≡ true → Shared m C []
+    none_wanted zero z = record { owners = []; as_long = refl; below = no_item; each_has = λ k low. absurd (omega arith) }
+    none_wanted (suc m) z = let e : suc m ≡ 0 = eqb-true (suc m) 0 z in absurd (omega arith)
+
+    some_wanted : (m : ℕ) → Shared m C [] → ((m == 0) ≡ true) ⊎ C []
+    some_wanted zero h = inl (eq-eqb 0 0 refl)
+    some_wanted (suc m) h = inr (subst C (part-nil (λ other. 0 == other) h.owners) (h.each_has 0 (omega arith)))
+
 -- the test of the empty word says whether it is complete
 pub empty_complete : (x : Form) (e : Environment) → (accepts_empty x ≡ true) ↔ IsComplete x e []
 empty_complete (atom x) e = (λ h. absurd (true≢false (sym h)), λ h. let n : [] ≡ h.0 ∷ [] = h.1 in absurd (cc))
@@ -119,3 +131,14 @@ empty_complete (all p y) e = (
   λ h. (empty_complete y (bind p (Some []) e)).1 (Owned-part h []),
 )
 empty_complete (times n y) e = iff_trans (when_either (n == 0) (accepts_empty y) itself (empty_complete y e)) (empty-shared n (IsComplete y e))
+
+-- an answer that is the test's says it too
+pub tells_complete : (x : Form) (b : Bool) → b ≡ accepts_empty x → (e : Environment) → (IsTrue b → IsComplete x e []) × (IsComplete x e [] → IsTrue b)
+tells_complete x b same e = subst (λ (t : Bool). IsTrue t ↔ IsComplete x e []) (sym same) (empty_complete x e)
+
+-- an answer that says the relation is the test's
+pub tells_match : (x : PlainAtom) (e : Environment) (a : PlainAction) (b : Bool) → (IsTrue b → Matches x e a) × (Matches x e a → IsTrue b) → b ≡ is_match x e a
+tells_match x e a b says = one_test b (is_match x e a) (iff_trans says (iff_sym (match_says x e a)))
+
+pub tells_inside : (x : Form) (e : Environment) (a : PlainAction) (b : Bool) → (IsTrue b → InAlphabet x e a) × (InAlphabet x e a → IsTrue b) → b ≡ in_alphabet x e a
+tells_inside x e a b says = one_test b (in_alphabet x e a) (iff_trans says (iff_sym (alphabet_says x e a)))
