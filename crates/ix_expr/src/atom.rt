@@ -114,10 +114,7 @@ fn is_reserved(name: &Name) -> bool
 fn zero() -> Value
     ensures { result ≡ 48 ∷ [] }
 {
-    match Value::read(b"0") {
-        Some(value) => value,
-        None => unreachable!(),
-    }
+    Value::of_text(b"0")
 }
 
 fn zero_padded(args: &[Arg]) -> [Arg; 4]

@@ -99,8 +99,5 @@ fn equals(given: &Option<Value>, value: &Value) -> bool
 fn letter_a() -> Name
     ensures { result ≡ 97 ∷ [] }
 {
-    match Name::read(b"a") {
-        Some(name) => name,
-        None => unreachable!(),
-    }
+    Name::of_text(b"a")
 }
