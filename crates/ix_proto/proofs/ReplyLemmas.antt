@@ -1,7 +1,6 @@
 -- A reply's text as its first word and what stands reply_rest it.
-use Rattle.std.proofs.Common.{◌≡◌, ◌≢◌, ℕ, ◌+◌, ◌<◌, ◌≤◌, ◌^◌, ◌==◌, Bool, true, false, if◌then◌else◌, List, [], ◌∷◌, ◌++◌, get_or, Option, Some, None, MatchOption, refl, sym, ◌∙◌, ap, subst, arith, append-nil}
+use Rattle.std.proofs.Common.{◌≡◌, ◌≢◌, ℕ, ◌+◌, ◌<◌, ◌^◌, ◌==◌, Bool, true, false, if◌then◌else◌, List, [], ◌∷◌, ◌++◌, get_or, Option, Some, None, MatchOption, refl, sym, ◌∙◌, ap, subst, arith, append-nil}
 use Rattle.std.specs.Fmt.{decimal}
-use Rattle.std.proofs.lemmas.Fmt.{decimal_injective}
 use Rattle.ix_values.specs.Faults.{IsActionText}
 use Rattle.ix_values.specs.PlainAction.{text_of}
 use Rattle.ix_lines.specs.inside.WordsBehind.{behind_word, HasNoSpace}
@@ -10,7 +9,7 @@ use Rattle.ix_proto.specs.inside.ReplyTexts.{IsReplyText}
 use Rattle.ix_proto.specs.inside.ReplyParts.{kind_word, kind_of, reply_rest, nodes_text, StandsBehind, IsRefusalBehind}
 use Rattle.ix_lines.specs.Numbers.{BeginsWithNumber}
 use Rattle.ix_lines.proofs.NumberCuts.{cut_same, number_same, some_same}
-use Rattle.ix_proto.proofs.ReplyKinds.{only_changes, only_refused, only_status, only_entry}
+use Rattle.ix_proto.proofs.ReplyKinds.{only_refused, only_status, only_entry}
 use Rattle.ix_proto.specs.declared.reply.Reply.{Reply}
 use Rattle.ix_proto.specs.declared.reply.Reply.TheVariants.{Granted, Confirmed, Cancelled, Outcome, May, Watching, Dropped, Changes, Change, Status, Entry, Stopping, Refused}
 use Rattle.ix_proto.specs.declared.reply_read.Kind.{Kind}
@@ -120,30 +119,21 @@ read_line line word rest k (Some reply) cut plain is h = (
       ∙ sym cut,
 )
 
-above : (k n : ℕ) → k ≡ n → k < 2 ^ 32 → 2 ^ 32 ≤ n → ⊥
-above k n e l h = omega arith
-
-pub no_changes : (rest : Option (List ℕ)) (n : ℕ) → n < 2 ^ 64 → rest ≡ Some (decimal n) → 2 ^ 32 ≤ n → (r : Reply) → ¬ StandsBehind kind.Changes rest r
-no_changes rest n fits is large r h =
-    only_changes (λ r. StandsBehind kind.Changes rest r → ⊥)
-    (λ k g. above k n (decimal_injective k n (omega (arith, g.valid)) fits (some_same (g.rest_is ∙ is))) g.valid large)
-    r h.kind_is h
-
-pub no_entry : (rest : Option (List ℕ)) (text tail : List ℕ) (n : ℕ) → rest ≡ Some text → BeginsWithNumber (2 ^ 64) text n tail → ¬ IsActionText tail
-    → (r : Reply) → ¬ StandsBehind kind.Entry rest r
-no_entry rest text tail n is number none r h =
-    only_entry (λ r. StandsBehind kind.Entry rest r → ⊥)
+pub no_entry : (text tail : List ℕ) (n : ℕ) → BeginsWithNumber (2 ^ 64) text n tail → ¬ IsActionText tail
+    → (r : Reply) → ¬ StandsBehind kind.Entry (Some text) r
+no_entry text tail n number none r h =
+    only_entry (λ r. StandsBehind kind.Entry (Some text) r → ⊥)
     (λ place action g.
-    let same = number_same place n (text_of action) tail g.valid.0 number.fits (some_same (g.rest_is ∙ is) ∙ number.split) in
+    let same = number_same place n (text_of action) tail g.valid.0 number.fits (some_same g.rest_is ∙ number.split) in
     none (record { action = action; valid = g.valid.1; same = sym same.1 }))
     r h.kind_is h
 
-pub no_refused : (rest : Option (List ℕ)) (text tail : List ℕ) (n : ℕ) → rest ≡ Some text → BeginsWithNumber (2 ^ 8) text n tail
-    → ((told : ℕ) → ¬ IsRefusalBehind n tail told) → (r : Reply) → ¬ StandsBehind kind.Refused rest r
-no_refused rest text tail n is number none r h =
-    only_refused (λ r. StandsBehind kind.Refused rest r → ⊥)
+pub no_refused : (text tail : List ℕ) (n : ℕ) → BeginsWithNumber (2 ^ 8) text n tail
+    → ((told : ℕ) → ¬ IsRefusalBehind n tail told) → (r : Reply) → ¬ StandsBehind kind.Refused (Some text) r
+no_refused text tail n number none r h =
+    only_refused (λ r. StandsBehind kind.Refused (Some text) r → ⊥)
     (λ code told g.
-    let same = number_same code n _ tail (omega (arith, g.valid.0)) (omega (arith, number.fits)) (some_same (g.rest_is ∙ is) ∙ number.split) in
+    let same = number_same code n _ tail (omega (arith, g.valid.0)) (omega (arith, number.fits)) (some_same g.rest_is ∙ number.split) in
     none told (subst (λ z. IsRefusalBehind z tail told) same.0 (record { fits = g.valid.1; told = g.valid.2; same = sym same.1 })))
     r h.kind_is h
 
@@ -168,13 +158,13 @@ complete_same b d x y e =
     let cut = cut_same (complete_or_partial b) (complete_or_partial d) (Some x) (Some y) (complete-plain b) (complete-plain d) e in
     (cut.0, some_same cut.1)
 
-pub no_status : (rest : Option (List ℕ)) (text middle tail : List ℕ) (b : Bool) (n : ℕ) → rest ≡ Some text
+pub no_status : (text middle tail : List ℕ) (b : Bool) (n : ℕ)
     → text ≡ complete_or_partial b ++ 32 ∷ middle → BeginsWithNumber (2 ^ 64) middle n tail
-    → ((s : ℕ) → s < 2 ^ 64 → tail ≢ nodes_text s) → (r : Reply) → ¬ StandsBehind kind.Status rest r
-no_status rest text middle tail b n is front number none r h =
-    only_status (λ r. StandsBehind kind.Status rest r → ⊥)
+    → ((s : ℕ) → s < 2 ^ 64 → tail ≢ nodes_text s) → (r : Reply) → ¬ StandsBehind kind.Status (Some text) r
+no_status text middle tail b n front number none r h =
+    only_status (λ r. StandsBehind kind.Status (Some text) r → ⊥)
     (λ complete count nodes g.
-    let behind_front = (complete_same complete b (decimal count ++ 32 ∷ nodes_text nodes) middle (some_same (g.rest_is ∙ is) ∙ front)).1 in
+    let behind_front = (complete_same complete b (decimal count ++ 32 ∷ nodes_text nodes) middle (some_same g.rest_is ∙ front)).1 in
     let same = number_same count n (nodes_text nodes) tail g.valid.0 number.fits (behind_front ∙ number.split) in
     none nodes g.valid.1 (sym same.1))
     r h.kind_is h

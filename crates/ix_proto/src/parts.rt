@@ -9,7 +9,7 @@ ghost use Rattle.ix_lines.specs.Numbers.{IsNumber};
 ghost use Rattle.ix_proto.specs.inside.Causes.{cause_code};
 ghost use Rattle.ix_proto.specs.Requests.{IsLease};
 ghost use Rattle.ix_proto.specs.RequestFaults.{an_action, a_name, a_ticket, a_number, a_lease};
-ghost use Rattle.ix_proto.specs.RequestFaults.{IsPartFault};
+ghost use Rattle.ix_proto.specs.RequestFaults.{IsPartFault, IsFaultBehind};
 ghost use Rattle.ix_lines.specs.inside.WordsBehind.{words_behind};
 
 use crate::request_fault::Cause;
@@ -60,6 +60,19 @@ pub(crate) fn two_words(rest: Option<&[u8]>) -> Result<(&[u8], &[u8]), Cause>
     let (first, behind) = split_word(text);
     let second = one_word(behind)?;
     Ok((first, second))
+}
+
+pub(crate) fn name_and_action(rest: Option<&[u8]>) -> Result<(&[u8], &[u8]), Cause>
+    ensures { MatchResult result
+        (λ read. (words_behind (option_copied rest.entry) ≡ read.0.now ∷ read.1.now ∷ [])
+        × IsName read.0.now × IsActionText read.1.now)
+        (λ cause. IsFaultBehind (a_name ∷ an_action ∷ [])
+        (words_behind (option_copied rest.entry)) (cause_code cause)) }
+{
+    let (name, action) = two_words(rest)?;
+    let name = name_word(name)?;
+    let action = action_word(action)?;
+    Ok((name, action))
 }
 
 pub(crate) fn action_word(word: &[u8]) -> Result<&[u8], Cause>

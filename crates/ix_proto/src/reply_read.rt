@@ -4,6 +4,7 @@ ghost use Rattle.std.specs.Prelude.{◌≡◌, ◌≢◌, ℕ, ◌<◌, ◌^◌,
 ghost use Rattle.std.specs.Prelude.{Bool};
 ghost use Rattle.std.specs.Fmt.{decimal};
 ghost use Rattle.std.specs.Option.{option_copied};
+ghost use Rattle.ix_lines.specs.Numbers.{IsNumber};
 ghost use Rattle.ix_proto.specs.Replies.{IsOutcome, outcome_text, yes_or_no, complete_or_partial};
 ghost use Rattle.ix_proto.specs.Replies.{IsReply, reply_text};
 ghost use Rattle.ix_proto.specs.inside.ReplyTexts.{IsReplyText};
@@ -79,55 +80,25 @@ fn read_behind(kind: Kind, rest: Option<&[u8]>) -> Option<Reply>
         (StandsBehind kind (option_copied rest.entry)) }
 {
     match kind {
+        Kind::Granted => Some(Reply::Granted(Ticket::read(rest?)?)),
+        Kind::Confirmed => Some(Reply::Confirmed(read_number(rest?, u64::MAX)?)),
+        Kind::Cancelled => Some(Reply::Cancelled(Ticket::read(rest?)?)),
+        Kind::Outcome => Some(Reply::Outcome(outcome_of(rest?)?)),
         Kind::Answer(answer) => read_answer(answer, rest),
-        Kind::Granted => read_granted(rest),
-        Kind::Confirmed => read_confirmed(rest),
-        Kind::Cancelled => read_cancelled(rest),
-        Kind::Outcome => read_outcome(rest),
-        Kind::Watching => read_watching(rest),
-        Kind::Dropped => read_dropped(rest),
-        Kind::Changes => read_changes(rest),
-        Kind::Status => read_status(rest),
-        Kind::Entry => read_entry(rest),
-        Kind::Stopping => read_stopping(rest),
-        Kind::Refused => read_refused(rest),
+        Kind::Watching => Some(Reply::Watching(yes_or_no_text(rest?)?)),
+        Kind::Dropped => match rest {
+            None => Some(Reply::Dropped),
+            Some(_) => None,
+        },
+        Kind::Changes => Some(Reply::Changes(count_of(rest?)?)),
+        Kind::Status => read_status(rest?),
+        Kind::Entry => read_entry(rest?),
+        Kind::Stopping => match rest {
+            None => Some(Reply::Stopping),
+            Some(_) => None,
+        },
+        Kind::Refused => read_refused(rest?),
     }
-}
-
-fn read_granted(rest: Option<&[u8]>) -> Option<Reply>
-    ensures { MatchOption result
-        ((reply : Reply) → ¬ StandsBehind Kind.Granted (option_copied rest.entry) reply)
-        (StandsBehind Kind.Granted (option_copied rest.entry)) }
-{
-    let ticket = Ticket::read(rest?)?;
-    Some(Reply::Granted(ticket))
-}
-
-fn read_confirmed(rest: Option<&[u8]>) -> Option<Reply>
-    ensures { MatchOption result
-        ((reply : Reply) → ¬ StandsBehind Kind.Confirmed (option_copied rest.entry) reply)
-        (StandsBehind Kind.Confirmed (option_copied rest.entry)) }
-{
-    let number = number_alone(rest)?;
-    Some(Reply::Confirmed(number))
-}
-
-fn read_cancelled(rest: Option<&[u8]>) -> Option<Reply>
-    ensures { MatchOption result
-        ((reply : Reply) → ¬ StandsBehind Kind.Cancelled (option_copied rest.entry) reply)
-        (StandsBehind Kind.Cancelled (option_copied rest.entry)) }
-{
-    let ticket = Ticket::read(rest?)?;
-    Some(Reply::Cancelled(ticket))
-}
-
-fn read_outcome(rest: Option<&[u8]>) -> Option<Reply>
-    ensures { MatchOption result
-        ((reply : Reply) → ¬ StandsBehind Kind.Outcome (option_copied rest.entry) reply)
-        (StandsBehind Kind.Outcome (option_copied rest.entry)) }
-{
-    let outcome = outcome_of(rest?)?;
-    Some(Reply::Outcome(outcome))
 }
 
 fn read_answer(answer: bool, rest: Option<&[u8]>) -> Option<Reply>
@@ -144,55 +115,20 @@ fn read_answer(answer: bool, rest: Option<&[u8]>) -> Option<Reply>
     }
 }
 
-fn read_watching(rest: Option<&[u8]>) -> Option<Reply>
+fn count_of(text: &[u8]) -> Option<u32>
     ensures { MatchOption result
-        ((reply : Reply) → ¬ StandsBehind Kind.Watching (option_copied rest.entry) reply)
-        (StandsBehind Kind.Watching (option_copied rest.entry)) }
+        ((number : ℕ) → ¬ IsNumber (2 ^ 32) text.now number)
+        (IsNumber (2 ^ 32) text.now) }
 {
-    let answer = yes_or_no_text(rest?)?;
-    Some(Reply::Watching(answer))
+    Some(read_number(text, u64::from(u32::MAX))? as u32)
 }
 
-fn read_dropped(rest: Option<&[u8]>) -> Option<Reply>
+fn read_status(text: &[u8]) -> Option<Reply>
     ensures { MatchOption result
-        ((reply : Reply) → ¬ StandsBehind Kind.Dropped (option_copied rest.entry) reply)
-        (StandsBehind Kind.Dropped (option_copied rest.entry)) }
+        ((reply : Reply) → ¬ StandsBehind Kind.Status (Some text.now) reply)
+        (StandsBehind Kind.Status (Some text.now)) }
 {
-    match rest {
-        None => Some(Reply::Dropped),
-        Some(_) => None,
-    }
-}
-
-fn read_stopping(rest: Option<&[u8]>) -> Option<Reply>
-    ensures { MatchOption result
-        ((reply : Reply) → ¬ StandsBehind Kind.Stopping (option_copied rest.entry) reply)
-        (StandsBehind Kind.Stopping (option_copied rest.entry)) }
-{
-    match rest {
-        None => Some(Reply::Stopping),
-        Some(_) => None,
-    }
-}
-
-fn read_changes(rest: Option<&[u8]>) -> Option<Reply>
-    ensures { MatchOption result
-        ((reply : Reply) → ¬ StandsBehind Kind.Changes (option_copied rest.entry) reply)
-        (StandsBehind Kind.Changes (option_copied rest.entry)) }
-{
-    let number = number_alone(rest)?;
-    if number > u64::from(u32::MAX) {
-        return None;
-    }
-    Some(Reply::Changes(number as u32))
-}
-
-fn read_status(rest: Option<&[u8]>) -> Option<Reply>
-    ensures { MatchOption result
-        ((reply : Reply) → ¬ StandsBehind Kind.Status (option_copied rest.entry) reply)
-        (StandsBehind Kind.Status (option_copied rest.entry)) }
-{
-    let (complete, text) = complete_or_partial_and(rest?)?;
+    let (complete, text) = complete_or_partial_and(text)?;
     let length = number_and(text, u64::MAX)?;
     let nodes = nodes(length.rest)?;
     Some(Reply::Status {
@@ -202,35 +138,27 @@ fn read_status(rest: Option<&[u8]>) -> Option<Reply>
     })
 }
 
-fn read_entry(rest: Option<&[u8]>) -> Option<Reply>
+fn read_entry(text: &[u8]) -> Option<Reply>
     ensures { MatchOption result
-        ((reply : Reply) → ¬ StandsBehind Kind.Entry (option_copied rest.entry) reply)
-        (StandsBehind Kind.Entry (option_copied rest.entry)) }
+        ((reply : Reply) → ¬ StandsBehind Kind.Entry (Some text.now) reply)
+        (StandsBehind Kind.Entry (Some text.now)) }
 {
-    let place = number_and(rest?, u64::MAX)?;
+    let place = number_and(text, u64::MAX)?;
     match Action::read(place.rest) {
         Ok(action) => Some(Reply::Entry(place.number, action)),
         Err(_) => None,
     }
 }
 
-fn read_refused(rest: Option<&[u8]>) -> Option<Reply>
+fn read_refused(text: &[u8]) -> Option<Reply>
     ensures { MatchOption result
-        ((reply : Reply) → ¬ StandsBehind Kind.Refused (option_copied rest.entry) reply)
-        (StandsBehind Kind.Refused (option_copied rest.entry)) }
+        ((reply : Reply) → ¬ StandsBehind Kind.Refused (Some text.now) reply)
+        (StandsBehind Kind.Refused (Some text.now)) }
 {
-    let refusal = number_and(rest?, GREATEST_CODE)?;
+    let refusal = number_and(text, GREATEST_CODE)?;
     let code = refusal.number as u8;
     let number = refusal_number(code, refusal.rest)?;
     Some(Reply::Refused { code, number })
-}
-
-fn number_alone(rest: Option<&[u8]>) -> Option<u64>
-    ensures { MatchOption result
-        ((number : ℕ) → number < 2 ^ 64 → option_copied rest.entry ≢ Some (decimal number))
-        (λ number. (number < 2 ^ 64) × (option_copied rest.entry ≡ Some (decimal number))) }
-{
-    read_number(rest?, u64::MAX)
 }
 
 fn outcome_of(text: &[u8]) -> Option<Outcome>

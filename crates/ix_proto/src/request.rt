@@ -1,6 +1,6 @@
 //! The reader of requests.
 
-ghost use Rattle.std.specs.Prelude.{codes, ◌≡◌, ◌≢◌, ◌⊎◌, [], ◌∷◌, length, MatchOption};
+ghost use Rattle.std.specs.Prelude.{◌≡◌, ◌≢◌, ◌⊎◌, [], ◌∷◌, length, MatchOption};
 ghost use Rattle.std.specs.Prelude.{MatchResult, IsTrue};
 ghost use Rattle.std.specs.Fmt.{decimal};
 ghost use Rattle.std.specs.Option.{option_copied};
@@ -18,7 +18,8 @@ ghost use Rattle.ix_lines.specs.Words.{words_of};
 ghost use Rattle.ix_lines.specs.inside.WordsBehind.{words_behind};
 
 use crate::parts::{
-    action_word, lease_word, name_word, no_words, number_word, one_word, ticket_word, two_words,
+    action_word, lease_word, name_and_action, name_word, no_words, number_word, one_word,
+    ticket_word, two_words,
 };
 use crate::request_fault::{Cause, RequestFault};
 use ix_lines::split_word;
@@ -101,17 +102,34 @@ fn read_behind(verb: Verb, rest: Option<&[u8]>) -> Result<Request<'_>, Cause>
         (words_behind (option_copied rest.entry)) (cause_code cause)) }
 {
     match verb {
-        Verb::Ask => read_ask(rest),
-        Verb::Confirm => read_confirm(rest),
-        Verb::Cancel => read_cancel(rest),
-        Verb::Outcome => read_outcome(rest),
-        Verb::May => read_may(rest),
-        Verb::Watch => read_watch(rest),
-        Verb::Drop => read_drop(rest),
-        Verb::Poll => read_poll(rest),
-        Verb::Status => read_status(rest),
-        Verb::Log => read_log(rest),
-        Verb::Stop => read_stop(rest),
+        Verb::Ask => {
+            let (action, lease) = two_words(rest)?;
+            let action = action_word(action)?;
+            let lease = lease_word(lease)?;
+            Ok(Request::Ask { action, lease })
+        }
+        Verb::Confirm => Ok(Request::Confirm(ticket_word(one_word(rest)?)?)),
+        Verb::Cancel => Ok(Request::Cancel(ticket_word(one_word(rest)?)?)),
+        Verb::Outcome => Ok(Request::Outcome(ticket_word(one_word(rest)?)?)),
+        Verb::May => Ok(Request::May(action_word(one_word(rest)?)?)),
+        Verb::Watch => {
+            let (name, action) = name_and_action(rest)?;
+            Ok(Request::Watch { name, action })
+        }
+        Verb::Drop => {
+            let (name, action) = name_and_action(rest)?;
+            Ok(Request::Drop { name, action })
+        }
+        Verb::Poll => Ok(Request::Poll(name_word(one_word(rest)?)?)),
+        Verb::Status => {
+            no_words(rest)?;
+            Ok(Request::Status)
+        }
+        Verb::Log => Ok(Request::Log(number_word(one_word(rest)?)?)),
+        Verb::Stop => {
+            no_words(rest)?;
+            Ok(Request::Stop)
+        }
     }
 }
 
@@ -134,126 +152,4 @@ fn read_verb(word: &[u8]) -> Option<Verb>
         b"stop" => Some(Verb::Stop),
         _ => None,
     }
-}
-
-fn read_ask(rest: Option<&[u8]>) -> Result<Request<'_>, Cause>
-    ensures { MatchResult result
-        (λ request. Reads (codes "ask" ∷ words_behind (option_copied rest.entry)) request)
-        (λ cause. IsFaultBehind (parts_of Verb.Ask)
-        (words_behind (option_copied rest.entry)) (cause_code cause)) }
-{
-    let (action, lease) = two_words(rest)?;
-    let action = action_word(action)?;
-    let lease = lease_word(lease)?;
-    Ok(Request::Ask { action, lease })
-}
-
-fn read_confirm(rest: Option<&[u8]>) -> Result<Request<'_>, Cause>
-    ensures { MatchResult result
-        (λ request. Reads (codes "confirm" ∷ words_behind (option_copied rest.entry)) request)
-        (λ cause. IsFaultBehind (parts_of Verb.Confirm)
-        (words_behind (option_copied rest.entry)) (cause_code cause)) }
-{
-    let word = one_word(rest)?;
-    let ticket = ticket_word(word)?;
-    Ok(Request::Confirm(ticket))
-}
-
-fn read_cancel(rest: Option<&[u8]>) -> Result<Request<'_>, Cause>
-    ensures { MatchResult result
-        (λ request. Reads (codes "cancel" ∷ words_behind (option_copied rest.entry)) request)
-        (λ cause. IsFaultBehind (parts_of Verb.Cancel)
-        (words_behind (option_copied rest.entry)) (cause_code cause)) }
-{
-    let word = one_word(rest)?;
-    let ticket = ticket_word(word)?;
-    Ok(Request::Cancel(ticket))
-}
-
-fn read_outcome(rest: Option<&[u8]>) -> Result<Request<'_>, Cause>
-    ensures { MatchResult result
-        (λ request. Reads (codes "outcome" ∷ words_behind (option_copied rest.entry)) request)
-        (λ cause. IsFaultBehind (parts_of Verb.Outcome)
-        (words_behind (option_copied rest.entry)) (cause_code cause)) }
-{
-    let word = one_word(rest)?;
-    let ticket = ticket_word(word)?;
-    Ok(Request::Outcome(ticket))
-}
-
-fn read_log(rest: Option<&[u8]>) -> Result<Request<'_>, Cause>
-    ensures { MatchResult result
-        (λ request. Reads (codes "log" ∷ words_behind (option_copied rest.entry)) request)
-        (λ cause. IsFaultBehind (parts_of Verb.Log)
-        (words_behind (option_copied rest.entry)) (cause_code cause)) }
-{
-    let word = one_word(rest)?;
-    let number = number_word(word)?;
-    Ok(Request::Log(number))
-}
-
-fn read_may(rest: Option<&[u8]>) -> Result<Request<'_>, Cause>
-    ensures { MatchResult result
-        (λ request. Reads (codes "may" ∷ words_behind (option_copied rest.entry)) request)
-        (λ cause. IsFaultBehind (parts_of Verb.May)
-        (words_behind (option_copied rest.entry)) (cause_code cause)) }
-{
-    let word = one_word(rest)?;
-    let action = action_word(word)?;
-    Ok(Request::May(action))
-}
-
-fn read_poll(rest: Option<&[u8]>) -> Result<Request<'_>, Cause>
-    ensures { MatchResult result
-        (λ request. Reads (codes "poll" ∷ words_behind (option_copied rest.entry)) request)
-        (λ cause. IsFaultBehind (parts_of Verb.Poll)
-        (words_behind (option_copied rest.entry)) (cause_code cause)) }
-{
-    let word = one_word(rest)?;
-    let name = name_word(word)?;
-    Ok(Request::Poll(name))
-}
-
-fn read_watch(rest: Option<&[u8]>) -> Result<Request<'_>, Cause>
-    ensures { MatchResult result
-        (λ request. Reads (codes "watch" ∷ words_behind (option_copied rest.entry)) request)
-        (λ cause. IsFaultBehind (parts_of Verb.Watch)
-        (words_behind (option_copied rest.entry)) (cause_code cause)) }
-{
-    let (name, action) = two_words(rest)?;
-    let name = name_word(name)?;
-    let action = action_word(action)?;
-    Ok(Request::Watch { name, action })
-}
-
-fn read_drop(rest: Option<&[u8]>) -> Result<Request<'_>, Cause>
-    ensures { MatchResult result
-        (λ request. Reads (codes "drop" ∷ words_behind (option_copied rest.entry)) request)
-        (λ cause. IsFaultBehind (parts_of Verb.Drop)
-        (words_behind (option_copied rest.entry)) (cause_code cause)) }
-{
-    let (name, action) = two_words(rest)?;
-    let name = name_word(name)?;
-    let action = action_word(action)?;
-    Ok(Request::Drop { name, action })
-}
-
-fn read_status(rest: Option<&[u8]>) -> Result<Request<'_>, Cause>
-    ensures { MatchResult result
-        (λ request. Reads (codes "status" ∷ words_behind (option_copied rest.entry)) request)
-        (λ cause. IsFaultBehind (parts_of Verb.Status)
-        (words_behind (option_copied rest.entry)) (cause_code cause)) }
-{
-    no_words(rest)?;
-    Ok(Request::Status)
-}
-
-fn read_stop(rest: Option<&[u8]>) -> Result<Request<'_>, Cause>
-    ensures { MatchResult result
-        (λ request. Reads (codes "stop" ∷ words_behind (option_copied rest.entry)) request)
-        (λ cause. IsFaultBehind (parts_of Verb.Stop)
-        (words_behind (option_copied rest.entry)) (cause_code cause)) }
-{
-    no_words(rest)?;
-    Ok(Request::Stop)
 }
