@@ -1,6 +1,7 @@
 -- What a file is, from its first bytes, and what a start leaves of it.
 use Rattle.std.proofs.Common.{◌≡◌, ◌⊎◌, ℕ, ◌+◌, ◌<◌, List, [], ◌∷◌, ◌++◌, length, Some}
-use Rattle.std.proofs.Common.{Option, Vec, Result, Ok, Err, MatchResult}
+use Rattle.std.proofs.Common.{Option, Vec, Result, Ok, Err, IfErr, MatchResult}
+use Rattle.std.specs.Prelude.{IsErrAnd}
 use Rattle.std.proofs.Common.{refl, sym, ap, subst, arith, inl, inr}
 use Rattle.std.specs.declared.alloc.Global.{Global}
 use Rattle.ix_journal.specs.Entries.{fresh, renewed_of}
@@ -114,6 +115,17 @@ refuses_any (fault.Damaged at) file text none = absurd none
 refuses_any fault.Many file text none = absurd none
 refuses_any fault.Disk file text none = tt
 refuses_any fault.Memory file text none = tt
+
+-- what holds of a fault holds of what `?` hands up for it
+pub handed_up : {T E : Type 0} (result : Result T E) (why : E) (P : T → Type 0) (Q : E → Type 0)
+    → IsErrAnd result (λ fault. fault ≡ why) → Q why → MatchResult result P Q
+handed_up (Ok value) why P Q none holds = absurd none
+handed_up (Err fault) why P Q same holds = subst Q (sym same) holds
+
+pub refused_up : {T E : Type 0} (result : Result T E) (why : E) (Q : E → Type 0)
+    → IsErrAnd result (λ fault. fault ≡ why) → Q why → IfErr result Q
+refused_up (Ok value) why Q same holds = tt
+refused_up (Err fault) why Q same holds = subst Q (sym same) holds
 
 -- a ready file isn't to be made anew
 pub ready_not_new : (file text : List ℕ) → IsReadyWith file text → ¬ IsNew file text

@@ -47,18 +47,10 @@ pub(crate) fn begin<S: Site>(
         (S.state site.old).counts.disk (S.state site.new).counts.disk }
     ensures calls { DiskCalls (stretch_of S.state S.crashes site.old site.new) }
 {
-    let Ok(header) = header_bytes(alloc, version, text) else {
-        return Err(OpenFault::Memory);
-    };
-    let Ok(()) = clear(site, bytes) else {
-        return Err(OpenFault::Disk);
-    };
-    let Ok(()) = write_through(site, 1, &header) else {
-        return Err(OpenFault::Disk);
-    };
-    let Ok(()) = write_through(site, 0, &[OPEN]) else {
-        return Err(OpenFault::Disk);
-    };
+    let header = header_bytes(alloc, version, text)?;
+    clear(site, bytes)?;
+    write_through(site, 1, &header)?;
+    write_through(site, 0, &[OPEN])?;
     Ok(())
 }
 

@@ -1,5 +1,11 @@
 //! Why a journal wasn't opened.
 
+ghost use Rattle.std.specs.Prelude.{◌≡◌};
+ghost use Rattle.ix_store.specs.declared.fault.OpenFault.TheVariants as fault;
+
+use ix_outside::DiskFailed;
+use std::alloc::AllocError;
+
 /// Why a journal wasn't opened.
 #[derive(Drop, Debug)]
 pub enum OpenFault {
@@ -17,4 +23,20 @@ pub enum OpenFault {
     Many,
     /// There was no memory for the front of the file, the history, the header or the text kept.
     Memory,
+}
+
+impl From<AllocError> for OpenFault {
+    ghost from_gives = { λ _ why. why ≡ fault.Memory };
+
+    fn from(_: AllocError) -> OpenFault {
+        OpenFault::Memory
+    }
+}
+
+impl From<DiskFailed> for OpenFault {
+    ghost from_gives = { λ _ why. why ≡ fault.Disk };
+
+    fn from(_: DiskFailed) -> OpenFault {
+        OpenFault::Disk
+    }
 }

@@ -45,9 +45,7 @@ pub(crate) fn sync_and_find<S: Site>(
         (S.state site.old).counts.disk (S.state site.new).counts.disk }
     ensures calls { DiskCalls (stretch_of S.state S.crashes site.old site.new) }
 {
-    let Ok(()) = site.sync() else {
-        return Err(OpenFault::Disk);
-    };
+    site.sync()?;
     find(alloc, site, text)
 }
 
@@ -63,22 +61,13 @@ fn find<S: Site>(alloc: Global, site: &mut S, text: &[u8]) -> Result<Found, Open
     ensures failed { CountsOpening result
         (S.state site.old).counts.disk (S.state site.new).counts.disk }
 {
-    let head = match read_head(alloc, site) {
-        Ok(head) => head,
-        Err(fault) => return Err(fault),
+    let head = read_head(alloc, site)?;
+    let Some(first) = judge(alloc, &head, text)? else {
+        return Ok(Found::New { head });
     };
-    let first = match judge(alloc, &head, text) {
-        Ok(Some(first)) => first,
-        Ok(None) => return Ok(Found::New { head }),
-        Err(fault) => return Err(fault),
-    };
-    match read_records(alloc, site, &head, first) {
-        Ok(kept) => {
-            if !kept.marks.has_room() {
-                return Err(OpenFault::Many);
-            }
-            Ok(Found::Journal(kept))
-        }
-        Err(fault) => Err(fault),
+    let kept = read_records(alloc, site, &head, first)?;
+    if !kept.marks.has_room() {
+        return Err(OpenFault::Many);
     }
+    Ok(Found::Journal(kept))
 }

@@ -1,6 +1,6 @@
 //! What a file is, from its front.
 
-ghost use Rattle.std.specs.Prelude.{MatchResult};
+ghost use Rattle.std.specs.Prelude.{◌≡◌, MatchResult};
 ghost use Rattle.ix_store.specs.inside.Steps.{IsJudged, KeepsOther, RefusesHead};
 
 use crate::OpenFault;
@@ -18,26 +18,23 @@ pub(crate) fn judge(alloc: Global, head: &[u8], text: &[u8]) -> Result<Option<us
         Head::Unfinished => Ok(None),
         Head::Foreign => Err(OpenFault::NotJournal),
         Head::Unopened { text: kept } => {
-            if kept != text {
-                return Err(other_expression(alloc, kept));
-            }
+            compare(alloc, kept, text)?;
             Ok(None)
         }
         Head::Ready { text: kept, gate } => {
-            if kept != text {
-                return Err(other_expression(alloc, kept));
-            }
+            compare(alloc, kept, text)?;
             Ok(Some(gate))
         }
     }
 }
 
-/// The fault of a file that keeps another text.
-fn other_expression(alloc: Global, kept: &[u8]) -> OpenFault
-    ensures { KeepsOther kept.now result }
+/// Refuses a file that keeps another text.
+fn compare(alloc: Global, kept: &[u8], text: &[u8]) -> Result<(), OpenFault>
+    ensures { MatchResult result (λ _. kept.now ≡ text.now) (KeepsOther kept.now text.now) }
 {
-    match Vec::from_slice(alloc, kept) {
-        Ok(kept) => OpenFault::OtherExpression { kept },
-        Err(_) => OpenFault::Memory,
+    if kept == text {
+        return Ok(());
     }
+    let kept = Vec::from_slice(alloc, kept)?;
+    Err(OpenFault::OtherExpression { kept })
 }

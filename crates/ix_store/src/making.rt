@@ -24,7 +24,7 @@ use crate::write::write_through;
 use ix_journal::{CLOSED, FRONT_LENGTH, OPEN, Version, renewed_bytes};
 use ix_outside::{DiskFailed, Site};
 use ix_values::Action;
-use std::alloc::Global;
+use std::alloc::{AllocError, Global};
 
 /// Why a renewal made no journal.
 #[derive(Clone, Copy, Debug, PartialEq, Eq)]
@@ -82,9 +82,7 @@ pub fn renew<S: Site>(
     if !head.is_empty() {
         return Err(RenewFault::There);
     }
-    let Ok(records) = renewed_bytes(alloc, carried, actions, boots) else {
-        return Err(RenewFault::Memory);
-    };
+    let records = renewed_bytes(alloc, carried, actions, boots)?;
     begin(alloc, site, &head, Version::Renewed, text)?;
     fill(site, text, &records)?;
     Ok(())
@@ -98,6 +96,14 @@ impl From<OpenFault> for RenewFault {
             OpenFault::Disk => RenewFault::Disk,
             _ => RenewFault::Memory,
         }
+    }
+}
+
+impl From<AllocError> for RenewFault {
+    ghost from_gives = { λ _ why. why ≡ fault.Memory };
+
+    fn from(_: AllocError) -> RenewFault {
+        RenewFault::Memory
     }
 }
 
@@ -122,9 +128,7 @@ fn read_synced<S: Site>(alloc: Global, site: &mut S) -> Result<Vec<u8>, OpenFaul
         (S.state site.old).counts.disk (S.state site.new).counts.disk }
     ensures calls { DiskCalls (stretch_of S.state S.crashes site.old site.new) }
 {
-    let Ok(()) = site.sync() else {
-        return Err(OpenFault::Disk);
-    };
+    site.sync()?;
     read_head(alloc, site)
 }
 

@@ -48,14 +48,8 @@ fn read_more<S: Site>(
     ensures failed { CountsOpening result
         (S.state site.old).counts.disk (S.state site.new).counts.disk }
 {
-    let Ok(mut piece) = vec![in alloc; 0; count] else {
-        return Err(OpenFault::Memory);
-    };
-    let Ok(read) = site.read_at(front.len() as u64, &mut piece) else {
-        return Err(OpenFault::Disk);
-    };
-    match front.extend_from_slice(&piece[..read]) {
-        Ok(()) => Ok(()),
-        Err(_) => Err(OpenFault::Memory),
-    }
+    let mut piece = vec![in alloc; 0; count]?;
+    let read = site.read_at(front.len() as u64, &mut piece)?;
+    front.extend_from_slice(&piece[..read])?;
+    Ok(())
 }

@@ -52,19 +52,13 @@ pub(crate) fn read_records<S: Site>(
     let mut history = History::new(alloc);
     'records: loop {
         match slide.next() {
-            Slid::More => match feed(site, &mut slide, at) {
-                Ok(next) => at = next,
-                Err(_) => return Err(OpenFault::Disk),
-            },
+            Slid::More => at = feed(site, &mut slide, at)?,
             Slid::Record(text) => {
                 let entry = Entry::of_text(text);
                 if slide.marks().are_many() {
                     return Err(OpenFault::Many);
                 }
-                match keep(&mut history, entry) {
-                    Ok(()) => {}
-                    Err(_) => return Err(OpenFault::Memory),
-                }
+                keep(&mut history, entry)?;
             }
             Slid::Closed { gate } => {
                 let marks = slide.marks();

@@ -97,8 +97,9 @@ impl Store {
             (S.state site.old).counts.disk (S.state site.new).counts.disk }
         ensures calls { DiskCalls (stretch_of S.state S.crashes site.old site.new) }
     {
-        match sync_and_find(alloc, site, text) {
-            Ok(Found::Journal(kept)) => {
+        let found = sync_and_find(alloc, site, text)?;
+        match found {
+            Found::Journal(kept) => {
                 let store = Store {
                     gate: kept.gate,
                     marks: kept.marks,
@@ -106,18 +107,15 @@ impl Store {
                 };
                 Ok((store, kept.history))
             }
-            Ok(Found::New { head }) => match begin(alloc, site, &head, Version::Started, text) {
-                Ok(()) => {
-                    let store = Store {
-                        gate: (FRONT_LENGTH + text.len()) as u64,
-                        marks: Marks::fresh(),
-                        failed: false,
-                    };
-                    Ok((store, History::new(alloc)))
-                }
-                Err(fault) => Err(fault),
-            },
-            Err(fault) => Err(fault),
+            Found::New { head } => {
+                begin(alloc, site, &head, Version::Started, text)?;
+                let store = Store {
+                    gate: (FRONT_LENGTH + text.len()) as u64,
+                    marks: Marks::fresh(),
+                    failed: false,
+                };
+                Ok((store, History::new(alloc)))
+            }
         }
     }
 
@@ -150,10 +148,8 @@ impl Store {
         ensures calls { DiskCalls (stretch_of S.state S.crashes site.old site.new) }
     {
         let number = self.marks.boots + 1;
-        match self.append_record(site, &Record::Boot(number)) {
-            Ok(()) => Ok(number),
-            Err(failed) => Err(failed),
-        }
+        self.append_record(site, &Record::Boot(number))?;
+        Ok(number)
     }
 
     /// Appends an action to the journal, with the ticket that is spent on it. After Ok both are

@@ -73,11 +73,11 @@ IsFoundSound (found.New head) = ⊤
 IsFoundSound (found.Journal kept) =
     IsSoundly kept.history kept.marks kept.gate × HasBootRoom kept.marks
 
--- the text that is kept, unless memory ran out
-abbrev pub KeepsOther : List ℕ → OpenFault → Type 0
-KeepsOther text (fault.OtherExpression kept) = kept.items ≡ text
-KeepsOther text fault.Memory = ⊤
-KeepsOther text _ = ⊥
+-- the text that is kept is another, unless memory ran out
+abbrev pub KeepsOther : List ℕ → List ℕ → OpenFault → Type 0
+KeepsOther kept text (fault.OtherExpression other) = (other.items ≡ kept) × (kept ≢ text)
+KeepsOther kept text fault.Memory = ⊤
+KeepsOther kept text _ = ⊥
 
 -- what following the gates from the first one on meets, unless the disk fails or memory runs out
 abbrev pub StopsReading : ℕ → OpenFault → List ℕ → Type 0

@@ -4,8 +4,8 @@ use Rattle.ix_store.proofs.Opened.{found_before, settles, counts_on}
 use Rattle.ix_store.proofs.ReadCalls.{reads_settled, stays_join}
 use Rattle.ix_store.proofs.find.sync_and_find.Goals as goal
 
-pub returns-in_default-clause-calls : goal.returns-in_default-clause-calls
-returns-in_default-clause-calls g c =
+pub returns-in_err-sync-clause-calls : goal.returns-in_err-sync-clause-calls
+returns-in_err-sync-clause-calls g c =
     let sync = c.sync.ensures in
     one _ _ _ _ c.requires sync.attached sync.call sync.rest (KeepsOpened-makes _ _ _ sync.file)
 
@@ -23,7 +23,7 @@ returns-clause-file g c =
 pub returns-clause-settled : goal.returns-clause-settled
 returns-clause-settled g c =
     settles c.find.result _ _
-    (reads_settled _ _ _ _ c.find.ensures.reads c.in-Ok.ensures.now)
+    (reads_settled _ _ _ _ c.find.ensures.reads c.in_ok-sync.ensures.now)
 
 pub returns-clause-stays : goal.returns-clause-stays
 returns-clause-stays g c = stays_join _ _ _ c.sync.ensures.file c.find.ensures.reads.stays
@@ -44,4 +44,4 @@ returns-clause-images g c told is =
 
 pub returns-clause-failed : goal.returns-clause-failed
 returns-clause-failed g c =
-    counts_on c.find.result _ _ _ c.in-Ok.ensures.failed c.find.ensures.failed
+    counts_on c.find.result _ _ _ c.in_ok-sync.ensures.failed c.find.ensures.failed

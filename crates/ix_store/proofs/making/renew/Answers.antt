@@ -32,7 +32,7 @@ returns-in_err-begin-clause-images g c told is =
 -- and filled
 pub fill-requires-clause-open_front : goal.fill-requires-clause-open_front
 fill-requires-clause-open_front g c =
-    let is = c.deref-2.ensures.value ∙ c.in-Ok.ensures.bytes in
+    let is = c.deref-2.ensures.value ∙ c.in_ok-records.ensures.bytes in
     subst (λ (r : List ℕ). r ≡ 165 ∷ drop 1 r) (sym is) (opens c.args.carried.now c.args.actions c.args.boots)
 
 pub returns-in_err-fill-clause-images : goal.returns-in_err-fill-clause-images
@@ -40,7 +40,7 @@ returns-in_err-fill-clause-images g c told is =
     let text = c.args.text.now in
     let there = made _ _ _ told is c.read_synced.ensures.stays in
     let next = made _ _ _ there.disk there.told c.in_ok-begin.ensures.begun in
-    let spelled = c.deref-2.ensures.value ∙ c.in-Ok.ensures.bytes in
+    let spelled = c.deref-2.ensures.value ∙ c.in_ok-records.ensures.bytes in
     filled_so_far text (renewed_journal text c.args.carried.now c.args.actions c.args.boots) _ _ _ _
     c.read_synced.ensures.calls (c.read_synced.ensures.images told is) _ _
     (g.met.S.Site.lawful c.begin.new.site) c.begin.ensures.calls (c.begin.ensures.images there.disk there.told) _ _
@@ -54,7 +54,7 @@ returns-clause-images g c told is =
     let text = c.args.text.now in
     let there = made _ _ _ told is c.read_synced.ensures.stays in
     let next = made _ _ _ there.disk there.told c.in_ok-begin.ensures.begun in
-    let spelled = c.deref-2.ensures.value ∙ c.in-Ok.ensures.bytes in
+    let spelled = c.deref-2.ensures.value ∙ c.in_ok-records.ensures.bytes in
     filled_so_far text (renewed_journal text c.args.carried.now c.args.actions c.args.boots) _ _ _ _
     c.read_synced.ensures.calls (c.read_synced.ensures.images told is) _ _
     (g.met.S.Site.lawful c.begin.new.site) c.begin.ensures.calls (c.begin.ensures.images there.disk there.told) _ _
@@ -76,7 +76,7 @@ returns-clause-made g c =
     let none : c.in_ok-head.head.items ≡ [] = nothing _ (sym c.in_ok-head.head.ok.0 ∙ eqb-true _ _ (sym c.is_empty.ensures ∙ whole)) in
     made_renewed c.args.text.now c.deref-2.result.now c.args.carried.now c.args.actions c.args.boots _ _ _ _
     (subst (λ (l : List ℕ). OfFile (IsHeadOf l) (g.S.Site.state c.args.site.now).disk) none c.in_ok-head.ensures.head)
-    (c.deref-2.ensures.value ∙ c.in-Ok.ensures.bytes)
+    (c.deref-2.ensures.value ∙ c.in_ok-records.ensures.bytes)
     c.read_synced.ensures.stays c.in_ok-begin.ensures.begun c.in_ok-fill.ensures.filled
 
 pub returns-in_err-begin-clause-stays : goal.returns-in_err-begin-clause-stays

@@ -49,32 +49,32 @@ records-init g c =
     }
 
 -- more bytes are read
-pub records-smaller-in-Ok : goal.records-smaller-in-Ok
-records-smaller-in-Ok g c =
+pub records-smaller-in-More : goal.records-smaller-in-More
+records-smaller-in-More g c =
     let now = c.records in
     let same = subst (λ a. Leaves now.slide a c.next.follows.lender-at-none) c.in-More.is c.next.follows.holds-at-none in
-    let fed = subst (λ (k : Kept). ReadsOn (g.S.Site.state now.site).disk now.at k c.in-Ok.next
-    c.feed.new.slide) same c.in-Ok.ensures.fed in
+    let fed = subst (λ (k : Kept). ReadsOn (g.S.Site.state now.site).disk now.at k c.in_ok-at-in-More.at
+    c.feed.new.slide) same c.in_ok-at-in-More.ensures.fed in
     fed_less c.args.first now.at now.history now.slide c.in-More.ensures.tells _ _ _ fed
 
-pub returns-in-Err-clause-reads : goal.returns-in-Err-clause-reads
-returns-in-Err-clause-reads g c =
+pub returns-in_err-at-in-More-clause-reads : goal.returns-in_err-at-in-More-clause-reads
+returns-in_err-at-in-More-clause-reads g c =
     reads_join _ _ _ _ _ _ (g.met.S.Site.lawful c.feed.new.site) c.records.invariant.reads c.feed.ensures.reads
 
-pub records-preserved-in-Ok : goal.records-preserved-in-Ok
-records-preserved-in-Ok g c =
+pub records-preserved-in-More : goal.records-preserved-in-More
+records-preserved-in-More g c =
     let now = c.records in
     let items = now.history in
     let tells = c.in-More.ensures.tells in
-    let next = c.in-Ok.next in
+    let next = c.in_ok-at-in-More.at in
     let new = c.feed.new.slide in
     let same = subst (λ a. Leaves now.slide a c.next.follows.lender-at-none) c.in-More.is c.next.follows.holds-at-none in
     let fed = subst (λ (k : Kept). ReadsOn (g.S.Site.state now.site).disk now.at k next new)
-    same c.in-Ok.ensures.fed in
+    same c.in_ok-at-in-More.ensures.fed in
     record {
       reads = reads_join _ _ _ _ _ _ (g.met.S.Site.lawful c.feed.new.site) now.invariant.reads
           c.feed.ensures.reads;
-      counts = c.in-Ok.ensures.failed ∙ now.invariant.counts;
+      counts = c.in_ok-at-in-More.ensures.failed ∙ now.invariant.counts;
       way = fed_on_way c.args.first now.at items now.slide tells _ next new fed now.invariant.way;
       reached = to_told (Reached c.args.first next items new)
           (g.S.Site.state c.args.site.now).disk (λ told is.
@@ -129,7 +129,7 @@ records-preserved g c =
     let says = c.of_text-entry.ensures in
     let leaves = subst (λ a. Leaves now.slide a new) c.in-Record.is c.next.follows.holds-at-none in
     let few = subst AreNotMany c.marks.ensures (c.are_many.ensures.few c.if-are_many.false) in
-    let pushed = c.in-Ok-keep.ensures in
+    let pushed = c.in_ok-keep-in-Record.ensures in
     record {
       reads = now.invariant.reads;
       counts = now.invariant.counts;
