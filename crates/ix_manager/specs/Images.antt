@@ -7,6 +7,7 @@ use Rattle.ix_expr.specs.Form.{Form}
 use Rattle.ix_expr.specs.Meaning.{IsPartial}
 use Rattle.ix_can.specs.TreeOf.{tree_size}
 use Rattle.ix_journal.specs.Recovery.{HoldsBoots, IsJournalWith, Recovers}
+use Rattle.ix_journal.specs.declared.TheConstants.{MOST_BOOTS}
 use Rattle.ix_journal.specs.declared.entries.Marks.{Marks}
 use Rattle.ix_store.specs.Opening.{IsNew}
 use Rattle.ix_manager.specs.Runs.{Opening, Ending, going, stopped, failed}
@@ -36,7 +37,7 @@ pub record IsStartable (opening : Opening) (image : List ℕ) : Type 0 where
   pub within : EachPrefixIsWithin opening.form opening.limit (actions_of opening.history)
   pub boots : ℕ
   pub holds : HoldsBoots image opening.renewed boots
-  pub few : boots < opening.renewed.boots + 1000000
+  pub few : boots < opening.renewed.boots + MOST_BOOTS
   pub next : opening.boot ≡ boots + 1
 
 -- the history, with the ticket and the action of a confirm that failed behind it

@@ -1,6 +1,7 @@
 //! Answers that change nothing.
 
 ghost use Rattle.std.specs.Prelude.{◌≡◌, ◌↔◌, ◌+◌, ◌^◌, ◌≤◌, IsTrue, position};
+ghost use Rattle.ix_engine.specs.Limits.{most_actions};
 ghost use Rattle.ix_proto.specs.Requests as request;
 ghost use Rattle.ix_manager.specs.Machine.{IsUngranted, ahead_of, count};
 ghost use Rattle.ix_manager.specs.inside.Does.{Does};
@@ -68,7 +69,7 @@ impl Machine {
     /// How many actions were confirmed, with those that the carried ones stand for.
     pub(crate) fn count(&self) -> u64
         ensures value { result ≡ count self.now.state }
-        ensures fits { result ≤ 2 ^ 63 + 1000000 }
+        ensures fits { result ≤ 2 ^ 63 + most_actions }
     {
         self.ahead() + self.engine.history().len() as u64
     }
