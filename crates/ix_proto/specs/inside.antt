@@ -3,3 +3,4 @@ pub mod Causes
 pub mod Lends
 pub mod ReplyParts
 pub mod ReplyTexts
+pub mod RequestTexts

@@ -7,6 +7,7 @@ mod reply;
 mod reply_read;
 mod request;
 mod request_fault;
+mod request_write;
 
 pub use reply::{Outcome, Reply};
 pub use request::Request;

@@ -110,7 +110,7 @@ impl Reply {
     }
 }
 
-fn write_number(out: &mut ArrayVec<u8, 256>, word: &[u8], number: u64)
+pub(crate) fn write_number(out: &mut ArrayVec<u8, 256>, word: &[u8], number: u64)
     requires empty { out.old.items ≡ [] }
     requires room { length word.now ≤ 16 }
     ensures text { out.new.items ≡ word.now ++ decimal number }
@@ -121,7 +121,7 @@ fn write_number(out: &mut ArrayVec<u8, 256>, word: &[u8], number: u64)
     append_number(out, number);
 }
 
-fn write_ticket(out: &mut ArrayVec<u8, 256>, word: &[u8], ticket: &Ticket)
+pub(crate) fn write_ticket(out: &mut ArrayVec<u8, 256>, word: &[u8], ticket: &Ticket)
     requires empty { out.old.items ≡ [] }
     requires room { length word.now ≤ 16 }
     ensures text { out.new.items ≡ word.now ++ ticket_text ticket.now }
