@@ -1,20 +1,19 @@
 -- A line of words is its request's.
-use Rattle.std.proofs.Common.{◌≡◌, ℕ, false, List, [], ◌∷◌, ◌++◌, append_assoc, refl, ◌∙◌, ap, codes, decimal, arith}
+use Rattle.std.proofs.Common.{◌≡◌, ℕ, false, List, [], ◌∷◌, ◌++◌, refl, ◌∙◌, ap, codes, decimal, arith}
 use Rattle.std.specs.Prelude.{All}
 use Rattle.std.specs.List.{list_any}
 use Rattle.std.proofs.lemmas.List.Elements.{All-cons, All-nil}
 use Rattle.std.proofs.lemmas.List.Splits.{slice_split_none, slice_split_at}
-use Rattle.ix_values.specs.PlainAction.{PlainAction, text_of}
-use Rattle.ix_values.specs.Texts.{IsAction}
-use Rattle.ix_values.specs.Tickets.{IsTicket, ticket_text}
-use Rattle.ix_values.specs.declared.tickets.Ticket.{Ticket}
+use Rattle.ix_values.specs.PlainAction.{text_of}
+use Rattle.ix_values.specs.Tickets.{ticket_text}
 use Rattle.ix_lines.specs.Words.{words_of}
 use Rattle.ix_lines.specs.inside.WordsBehind.{HasNoSpace}
 use Rattle.ix_lines.proofs.NumberCuts.{decimal-plain, or_false}
 use Rattle.ix_lines.proofs.WordLemmas.{is_space}
 use Rattle.ix_journal.proofs.EntryTexts.{action-plain, ticket-plain}
-use Rattle.ix_proto.specs.Requests.{IsLease, ask, confirm, cancel, outcome}
-use Rattle.ix_client.specs.Links.{IsLineOf}
+use Rattle.ix_proto.specs.Requests.{PlainRequest, IsRequest, request_words, ask, confirm, cancel, outcome}
+use Rattle.ix_proto.specs.inside.RequestTexts.{request_text}
+use Rattle.ix_client.specs.Links.{IsLineOf, IsOfTickets}
 
 each_plain : (xs : List ℕ) → HasNoSpace xs → All (λ x. is_space x ≡ false) xs
 each_plain [] h = All-nil (λ x. is_space x ≡ false)
@@ -31,48 +30,23 @@ only_word word h = slice_split_none is_space word (each_plain word h)
 two_words : (verb word : List ℕ) → HasNoSpace verb → HasNoSpace word → words_of (verb ++ 32 ∷ word) ≡ verb ∷ word ∷ []
 two_words verb word h k = first_of_words verb word h ∙ ap (λ ws. verb ∷ ws) (only_word word k)
 
--- a request that names a ticket
-pub confirm_is : (ticket : Ticket) (line : List ℕ) → IsTicket ticket → line ≡ codes "confirm" ++ 32 ∷ ticket_text ticket ++ 10 ∷ []
-    → IsLineOf (confirm ticket) line
-confirm_is ticket line valid is = record {
-  kind = tt;
-  valid = valid;
-  bytes = codes "confirm" ++ 32 ∷ ticket_text ticket;
-  words = two_words (codes "confirm") (ticket_text ticket) refl (ticket-plain ticket valid);
-  ended = is;
-}
+-- no word of a request has a space
+words_again : (asked : PlainRequest) → IsOfTickets asked → IsRequest asked → words_of (request_text asked) ≡ request_words asked
+words_again (ask a lease) kind valid =
+    first_of_words (codes "ask") (text_of a ++ 32 ∷ decimal lease) refl
+    ∙ ap (λ ws. codes "ask" ∷ ws)
+    (two_words (text_of a) (decimal lease) (action-plain a valid.0) (decimal-plain lease (omega (arith, valid.1.high))))
+words_again (confirm ticket) kind valid = two_words (codes "confirm") (ticket_text ticket) refl (ticket-plain ticket valid)
+words_again (cancel ticket) kind valid = two_words (codes "cancel") (ticket_text ticket) refl (ticket-plain ticket valid)
+words_again (outcome ticket) kind valid = two_words (codes "outcome") (ticket_text ticket) refl (ticket-plain ticket valid)
+words_again _ kind valid = absurd kind
 
-pub cancel_is : (ticket : Ticket) (line : List ℕ) → IsTicket ticket → line ≡ codes "cancel" ++ 32 ∷ ticket_text ticket ++ 10 ∷ []
-    → IsLineOf (cancel ticket) line
-cancel_is ticket line valid is = record {
-  kind = tt;
+pub line_is : (asked : PlainRequest) (line : List ℕ) → IsOfTickets asked → IsRequest asked → line ≡ request_text asked ++ 10 ∷ []
+    → IsLineOf asked line
+line_is asked line kind valid is = record {
+  kind = kind;
   valid = valid;
-  bytes = codes "cancel" ++ 32 ∷ ticket_text ticket;
-  words = two_words (codes "cancel") (ticket_text ticket) refl (ticket-plain ticket valid);
+  bytes = request_text asked;
+  words = words_again asked kind valid;
   ended = is;
-}
-
-pub outcome_is : (ticket : Ticket) (line : List ℕ) → IsTicket ticket → line ≡ codes "outcome" ++ 32 ∷ ticket_text ticket ++ 10 ∷ []
-    → IsLineOf (outcome ticket) line
-outcome_is ticket line valid is = record {
-  kind = tt;
-  valid = valid;
-  bytes = codes "outcome" ++ 32 ∷ ticket_text ticket;
-  words = two_words (codes "outcome") (ticket_text ticket) refl (ticket-plain ticket valid);
-  ended = is;
-}
-
--- an ask
-pub ask_is : (a : PlainAction) (lease : ℕ) (line : List ℕ) → IsAction a → IsLease lease
-    → line ≡ (((codes "ask " ++ text_of a) ++ 32 ∷ []) ++ decimal lease) ++ 10 ∷ []
-    → IsLineOf (ask a lease) line
-ask_is a lease line valid short is = record {
-  kind = tt;
-  valid = (valid, short);
-  bytes = codes "ask" ++ 32 ∷ (text_of a ++ 32 ∷ decimal lease);
-  words =
-      first_of_words (codes "ask") (text_of a ++ 32 ∷ decimal lease) refl
-      ∙ ap (λ ws. codes "ask" ∷ ws)
-      (two_words (text_of a) (decimal lease) (action-plain a valid) (decimal-plain lease (omega (arith, short.high))));
-  ended = rw is (simp append_assoc);
 }

@@ -1,12 +1,13 @@
 //! The lines of the requests that a client makes, each with the byte 10 that ends it.
-ghost use Rattle.std.specs.Prelude.{◌≡◌, ◌≤◌, [], ◌∷◌, ◌++◌, length};
-ghost use Rattle.ix_values.specs.Tickets.{IsTicket, ticket_text};
-ghost use Rattle.ix_proto.specs.Requests.{IsLease};
+ghost use Rattle.std.specs.Prelude.{◌≡◌, [], ◌∷◌, ◌++◌};
+ghost use Rattle.ix_proto.specs.Requests.{IsLease, PlainRequest};
 ghost use Rattle.ix_proto.specs.Requests as request;
+ghost use Rattle.ix_proto.specs.inside.Lends.{LendsRequest};
+ghost use Rattle.ix_proto.specs.inside.RequestTexts.{request_text, HasShortTexts, HasSoundNumbers};
 ghost use Rattle.ix_client.specs.Links.{IsCall, IsLineOf};
 
 use arrayvec::ArrayVec;
-use ix_lines::{append, append_number};
+use ix_proto::Request;
 use ix_values::{Action, Ticket};
 
 /// A line is at most 180 bytes long.
@@ -27,44 +28,38 @@ pub(crate) fn ask_line(action: &Action, lease: u32) -> Line
 {
     let mut text = ArrayVec::<u8, 168>::new();
     action.write(&mut text);
-    let mut line = Line::new();
-    append(&mut line, b"ask ");
-    append(&mut line, text.as_slice());
-    line.push(b' ');
-    append_number(&mut line, u64::from(lease));
-    line.push(b'\n');
-    line
+    request_line(Request::Ask {
+        action: text.as_slice(),
+        lease,
+    })
 }
 
 pub(crate) fn confirm_line(ticket: Ticket) -> Line
     ensures { IsLineOf (request.confirm ticket) result.items }
 {
-    ticket_line(b"confirm", ticket)
+    request_line(Request::Confirm(ticket))
 }
 
 pub(crate) fn cancel_line(ticket: Ticket) -> Line
     ensures { IsLineOf (request.cancel ticket) result.items }
 {
-    ticket_line(b"cancel", ticket)
+    request_line(Request::Cancel(ticket))
 }
 
 pub(crate) fn outcome_line(ticket: Ticket) -> Line
     ensures { IsLineOf (request.outcome ticket) result.items }
 {
-    ticket_line(b"outcome", ticket)
+    request_line(Request::Outcome(ticket))
 }
 
-fn ticket_line(verb: &[u8], ticket: Ticket) -> Line
-    requires { length verb.now ≤ 16 }
-    ensures text { result.items ≡ verb.now ++ 32 ∷ ticket_text ticket ++ 10 ∷ [] }
-    ensures valid { IsTicket ticket }
+fn request_line(asked: Request<'_>) -> Line
+    requires { HasShortTexts asked }
+    ensures text { (plain : PlainRequest)
+        → LendsRequest asked.entry plain → result.items ≡ request_text plain ++ 10 ∷ [] }
+    ensures valid { HasSoundNumbers asked.entry }
 {
-    let mut text = ArrayVec::<u8, 48>::new();
-    ticket.write(&mut text);
     let mut line = Line::new();
-    append(&mut line, verb);
-    line.push(b' ');
-    append(&mut line, text.as_slice());
+    asked.write(&mut line);
     line.push(b'\n');
     line
 }

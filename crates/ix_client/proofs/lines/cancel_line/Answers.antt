@@ -1,5 +1,9 @@
-use Rattle.ix_client.proofs.LineLemmas.{cancel_is}
+use Rattle.std.proofs.Common.{refl}
+use Rattle.ix_proto.specs.Requests.{cancel}
+use Rattle.ix_client.proofs.LineLemmas.{line_is}
 use Rattle.ix_client.proofs.lines.cancel_line.Goals as goal
 
 pub returns : goal.returns
-returns c = cancel_is c.args.ticket c.ticket_line.result.items c.ticket_line.ensures.valid c.ticket_line.ensures.text
+returns c =
+    let asked = cancel c.args.ticket in
+    line_is asked c.request_line.result.items tt c.request_line.ensures.valid (c.request_line.ensures.text asked refl)

@@ -1,5 +1,9 @@
-use Rattle.ix_client.proofs.LineLemmas.{outcome_is}
+use Rattle.std.proofs.Common.{refl}
+use Rattle.ix_proto.specs.Requests.{outcome}
+use Rattle.ix_client.proofs.LineLemmas.{line_is}
 use Rattle.ix_client.proofs.lines.outcome_line.Goals as goal
 
 pub returns : goal.returns
-returns c = outcome_is c.args.ticket c.ticket_line.result.items c.ticket_line.ensures.valid c.ticket_line.ensures.text
+returns c =
+    let asked = outcome c.args.ticket in
+    line_is asked c.request_line.result.items tt c.request_line.ensures.valid (c.request_line.ensures.text asked refl)
