@@ -327,7 +327,7 @@ PAGES = {
     "a module of the page is a way's no more": changed(PAGE, "Meaning `ts`", "Meaning `s`",
                                                        "its lists aren't those of the claims"),
     "a module of the page stands before one that it uses": changed(
-        PAGE, "Environment `ts`, Meaning `ts`", "Meaning `ts`, Environment `ts`",
+        PAGE, "Environment `ts`, Tests `ts`, Meaning `ts`", "Meaning `ts`, Environment `ts`, Tests `ts`",
         "Rattle.ix_expr.specs.Meaning stands above Rattle.ix_expr.specs.Environment"),
     "a constant of the page has another value": changed(PAGE, "OPEN is `0xA5`", "OPEN is `0`",
                                                         "its lists aren't those of the claims"),
